@@ -1,0 +1,28 @@
+-- Tests on lists.
+use Rattle.std.specs.Prelude.{ℕ, ◌==◌, ◌&&◌, ◌||◌, nat_lt, Bool, true, false, not, List, [], ◌∷◌, Option, Some, None}
+use Rattle.cocoon_num.specs.Names.{same_name}
+
+abbrev pub each : {A : Type 0} → (A → Bool) → List A → Bool
+each f [] = true
+each f (x ∷ xs) = f x && each f xs
+
+abbrev pub first_of : {A : Type 0} → List A → Option A
+first_of [] = None
+first_of (x ∷ xs) = Some x
+
+abbrev pub is_one_of : List (List ℕ) → List ℕ → Bool
+is_one_of [] x = false
+is_one_of (y ∷ ys) x = same_name y x || is_one_of ys x
+
+abbrev pub has_number : ℕ → List ℕ → Bool
+has_number n [] = false
+has_number n (m ∷ ms) = (n == m) || has_number n ms
+
+abbrev pub ascend : List ℕ → Bool
+ascend [] = true
+ascend (m ∷ []) = true
+ascend (m ∷ n ∷ ns) = nat_lt m n && ascend (n ∷ ns)
+
+abbrev pub no_repeats : List ℕ → Bool
+no_repeats [] = true
+no_repeats (n ∷ ns) = not (has_number n ns) && no_repeats ns

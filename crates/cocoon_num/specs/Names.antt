@@ -1,0 +1,14 @@
+-- Names are lists of bytes, and are compared as such.
+use Rattle.std.specs.Prelude.{ℕ, ◌==◌, ◌&&◌, Bool, true, false, List, [], ◌∷◌, if◌then◌else◌, Option, Some, None}
+use Rattle.cocoon_num.specs.Tree.{Name}
+
+abbrev pub same_name : List ℕ → List ℕ → Bool
+same_name [] [] = true
+same_name (x ∷ xs) (y ∷ ys) = (x == y) && same_name xs ys
+same_name [] (y ∷ ys) = false
+same_name (x ∷ xs) [] = false
+
+-- the first that is called x
+abbrev pub named : {A : Type 0} → (A → Name) → List ℕ → List A → Option A
+named name_of x [] = None
+named name_of x (a ∷ rest) = if same_name x (name_of a).text then Some a else named name_of x rest

@@ -1,0 +1,29 @@
+//! Numbers of a width, texts and lists: the base on which every other crate stands. Its `specs/` hold the values, the
+//! trees of designs and definitions, the tokens of texts and the grammar that relates a text to its tree.
+#![tactic(auto)]
+
+pub mod bits;
+pub mod list;
+pub mod text;
+
+pub use bits::Bits;
+pub use list::List;
+pub use text::Text;
+
+use std::alloc::{AllocError, AllocFailed};
+
+/// There was no memory for what a call had to make.
+#[derive(Clone, Copy, Debug, Drop, PartialEq, Eq)]
+pub struct NoMemory;
+
+impl From<AllocError> for NoMemory {
+    fn from(_: AllocError) -> NoMemory {
+        NoMemory
+    }
+}
+
+impl<T: Drop> From<AllocFailed<T>> for NoMemory {
+    fn from(_: AllocFailed<T>) -> NoMemory {
+        NoMemory
+    }
+}

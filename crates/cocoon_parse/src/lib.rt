@@ -1,0 +1,8 @@
+//! The texts of designs and definitions that `compile` takes today: thin ones.
+#![tactic(auto)]
+
+pub mod parts;
+pub mod texts;
+
+pub use parts::{Thin, ThinField};
+pub use texts::{ThinFault, thin};

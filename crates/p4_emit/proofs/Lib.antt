@@ -1,0 +1,10 @@
+pub mod Seams
+pub mod Joins
+pub mod P4Seams
+pub mod Numbers
+pub mod Prints
+pub mod Whole
+pub mod Found
+pub mod WellKinded
+pub mod Example
+pub mod Thin

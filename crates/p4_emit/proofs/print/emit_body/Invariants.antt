@@ -1,0 +1,7 @@
+use Rattle.std.proofs.Common.{◌≡◌, ◌++◌, drop, map}
+use Rattle.p4_emit.specs.Printed.{block_text}
+use Rattle.p4_emit.specs.Program.{stmt_of, block_of, program_of}
+use Rattle.p4_emit.proofs.print.emit_body.Given as goal
+
+abbrev pub invariant-loop-stmt : goal.invariant-loop-stmt
+invariant-loop-stmt l = l.out.items ++ block_text (program_of l.program) 4 (block_of (map stmt_of (drop l.stmt-index l.stmts))) ≡ l.fn.out.items ++ block_text (program_of l.program) 4 (block_of (map stmt_of l.stmts))
