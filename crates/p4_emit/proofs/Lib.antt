@@ -7,4 +7,3 @@ pub mod Whole
 pub mod Found
 pub mod WellKinded
 pub mod Example
-pub mod Thin

@@ -6,22 +6,12 @@ use Rattle.cocoon_num.specs.Values.{equal}
 use Rattle.cocoon_num.specs.Lists.{each}
 use Rattle.cocoon_num.specs.Packets.{total}
 use Rattle.cocoon_num.specs.Tokens.{is_run, Kind, word, mark, literal, finish, brackets_after, operators_after, none_deep, is_shallow}
-use Rattle.p4_emit.specs.P4Tree.{p_lit, p_field, p_binary, p_if_else, verdict, egress_port, p_return, P4Block, p_done, p_then, P4Field, Program, field_widths}
+use Rattle.p4_emit.specs.P4Tree.{p_lit, p_field, p_binary, P4Field, field_widths}
+use Rattle.cocoon_cli.specs.Lowered.{sends, test_program}
 use Rattle.p4_emit.specs.P4Text.{p4_bounds, said, of_found, program_tokens, header_type, header_name, member_tokens, meta_member_tokens, control_tokens, block_tokens, in_braces, declared, field_name, architecture}
 use Rattle.p4_emit.specs.P4Kinds.{are_distinct, is_width, is_well_kinded, names_fit, widths_fit, Within, p4_sort, sort_if, block_fits}
 use Rattle.cocoon_num.specs.Sorts.{bits_sort, truth_sort, of_two, binary_sort, has_sort}
 use Rattle.std.specs.Prelude.{option_map, if◌then◌else◌}
-
-abbrev pub sends : ℕ → P4Block
-sends port = p_then (verdict 1) (p_then (egress_port (p_lit 16 port)) (p_then p_return p_done))
-
-abbrev pub thin_program : (name : List ℕ) (fields : List P4Field) (tested width n first other : ℕ) → Program
-thin_program name fields tested width n first other = record {
-  headers = record { name = name; fields = fields } ∷ [];
-  meta = record { name = codes "site"; width = 8 } ∷ [];
-  ingress = record { tables = []; body = p_then (p_if_else (p_binary equal (p_field 0 tested) (p_lit width n)) (sends first) (sends other)) p_done };
-  egress = record { tables = []; body = p_done };
-}
 
 -- ---- depth, piece by piece
 
@@ -75,18 +65,18 @@ quiet_found : (name : List ℕ) (o : Option P4Field) → Quiet 4 0 (of_found (λ
 quiet_found name None = quiet 4 0 [] refl
 quiet_found name (Some x) = quiet 4 0 (said (codes "h.") ++ header_name name ∷ said (codes ".") ++ field_name x.name ∷ []) refl
 
-quiet_test : (name : List ℕ) (fields : List P4Field) (tested width n first other : ℕ) → let p = thin_program name fields tested width n first other in
+quiet_test : (name : List ℕ) (fields : List P4Field) (tested width n first other : ℕ) → let p = test_program name fields tested width n first other in
     Quiet 2 0 (block_tokens p p.ingress.body) 2 0
 quiet_test name fields tested width n first other =
-    let p = thin_program name fields tested width n first other in
+    let p = test_program name fields tested width n first other in
     let left = then_quiet (quiet_found name (slice_get fields tested)) (quiet 4 0 (mark (codes "==") ∷ literal width n ∷ []) refl) in
     let condition = then_quiet (quiet 2 0 (word (codes "if") ∷ mark (codes "(") ∷ []) refl)
     (then_quiet (then_quiet (quiet 3 0 (mark (codes "(") ∷ []) refl) (then_quiet left (quiet 4 1 (mark (codes ")") ∷ []) refl))) (quiet 3 1 (mark (codes ")") ∷ []) refl)) in
     then_quiet (then_quiet (then_quiet condition (quiet 2 1 (in_braces (block_tokens p (sends first))) refl)) (quiet 2 0 (word (codes "else") ∷ in_braces (block_tokens p (sends other))) refl)) (quiet 2 0 [] refl)
 
-pub thin_shallow : (name : List ℕ) (fields : List P4Field) (tested width n first other : ℕ) → is_shallow p4_bounds (program_tokens (thin_program name fields tested width n first other)) ≡ true
-thin_shallow name fields tested width n first other =
-    let p = thin_program name fields tested width n first other in
+pub test_shallow : (name : List ℕ) (fields : List P4Field) (tested width n first other : ℕ) → is_shallow p4_bounds (program_tokens (test_program name fields tested width n first other)) ≡ true
+test_shallow name fields tested width n first other =
+    let p = test_program name fields tested width n first other in
     let header = then_quiet (then_quiet (quiet 0 0 (word (codes "header") ∷ header_type name ∷ mark (codes "{") ∷ []) refl) (then_quiet (quiet_fields fields) (quiet 1 0 (mark (codes "}") ∷ []) refl))) (quiet 0 0 [] refl) in
     let ingress = then_quiet (quiet 0 8 (mark (codes "{") ∷ word (codes "apply") ∷ mark (codes "{") ∷ []) refl)
     (then_quiet (then_quiet (then_quiet (quiet 2 0 (said (codes "verdict = 8w0; egress_port = 16w0; group = 16w0;")) refl) (quiet_test name fields tested width n first other)) (quiet 2 0 (mark (codes "}") ∷ []) refl)) (quiet 1 0 (mark (codes "}") ∷ []) refl)) in
@@ -103,7 +93,7 @@ thin_shallow name fields tested width n first other =
 -- ---- kinds
 
 -- what the names, widths and numbers owe
-pub record ThinFits (name : List ℕ) (fields : List P4Field) (tested width n first other : ℕ) : Type 0 where
+pub record TestFits (name : List ℕ) (fields : List P4Field) (tested width n first other : ℕ) : Type 0 where
   pub field : P4Field
   pub there : slice_get fields tested ≡ Some field
   pub of_width : field.width ≡ width
@@ -121,15 +111,15 @@ pub record ThinFits (name : List ℕ) (fields : List P4Field) (tested width n fi
 same_width : (v w : ℕ) → v ≡ w → (v == w) ≡ true
 same_width v w h = eq-eqb v w h
 
-pub thin_kinds : (name : List ℕ) (fields : List P4Field) (tested width n first other : ℕ) → ThinFits name fields tested width n first other → is_well_kinded (thin_program name fields tested width n first other) ≡ true
-thin_kinds name fields tested width n first other f =
+pub test_kinds : (name : List ℕ) (fields : List P4Field) (tested width n first other : ℕ) → TestFits name fields tested width n first other → is_well_kinded (test_program name fields tested width n first other) ≡ true
+test_kinds name fields tested width n first other f =
     let same : (f.field.width == width) ≡ true = same_width f.field.width width f.of_width in
     let w1 : nat_le 1 width ≡ true = le-leb 1 width f.wide in
     let w2 : nat_le width 128 ≡ true = le-leb width 128 f.narrow in
     let w3 : nat_lt n (2 ^ width) ≡ true = lt-ltb n (2 ^ width) f.fits in
     let a : nat_lt first (2 ^ 16) ≡ true = lt-ltb first (2 ^ 16) f.first_fits in
     let b : nat_lt other (2 ^ 16) ≡ true = lt-ltb other (2 ^ 16) f.other_fits in
-    let p = thin_program name fields tested width n first other in
+    let p = test_program name fields tested width n first other in
     let c : Within = record { program = p; in_ingress = true; tables = [] } in
     let names : names_fit p ≡ true = ap₂ (λ u v. (u && v && true) && true && true && true) (ap₂ (λ u v. u && v) f.name_rest f.rests) f.distinct in
     let widths : widths_fit p ≡ true = ap₂ (λ u v. (u && v && true) && true) f.widths f.bytes in

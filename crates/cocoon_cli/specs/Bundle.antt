@@ -1,0 +1,82 @@
+-- The files of a bundle. It follows "Bundle files" in docs/FORMATS.md.
+use Rattle.std.specs.Prelude.{◌≡◌, ℕ, ◌≤◌, List, [], ◌∷◌, ◌++◌, map, flat_map, take, length, Option, All, codes, decimal}
+use Rattle.serde_json.specs.Written.{compact_text}
+use Rattle.sha2.specs.Sha256.{sha256}
+use Rattle.hex.specs.Hex.{encode_lower}
+use Rattle.cocoon_io.specs.Files.{Files}
+use Rattle.cocoon_io.specs.Told.{with_file}
+use Rattle.cocoon_parse.specs.declared.parts.Thin.{Thin}
+use Rattle.p4_emit.specs.Printed.{printed}
+use Rattle.cocoon_cli.specs.NetJson.{KeptDigest, NetFile, net_data}
+use Rattle.cocoon_cli.specs.Lowered.{thin_program, host_ports, links}
+
+-- a file with its name
+pub record NamedFile : Type 0 where
+  pub name : List ℕ
+  pub bytes : List ℕ
+
+-- SHA-256 in lower-case hexadecimal digits
+abbrev pub digest_of : List ℕ → List ℕ
+digest_of bytes = encode_lower (sha256 bytes)
+
+-- sS.p4
+abbrev pub program_name : ℕ → List ℕ
+program_name s = codes "s" ++ (decimal s ++ codes ".p4")
+
+-- sS.rows.json
+abbrev pub rows_name : ℕ → List ℕ
+rows_name s = codes "s" ++ (decimal s ++ codes ".rows.json")
+
+-- no table and no group
+abbrev pub empty_rows : List ℕ
+empty_rows = codes "{\"groups\":[],\"tables\":[]}"
+
+-- the files of one switch
+abbrev pub switch_files : Thin → ℕ → List NamedFile
+switch_files t s = record { name = program_name s; bytes = printed (thin_program t) } ∷ record { name = rows_name s; bytes = empty_rows } ∷ []
+
+abbrev pub all_switch_files : Thin → List NamedFile
+all_switch_files t = flat_map (switch_files t) t.switches
+
+abbrev pub kept : NamedFile → KeptDigest
+kept f = record { name = f.name; digest = digest_of f.bytes }
+
+abbrev pub net_file : List ℕ → Thin → NetFile
+net_file design t = record {
+  design = digest_of design;
+  files = map kept (all_switch_files t);
+  hosts = host_ports t;
+  links = links t;
+  ports = t.ports;
+  switches = t.switches;
+}
+
+abbrev pub net_text : List ℕ → Thin → List ℕ
+net_text design t = compact_text (net_data (net_file design t))
+
+-- OUT.NAME
+abbrev pub file_name : List ℕ → List ℕ → List ℕ
+file_name out name = out ++ (codes "." ++ name)
+
+abbrev pub in_bundle : List ℕ → NamedFile → NamedFile
+in_bundle out f = record { name = file_name out f.name; bytes = f.bytes }
+
+-- the files of the bundle OUT, in the order in which they are written
+abbrev pub bundle : List ℕ → List ℕ → Thin → List NamedFile
+bundle out design t = map (in_bundle out) (all_switch_files t ++ record { name = codes "net.json"; bytes = net_text design t } ∷ [])
+
+-- the told files, with these put in one after another
+abbrev pub with_files : List NamedFile → Option Files → Option Files
+with_files [] told = told
+with_files (f ∷ fs) told = with_files fs (with_file told f.name f.bytes)
+
+-- the first of these files were put in, or all, and no other was touched
+abbrev pub SomeWritten : List NamedFile → Option Files → Option Files → Type 0
+SomeWritten fs old new = (k : ℕ) × (new ≡ with_files (take k fs) old)
+
+-- a made file has at most so many bytes
+abbrev pub made_most : ℕ
+made_most = 4194304
+
+abbrev pub AllFit : List NamedFile → Type 0
+AllFit fs = All (λ (f : NamedFile). length f.bytes ≤ made_most) fs

@@ -1,0 +1,46 @@
+-- The parts of networks and bundles that values of the code stand for.
+use Rattle.std.specs.Prelude.{◌≡◌, ℕ, ◌<◌, Bool, ◌&&◌, IsTrue, List, map, length, Option, Some, None, Vec, String, codes}
+use Rattle.std.specs.declared.alloc.Global.{Global}
+use Rattle.std.specs.String.{string_bytes}
+use Rattle.cocoon_parse.specs.declared.parts.Thin.{Thin}
+use Rattle.cocoon_parse.specs.Thin.{fields_fit, numbers_fit, HasWords}
+use Rattle.cocoon_cli.specs.NetTree as tree
+use Rattle.cocoon_cli.specs.NetJson as json
+use Rattle.cocoon_cli.specs.Bundle as files
+use Rattle.cocoon_cli.specs.declared.network.LinkEnd.{LinkEnd}
+use Rattle.cocoon_cli.specs.declared.network.LinkEnd.TheVariants.{Switch, Host}
+use Rattle.cocoon_cli.specs.declared.network.Link.{Link}
+use Rattle.cocoon_cli.specs.declared.network.HostPort.{HostPort}
+use Rattle.cocoon_cli.specs.declared.json.KeptDigest.{KeptDigest}
+use Rattle.cocoon_cli.specs.declared.json.NetFile.{NetFile}
+use Rattle.cocoon_cli.specs.declared.bundle.BundleFile.{BundleFile}
+
+-- what the program of a thin design needs of its parts
+abbrev pub IsLowerable : Thin → Type 0
+IsLowerable t = IsTrue (fields_fit t.fields) × IsTrue (numbers_fit t) × HasWords t
+
+abbrev pub end_of : LinkEnd → tree.LinkEnd
+end_of (Switch s p) = tree.to_switch s p
+end_of (Host h) = tree.to_host h
+
+abbrev pub link_of : Link → tree.Link
+link_of l = record { switch = l.switch; port = l.port; to = end_of l.to }
+
+abbrev pub host_port_of : HostPort → tree.HostPort
+host_port_of h = record { host = h.host; attach = h.attach }
+
+abbrev pub kept_of : KeptDigest → json.KeptDigest
+kept_of k = record { name = string_bytes k.name; digest = string_bytes k.digest }
+
+abbrev pub net_file_of : NetFile → json.NetFile
+net_file_of f = record {
+  design = string_bytes f.design;
+  files = map kept_of f.files.items;
+  hosts = map host_port_of f.hosts.items;
+  links = map link_of f.links.items;
+  ports = f.ports;
+  switches = f.switches.items;
+}
+
+abbrev pub named_of : BundleFile → files.NamedFile
+named_of f = record { name = string_bytes f.name; bytes = f.bytes.items }

@@ -1,0 +1,44 @@
+-- What a command says of what it found. It follows "Reports" in docs/FORMATS.md.
+use Rattle.std.specs.Prelude.{◌≡◌, ◌⊎◌, ℕ, List, ◌++◌, Option, Result, Ok, Err, codes, decimal}
+use Rattle.std.specs.String.{string_bytes}
+use Rattle.cocoon_io.specs.Told.{appended, AppendsFront}
+use Rattle.cocoon_cli.specs.declared.status.Status.{Status}
+use Rattle.cocoon_cli.specs.declared.status.Status.TheVariants as status
+use Rattle.cocoon_cli.specs.declared.refusal.Refusal.{Refusal}
+use Rattle.cocoon_cli.specs.declared.refusal.Refusal.TheVariants as refusal
+use Rattle.cocoon_cli.specs.declared.refusal.Totals.{Totals}
+
+-- a line with a name in it
+abbrev pub line_of : List ℕ → List ℕ → List ℕ → List ℕ
+line_of front name back = front ++ (name ++ back)
+
+abbrev pub refusal_line : Refusal → List ℕ
+refusal_line refusal.Usage = codes "usage cocoon check compile update forward step live gen\n"
+refusal_line (refusal.Design file) = line_of (codes "language ") (string_bytes file) (codes " 1:1 NotYet\n")
+refusal_line (refusal.Definitions file) = line_of (codes "definitions ") (string_bytes file) (codes " 1:1 NotYet\n")
+refusal_line (refusal.ReadFault file) = line_of (codes "read fault ") (string_bytes file) (codes "\n")
+refusal_line (refusal.WriteFault file) = line_of (codes "write fault ") (string_bytes file) (codes "\n")
+refusal_line (refusal.TooLong file most) = line_of (codes "limit file ") (string_bytes file) (codes " over " ++ (decimal most ++ codes "\n"))
+refusal_line refusal.NoMemory = codes "no memory\n"
+refusal_line (refusal.NoFile file) = line_of (codes "no file ") (string_bytes file) (codes "\n")
+
+abbrev pub totals_line : Totals → List ℕ
+totals_line t = codes "compiled switches " ++ (decimal t.switches ++ (codes " hosts " ++ (decimal t.hosts ++ (codes " links " ++ (decimal t.links ++ codes " obligations 0\n")))))
+
+abbrev pub report_of : Result Totals Refusal → List ℕ
+report_of (Ok totals) = totals_line totals
+report_of (Err r) = refusal_line r
+
+abbrev pub refusal_status : Refusal → Status
+refusal_status refusal.Usage = status.Usage
+refusal_status (refusal.Design file) = status.Language
+refusal_status (refusal.Definitions file) = status.Broken
+refusal_status (refusal.ReadFault file) = status.ReadFault
+refusal_status (refusal.WriteFault file) = status.WriteFault
+refusal_status (refusal.TooLong file most) = status.Limit
+refusal_status refusal.NoMemory = status.NoMemory
+refusal_status (refusal.NoFile file) = status.NoFile
+
+abbrev pub status_of : Result Totals Refusal → Status
+status_of (Ok totals) = status.Done
+status_of (Err r) = refusal_status r

@@ -1,0 +1,13 @@
+//! The commands of `cocoon`: what the words ask for, what the files give, what is written and what is said.
+#![tactic(auto)]
+
+pub mod bundle;
+pub mod json;
+pub mod lower;
+pub mod network;
+pub mod refusal;
+pub mod report;
+pub mod status;
+pub mod words;
+
+pub use status::Status;

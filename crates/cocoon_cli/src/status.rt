@@ -1,0 +1,31 @@
+//! How a command ends.
+ghost use Rattle.std.specs.Prelude.{◌≡◌};
+ghost use Rattle.cocoon_cli.specs.Run.{number_of};
+
+/// How a command ended. The program ends with its number.
+#[derive(Clone, Copy, Debug, Drop, PartialEq, Eq)]
+pub enum Status {
+    Done,
+    Refuted,
+    Usage,
+    Language,
+    Broken,
+    HopBound,
+    Budget,
+    Bundle,
+    ReadFault,
+    WriteFault,
+    Limit,
+    Lines,
+    NoMemory,
+    NoFile,
+}
+
+impl Status {
+    /// The exit status of the program, from 0 in the order of the variants.
+    pub fn number(&self) -> u8
+        ensures { result ≡ number_of self.now }
+    {
+        *self as u8
+    }
+}
