@@ -31,12 +31,12 @@ rows_name s = codes "s" ++ (decimal s ++ codes ".rows.json")
 abbrev pub empty_rows : List ℕ
 empty_rows = codes "{\"groups\":[],\"tables\":[]}"
 
--- the files of one switch
-abbrev pub switch_files : Thin → ℕ → List NamedFile
-switch_files t s = record { name = program_name s; bytes = printed (thin_program t) } ∷ record { name = rows_name s; bytes = empty_rows } ∷ []
+-- the files of one switch, whose program has this text
+abbrev pub switch_files : List ℕ → ℕ → List NamedFile
+switch_files text s = record { name = program_name s; bytes = text } ∷ record { name = rows_name s; bytes = empty_rows } ∷ []
 
 abbrev pub all_switch_files : Thin → List NamedFile
-all_switch_files t = flat_map (switch_files t) t.switches
+all_switch_files t = flat_map (switch_files (printed (thin_program t))) t.switches
 
 abbrev pub kept : NamedFile → KeptDigest
 kept f = record { name = f.name; digest = digest_of f.bytes }
@@ -54,6 +54,9 @@ net_file design t = record {
 abbrev pub net_text : List ℕ → Thin → List ℕ
 net_text design t = compact_text (net_data (net_file design t))
 
+abbrev pub net_json : List ℕ → Thin → NamedFile
+net_json design t = record { name = codes "net.json"; bytes = net_text design t }
+
 -- OUT.NAME
 abbrev pub file_name : List ℕ → List ℕ → List ℕ
 file_name out name = out ++ (codes "." ++ name)
@@ -63,7 +66,7 @@ in_bundle out f = record { name = file_name out f.name; bytes = f.bytes }
 
 -- the files of the bundle OUT, in the order in which they are written
 abbrev pub bundle : List ℕ → List ℕ → Thin → List NamedFile
-bundle out design t = map (in_bundle out) (all_switch_files t ++ record { name = codes "net.json"; bytes = net_text design t } ∷ [])
+bundle out design t = map (in_bundle out) (all_switch_files t ++ net_json design t ∷ [])
 
 -- the told files, with these put in one after another
 abbrev pub with_files : List NamedFile → Option Files → Option Files

@@ -6,3 +6,4 @@ pub mod NetJson
 pub mod Lowered
 pub mod Bundle
 pub mod NetOf
+pub mod Causes

@@ -13,6 +13,9 @@ use Rattle.cocoon_cli.specs.declared.network.Link.{Link}
 use Rattle.cocoon_cli.specs.declared.network.HostPort.{HostPort}
 use Rattle.cocoon_cli.specs.declared.json.KeptDigest.{KeptDigest}
 use Rattle.cocoon_cli.specs.declared.json.NetFile.{NetFile}
+use Rattle.cocoon_cli.specs.Causes.{SomeExceeds}
+use Rattle.cocoon_cli.specs.declared.refusal.Refusal.{Refusal}
+use Rattle.cocoon_cli.specs.declared.refusal.Refusal.TheVariants.{TooLong, NoMemory}
 use Rattle.cocoon_cli.specs.declared.bundle.BundleFile.{BundleFile}
 
 -- what the program of a thin design needs of its parts
@@ -44,3 +47,9 @@ net_file_of f = record {
 
 abbrev pub named_of : BundleFile → files.NamedFile
 named_of f = record { name = string_bytes f.name; bytes = f.bytes.items }
+
+-- a made file is refused only for its length
+abbrev pub MadeTooLong : List files.NamedFile → Refusal → Type 0
+MadeTooLong fs (TooLong file n) = (n ≡ files.made_most) × SomeExceeds fs (string_bytes file)
+MadeTooLong fs NoMemory = Unit {0}
+MadeTooLong fs _ = ⊥

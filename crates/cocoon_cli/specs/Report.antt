@@ -42,3 +42,16 @@ refusal_status (refusal.NoFile file) = status.NoFile
 abbrev pub status_of : Result Totals Refusal → Status
 status_of (Ok totals) = status.Done
 status_of (Err r) = refusal_status r
+
+-- ---- what was said
+
+abbrev pub no_memory_line : List ℕ
+no_memory_line = codes "no memory\n"
+
+-- How a command ends that found this, by what the sink was told: the whole report; a front of it, where the sink
+-- failed; or, for want of memory, the line that says so, a front of that, or nothing.
+pub data Says (found : Result Totals Refusal) (old new : Option (List ℕ)) : Status → Type 0 where
+  whole : {s : Status} → s ≡ status_of found → new ≡ appended old (report_of found) → Says found old new s
+  front : {s : Status} → s ≡ status.WriteFault → AppendsFront old (report_of found) new → Says found old new s
+  no_memory : {s : Status} → s ≡ status.NoMemory → (new ≡ old) ⊎ (new ≡ appended old no_memory_line) → Says found old new s
+  front_of_no_memory : {s : Status} → s ≡ status.WriteFault → AppendsFront old no_memory_line new → Says found old new s
