@@ -1,5 +1,5 @@
 //! Plans of which calls fail, so that a test can have any call fail that it chooses.
-ghost use Rattle.std.specs.Prelude.{◌≡◌};
+ghost use Rattle.std.specs.Prelude.{◌≡◌, ◌≤◌};
 ghost use Rattle.cocoon_io.specs.Plans.{fails_next, after_call};
 
 use std::marker::Model;
@@ -36,6 +36,7 @@ impl Plan {
     pub fn next(&mut self) -> bool
         ensures answer { result ≡ fails_next self.old }
         ensures counted { self.new ≡ after_call self.old }
+        ensures grows { self.old.calls ≤ self.new.calls }
     {
         if self.calls == u64::MAX {
             return false;
