@@ -58,14 +58,14 @@ coded_plan = code_by (List ℕ × ℕ) (coded× (coded_list coded_ℕ) coded_ℕ
 abbrev pub coded_folder : Coded PlannedFolder
 coded_folder =
     code_by ((Files × PlannedCalls) × (ℕ × ℕ)) (coded× (coded× coded_files coded_plan) (coded× coded_ℕ coded_ℕ))
-        (λ f. ((f.files, f.plan), (f.read_faults, f.write_faults)))
-        (λ p. record { files = p.0.0; plan = p.0.1; read_faults = p.1.0; write_faults = p.1.1 })
-        (λ _. refl)
+    (λ f. ((f.files, f.plan), (f.read_faults, f.write_faults)))
+    (λ p. record { files = p.0.0; plan = p.0.1; read_faults = p.1.0; write_faults = p.1.1 })
+    (λ _. refl)
 
 -- a code of such sinks
 abbrev pub coded_sink : Coded PlannedSink
 coded_sink =
     code_by (List ℕ × (PlannedCalls × ℕ)) (coded× (coded_list coded_ℕ) (coded× coded_plan coded_ℕ))
-        (λ s. (s.told, (s.plan, s.faults)))
-        (λ p. record { told = p.0; plan = p.1.0; faults = p.1.1 })
-        (λ _. refl)
+    (λ s. (s.told, (s.plan, s.faults)))
+    (λ p. record { told = p.0; plan = p.1.0; faults = p.1.1 })
+    (λ _. refl)

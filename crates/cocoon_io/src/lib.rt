@@ -18,3 +18,6 @@ pub use mem_sink::MemSink;
 pub use real_folder::RealFolder;
 pub use real_out::RealOut;
 pub use sink::{Sink, SinkFault};
+
+#[cfg(test)]
+mod tests;

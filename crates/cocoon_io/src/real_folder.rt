@@ -1,8 +1,7 @@
 //! The machine's files, where they meet what is proved: no clause can say what a disk holds, so this folder tells none of
 //! its files, and says only how often it failed.
-ghost use Rattle.std.specs.Prelude.{◌≡◌, ◌-◌, ◌^◌, ◌≤◌, ◌<◌, ◌⊎◌, ℕ, Option, Some, None};
+ghost use Rattle.std.specs.Prelude.{◌≡◌, ◌-◌, ◌^◌, ◌≤◌, ◌<◌, ℕ, Option, Some, None, length};
 ghost use Rattle.cocoon_io.specs.Files.{Files};
-ghost use Rattle.cocoon_io.specs.Told.{Rose};
 
 use crate::{Folder, FolderFault};
 use std::alloc::Global;
@@ -51,8 +50,7 @@ impl<'r, R: Files> Folder for RealFolder<'r, R> {
         limit: u64,
     ) -> Result<Option<Vec<u8>>, FolderFault> {
         match read_front(self.rt, alloc, name, limit) {
-            Ok(bytes) if bytes.len() as u64 > limit => Err(FolderFault::TooLong(limit)),
-            Ok(bytes) => Ok(Some(bytes)),
+            Ok(bytes) => within(bytes, limit),
             Err(error) => match error.kind() {
                 ErrorKind::NotFound => Ok(None),
                 ErrorKind::OutOfMemory => Err(FolderFault::NoMemory),
@@ -82,6 +80,17 @@ fn read_front(rt: &impl Files, alloc: Global, name: &str, limit: u64) -> io::Res
     let mut bytes = Vec::new(alloc);
     file.take(limit.saturating_add(1)).read_to_end(&mut bytes)?;
     Ok(bytes)
+}
+
+// What a read answers that found these bytes, which may be the front of a longer file.
+fn within(bytes: Vec<u8>, limit: u64) -> Result<Option<Vec<u8>>, FolderFault>
+    ensures short { length bytes.items ≤ limit → result ≡ Ok (Some bytes) }
+    ensures long { limit < length bytes.items → result ≡ Err (FolderFault.TooLong limit) }
+{
+    if bytes.len() as u64 > limit {
+        return Err(FolderFault::TooLong(limit));
+    }
+    Ok(Some(bytes))
 }
 
 // Puts a whole file in the place of the old one.
