@@ -1,4 +1,4 @@
-use Rattle.std.proofs.Common.{ap, sym, ◌∙◌, rules}
+use Rattle.std.proofs.Common.{ap, ◌∙◌, rules}
 use Rattle.std.specs.FinMap as map
 use Rattle.cocoon_io.proofs.Held.{placed}
 use Rattle.cocoon_io.proofs.honest_folder.HonestFolder.place_file.Goals as goal
