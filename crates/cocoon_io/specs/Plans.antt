@@ -50,22 +50,10 @@ after_write folder files = record folder { files = files; plan = after_call fold
 abbrev pub after_put : PlannedSink → List ℕ → PlannedSink
 after_put sink told = record sink { told = told; plan = after_call sink.plan; faults = faults_after sink.plan sink.faults }
 
--- a code of plans
-abbrev pub coded_plan : Coded PlannedCalls
-coded_plan = code_by (List ℕ × ℕ) (coded× (coded_list coded_ℕ) coded_ℕ) (λ p. (p.failing, p.calls)) (λ p. record { failing = p.0; calls = p.1 }) (λ _. refl)
-
--- a code of such folders
+-- a code of such folders, as their fields in pairs
 abbrev pub coded_folder : Coded PlannedFolder
 coded_folder =
-    code_by ((Files × PlannedCalls) × (ℕ × ℕ)) (coded× (coded× coded_files coded_plan) (coded× coded_ℕ coded_ℕ))
-    (λ f. ((f.files, f.plan), (f.read_faults, f.write_faults)))
-    (λ p. record { files = p.0.0; plan = p.0.1; read_faults = p.1.0; write_faults = p.1.1 })
-    (λ _. refl)
-
--- a code of such sinks
-abbrev pub coded_sink : Coded PlannedSink
-coded_sink =
-    code_by (List ℕ × (PlannedCalls × ℕ)) (coded× (coded_list coded_ℕ) (coded× coded_plan coded_ℕ))
-    (λ s. (s.told, (s.plan, s.faults)))
-    (λ p. record { told = p.0; plan = p.1.0; faults = p.1.1 })
+    code_by ((Files × (List ℕ × ℕ)) × (ℕ × ℕ)) (coded× (coded× coded_files (coded× (coded_list coded_ℕ) coded_ℕ)) (coded× coded_ℕ coded_ℕ))
+    (λ f. ((f.files, (f.plan.failing, f.plan.calls)), (f.read_faults, f.write_faults)))
+    (λ p. record { files = p.0.0; plan = record { failing = p.0.1.0; calls = p.0.1.1 }; read_faults = p.1.0; write_faults = p.1.1 })
     (λ _. refl)

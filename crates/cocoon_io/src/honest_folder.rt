@@ -37,7 +37,7 @@ impl HonestFolder {
         }
     }
 
-    /// Puts bytes under a name, beside the folder's calls.
+    /// Puts bytes under a name, as a test sets up its files.
     pub fn place_file(&mut self, alloc: Global, name: &str, bytes: &[u8]) -> Result<(), NoMemory>
         ensures ok { OnOk result (self.new ≡ map.insert self.old name.now bytes.now) }
         ensures err { OnErr result (self.new ≡ self.old) }
@@ -48,7 +48,7 @@ impl HonestFolder {
         Ok(())
     }
 
-    /// The bytes of a file, beside the folder's calls.
+    /// The bytes of a file, as a test looks at them.
     pub fn file(&self, name: &str) -> Option<&[u8]>
         ensures { option_map (λ s. s.now) result ≡ map.get self.now name.now }
     {

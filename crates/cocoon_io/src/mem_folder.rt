@@ -47,7 +47,7 @@ impl MemFolder {
         }
     }
 
-    /// Puts bytes under a name. This is none of the counted calls.
+    /// Puts bytes under a name. This call is not counted.
     pub fn place_file(&mut self, alloc: Global, name: &str, bytes: &[u8]) -> Result<(), NoMemory>
         ensures ok { OnOk result (self.new ≡ record self.old { files = map.insert self.old.files name.now bytes.now }) }
         ensures err { OnErr result (self.new ≡ self.old) }
@@ -55,7 +55,7 @@ impl MemFolder {
         self.held.place_file(alloc, name, bytes)
     }
 
-    /// The bytes of a file. This is none of the counted calls.
+    /// The bytes of a file. This call is not counted.
     pub fn file(&self, name: &str) -> Option<&[u8]>
         ensures { option_map (λ s. s.now) result ≡ map.get self.now.files name.now }
     {
@@ -84,7 +84,7 @@ impl Folder for MemFolder {
         ensures fails { (result ≡ Err FolderFault.Failed) ↔ IsTrue (fails_next self.old.plan) }
         ensures after { self.new ≡ after_read self.old }
     {
-        if self.planned.next() {
+        if self.planned.next_fails() {
             self.failed_reads += 1;
             return Err(FolderFault::Failed);
         }
@@ -97,7 +97,7 @@ impl Folder for MemFolder {
         ensures fails { (result ≡ Err FolderFault.Failed) ↔ IsTrue (fails_next self.old.plan) }
         ensures never_too_long { IfErr result (λ e. (e ≡ FolderFault.Failed) ⊎ (e ≡ FolderFault.NoMemory)) }
     {
-        if self.planned.next() {
+        if self.planned.next_fails() {
             self.failed_writes += 1;
             return Err(FolderFault::Failed);
         }

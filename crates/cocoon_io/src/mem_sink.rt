@@ -18,11 +18,9 @@ pub struct MemSink {
 
 impl Model for MemSink {
     ghost use Rattle.std.specs.Prelude.{◌≤◌};
-    ghost use Rattle.cocoon_io.specs.Plans.{PlannedSink, coded_sink};
+    ghost use Rattle.cocoon_io.specs.Plans.{PlannedSink};
 
     ghost Value = { PlannedSink };
-
-    ghost coded = { coded_sink };
 
     ghost view = { λ a. record { told = a.held.items; plan = a.planned; faults = a.failed_puts } };
 
@@ -61,7 +59,7 @@ impl Sink for MemSink {
         ensures err { OnErr result (self.new ≡ after_put self.old self.old.told) }
         ensures fails { (result ≡ Err SinkFault.Failed) ↔ IsTrue (fails_next self.old.plan) }
     {
-        if self.planned.next() {
+        if self.planned.next_fails() {
             self.failed_puts += 1;
             return Err(SinkFault::Failed);
         }

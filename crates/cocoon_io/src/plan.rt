@@ -13,11 +13,9 @@ pub struct Plan {
 
 impl Model for Plan {
     ghost use Rattle.std.specs.Prelude.{◌≤◌};
-    ghost use Rattle.cocoon_io.specs.Plans.{PlannedCalls, coded_plan, last_call};
+    ghost use Rattle.cocoon_io.specs.Plans.{PlannedCalls, last_call};
 
     ghost Value = { PlannedCalls };
-
-    ghost coded = { coded_plan };
 
     ghost view = { λ a. record { failing = a.failing.items; calls = a.calls } };
 
@@ -33,8 +31,8 @@ impl Plan {
     }
 
     /// Counts a call, and says whether it fails.
-    pub fn next(&mut self) -> bool
-        ensures answer { result ≡ fails_next self.old }
+    pub fn next_fails(&mut self) -> bool
+        ensures planned { result ≡ fails_next self.old }
         ensures counted { self.new ≡ after_call self.old }
         ensures grows { self.old.calls ≤ self.new.calls }
     {

@@ -5,12 +5,12 @@ ghost use Rattle.cocoon_io.specs.Files.{Files};
 
 use crate::{Folder, FolderFault};
 use std::alloc::Global;
-use std::fs::{self, File, OpenFile};
+use std::fs::{self, OpenFile};
 use std::io::{self, ErrorKind, Read, Write};
 use std::rt::Files;
 
-/// The machine's files. A name is used as a path. A write makes the file beside, under the name with `.new` after it, and
-/// moves it into place when it is whole.
+/// The machine's files. A name is used as a path. A write makes the file under the name with `.new` after it, and moves it
+/// to the name once the disk has all of it.
 #[derive(Drop)]
 pub struct RealFolder<'r, R: Files> {
     rt: &'r R,
