@@ -1,7 +1,6 @@
 //! A folder in memory that never fails a call, so that what a caller does to its files can be seen whole.
-ghost use Rattle.std.specs.Prelude.{◌≡◌, ◌≢◌, ℕ, Option, Some, None, OnOk, OnErr, IfErr, option_map};
+ghost use Rattle.std.specs.Prelude.{◌≡◌, ◌≢◌, Some, None, OnOk, OnErr, IfErr, option_map};
 ghost use Rattle.std.specs.FinMap as map;
-ghost use Rattle.cocoon_io.specs.Files.{Files};
 ghost use Rattle.cocoon_io.specs.Told.{AnswersFile};
 
 use crate::{Folder, FolderFault};

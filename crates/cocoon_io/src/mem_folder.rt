@@ -1,7 +1,6 @@
 //! A folder in memory that fails the calls that a test chose, so that a caller's answer to each fault can be tried.
-ghost use Rattle.std.specs.Prelude.{◌≡◌, ◌↔◌, ℕ, Option, Some, None, IsTrue, OnOk, OnErr, IfErr, ◌⊎◌, option_map};
+ghost use Rattle.std.specs.Prelude.{◌≡◌, ◌↔◌, Some, None, IsTrue, OnOk, OnErr, IfErr, ◌⊎◌, option_map};
 ghost use Rattle.std.specs.FinMap as map;
-ghost use Rattle.cocoon_io.specs.Files.{Files};
 ghost use Rattle.cocoon_io.specs.Told.{AnswersFile};
 ghost use Rattle.cocoon_io.specs.Plans.{fails_next, after_read, after_write};
 

@@ -1,5 +1,5 @@
 //! A sink in memory that fails the puts that a test chose, so that a caller's answer to each fault can be tried.
-ghost use Rattle.std.specs.Prelude.{◌≡◌, ◌↔◌, ◌++◌, [], ℕ, List, Option, Some, None, IsTrue, OnOk, OnErr};
+ghost use Rattle.std.specs.Prelude.{◌≡◌, ◌↔◌, ◌++◌, [], Some, None, IsTrue, OnOk, OnErr};
 ghost use Rattle.cocoon_io.specs.Plans.{fails_next, after_put};
 
 use crate::plan::Plan;

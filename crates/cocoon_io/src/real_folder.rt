@@ -1,7 +1,6 @@
 //! The machine's files, where they meet what is proved: no clause can say what a disk holds, so this folder tells none of
 //! its files, and says only how often it failed.
-ghost use Rattle.std.specs.Prelude.{◌≡◌, ◌-◌, ◌^◌, ◌≤◌, ◌<◌, ℕ, Option, Some, None, length};
-ghost use Rattle.cocoon_io.specs.Files.{Files};
+ghost use Rattle.std.specs.Prelude.{◌≡◌, ◌-◌, ◌^◌, ◌≤◌, ◌<◌, Some, None, length};
 
 use crate::{Folder, FolderFault};
 use std::alloc::Global;

@@ -1,6 +1,6 @@
 //! The standard output, where it meets what is proved: no clause can say what was written there, so this sink tells none
 //! of its bytes, and says only how often it failed.
-ghost use Rattle.std.specs.Prelude.{◌≡◌, ◌-◌, ◌^◌, ℕ, List, Option, Some, None};
+ghost use Rattle.std.specs.Prelude.{◌≡◌, ◌-◌, ◌^◌, Some, None};
 
 use crate::{Sink, SinkFault};
 use std::alloc::Global;
