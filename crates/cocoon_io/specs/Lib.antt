@@ -1,2 +1,4 @@
 pub mod Files
 pub mod Told
+pub mod Entries
+pub mod Plans

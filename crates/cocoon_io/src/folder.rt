@@ -3,7 +3,8 @@ ghost use Rattle.std.specs.Prelude.{◌≡◌, ◌≤◌, ◌⊎◌, ℕ, Option
 ghost use Rattle.cocoon_io.specs.Files.{Files};
 ghost use Rattle.cocoon_io.specs.Told.{ReadAnswers, with_file, Rose};
 
-use std::alloc::Global;
+use cocoon_num::NoMemory;
+use std::alloc::{AllocError, Global};
 use thiserror::Error;
 
 /// Why a call of a folder gave no file or wrote none.
@@ -16,6 +17,28 @@ pub enum FolderFault {
     TooLong(u64),
     #[error("there was no memory")]
     NoMemory,
+}
+
+impl From<NoMemory> for FolderFault {
+    ghost use Rattle.std.specs.Prelude.{◌≡◌};
+    ghost use Rattle.cocoon_io.specs.declared.folder.FolderFault.TheVariants.{NoMemory};
+
+    ghost from_gives = { λ _ fault. fault ≡ NoMemory };
+
+    fn from(_: NoMemory) -> FolderFault {
+        FolderFault::NoMemory
+    }
+}
+
+impl From<AllocError> for FolderFault {
+    ghost use Rattle.std.specs.Prelude.{◌≡◌};
+    ghost use Rattle.cocoon_io.specs.declared.folder.FolderFault.TheVariants.{NoMemory};
+
+    ghost from_gives = { λ _ fault. fault ≡ NoMemory };
+
+    fn from(_: AllocError) -> FolderFault {
+        FolderFault::NoMemory
+    }
 }
 
 /// Files under names. A name may have `/` in it.

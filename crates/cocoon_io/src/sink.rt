@@ -2,7 +2,7 @@
 ghost use Rattle.std.specs.Prelude.{◌≡◌, ◌≤◌, ℕ, List, Option, OnOk};
 ghost use Rattle.cocoon_io.specs.Told.{AppendsFront, appended, Rose};
 
-use std::alloc::Global;
+use std::alloc::{AllocError, Global};
 use thiserror::Error;
 
 /// Why a sink did not take all bytes.
@@ -12,6 +12,17 @@ pub enum SinkFault {
     Failed,
     #[error("there was no memory")]
     NoMemory,
+}
+
+impl From<AllocError> for SinkFault {
+    ghost use Rattle.std.specs.Prelude.{◌≡◌};
+    ghost use Rattle.cocoon_io.specs.declared.sink.SinkFault.TheVariants.{NoMemory};
+
+    ghost from_gives = { λ _ fault. fault ≡ NoMemory };
+
+    fn from(_: AllocError) -> SinkFault {
+        SinkFault::NoMemory
+    }
 }
 
 /// What takes bytes and keeps their order.

@@ -1,0 +1,114 @@
+//! The machine's files, where they meet what is proved: no clause can say what a disk holds, so this folder tells none of
+//! its files, and says only how often it failed.
+ghost use Rattle.std.specs.Prelude.{◌≡◌, ◌-◌, ◌^◌, ◌≤◌, ◌<◌, Some, None, length};
+
+use crate::{Folder, FolderFault};
+use std::alloc::Global;
+use std::fs::{self, OpenFile};
+use std::io::{self, ErrorKind, Read, Write};
+use std::rt::Files;
+
+/// The machine's files. A name is used as a path. A write makes the file under the name with `.new` after it, and moves it
+/// to the name once the disk has all of it.
+#[derive(Drop)]
+pub struct RealFolder<'r, R: Files> {
+    rt: &'r R,
+    failed_reads: u64,
+    failed_writes: u64,
+}
+
+impl<'r, R: Files> RealFolder<'r, R> {
+    /// The files that the runtime reaches.
+    pub fn new(rt: &'r R) -> RealFolder<'r, R>
+        ensures reads { ⟦<RealFolder<'r, R> as Folder>⟧.read_faults result ≡ 0 }
+        ensures writes { ⟦<RealFolder<'r, R> as Folder>⟧.write_faults result ≡ 0 }
+    {
+        RealFolder {
+            rt,
+            failed_reads: 0,
+            failed_writes: 0,
+        }
+    }
+}
+
+impl<'r, R: Files> Folder for RealFolder<'r, R> {
+    ghost told = { λ _. None };
+
+    ghost read_faults = { λ folder. folder.failed_reads };
+
+    ghost write_faults = { λ folder. folder.failed_writes };
+
+    ghost last_read_fault = { Some (2 ^ 64 - 1) };
+
+    ghost last_write_fault = { Some (2 ^ 64 - 1) };
+
+    fn read(
+        &mut self,
+        alloc: Global,
+        name: &str,
+        limit: u64,
+    ) -> Result<Option<Vec<u8>>, FolderFault> {
+        match read_front(self.rt, alloc, name, limit) {
+            Ok(bytes) => within(bytes, limit),
+            Err(error) => match error.kind() {
+                ErrorKind::NotFound => Ok(None),
+                ErrorKind::OutOfMemory => Err(FolderFault::NoMemory),
+                _ => {
+                    self.failed_reads = self.failed_reads.saturating_add(1);
+                    Err(FolderFault::Failed)
+                }
+            },
+        }
+    }
+
+    fn write(&mut self, alloc: Global, name: &str, bytes: &[u8]) -> Result<(), FolderFault> {
+        match replace(self.rt, alloc, name, bytes) {
+            Ok(()) => Ok(()),
+            Err(error) if error.kind() == ErrorKind::OutOfMemory => Err(FolderFault::NoMemory),
+            Err(_) => {
+                self.failed_writes = self.failed_writes.saturating_add(1);
+                Err(FolderFault::Failed)
+            }
+        }
+    }
+}
+
+// The whole file, or one byte more than the limit of a longer one.
+fn read_front(rt: &impl Files, alloc: Global, name: &str, limit: u64) -> io::Result<Vec<u8>> {
+    let file = fs::open(rt, name)?;
+    let mut bytes = Vec::new(alloc);
+    file.take(limit.saturating_add(1)).read_to_end(&mut bytes)?;
+    Ok(bytes)
+}
+
+// What a read answers that found these bytes, which may be the front of a longer file.
+fn within(bytes: Vec<u8>, limit: u64) -> Result<Option<Vec<u8>>, FolderFault>
+    ensures short { length bytes.items ≤ limit → result ≡ Ok (Some bytes) }
+    ensures long { limit < length bytes.items → result ≡ Err (FolderFault.TooLong limit) }
+{
+    if bytes.len() as u64 > limit {
+        return Err(FolderFault::TooLong(limit));
+    }
+    Ok(Some(bytes))
+}
+
+// Puts a whole file in the place of the old one.
+fn replace(rt: &impl Files, alloc: Global, name: &str, bytes: &[u8]) -> io::Result<()> {
+    let beside = format!(in alloc; "{name}.new")?;
+    let file = fs::create(rt, beside.as_str())?;
+    let moved = match fill(file, bytes) {
+        Ok(()) => fs::rename(rt, beside.as_str(), name),
+        Err(error) => Err(error),
+    };
+    if moved.is_err() {
+        let _ = fs::remove_file(rt, beside.as_str());
+    }
+    moved
+}
+
+// Writes all bytes through to the disk.
+fn fill<F: Write + OpenFile + Drop>(mut file: F, bytes: &[u8]) -> io::Result<()> {
+    file.write_all(bytes)?;
+    file.flush()?;
+    file.sync_all()
+}

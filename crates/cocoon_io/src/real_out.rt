@@ -1,0 +1,46 @@
+//! The standard output, where it meets what is proved: no clause can say what was written there, so this sink tells none
+//! of its bytes, and says only how often it failed.
+ghost use Rattle.std.specs.Prelude.{◌≡◌, ◌-◌, ◌^◌, Some, None};
+
+use crate::{Sink, SinkFault};
+use std::alloc::Global;
+use std::io::{self, Write};
+
+/// The runtime's output.
+#[derive(Drop)]
+pub struct RealOut<'r, R: Print> {
+    rt: &'r R,
+    failed_puts: u64,
+}
+
+impl<'r, R: Print> RealOut<'r, R> {
+    /// The output of this runtime.
+    pub fn new(rt: &'r R) -> RealOut<'r, R>
+        ensures { ⟦<RealOut<'r, R> as Sink>⟧.faults result ≡ 0 }
+    {
+        RealOut { rt, failed_puts: 0 }
+    }
+}
+
+impl<'r, R: Print> Sink for RealOut<'r, R> {
+    ghost told = { λ _. None };
+
+    ghost faults = { λ sink. sink.failed_puts };
+
+    ghost last_fault = { Some (2 ^ 64 - 1) };
+
+    fn put(&mut self, _alloc: Global, bytes: &[u8]) -> Result<(), SinkFault> {
+        if write_through(self.rt, bytes).is_err() {
+            self.failed_puts = self.failed_puts.saturating_add(1);
+            return Err(SinkFault::Failed);
+        }
+        Ok(())
+    }
+}
+
+// Writes all bytes and leaves none in a buffer.
+fn write_through(rt: &impl Print, bytes: &[u8]) -> io::Result<()> {
+    let mut out = io::writer(rt);
+    out.write_all(bytes)?;
+    out.flush()
+}
