@@ -13,9 +13,12 @@ use Rattle.cocoon_cli.specs.declared.network.Link.{Link}
 use Rattle.cocoon_cli.specs.declared.network.HostPort.{HostPort}
 use Rattle.cocoon_cli.specs.declared.json.KeptDigest.{KeptDigest}
 use Rattle.cocoon_cli.specs.declared.json.NetFile.{NetFile}
+use Rattle.cocoon_io.specs.Told.{Rose}
+use Rattle.cocoon_io.specs.declared.folder.FolderFault.{FolderFault}
+use Rattle.cocoon_io.specs.declared.folder.FolderFault.TheVariants.{Failed, TooLong as TooLongFile}
 use Rattle.cocoon_cli.specs.Causes.{SomeExceeds}
 use Rattle.cocoon_cli.specs.declared.refusal.Refusal.{Refusal}
-use Rattle.cocoon_cli.specs.declared.refusal.Refusal.TheVariants.{TooLong, NoMemory}
+use Rattle.cocoon_cli.specs.declared.refusal.Refusal.TheVariants.{TooLong, WriteFault, NoMemory}
 use Rattle.cocoon_cli.specs.declared.bundle.BundleFile.{BundleFile}
 
 -- what the program of a thin design needs of its parts
@@ -53,3 +56,15 @@ abbrev pub MadeTooLong : List files.NamedFile → Refusal → Type 0
 MadeTooLong fs (TooLong file n) = (n ≡ files.made_most) × SomeExceeds fs (string_bytes file)
 MadeTooLong fs NoMemory = Unit {0}
 MadeTooLong fs _ = ⊥
+
+-- what is told of a write that failed
+abbrev pub IsWriteRefusal : List ℕ → FolderFault → Refusal → Type 0
+IsWriteRefusal name fault NoMemory = Unit {0}
+IsWriteRefusal name Failed (WriteFault file) = string_bytes file ≡ name
+IsWriteRefusal name (TooLongFile n) (WriteFault file) = string_bytes file ≡ name
+IsWriteRefusal name _ _ = ⊥
+
+-- a write fault comes only where the count of write faults rose
+abbrev pub FaultRose : Option ℕ → ℕ → ℕ → Refusal → Type 0
+FaultRose last old new (WriteFault file) = Rose last old new
+FaultRose last old new _ = Unit {0}

@@ -1,9 +1,8 @@
 //! The files of a bundle: all of them are made, and then they are written, the file of the network last.
-ghost use Rattle.std.specs.Prelude.{◌≡◌, ◌++◌, ◌⊎◌, IfErr, IfOk, OnErr, OnOk, codes, map, string_bytes};
+ghost use Rattle.std.specs.Prelude.{◌≡◌, ◌≤◌, ◌++◌, IfErr, IfOk, OnErr, OnOk, codes, map, string_bytes};
 ghost use Rattle.cocoon_cli.specs.Bundle as spec;
-ghost use Rattle.cocoon_cli.specs.Causes.{NotWritten, SomeExceeds, totals_of};
-ghost use Rattle.cocoon_cli.specs.NetOf.{IsLowerable, MadeTooLong, kept_of, named_of, net_file_of};
-ghost use Rattle.cocoon_io.specs.Told.{Rose};
+ghost use Rattle.cocoon_cli.specs.Causes.{NotWritten, totals_of};
+ghost use Rattle.cocoon_cli.specs.NetOf.{FaultRose, IsLowerable, IsWriteRefusal, MadeTooLong, kept_of, named_of, net_file_of};
 
 use crate::json::{KeptDigest, NetFile, net_text};
 use crate::lower::{host_ports, links, program_text};
@@ -113,6 +112,23 @@ fn net_file(
     })
 }
 
+/// The file of the network beside these files of the switches.
+fn net_json(
+    alloc: Global,
+    design: &[u8],
+    thin: &Thin,
+    files: &[BundleFile],
+) -> Result<BundleFile, NoMemory>
+    requires { map named_of files.now ≡ spec.all_switch_files thin.now }
+    ensures { IfOk result (λ f. named_of f ≡ spec.net_json design.now thin.now) }
+{
+    let net = net_file(alloc, design, thin, files)?;
+    Ok(BundleFile {
+        name: String::from_str(alloc, "net.json")?,
+        bytes: net_text(alloc, &net)?,
+    })
+}
+
 /// The same files under their whole names.
 fn named(alloc: Global, out: &str, files: Vec<BundleFile>) -> Result<Vec<BundleFile>, NoMemory>
     ensures { IfOk result (λ v. map named_of v.items ≡ map (spec.in_bundle out.now) (map named_of files.items)) }
@@ -139,10 +155,65 @@ pub fn make(
     ensures { IfOk result (λ v. map named_of v.items ≡ spec.bundle out.now design.now thin.now) }
 {
     let mut files = switch_files(alloc, thin)?;
-    let net = net_file(alloc, design, thin, &files)?;
-    files.push(BundleFile {
-        name: String::from_str(alloc, "net.json")?,
-        bytes: net_text(alloc, &net)?,
-    })?;
+    let net = net_json(alloc, design, thin, &files)?;
+    files.push(net)?;
     named(alloc, out, files)
+}
+
+/// Tests that each file has at most the bytes that it may.
+fn check_lengths(alloc: Global, files: &[BundleFile]) -> Result<(), Refusal>
+    ensures fit { OnOk result (spec.AllFit (map named_of files.now)) }
+    ensures too_long { IfErr result (MadeTooLong (map named_of files.now)) }
+{
+    for file in files {
+        if file.bytes.len() as u64 > MADE_MOST {
+            return Err(Refusal::TooLong(file.name.clone()?, MADE_MOST));
+        }
+    }
+    Ok(())
+}
+
+/// What a write that failed is told as.
+fn write_refusal(alloc: Global, name: &str, fault: &FolderFault) -> Refusal
+    ensures { IsWriteRefusal name.now fault.now result }
+{
+    match fault {
+        FolderFault::NoMemory => Refusal::NoMemory,
+        FolderFault::Failed | FolderFault::TooLong(_) => match String::from_str(alloc, name) {
+            Ok(file) => Refusal::WriteFault(file),
+            Err(_) => Refusal::NoMemory,
+        },
+    }
+}
+
+/// Writes the files, one after another.
+pub fn write<F: Folder>(
+    alloc: Global,
+    folder: &mut F,
+    files: &[BundleFile],
+) -> Result<(), Refusal>
+    ensures ok { OnOk result (F.told folder.new ≡ spec.with_files (map named_of files.now) (F.told folder.old)) }
+    ensures err { OnErr result (spec.SomeWritten (map named_of files.now) (F.told folder.old) (F.told folder.new)) }
+    ensures cause { IfErr result (NotWritten (map named_of files.now)) }
+    ensures failed { IfErr result (FaultRose F.last_write_fault (F.write_faults folder.old) (F.write_faults folder.new)) }
+    ensures reads { F.read_faults folder.new ≡ F.read_faults folder.old }
+    ensures writes { F.write_faults folder.old ≤ F.write_faults folder.new }
+{
+    for file in files {
+        if let Err(fault) = folder.write(alloc, file.name.as_str(), &file.bytes) {
+            return Err(write_refusal(alloc, file.name.as_str(), &fault));
+        }
+    }
+    Ok(())
+}
+
+/// How many of each thing the network has.
+pub fn totals(alloc: Global, thin: &Thin) -> Result<Totals, NoMemory>
+    ensures { IfOk result (λ t. t ≡ totals_of thin.now) }
+{
+    Ok(Totals {
+        switches: thin.switches.items().len() as u64,
+        hosts: thin.hosts.items().len() as u64,
+        links: links(alloc, thin)?.len() as u64,
+    })
 }
