@@ -1,0 +1,4 @@
+pub mod Finds
+pub mod Runs
+pub mod Steps
+pub mod Values

@@ -1,0 +1,150 @@
+-- Values that are held up to a bound.
+use Rattle.std.specs.Prelude.{◌≡◌, ℕ, zero, suc, ◌+◌, ◌-◌, ◌*◌, ◌^◌, ◌<◌, ◌≤◌, ◌==◌, ◌&&◌, nat_le, nat_lt, min, Bool, true, false, not, List, [], ◌∷◌, length, take, drop, Option, Some, None, option_map, option_and_then, ◌⊎◌, refl}
+use Rattle.std.proofs.Common.{ap, sym, ◌∙◌, arith, inl, inr}
+use Rattle.std.proofs.Math.Nat.{min-eq_left, min-eq_right, pow-le-pow_right}
+use Rattle.std.proofs.lemmas.Bool.{cases_lt}
+use Rattle.std.proofs.lemmas.List.{drop_all}
+use Rattle.std.proofs.lemmas.Bool.Decides.{nat_tests}
+use Rattle.cocoon_num.specs.Tokens as tokens
+use Rattle.cocoon_lex.specs.Fronts.{base_of, capped, digit_of, literal_read, value_of}
+use Rattle.cocoon_lex.specs.declared.numbers.Radix.{Radix}
+use Rattle.cocoon_lex.specs.declared.numbers.Radix.TheVariants.{Decimal, Hexadecimal}
+use Rattle.cocoon_lex.proofs.Runs.{take_run}
+
+-- what digits give after a value, up to the bound
+abbrev Goes : Radix → ℕ → List ℕ → Option ℕ
+Goes radix v bs = option_map capped (tokens.digits_after (base_of radix) (digit_of radix) v bs)
+
+some_base : (radix : Radix) → 1 ≤ base_of radix
+some_base Decimal = omega arith
+some_base Hexadecimal = omega arith
+
+grows : (base v d m : ℕ) → 1 ≤ base → m ≤ v → m ≤ v * base + d
+grows base v d m h e = grind arith
+
+-- two values at the bound or above it stay there
+both_large : (radix : Radix) (v w : ℕ) (bs : List ℕ) → 2 ^ 64 ≤ v → 2 ^ 64 ≤ w → Goes radix v bs ≡ Goes radix w bs
+both_large radix v w [] h k = ap (λ n. Some n) (min-eq_left h ∙ sym (min-eq_left k))
+both_large radix v w (b ∷ bs) h k = elim (digit_of radix b) as (λ o. option_map capped (option_and_then (λ d. tokens.digits_after (base_of radix) (digit_of radix) (v * base_of radix + d) bs) o) ≡ option_map capped (option_and_then (λ d. tokens.digits_after (base_of radix) (digit_of radix) (w * base_of radix + d) bs) o)) [
+  | None ↦ refl
+  | Some d ↦ both_large radix (v * base_of radix + d) (w * base_of radix + d) bs (grows (base_of radix) v d (2 ^ 64) (some_base radix) h) (grows (base_of radix) w d (2 ^ 64) (some_base radix) k)
+]
+
+-- the bound on the value so far changes nothing
+pub capped_goes : (radix : Radix) (v : ℕ) (bs : List ℕ) → Goes radix (capped v) bs ≡ Goes radix v bs
+capped_goes radix v bs = elim (cases_lt v (2 ^ 64)) [
+  | inl h ↦ let e : capped v ≡ v = omega arith in ap (λ n. Goes radix n bs) e
+  | inr h ↦ let k : 2 ^ 64 ≤ capped v = omega arith in both_large radix (capped v) v bs k h
+]
+
+-- one digit more
+pub next_digit : (radix : Radix) (v b d : ℕ) (bs : List ℕ) → digit_of radix b ≡ Some d → Goes radix v (b ∷ bs) ≡ Goes radix (capped (v * base_of radix + d)) bs
+next_digit radix v b d bs e = rw e (sym (capped_goes radix (v * base_of radix + d) bs))
+
+pub no_digit : (radix : Radix) (v b : ℕ) (bs : List ℕ) → digit_of radix b ≡ None → Goes radix v (b ∷ bs) ≡ None
+no_digit radix v b bs e = rw e refl
+
+-- ---- literals
+
+off : (p q r : Bool) → r ≡ false → (p && q && r) ≡ false
+off true true r e = e
+off true false r e = refl
+off false q r e = refl
+
+wide : (p q r : Bool) → q ≡ false → (p && q && r) ≡ false
+wide true q r e = rw e refl
+wide false q r e = refl
+
+abbrev literal_fits : ℕ → ℕ → Bool
+literal_fits w v = nat_le 1 w && nat_le w 64 && nat_lt v (2 ^ w)
+
+too_wide : (w v : ℕ) → 64 < w → literal_fits w v ≡ false
+too_wide w v h = wide (nat_le 1 w) (nat_le w 64) (nat_lt v (2 ^ w)) (grind (arith, nat_tests))
+
+too_large : (w v : ℕ) → w ≤ 64 → 2 ^ 64 ≤ v → literal_fits w v ≡ false
+too_large w v h k =
+    let most : 2 ^ w ≤ 2 ^ 64 = pow-le-pow_right (omega arith) h in
+    off (nat_le 1 w) (nat_le w 64) (nat_lt v (2 ^ w)) (grind (arith, nat_tests))
+
+unkept : (p : Bool) (k : tokens.Kind) → p ≡ false → tokens.kept_if p k ≡ None
+unkept p k e = rw e refl
+
+neither_kept : (w v x y : ℕ) → literal_fits w v ≡ false → literal_fits x y ≡ false → tokens.literal_of 64 (Some w) (Some v) ≡ tokens.literal_of 64 (Some x) (Some y)
+neither_kept w v x y p q = unkept (literal_fits w v) (tokens.literal w v) p ∙ sym (unkept (literal_fits x y) (tokens.literal x y) q)
+
+capped_numbers : (w v : ℕ) → tokens.literal_of 64 (Some w) (Some v) ≡ tokens.literal_of 64 (Some (capped w)) (Some (capped v))
+capped_numbers w v = elim (cases_lt 64 w) [
+  | inl h ↦ neither_kept w v (capped w) (capped v) (too_wide w v h) (too_wide (capped w) (capped v) (omega arith))
+  | inr h ↦ let e : w ≡ capped w = omega arith in
+      elim (cases_lt v (2 ^ 64)) [
+        | inl k ↦ let f : v ≡ capped v = omega arith in ap (λ x. tokens.literal_of 64 (Some x) (Some v)) e ∙ ap (λ y. tokens.literal_of 64 (Some (capped w)) (Some y)) f
+        | inr k ↦ neither_kept w v (capped w) (capped v) (too_large w v h k) (too_large (capped w) (capped v) (omega arith) (omega arith))
+      ]
+]
+
+capped_literal : (w v : Option ℕ) → tokens.literal_of 64 w v ≡ tokens.literal_of 64 (option_map capped w) (option_map capped v)
+capped_literal None v = refl
+capped_literal (Some w) None = refl
+capped_literal (Some w) (Some v) = capped_numbers w v
+
+-- a literal is that of its width and its value, each up to the bound
+pub literal_is : (run : List ℕ) (n : ℕ) → n ≡ length (tokens.before_w run) → literal_read run ≡ tokens.literal_of 64 (value_of Decimal (take n run)) (option_map capped (tokens.literal_value (drop (n + 1) run)))
+literal_is run n e =
+    let front : tokens.before_w run ≡ take n run = sym (take_run (λ b. not (b == 119)) run) ∙ ap (λ k. take k run) (sym e) in
+    let size : suc (length (tokens.before_w run)) ≡ n + 1 = omega (arith, e) in
+    let back : tokens.after_w run ≡ drop (n + 1) run = ap (λ k. drop k run) size in
+    ap (λ w. tokens.literal_of 64 (tokens.decimal_value w) (tokens.literal_value (tokens.after_w run))) front
+    ∙ ap (λ r. tokens.literal_of 64 (tokens.decimal_value (take n run)) (tokens.literal_value r)) back
+    ∙ capped_literal (tokens.decimal_value (take n run)) (tokens.literal_value (drop (n + 1) run))
+
+pub no_value : (w : Option ℕ) → tokens.literal_of 64 w None ≡ None
+no_value None = refl
+no_value (Some w) = refl
+
+-- with no letter `w` there is no literal
+pub no_w : (run : List ℕ) (n : ℕ) → n ≡ length (tokens.before_w run) → n ≡ length run → literal_read run ≡ None
+no_w run n e f =
+    let none : drop (n + 1) run ≡ [] = drop_all (n + 1) run (omega arith) in
+    literal_is run n e ∙ ap (λ r. tokens.literal_of 64 (value_of Decimal (take n run)) (option_map capped (tokens.literal_value r))) none ∙ no_value (value_of Decimal (take n run))
+
+-- ---- numbers
+
+-- what a run of digits of this value is, and else a literal
+abbrev of_value : Option ℕ → Option tokens.Kind → Option tokens.Kind
+of_value (Some n) literal = tokens.kept_if (nat_lt n (2 ^ 32)) (tokens.plain n)
+of_value None literal = literal
+
+plain_of : (o : Option ℕ) (l : Option tokens.Kind) (v : ℕ) → option_map capped o ≡ Some v → v < 2 ^ 32 → of_value o l ≡ Some (tokens.plain v)
+plain_of None l v e h = absurd cc
+plain_of (Some n) l v e h =
+    let c : capped n ≡ v = cc in
+    let same : n ≡ v = omega (arith, c) in
+    let small : nat_lt n (2 ^ 32) ≡ true = grind (arith, nat_tests) in
+    ap (λ p. tokens.kept_if p (tokens.plain n)) small ∙ ap (λ m. Some (tokens.plain m)) same
+
+large_of : (o : Option ℕ) (l : Option tokens.Kind) (v : ℕ) → option_map capped o ≡ Some v → 2 ^ 32 ≤ v → of_value o l ≡ None
+large_of None l v e h = absurd cc
+large_of (Some n) l v e h =
+    let c : capped n ≡ v = cc in
+    let large : nat_lt n (2 ^ 32) ≡ false = grind (arith, nat_tests) in
+    ap (λ p. tokens.kept_if p (tokens.plain n)) large
+
+literal_of_none : (o : Option ℕ) (l : Option tokens.Kind) → option_map capped o ≡ None → of_value o l ≡ l
+literal_of_none None l e = refl
+literal_of_none (Some n) l e = absurd cc
+
+of_digits : (run : List ℕ) (o : Option ℕ) → tokens.decimal_value run ≡ o → tokens.number_kind 64 run ≡ of_value o (literal_read run)
+of_digits run None e = rw (e, tokens.number_kind) refl
+of_digits run (Some n) e = rw (e, tokens.number_kind) refl
+
+number_is : (run : List ℕ) → tokens.number_kind 64 run ≡ of_value (tokens.decimal_value run) (literal_read run)
+number_is run = of_digits run (tokens.decimal_value run) refl
+
+pub plain_is : (run : List ℕ) (v : ℕ) → value_of Decimal run ≡ Some v → v < 2 ^ 32 → tokens.number_kind 64 run ≡ Some (tokens.plain v)
+plain_is run v e h = number_is run ∙ plain_of (tokens.decimal_value run) (literal_read run) v e h
+
+pub large_is : (run : List ℕ) (v : ℕ) → value_of Decimal run ≡ Some v → 2 ^ 32 ≤ v → tokens.number_kind 64 run ≡ None
+large_is run v e h = number_is run ∙ large_of (tokens.decimal_value run) (literal_read run) v e h
+
+pub no_plain : (run : List ℕ) → value_of Decimal run ≡ None → tokens.number_kind 64 run ≡ literal_read run
+no_plain run e = number_is run ∙ literal_of_none (tokens.decimal_value run) (literal_read run) e
