@@ -1,13 +1,13 @@
 -- The tokens of a text, one front after the other.
-use Rattle.std.specs.Prelude.{◌≡◌, ℕ, zero, suc, ◌+◌, ◌-◌, ◌<◌, ◌≤◌, List, [], ◌∷◌, ◌++◌, length, map, take, drop, get_or, slice_range, Ok, Err, refl}
-use Rattle.std.proofs.Common.{ap, sym, ◌∙◌, arith, append_assoc, length-drop}
+use Rattle.std.specs.Prelude.{◌≡◌, ℕ, zero, suc, ◌+◌, ◌-◌, ◌<◌, ◌≤◌, List, [], ◌∷◌, ◌++◌, length, map, take, drop, get_or, slice_range, Ok, Err, IsTrue, refl}
+use Rattle.std.proofs.Common.{ap, sym, subst, ◌∙◌, arith, append_assoc, length-drop}
 use Rattle.std.proofs.lemmas.List.{drop_more, drop_all, drop-drop, map-append}
 use Rattle.cocoon_num.specs.Tokens as tokens
-use Rattle.cocoon_lex.specs.Fronts.{fault_of, first_front, lex_fault}
-use Rattle.cocoon_lex.specs.Kinds.{HasFault, kind_of, token_of}
+use Rattle.cocoon_lex.specs.Fronts.{Spells, fault_of, first_front, lex_fault}
+use Rattle.cocoon_lex.specs.Kinds.{HasFault, IsSpelled, kind_of, token_of}
 use Rattle.cocoon_lex.specs.declared.token.Token.{Token}
 use Rattle.cocoon_lex.specs.declared.token.TokenKind.{TokenKind}
-use Rattle.cocoon_lex.specs.declared.token.TokenKind.TheVariants.{End}
+use Rattle.cocoon_lex.specs.declared.token.TokenKind.TheVariants.{End, Name}
 use Rattle.cocoon_lex.specs.declared.fronts.Fault.{Fault}
 use Rattle.cocoon_lex.specs.declared.fronts.Fault.TheVariants.{Byte, Number, Comment}
 
@@ -59,7 +59,7 @@ pub gap_step : (text : List ℕ) (ts : List tokens.Token) (at n : ℕ) → at < 
 gap_step text ts at n h some within e = ap (after ts) (by_known text at (tokens.gap n) h e ∙ onward_is text at n h some within)
 
 -- the token of these bytes
-abbrev token_at : List ℕ → ℕ → ℕ → TokenKind → Token
+abbrev pub token_at : List ℕ → ℕ → ℕ → TokenKind → Token
 token_at text at n kind = record { kind = kind; start = at; end = at + n }
 
 pub piece_step : (text : List ℕ) (found : List Token) (at n : ℕ) (kind : TokenKind) → at < length text → 1 ≤ n → n ≤ length (drop at text)
@@ -77,8 +77,11 @@ piece_step text found at n kind h some within e =
     ∙ ap (λ us. after us (from text (at + n))) (sym (map-append (token_of text) found (token_at text at n kind ∷ [])))
 
 pub end_step : (text : List ℕ) (found : List Token) (at : ℕ) → length text ≤ at
-    → after (map (token_of text) found) (from text at) ≡ Ok (map (token_of text) (found ++ token_at text at 0 End ∷ []))
-end_step text found at h = ?
+    → after (map (token_of text) found) (from text at) ≡ Ok (map (token_of text) (found ++ (record { kind = End; start = at; end = at }) ∷ []))
+end_step text found at h =
+    let last : Token = record { kind = End; start = at; end = at } in
+    ap (λ bs. after (map (token_of text) found) (tokens.lex_from tokens.language at 0 bs)) (drop_all at text h)
+    ∙ ap (λ us. Ok us) (sym (map-append (token_of text) found (last ∷ [])))
 
 -- the fault at a place is that of the text
 pub fault_step : (text : List ℕ) (ts : List tokens.Token) (at : ℕ) (fault : Fault) → at < length text → first_front (drop at text) ≡ tokens.faulty (fault_of fault)
@@ -86,3 +89,9 @@ pub fault_step : (text : List ℕ) (ts : List tokens.Token) (at : ℕ) (fault : 
 fault_step text ts at Byte h e rest = rest ∙ ap (after ts) (by_known text at (tokens.faulty tokens.bad_byte) h e)
 fault_step text ts at Number h e rest = rest ∙ ap (after ts) (by_known text at (tokens.faulty tokens.bad_number) h e)
 fault_step text ts at Comment h e rest = rest ∙ ap (after ts) (by_known text at (tokens.faulty tokens.open_comment) h e)
+
+pub spelled : (text : List ℕ) (at n : ℕ) (kind : TokenKind) → Spells kind (take n (drop at text)) → IsSpelled text (token_at text at n kind)
+spelled text at n Name h =
+    let size : n ≡ (at + n) - at = omega arith in
+    subst (λ m. IsTrue (tokens.is_run (take m (drop at text)))) size h
+spelled text at n kind h = tt
