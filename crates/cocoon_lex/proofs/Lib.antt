@@ -1,4 +1,5 @@
 pub mod Finds
+pub mod Lines
 pub mod Openings
 pub mod Runs
 pub mod Steps
