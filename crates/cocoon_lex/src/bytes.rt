@@ -55,25 +55,13 @@ pub fn word_len(text: &[u8]) -> usize
     len
 }
 
-/// The length of the line at the front, without its line feed.
-pub fn line_len(text: &[u8]) -> usize
-    ensures is { result ≡ length (tokens.leading (λ b. not (b == 10)) text.now) }
+/// How many bytes stand before the first byte like this one.
+pub fn len_before(text: &[u8], stop: u8) -> usize
+    ensures is { result ≡ length (tokens.leading (λ b. not (b == stop)) text.now) }
     ensures within { result ≤ length text.now }
 {
     let mut len = 0;
-    while len < text.len() && text[len] != b'\n' {
-        len += 1;
-    }
-    len
-}
-
-/// How many bytes stand before the first `w`.
-pub fn width_len(text: &[u8]) -> usize
-    ensures is { result ≡ length (tokens.before_w text.now) }
-    ensures within { result ≤ length text.now }
-{
-    let mut len = 0;
-    while len < text.len() && text[len] != b'w' {
+    while len < text.len() && text[len] != stop {
         len += 1;
     }
     len

@@ -3,7 +3,7 @@ ghost use Rattle.std.specs.Prelude.{◌≡◌, ◌<◌, ◌≤◌, codes, length
 ghost use Rattle.cocoon_num.specs.Tokens as tokens;
 ghost use Rattle.cocoon_lex.specs.Fronts.{BeginsWithDigit, BeginsWithLetter, Fits, first_front, front_of, lex_fault};
 
-use crate::bytes::{begins, comment_len, is_blank, is_digit, is_letter, line_len, word_len};
+use crate::bytes::{begins, comment_len, is_blank, is_digit, is_letter, len_before, word_len};
 use crate::lexer::LexFault;
 use crate::numbers::number_kind;
 use crate::token::TokenKind;
@@ -42,7 +42,7 @@ fn line_front(text: &[u8]) -> Front
     ensures is { tokens.line_front text.now ≡ front_of text.now result }
     ensures fits { Fits text.now result }
 {
-    Front::Gap(line_len(text))
+    Front::Gap(len_before(text, b'\n'))
 }
 
 fn block_front(text: &[u8]) -> Front

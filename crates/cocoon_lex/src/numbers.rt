@@ -5,7 +5,7 @@ ghost use Rattle.cocoon_num.specs.Tokens as tokens;
 ghost use Rattle.cocoon_lex.specs.Kinds.{kind_of};
 ghost use Rattle.cocoon_lex.specs.Fronts.{base_of, capped, digit_of, literal_kind, literal_read, value_of};
 
-use crate::bytes::{begins, is_digit, width_len};
+use crate::bytes::{begins, is_digit, len_before};
 use crate::token::TokenKind;
 use cocoon_num::Bits;
 
@@ -92,7 +92,7 @@ fn literal_value(text: &[u8]) -> Option<u128>
 fn literal(run: &[u8]) -> Option<Bits>
     ensures { option_map literal_kind result ≡ literal_read run.now }
 {
-    let width_len = width_len(run);
+    let width_len = len_before(run, b'w');
     if width_len == run.len() {
         return None;
     }
