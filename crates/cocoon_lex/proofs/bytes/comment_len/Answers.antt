@@ -1,4 +1,4 @@
-use Rattle.std.proofs.Common.{◌≡◌, ◌+◌, ◌≤◌, length, drop, option_map, length-drop, sym, ap, ◌∙◌, arith}
+use Rattle.std.proofs.Common.{◌+◌, ◌≤◌, length, drop, option_map, length-drop, sym, ap, ◌∙◌, arith}
 use Rattle.cocoon_num.specs.Tokens as tokens
 use Rattle.cocoon_lex.proofs.Runs.{goes_on, counted, stays_open}
 use Rattle.cocoon_lex.proofs.bytes.comment_len.Goals as goal

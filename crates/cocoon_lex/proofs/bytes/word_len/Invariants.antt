@@ -1,4 +1,4 @@
-use Rattle.std.proofs.Common.{length, drop, ◌-◌, ◌+◌, ◌==◌, ◌≡◌, ◌≤◌, not}
+use Rattle.std.proofs.Common.{length, drop, ◌-◌, ◌+◌, ◌≡◌, ◌≤◌}
 use Rattle.cocoon_num.specs.Tokens as tokens
 use Rattle.cocoon_lex.proofs.bytes.word_len.Given as goal
 

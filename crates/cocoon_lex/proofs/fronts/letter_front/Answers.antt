@@ -1,4 +1,3 @@
-use Rattle.std.proofs.Common.{sym}
 use Rattle.cocoon_lex.proofs.Openings.{letter_begins, letter_is, piece_fits}
 use Rattle.cocoon_lex.proofs.fronts.letter_front.Goals as goal
 

@@ -1,6 +1,6 @@
 use Rattle.std.proofs.Common.{◌≡◌, ◌+◌, ◌≤◌, ◌++◌, ◌∷◌, [], All, length, map, take, drop, length-drop, sym, subst, ap, ◌∙◌, arith}
 use Rattle.std.proofs.lemmas.List.Elements.{All-push}
-use Rattle.cocoon_num.specs.Tokens.{gap, lex, language, piece}
+use Rattle.cocoon_num.specs.Tokens.{gap, piece}
 use Rattle.cocoon_lex.specs.Fronts.{Spells, first_front}
 use Rattle.cocoon_lex.specs.Kinds.{IsSpelled, StandsIn, kind_of, token_of}
 use Rattle.cocoon_lex.proofs.Steps.{after, from, gap_step, piece_step, spelled, token_at}

@@ -1,4 +1,4 @@
-use Rattle.std.proofs.Common.{rules, ◌≡◌, ◌+◌, None, Some, take, drop, option_map, sym, ap, ◌∙◌, arith}
+use Rattle.std.proofs.Common.{rules, ◌≡◌, ◌+◌, None, Some, take, drop, option_map, sym, ap, ◌∙◌}
 use Rattle.cocoon_num.specs.Tokens as tokens
 use Rattle.cocoon_lex.specs.Fronts.{capped, literal_kind, value_of}
 use Rattle.cocoon_lex.specs.declared.numbers.Radix.TheVariants.{Decimal}

@@ -1,4 +1,4 @@
-use Rattle.std.proofs.Common.{rules, ◌≡◌, ◌+◌, ◌*◌, ◌<◌, Some, length, drop, get_or, option_map, sym, ap, ◌∙◌, arith}
+use Rattle.std.proofs.Common.{rules, ◌≡◌, ◌+◌, ◌*◌, Some, drop, get_or, option_map, sym, ap, ◌∙◌, arith}
 use Rattle.std.proofs.lemmas.List.{drop_more}
 use Rattle.cocoon_num.specs.Tokens as tokens
 use Rattle.cocoon_lex.specs.Fronts.{base_of, capped, digit_of}
