@@ -13,6 +13,7 @@ back_to_feed bytes = leading (λ b. not (b == 10)) bytes
 back : (xs : List ℕ) (i : ℕ) → i < length xs → reverse (take (i + 1) xs) ≡ get_or xs i 0 ∷ reverse (take i xs)
 back xs i h = ap reverse (take_more xs i 0 h) ∙ reverse-append (take i xs) (get_or xs i 0 ∷ [])
 
+-- one byte more of a line, or a new line
 one_back : (b : ℕ) (bytes : List ℕ) (feed : Bool) → (b == 10) ≡ feed → length (back_to_feed (b ∷ bytes)) + 1 ≡ (if feed then 1 else length (back_to_feed bytes) + 1 + 1)
 one_back b bytes true e = rw e refl
 one_back b bytes false e = rw e (omega arith)

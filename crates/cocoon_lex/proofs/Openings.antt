@@ -10,6 +10,7 @@ use Rattle.cocoon_lex.specs.declared.token.TokenKind.{TokenKind}
 use Rattle.cocoon_lex.specs.declared.token.TokenKind.TheVariants.{Name}
 use Rattle.cocoon_lex.proofs.Runs.{take_run}
 
+-- the letters, digits and `_` at the front
 abbrev run_of : List ℕ → List ℕ
 run_of text = tokens.leading tokens.is_word_byte text
 
@@ -21,6 +22,7 @@ run_is text n e = sym (take_run tokens.is_word_byte text) ∙ ap (λ k. take k t
 abbrev pub kind_in : List ℕ → Option TokenKind → Option tokens.Kind
 kind_in bytes o = option_map (λ kind. kind_of kind bytes) o
 
+-- a number at the front, by what was read of it
 pub digit_is : (text run : List ℕ) (n : ℕ) (o : Option TokenKind) → run ≡ take n text → n ≡ length (run_of text) → kind_in run o ≡ tokens.number_kind 64 run
     → tokens.digit_front tokens.language text ≡ tokens.number_front (kind_in (take n text) o) n
 digit_is text run n o e size k =
@@ -29,6 +31,7 @@ digit_is text run n o e size k =
     ∙ ap (λ q. tokens.number_front q n) (sym k)
     ∙ ap (λ r. tokens.number_front (kind_in r o) n) e
 
+-- a word at the front, by what was read of it
 pub letter_is : (text : List ℕ) (n : ℕ) (kind : tokens.Kind) → n ≡ length (run_of text) → kind ≡ tokens.word_kind tokens.language (take n text)
     → tokens.letter_front tokens.language text ≡ tokens.piece kind n
 letter_is text n kind e k =
@@ -38,45 +41,56 @@ letter_is text n kind e k =
 
 -- ---- runs are of word bytes
 
+-- a text that begins with a letter, a digit or `_`
 abbrev begins_word : List ℕ → Bool
 begins_word [] = false
 begins_word (b ∷ bs) = tokens.is_word_byte b
 
+-- one byte more of a run is of a word
 all_pass_at : (b : ℕ) (bs : List ℕ) (p : Bool) → tokens.is_word_byte b ≡ p → each tokens.is_word_byte (run_of bs) ≡ true → each tokens.is_word_byte (run_of (b ∷ bs)) ≡ true
 all_pass_at b bs true e h = rw (e, e) h
 all_pass_at b bs false e h = rw e refl
 
+-- each byte of a run is of a word
 all_pass : (bs : List ℕ) → each tokens.is_word_byte (run_of bs) ≡ true
 all_pass [] = refl
 all_pass (b ∷ bs) = all_pass_at b bs (tokens.is_word_byte b) refl (all_pass bs)
 
+-- one byte or more, all of a word
 abbrev IsRun : List ℕ → Type 0
 IsRun bytes = (1 ≤ length bytes) × (tokens.is_run bytes ≡ true)
 
+-- a run from its first byte on
 run_at : (b : ℕ) (bs : List ℕ) → tokens.is_word_byte b ≡ true → IsRun (run_of (b ∷ bs))
 run_at b bs e = rw e (omega arith, rw e (all_pass bs))
 
+-- such a text begins with a run
 runs : (text : List ℕ) → begins_word text ≡ true → IsRun (run_of text)
 runs [] e = absurd cc
 runs (b ∷ bs) e = run_at b bs e
 
+-- a run spells any kind of token
 spells : (kind : TokenKind) (bytes : List ℕ) → tokens.is_run bytes ≡ true → Spells kind bytes
 spells Name bytes h = h
 spells kind bytes h = tt
 
+-- a run at the front is a token within the text
 pub piece_fits : (text : List ℕ) (n : ℕ) (kind : TokenKind) → begins_word text ≡ true → n ≡ length (run_of text) → n ≤ length text → Fits text (Piece kind n)
 piece_fits text n kind w e within =
     let r : IsRun (run_of text) = runs text w in
     (rw e r.0, within, spells kind (take n text) (ap tokens.is_run (sym (run_is text n e)) ∙ r.1))
 
+-- one part of a test holds
 or_true : (p : Bool) → (p || true) ≡ true
 or_true true = refl
 or_true false = refl
 
+-- a digit begins a run
 pub digit_begins : (text : List ℕ) → BeginsWithDigit text → begins_word text ≡ true
 digit_begins [] h = absurd h
 digit_begins (b ∷ bs) h = rw h (or_true (tokens.is_letter b))
 
+-- a letter begins a run
 pub letter_begins : (text : List ℕ) → BeginsWithLetter text → begins_word text ≡ true
 letter_begins [] h = absurd h
 letter_begins (b ∷ bs) h = rw h refl

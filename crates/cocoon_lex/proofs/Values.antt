@@ -15,10 +15,12 @@ use Rattle.cocoon_lex.proofs.Runs.{take_run}
 abbrev Goes : Radix → ℕ → List ℕ → Option ℕ
 Goes radix v bs = option_map capped (tokens.digits_after (base_of radix) (digit_of radix) v bs)
 
+-- a base is 1 or more
 some_base : (radix : Radix) → 1 ≤ base_of radix
 some_base Decimal = omega arith
 some_base Hexadecimal = omega arith
 
+-- a further digit makes no value smaller
 grows : (base v d m : ℕ) → 1 ≤ base → m ≤ v → m ≤ v * base + d
 grows base v d m h e = grind arith
 
@@ -41,37 +43,42 @@ capped_goes radix v bs = elim (cases_lt v (2 ^ 64)) [
 pub next_digit : (radix : Radix) (v b d : ℕ) (bs : List ℕ) → digit_of radix b ≡ Some d → Goes radix v (b ∷ bs) ≡ Goes radix (capped (v * base_of radix + d)) bs
 next_digit radix v b d bs e = rw e (sym (capped_goes radix (v * base_of radix + d) bs))
 
-pub no_digit : (radix : Radix) (v b : ℕ) (bs : List ℕ) → digit_of radix b ≡ None → Goes radix v (b ∷ bs) ≡ None
-no_digit radix v b bs e = rw e refl
-
 -- ---- literals
 
+-- no test holds whose last part fails
 off : (p q r : Bool) → r ≡ false → (p && q && r) ≡ false
 off true true r e = e
 off true false r e = refl
 off false q r e = refl
 
+-- no test holds whose middle part fails
 wide : (p q r : Bool) → q ≡ false → (p && q && r) ≡ false
 wide true q r e = rw e refl
 wide false q r e = refl
 
+-- this width and this value make a literal
 abbrev literal_fits : ℕ → ℕ → Bool
 literal_fits w v = nat_le 1 w && nat_le w 64 && nat_lt v (2 ^ w)
 
+-- no literal is wider than 64 bits
 too_wide : (w v : ℕ) → 64 < w → literal_fits w v ≡ false
 too_wide w v h = wide (nat_le 1 w) (nat_le w 64) (nat_lt v (2 ^ w)) (grind (arith, nat_tests))
 
+-- no literal is 2^64 or more
 too_large : (w v : ℕ) → w ≤ 64 → 2 ^ 64 ≤ v → literal_fits w v ≡ false
 too_large w v h k =
     let most : 2 ^ w ≤ 2 ^ 64 = pow-le-pow_right (omega arith) h in
     off (nat_le 1 w) (nat_le w 64) (nat_lt v (2 ^ w)) (grind (arith, nat_tests))
 
+-- what fails its test is not kept
 unkept : (p : Bool) (k : tokens.Kind) → p ≡ false → tokens.kept_if p k ≡ None
 unkept p k e = rw e refl
 
+-- two pairs of numbers that make no literal
 neither_kept : (w v x y : ℕ) → literal_fits w v ≡ false → literal_fits x y ≡ false → tokens.literal_of 64 (Some w) (Some v) ≡ tokens.literal_of 64 (Some x) (Some y)
 neither_kept w v x y p q = unkept (literal_fits w v) (tokens.literal w v) p ∙ sym (unkept (literal_fits x y) (tokens.literal x y) q)
 
+-- the bound changes no literal
 capped_numbers : (w v : ℕ) → tokens.literal_of 64 (Some w) (Some v) ≡ tokens.literal_of 64 (Some (capped w)) (Some (capped v))
 capped_numbers w v = elim (cases_lt 64 w) [
   | inl h ↦ neither_kept w v (capped w) (capped v) (too_wide w v h) (too_wide (capped w) (capped v) (omega arith))
@@ -82,6 +89,7 @@ capped_numbers w v = elim (cases_lt 64 w) [
       ]
 ]
 
+-- nor where a part is not there
 capped_literal : (w v : Option ℕ) → tokens.literal_of 64 w v ≡ tokens.literal_of 64 (option_map capped w) (option_map capped v)
 capped_literal None v = refl
 capped_literal (Some w) None = refl
@@ -97,6 +105,7 @@ literal_is run n e =
     ∙ ap (λ r. tokens.literal_of 64 (tokens.decimal_value (take n run)) (tokens.literal_value r)) back
     ∙ capped_literal (tokens.decimal_value (take n run)) (tokens.literal_value (drop (n + 1) run))
 
+-- without a value there is no literal
 pub no_value : (w : Option ℕ) → tokens.literal_of 64 w None ≡ None
 no_value None = refl
 no_value (Some w) = refl
@@ -106,45 +115,3 @@ pub no_w : (run : List ℕ) (n : ℕ) → n ≡ length (tokens.before_w run) →
 no_w run n e f =
     let none : drop (n + 1) run ≡ [] = drop_all (n + 1) run (omega arith) in
     literal_is run n e ∙ ap (λ r. tokens.literal_of 64 (value_of Decimal (take n run)) (option_map capped (tokens.literal_value r))) none ∙ no_value (value_of Decimal (take n run))
-
--- ---- numbers
-
--- what a run of digits of this value is, and else a literal
-abbrev of_value : Option ℕ → Option tokens.Kind → Option tokens.Kind
-of_value (Some n) literal = tokens.kept_if (nat_lt n (2 ^ 32)) (tokens.plain n)
-of_value None literal = literal
-
-plain_of : (o : Option ℕ) (l : Option tokens.Kind) (v : ℕ) → option_map capped o ≡ Some v → v < 2 ^ 32 → of_value o l ≡ Some (tokens.plain v)
-plain_of None l v e h = absurd cc
-plain_of (Some n) l v e h =
-    let c : capped n ≡ v = cc in
-    let same : n ≡ v = omega (arith, c) in
-    let small : nat_lt n (2 ^ 32) ≡ true = grind (arith, nat_tests) in
-    ap (λ p. tokens.kept_if p (tokens.plain n)) small ∙ ap (λ m. Some (tokens.plain m)) same
-
-large_of : (o : Option ℕ) (l : Option tokens.Kind) (v : ℕ) → option_map capped o ≡ Some v → 2 ^ 32 ≤ v → of_value o l ≡ None
-large_of None l v e h = absurd cc
-large_of (Some n) l v e h =
-    let c : capped n ≡ v = cc in
-    let large : nat_lt n (2 ^ 32) ≡ false = grind (arith, nat_tests) in
-    ap (λ p. tokens.kept_if p (tokens.plain n)) large
-
-literal_of_none : (o : Option ℕ) (l : Option tokens.Kind) → option_map capped o ≡ None → of_value o l ≡ l
-literal_of_none None l e = refl
-literal_of_none (Some n) l e = absurd cc
-
-of_digits : (run : List ℕ) (o : Option ℕ) → tokens.decimal_value run ≡ o → tokens.number_kind 64 run ≡ of_value o (literal_read run)
-of_digits run None e = rw (e, tokens.number_kind) refl
-of_digits run (Some n) e = rw (e, tokens.number_kind) refl
-
-number_is : (run : List ℕ) → tokens.number_kind 64 run ≡ of_value (tokens.decimal_value run) (literal_read run)
-number_is run = of_digits run (tokens.decimal_value run) refl
-
-pub plain_is : (run : List ℕ) (v : ℕ) → value_of Decimal run ≡ Some v → v < 2 ^ 32 → tokens.number_kind 64 run ≡ Some (tokens.plain v)
-plain_is run v e h = number_is run ∙ plain_of (tokens.decimal_value run) (literal_read run) v e h
-
-pub large_is : (run : List ℕ) (v : ℕ) → value_of Decimal run ≡ Some v → 2 ^ 32 ≤ v → tokens.number_kind 64 run ≡ None
-large_is run v e h = number_is run ∙ large_of (tokens.decimal_value run) (literal_read run) v e h
-
-pub no_plain : (run : List ℕ) → value_of Decimal run ≡ None → tokens.number_kind 64 run ≡ literal_read run
-no_plain run e = number_is run ∙ literal_of_none (tokens.decimal_value run) (literal_read run) e

@@ -1,4 +1,5 @@
-//! The tokens of the texts of designs and definitions, with their places.
+//! The tokens of the texts of designs and definitions, with their places. A text is gone over once, and a
+//! token names its bytes by where they stand, so that none is copied.
 #![tactic(auto)]
 
 mod bytes;

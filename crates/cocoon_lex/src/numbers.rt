@@ -9,7 +9,7 @@ use crate::bytes::{begins, is_digit, len_before};
 use crate::token::TokenKind;
 use cocoon_num::Bits;
 
-/// The widest literal has 64 bits.
+/// The least number above all literals: the widest have 64 bits.
 const CAP: u128 = 1 << 64;
 
 #[derive(Clone, Copy)]
@@ -63,7 +63,7 @@ fn hexadecimal_digit(byte: u8) -> Option<u8>
 }
 
 /// The value of one or more digits, or `CAP` where it is larger.
-fn value(radix: Radix, text: &[u8]) -> Option<u128>
+fn digits_value(radix: Radix, text: &[u8]) -> Option<u128>
     ensures { result ≡ value_of radix text.now }
 {
     if text.is_empty() {
@@ -83,9 +83,9 @@ fn literal_value(text: &[u8]) -> Option<u128>
 {
     if begins(text, b"0x") {
         let (_, digits) = text.split_at(2);
-        return value(Radix::Hexadecimal, digits);
+        return digits_value(Radix::Hexadecimal, digits);
     }
-    value(Radix::Decimal, text)
+    digits_value(Radix::Decimal, text)
 }
 
 /// A width, the letter `w` and a value.
@@ -98,7 +98,7 @@ fn literal(run: &[u8]) -> Option<Bits>
     }
     let (width, _) = run.split_at(width_len);
     let (_, rest) = run.split_at(width_len + 1);
-    let width = value(Radix::Decimal, width)?;
+    let width = digits_value(Radix::Decimal, width)?;
     let value = literal_value(rest)?;
     bits(width, value)
 }
@@ -117,7 +117,7 @@ fn bits(width: u128, value: u128) -> Option<Bits>
 pub fn number_kind(run: &[u8]) -> Option<TokenKind>
     ensures { option_map (λ kind. kind_of kind run.now) result ≡ tokens.number_kind 64 run.now }
 {
-    let Some(value) = value(Radix::Decimal, run) else {
+    let Some(value) = digits_value(Radix::Decimal, run) else {
         return Some(TokenKind::Literal(literal(run)?));
     };
     if value > u128::from(u32::MAX) {

@@ -37,7 +37,7 @@ pub enum Keyword {
 }
 
 impl Keyword {
-    /// Its letters.
+    /// How it is written.
     pub fn text(self) -> &'static str
         ensures { result.now ≡ keyword_text self }
     {
@@ -135,7 +135,7 @@ pub enum Mark {
 }
 
 impl Mark {
-    /// Its bytes.
+    /// How it is written.
     pub fn text(self) -> &'static str
         ensures { result.now ≡ mark_text self }
     {

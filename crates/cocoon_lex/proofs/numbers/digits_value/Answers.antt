@@ -3,7 +3,7 @@ use Rattle.std.proofs.lemmas.List.{drop_more}
 use Rattle.cocoon_num.specs.Tokens as tokens
 use Rattle.cocoon_lex.specs.Fronts.{base_of, capped, digit_of}
 use Rattle.cocoon_lex.proofs.Values.{next_digit}
-use Rattle.cocoon_lex.proofs.numbers.value.Goals as goal
+use Rattle.cocoon_lex.proofs.numbers.digits_value.Goals as goal
 
 pub loop-byte-preserved : goal.loop-byte-preserved
 loop-byte-preserved c =
