@@ -49,7 +49,7 @@ differs [] b w p l = refl
 differs (x ∷ xs) b w p l = rw (differs_at x xs b w (x == b) refl p l) refl
 
 -- both parts of a test hold
-both : (p q : Bool) → (p && q) ≡ true → (p ≡ true) × (q ≡ true)
+pub both : (p q : Bool) → (p && q) ≡ true → (p ≡ true) × (q ≡ true)
 both true q e = (refl, e)
 both false q e = absurd cc
 

@@ -1,13 +1,17 @@
--- What a text that begins with a word or a number begins with.
-use Rattle.std.specs.Prelude.{◌≡◌, ℕ, ◌≤◌, ◌||◌, Bool, true, false, List, [], ◌∷◌, length, take, Option, option_map, refl}
-use Rattle.std.proofs.Common.{ap, sym, ◌∙◌, arith}
+-- What a text that begins with a word, a number or a mark begins with.
+use Rattle.std.specs.Prelude.{◌≡◌, ℕ, ◌≤◌, ◌==◌, ◌||◌, Bool, true, false, List, [], ◌∷◌, length, take, Option, Some, option_map, refl}
+use Rattle.std.proofs.Common.{ap, sym, subst, ◌∙◌, arith}
 use Rattle.cocoon_num.specs.Lists.{each}
 use Rattle.cocoon_num.specs.Tokens as tokens
 use Rattle.cocoon_lex.specs.Fronts.{BeginsWithDigit, BeginsWithLetter, Fits, Spells}
-use Rattle.cocoon_lex.specs.Kinds.{kind_of}
+use Rattle.cocoon_lex.specs.Kinds.{kind_of, mark_text}
+use Rattle.cocoon_lex.specs.declared.token.Mark.{Mark}
+use Rattle.cocoon_lex.specs.declared.token.Mark.TheVariants.{Any}
 use Rattle.cocoon_lex.specs.declared.fronts.Front.TheVariants.{Piece}
 use Rattle.cocoon_lex.specs.declared.token.TokenKind.{TokenKind}
 use Rattle.cocoon_lex.specs.declared.token.TokenKind.TheVariants.{Name}
+use Rattle.cocoon_lex.specs.declared.token.TokenKind.TheVariants as kind
+use Rattle.cocoon_lex.proofs.Finds.{both}
 use Rattle.cocoon_lex.proofs.Runs.{take_run}
 
 -- the letters, digits and `_` at the front
@@ -94,3 +98,34 @@ digit_begins (b ∷ bs) h = rw h (or_true (tokens.is_letter b))
 pub letter_begins : (text : List ℕ) → BeginsWithLetter text → begins_word text ≡ true
 letter_begins [] h = absurd h
 letter_begins (b ∷ bs) h = rw h refl
+
+-- ---- marks
+
+-- a text is no shorter than what it begins with
+begins_within : (p s : List ℕ) → tokens.begins p s ≡ true → length p ≤ length s
+begins_within [] s h = omega arith
+begins_within (x ∷ p) [] h = absurd cc
+begins_within (x ∷ p) (y ∷ s) h = let rest : length p ≤ length s = begins_within p s (both (x == y) (tokens.begins p s) h).1 in omega arith
+
+-- the first of some with which a text begins, or one of the others
+first_within : (x : List ℕ) (ms : List (List ℕ)) (text m : List ℕ) (b : Bool) → tokens.begins x text ≡ b → tokens.beginning (x ∷ ms) text ≡ Some m
+    → (tokens.beginning ms text ≡ Some m → length m ≤ length text) → length m ≤ length text
+first_within x ms text m true e h others =
+    let found : Some x ≡ Some m = rw e at h in
+    let same : x ≡ m = cc in
+    subst (λ y. length y ≤ length text) same (begins_within x text e)
+first_within x ms text m false e h others = others (rw e at h)
+
+-- a mark that is found stands within the text
+mark_within : (ms : List (List ℕ)) (text m : List ℕ) → tokens.beginning ms text ≡ Some m → length m ≤ length text
+mark_within [] text m h = absurd cc
+mark_within (x ∷ ms) text m h = first_within x ms text m (tokens.begins x text) refl h (mark_within ms text m)
+
+-- a mark has one byte or more
+mark_some : (m : Mark) → 1 ≤ length (mark_text m)
+mark_some Any = omega arith
+mark_some m = omega arith
+
+-- so it is a token within the text
+pub mark_fits : (text : List ℕ) (mark : Mark) (n : ℕ) → n ≡ length (mark_text mark) → Some (mark_text mark) ≡ tokens.beginning tokens.language.marks text → Fits text (Piece (kind.Mark mark) n)
+mark_fits text mark n e h = (rw e (mark_some mark), rw e (mark_within tokens.language.marks text (mark_text mark) (sym h)), tt)
