@@ -19,3 +19,4 @@ pub mod ThinWalks
 pub mod ThinDelivered
 pub mod OneLevel
 pub mod ThinMean
+pub mod ThinExample

@@ -1,5 +1,5 @@
 -- What the last level of a thin design delivers is what its parts say.
-use Rattle.std.specs.Prelude.{◌≡◌, ℕ, zero, suc, ◌+◌, ◌*◌, ◌≤◌, ◌<◌, ◌^◌, ◌==◌, ◌&&◌, nat_lt, Bool, true, false, List, [], ◌∷◌, ◌++◌, map, if◌then◌else◌, Option, Some, None, option_map, ◌↔◌, IsTrue, refl}
+use Rattle.std.specs.Prelude.{◌≡◌, ℕ, zero, suc, ◌+◌, ◌*◌, ◌≤◌, ◌<◌, ◌&&◌, nat_lt, Bool, true, false, List, [], ◌∷◌, ◌++◌, if◌then◌else◌, Option, Some, None, option_map, ◌↔◌, refl}
 use Rattle.std.proofs.Common.{sym, ◌∙◌, ap, ap₂, subst, arith}
 use Rattle.std.proofs.lemmas.Bool.{and_from, and_parts, ltb-true, lt-ltb}
 use Rattle.cocoon_num.specs.Values.{truth, fits_width}
@@ -7,17 +7,17 @@ use Rattle.cocoon_num.specs.Lists.{has_number}
 use Rattle.cocoon_num.specs.Packets.{Packet, enter, leave}
 use Rattle.cocoon_num.specs.Tree.{Role, Block, HostDecl}
 use Rattle.cocoon_parse.specs.declared.parts.Thin.{Thin}
-use Rattle.cocoon_parse.specs.Thin.{ThinNames, ThinEntry, IsThinDesign, IsThinDefs, AreThin}
-use Rattle.cocoon_parse.specs.Design.{layout, host_decl, last_level}
+use Rattle.cocoon_parse.specs.Thin.{ThinNames, AreThin}
+use Rattle.cocoon_parse.specs.Design.{layout}
 use Rattle.cocoon_parse.specs.Tables.{Defs}
-use Rattle.cocoon_parse.specs.Runs.{Loc, World, world, Walk, LastGo, entry_at, sink_at}
+use Rattle.cocoon_parse.specs.Runs.{Loc, World, Walk, LastGo, entry_at, sink_at}
 use Rattle.cocoon_parse.specs.ThinTree.{name_at, thin_tree, thin_defs}
-use Rattle.cocoon_parse.specs.ThinRuns.{thin_layout, tested_number, port_of, leaves_at, has_port, ThinDelivers}
+use Rattle.cocoon_parse.specs.ThinRuns.{thin_layout, tested_number, port_of, has_port, ThinDelivers}
 use Rattle.cocoon_parse.proofs.NameFacts.{AllApart, names_apart}
 use Rattle.cocoon_parse.proofs.ThinFields.{FieldFacts, field_facts, widths_are}
 use Rattle.cocoon_parse.proofs.ThinScope.{end_of, entry_of, sink_of, into_of, out_of, entry_is, sink_is, into_is, out_is}
 use Rattle.cocoon_parse.proofs.ThinTables.{host_guard_gives, switch_guard_gives}
-use Rattle.cocoon_parse.proofs.Taking.{Reached, or_stop, then_walk, go, walk, walk_takes, walk_gives, Used}
+use Rattle.cocoon_parse.proofs.Taking.{Reached, or_stop, then_walk, go, walk, walk_takes, walk_gives}
 use Rattle.cocoon_parse.proofs.ThinWalks.{Guards, thin_world, entry_loc, sink_loc, into_loc, out_loc, place, known_host, next_of, entry_goes, into_goes, out_goes}
 
 -- ---- steps of a walk

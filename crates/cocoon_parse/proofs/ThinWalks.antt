@@ -1,25 +1,25 @@
 -- The runs of the bodies of a thin design, computed: each goes on exactly where the guards on its way are true.
-use Rattle.std.specs.Prelude.{◌≡◌, ℕ, zero, suc, ◌+◌, ◌<◌, ◌==◌, ◌&&◌, ◌||◌, nat_lt, Bool, true, false, not, List, [], ◌∷◌, ◌++◌, length, map, slice_get, if◌then◌else◌, Option, Some, None, option_map, option_and_then, refl}
-use Rattle.std.proofs.Common.{sym, ◌∙◌, ap, ap₂, arith}
+use Rattle.std.specs.Prelude.{◌≡◌, ℕ, zero, suc, ◌+◌, ◌<◌, ◌==◌, ◌&&◌, nat_lt, Bool, true, false, not, List, [], ◌∷◌, length, map, slice_get, if◌then◌else◌, Option, Some, None, option_map, option_and_then, refl}
+use Rattle.std.proofs.Common.{◌∙◌, ap, ap₂, arith}
 use Rattle.std.proofs.lemmas.Bool.{eq-eqb, and_parts, not-true}
 use Rattle.cocoon_num.specs.Values.{Value, number, truth, number_of, fits_width, of_binary, equal, less, and_, with_both}
-use Rattle.cocoon_num.specs.Tree.{Param, Role, Block, name, lit, binary, if_, send}
+use Rattle.cocoon_num.specs.Tree.{Role, Block, name, lit, binary, if_, send}
 use Rattle.cocoon_num.specs.Names.{same_name}
 use Rattle.cocoon_num.specs.Lists.{is_one_of}
 use Rattle.cocoon_num.specs.Packets.{Packet}
 use Rattle.cocoon_parse.specs.declared.parts.ThinField.{ThinField}
 use Rattle.cocoon_parse.specs.declared.parts.Thin.{Thin}
-use Rattle.cocoon_parse.specs.Thin.{ThinNames, ThinEntry, is_true_at, field_name, field_width, all_distinct}
-use Rattle.cocoon_parse.specs.Design.{read_in, read_field, role_at}
+use Rattle.cocoon_parse.specs.Thin.{ThinNames, field_name, field_width, all_distinct}
+use Rattle.cocoon_parse.specs.Design.{read_in}
 use Rattle.cocoon_parse.specs.Tables.{Defs}
-use Rattle.cocoon_parse.specs.Val.{Env, Binding, variable, bind, bound, value, numbers, then_numbers, apply}
-use Rattle.cocoon_parse.specs.Runs.{Loc, World, world, End, falls, sends}
+use Rattle.cocoon_parse.specs.Val.{Env, variable, bind, bound, value, then_numbers, apply}
+use Rattle.cocoon_parse.specs.Runs.{Loc, World, world, falls, sends}
 use Rattle.cocoon_parse.specs.ThinTree.{name_at, fields_from, call_at, two_values, one_value, one_stmt, send_out_at, field_test, thin_tree}
 use Rattle.cocoon_parse.specs.ThinRuns.{tested_number, port_of}
 use Rattle.cocoon_parse.proofs.NameFacts.{same_name-refl, AllApart}
 use Rattle.cocoon_parse.proofs.ThinFields.{FieldFacts, name_of, not_among}
 use Rattle.cocoon_parse.proofs.ThinScope.{end_of, entry_of, sink_of, into_of, out_of, entry_is, sink_is, into_is, out_is}
-use Rattle.cocoon_parse.proofs.Taking.{guard_at, run, run_all, body_go, go, walk, if_true, if_reached, where_true, by_truth, back, go_on, Reached, Left}
+use Rattle.cocoon_parse.proofs.Taking.{guard_at, run_all, body_go, go, if_true, if_reached, where_true, by_truth, back, go_on, Reached, Left}
 
 -- a value that is there where a number fits
 only_if : {A B : Type 0} (b : Bool) (f : A → Option B) (x : A) → option_and_then f (if b then Some x else None) ≡ (if b then f x else None)

@@ -9,3 +9,4 @@ pub mod Rules
 pub mod DefsRules
 pub mod ThinTree
 pub mod ThinRuns
+pub mod ExampleThin

@@ -4,6 +4,7 @@ ghost use Rattle.std.specs.Prelude.{[], ◌∷◌, ◌≡◌, ◌↔◌, List, S
 ghost use Rattle.cocoon_num.specs.Reads.{Reads, ReadsDefs};
 ghost use Rattle.cocoon_num.specs.Values.{truth};
 ghost use Rattle.cocoon_parse.specs.DefsRules.{DefsFit};
+ghost use Rattle.cocoon_parse.specs.ExampleThin.{example_defs, example_design, example_thin};
 ghost use Rattle.cocoon_parse.specs.Rules.{WellFormed};
 ghost use Rattle.cocoon_parse.specs.Tables.{look_up};
 ghost use Rattle.cocoon_parse.specs.Thin.{AreThin, is_true_at, IsThinDefs, IsThinDesign, ThinEntry, ThinNames};
@@ -53,4 +54,12 @@ pub fn thin_designs_deliver()
 /// What two thin texts mean, put together.
 pub fn thin_texts_mean()
     ensures { (design defs : List ℕ) (t : Thin) → AreThin design defs t → ThinMeaning design defs t }
+{}
+
+/// The example is thin. It delivers at host 1 what has the tag and at host 2 what has not, and nothing of no bytes.
+pub fn thin_example()
+    ensures thin { AreThin example_design example_defs example_thin }
+    ensures tagged { ThinDelivers example_thin 0 (1 ∷ 255 ∷ []) [] 1 1 (1 ∷ 255 ∷ []) }
+    ensures untagged { ThinDelivers example_thin 3 (2 ∷ []) [] 1 2 (2 ∷ []) }
+    ensures too_short { (a : ℕ) (choices : List ℕ) (visits b : ℕ) (out : List ℕ) → ThinDelivers example_thin a [] choices visits b out → ⊥ }
 {}
