@@ -1,4 +1,4 @@
--- The types of expressions: a width, or truth. It follows "Rules of a design" in the document of formats, the rules of phase 2.
+-- The types of expressions: a width, or truth. It follows the section "Rules of a design" of docs/LANGUAGE.md.
 use Rattle.std.specs.Prelude.{ℕ, ◌+◌, ◌-◌, ◌==◌, ◌&&◌, nat_le, nat_lt, Bool, true, false, if◌then◌else◌, Option, Some, None}
 use Rattle.cocoon_num.specs.Values.{UnaryOp, flip, not_, BinaryOp, add, sub, bits_and, bits_or, bits_xor, concat, equal, unequal, less, less_equal, greater, greater_equal, and_, or_, implies}
 

@@ -1,6 +1,6 @@
 -- The tokens of a text, with the places of their bytes, or the first fault. At each place the longest token is
 -- taken. Two texts have such tokens, by a lexicon of their own each: designs with definitions, and P4 programs.
--- It follows "Tokens" and "The grammar read" in the document of formats.
+-- It follows the section "Texts" of docs/LANGUAGE.md, and for P4 programs the grammar of the printed text.
 use Rattle.std.specs.Prelude.{ℕ, zero, suc, ◌+◌, ◌-◌, ◌*◌, ◌^◌, ◌==◌, ◌&&◌, ◌||◌, Bool, true, false, not, nat_le, nat_lt, List, [], ◌∷◌, length, map, drop, if◌then◌else◌, Option, Some, None, option_map, option_and_then, Result, Ok, Err, codes}
 use Rattle.cocoon_num.specs.Names.{same_name}
 use Rattle.cocoon_num.specs.Lists.{each, is_one_of}

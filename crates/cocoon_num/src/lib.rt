@@ -4,6 +4,7 @@
 
 pub mod bits;
 pub mod list;
+pub mod packets;
 pub mod text;
 
 pub use bits::Bits;

@@ -1,1 +1,12 @@
 pub mod Thin
+pub mod Design
+pub mod Tables
+pub mod Val
+pub mod Runs
+pub mod Typing
+pub mod ReadBack
+pub mod Rules
+pub mod DefsRules
+pub mod ThinTree
+pub mod ThinRuns
+pub mod ExampleThin
