@@ -3,7 +3,7 @@ use Rattle.std.proofs.Common.{◌≡◌, ℕ, List, [], ◌∷◌, map, Option, 
 use Rattle.serde_json.specs.Data.{Data, object, number, string, array, Members, no_members, member, put}
 use Rattle.serde_json.specs.View.{items_of}
 use Rattle.serde_json.specs.Written.{has_float, items_have_float}
-use Rattle.cocoon_cli.specs.NetTree.{LinkEnd, to_switch, to_host, Link, HostPort}
+use Rattle.p4_emit.specs.NetTree.{LinkEnd, to_switch, to_host, Link, HostPort}
 use Rattle.cocoon_cli.specs.NetJson.{KeptDigest, NetFile, number_data, host_data, link_data, digest_data, net_data}
 
 -- seven members, put in one after another

@@ -1,7 +1,6 @@
 pub mod Command
 pub mod Report
 pub mod Run
-pub mod NetTree
 pub mod NetJson
 pub mod Lowered
 pub mod Bundle

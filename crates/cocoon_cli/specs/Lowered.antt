@@ -7,7 +7,7 @@ use Rattle.cocoon_parse.specs.declared.parts.ThinField.{ThinField}
 use Rattle.cocoon_parse.specs.declared.parts.Thin.{Thin}
 use Rattle.cocoon_parse.specs.Thin.{field_width}
 use Rattle.p4_emit.specs.P4Tree.{p_lit, p_field, p_binary, p_if_else, verdict, egress_port, p_return, P4Stmt, P4Block, p_done, p_then, P4Field, Program}
-use Rattle.cocoon_cli.specs.NetTree.{to_host, Link, HostPort}
+use Rattle.p4_emit.specs.NetTree.{to_host, Link, HostPort}
 
 -- ---- the program of each switch
 

@@ -2,7 +2,7 @@
 use Rattle.std.specs.Prelude.{ℕ, List, [], ◌∷◌, map, Some, None, codes}
 use Rattle.serde_json.specs.Data.{unsigned, Data, number, string, array, object, member, no_members}
 use Rattle.serde_json.specs.View.{items_of}
-use Rattle.cocoon_cli.specs.NetTree.{to_switch, to_host, Link, HostPort}
+use Rattle.p4_emit.specs.NetTree.{to_switch, to_host, Link, HostPort}
 
 abbrev pub number_data : ℕ → Data
 number_data n = number (unsigned n)

@@ -4,7 +4,7 @@ use Rattle.std.specs.declared.alloc.Global.{Global}
 use Rattle.std.specs.String.{string_bytes}
 use Rattle.cocoon_parse.specs.declared.parts.Thin.{Thin}
 use Rattle.cocoon_parse.specs.Thin.{fields_fit, numbers_fit, HasWords}
-use Rattle.cocoon_cli.specs.NetTree as tree
+use Rattle.p4_emit.specs.NetTree as tree
 use Rattle.cocoon_cli.specs.NetJson as json
 use Rattle.cocoon_cli.specs.Bundle as files
 use Rattle.cocoon_cli.specs.declared.network.LinkEnd.{LinkEnd}

@@ -6,3 +6,6 @@ pub mod Program
 pub mod Printed
 pub mod ExampleP4
 pub mod ExampleMP4
+pub mod Switch
+pub mod NetTree
+pub mod NetRuns

@@ -1,5 +1,5 @@
 -- The kind rules of programs: names, widths, tables, operands, and what stands in which control.
--- It follows "Kind rules" in the document of formats.
+-- It follows "Kind rules" in docs/FORMATS.md.
 use Rattle.std.specs.Prelude.{ℕ, ◌-◌, ◌^◌, ◌%◌, ◌==◌, ◌&&◌, ◌||◌, Bool, true, false, not, nat_le, nat_lt, List, [], ◌∷◌, ◌++◌, length, map, slice_get, if◌then◌else◌, Option, Some, None, option_map, option_and_then, codes}
 use Rattle.cocoon_num.specs.Values.{BinaryOp, implies}
 use Rattle.cocoon_num.specs.Names.{same_name}

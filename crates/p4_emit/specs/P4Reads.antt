@@ -1,4 +1,4 @@
--- Which program a P4 text reads as. It follows "Lowering and the P4 text" in the document of formats, with the bounds on depth of the reader.
+-- Which program a P4 text reads as. It follows "Lowering and the P4 text" in docs/FORMATS.md, with the bounds on depth of the reader.
 use Rattle.std.specs.Prelude.{◌≡◌, ℕ, List, Ok, IsTrue}
 use Rattle.cocoon_num.specs.Tokens.{Token, lex, kinds, is_shallow}
 use Rattle.p4_emit.specs.P4Tree.{Program}

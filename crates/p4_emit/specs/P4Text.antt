@@ -1,6 +1,6 @@
 -- The tokens of a program's text. The subset has one spelling for each program: blanks, comments and the spelling of
 -- numbers aside, a text is determined by its program. So the grammar is the list of tokens that a program has, one
--- case for each production. It follows "The text" in the document of formats.
+-- case for each production. It follows "The text" in docs/FORMATS.md.
 use Rattle.std.specs.Prelude.{ℕ, Bool, true, false, List, [], ◌∷◌, ◌++◌, flat_map, slice_get, Option, Some, None, Result, Ok, Err, decimal, codes}
 use Rattle.cocoon_num.specs.Values.{UnaryOp, flip, not_, BinaryOp, add, sub, bits_and, bits_or, bits_xor, concat, equal, unequal, less, less_equal, greater, greater_equal, and_, or_, implies}
 use Rattle.cocoon_num.specs.Tokens.{Kind, word, plain, literal, mark, finish, Token, LexFault, Lexicon, Bounds, lex, kinds}

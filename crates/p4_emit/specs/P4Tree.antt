@@ -1,5 +1,5 @@
 -- Programs of the P4-16 subset, and the rows that tables are filled with. Meta fields, headers and fields are named
--- by their numbers, from 0. It follows "Lowering and the P4 text" in the document of formats.
+-- by their numbers, from 0. It follows "Lowering and the P4 text" in docs/FORMATS.md.
 use Rattle.std.specs.Prelude.{ℕ, Bool, List, map}
 use Rattle.cocoon_num.specs.Values.{UnaryOp, BinaryOp}
 use Rattle.cocoon_num.specs.Packets.{Layout}
