@@ -3,3 +3,5 @@ pub mod Numbers
 pub mod TestProgram
 pub mod Lowerable
 pub mod NetData
+pub mod Placing
+pub mod Compiling

@@ -1,5 +1,5 @@
 -- The files of a bundle. It follows "Bundle files" in docs/FORMATS.md.
-use Rattle.std.specs.Prelude.{◌≡◌, ℕ, ◌≤◌, List, [], ◌∷◌, ◌++◌, map, flat_map, take, length, Option, All, codes, decimal}
+use Rattle.std.specs.Prelude.{◌≡◌, ◌⊎◌, ℕ, ◌≤◌, ◌<◌, List, [], ◌∷◌, ◌++◌, map, flat_map, take, length, Option, codes, decimal}
 use Rattle.serde_json.specs.Written.{compact_text}
 use Rattle.sha2.specs.Sha256.{sha256}
 use Rattle.hex.specs.Hex.{encode_lower}
@@ -82,4 +82,15 @@ abbrev pub made_most : ℕ
 made_most = 4194304
 
 abbrev pub AllFit : List NamedFile → Type 0
-AllFit fs = All (λ (f : NamedFile). length f.bytes ≤ made_most) fs
+AllFit [] = Unit {0}
+AllFit (f ∷ fs) = (length f.bytes ≤ made_most) × AllFit fs
+
+-- a file of this name is among them
+abbrev pub HasFile : List NamedFile → List ℕ → Type 0
+HasFile [] name = ⊥
+HasFile (f ∷ fs) name = (f.name ≡ name) ⊎ HasFile fs name
+
+-- a file of this name has more bytes
+abbrev pub SomeExceeds : List NamedFile → List ℕ → Type 0
+SomeExceeds [] name = ⊥
+SomeExceeds (f ∷ fs) name = ((f.name ≡ name) × (made_most < length f.bytes)) ⊎ SomeExceeds fs name

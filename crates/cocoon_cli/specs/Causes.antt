@@ -1,5 +1,5 @@
 -- What `compile` finds, and what it leaves in the folder. It follows "Statuses" in docs/FORMATS.md.
-use Rattle.std.specs.Prelude.{◌≡◌, ◌⊎◌, ◌≤◌, ◌<◌, ℕ, List, length, Any, Option, Some, None, Result, Ok, Err}
+use Rattle.std.specs.Prelude.{◌≡◌, ◌⊎◌, ◌≤◌, ◌<◌, ℕ, List, length, Option, Some, None, Result, Ok, Err}
 use Rattle.std.specs.FinMap.{get}
 use Rattle.std.specs.String.{string_bytes}
 use Rattle.cocoon_io.specs.Files.{Files}
@@ -10,7 +10,7 @@ use Rattle.cocoon_cli.specs.declared.refusal.Refusal.TheVariants.{Usage, Design,
 use Rattle.cocoon_cli.specs.declared.refusal.Totals.{Totals}
 use Rattle.cocoon_cli.specs.Command.{Command, command, compile}
 use Rattle.cocoon_cli.specs.Lowered.{links}
-use Rattle.cocoon_cli.specs.Bundle.{NamedFile, bundle, with_files, SomeWritten, AllFit, made_most}
+use Rattle.cocoon_cli.specs.Bundle.{NamedFile, bundle, with_files, SomeWritten, AllFit, HasFile, SomeExceeds, made_most}
 
 -- ---- files that are read: what is said of told files holds of every folder that does not tell
 
@@ -50,10 +50,6 @@ pub record Inputs (told : Option Files) (design_name defs_name design defs : Lis
 
 -- ---- what is found of two texts
 
--- a file of the bundle would have more bytes than it may
-abbrev pub SomeExceeds : List NamedFile → List ℕ → Type 0
-SomeExceeds files name = Any (λ (f : NamedFile). (f.name ≡ name) × (made_most < length f.bytes)) files
-
 -- why two texts are not compiled, before any write
 abbrev pub NotMade : (design_name defs_name out design defs : List ℕ) → Refusal → Type 0
 NotMade design_name defs_name out design defs (Design file) = (string_bytes file ≡ design_name) × (¬ ThinDesign design)
@@ -64,7 +60,7 @@ NotMade design_name defs_name out design defs _ = ⊥
 
 -- why a bundle is not wholly written
 abbrev pub NotWritten : List NamedFile → Refusal → Type 0
-NotWritten files (WriteFault file) = Any (λ (f : NamedFile). f.name ≡ string_bytes file) files
+NotWritten files (WriteFault file) = HasFile files (string_bytes file)
 NotWritten files NoMemory = Unit {0}
 NotWritten files _ = ⊥
 

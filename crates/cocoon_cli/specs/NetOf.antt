@@ -3,7 +3,7 @@ use Rattle.std.specs.Prelude.{◌≡◌, ℕ, ◌<◌, Bool, ◌&&◌, IsTrue, L
 use Rattle.std.specs.declared.alloc.Global.{Global}
 use Rattle.std.specs.String.{string_bytes}
 use Rattle.cocoon_parse.specs.declared.parts.Thin.{Thin}
-use Rattle.cocoon_parse.specs.Thin.{fields_fit, numbers_fit, HasWords}
+use Rattle.cocoon_parse.specs.Thin.{fields_fit, numbers_fit, HasWords, ThinDesign, ThinDefs}
 use Rattle.p4_emit.specs.NetTree as tree
 use Rattle.cocoon_cli.specs.NetJson as json
 use Rattle.cocoon_cli.specs.Bundle as files
@@ -16,9 +16,8 @@ use Rattle.cocoon_cli.specs.declared.json.NetFile.{NetFile}
 use Rattle.cocoon_io.specs.Told.{Rose}
 use Rattle.cocoon_io.specs.declared.folder.FolderFault.{FolderFault}
 use Rattle.cocoon_io.specs.declared.folder.FolderFault.TheVariants.{Failed, TooLong as TooLongFile}
-use Rattle.cocoon_cli.specs.Causes.{SomeExceeds}
 use Rattle.cocoon_cli.specs.declared.refusal.Refusal.{Refusal}
-use Rattle.cocoon_cli.specs.declared.refusal.Refusal.TheVariants.{TooLong, WriteFault, NoMemory}
+use Rattle.cocoon_cli.specs.declared.refusal.Refusal.TheVariants.{Usage, Design, Definitions, ReadFault, TooLong, WriteFault, NoMemory}
 use Rattle.cocoon_cli.specs.declared.bundle.BundleFile.{BundleFile}
 
 -- what the program of a thin design needs of its parts
@@ -53,7 +52,7 @@ named_of f = record { name = string_bytes f.name; bytes = f.bytes.items }
 
 -- a made file is refused only for its length
 abbrev pub MadeTooLong : List files.NamedFile → Refusal → Type 0
-MadeTooLong fs (TooLong file n) = (n ≡ files.made_most) × SomeExceeds fs (string_bytes file)
+MadeTooLong fs (TooLong file n) = (n ≡ files.made_most) × files.SomeExceeds fs (string_bytes file)
 MadeTooLong fs NoMemory = Unit {0}
 MadeTooLong fs _ = ⊥
 
@@ -68,3 +67,27 @@ IsWriteRefusal name _ _ = ⊥
 abbrev pub FaultRose : Option ℕ → ℕ → ℕ → Refusal → Type 0
 FaultRose last old new (WriteFault file) = Rose last old new
 FaultRose last old new _ = Unit {0}
+
+-- what is told of a read that failed
+abbrev pub IsReadRefusal : List ℕ → ℕ → FolderFault → Refusal → Type 0
+IsReadRefusal name most fault NoMemory = Unit {0}
+IsReadRefusal name most Failed (ReadFault file) = string_bytes file ≡ name
+IsReadRefusal name most (TooLongFile n) (TooLong file m) = (string_bytes file ≡ name) × (m ≡ most)
+IsReadRefusal name most _ _ = ⊥
+
+-- a read fault comes only where the count of read faults rose
+abbrev pub ReadFaultRose : Option ℕ → ℕ → ℕ → Refusal → Type 0
+ReadFaultRose last old new (ReadFault file) = Rose last old new
+ReadFaultRose last old new _ = Unit {0}
+
+-- what is told of two texts that are not thin
+abbrev pub IsThinRefusal : (design_name defs_name design defs : List ℕ) → Refusal → Type 0
+IsThinRefusal design_name defs_name design defs (Design file) = (string_bytes file ≡ design_name) × (¬ ThinDesign design)
+IsThinRefusal design_name defs_name design defs (Definitions file) = (string_bytes file ≡ defs_name) × ThinDesign design × (¬ ThinDefs design defs)
+IsThinRefusal design_name defs_name design defs NoMemory = Unit {0}
+IsThinRefusal design_name defs_name design defs _ = ⊥
+
+-- `compile` never says that there is no command
+abbrev pub IsOfCompile : Refusal → Type 0
+IsOfCompile Usage = ⊥
+IsOfCompile _ = Unit {0}

@@ -55,3 +55,10 @@ pub data Says (found : Result Totals Refusal) (old new : Option (List ℕ)) : St
   front : {s : Status} → s ≡ status.WriteFault → AppendsFront old (report_of found) new → Says found old new s
   no_memory : {s : Status} → s ≡ status.NoMemory → (new ≡ old) ⊎ (new ≡ appended old no_memory_line) → Says found old new s
   front_of_no_memory : {s : Status} → s ≡ status.WriteFault → AppendsFront old no_memory_line new → Says found old new s
+
+-- What a put of bytes and the status before it give: the status and all the bytes, a write fault and a front of them,
+-- or want of memory and nothing.
+pub data Puts (bytes : List ℕ) (before : Status) (old new : Option (List ℕ)) : Status → Type 0 where
+  all : {s : Status} → s ≡ before → new ≡ appended old bytes → Puts bytes before old new s
+  a_front : {s : Status} → s ≡ status.WriteFault → AppendsFront old bytes new → Puts bytes before old new s
+  nothing : {s : Status} → s ≡ status.NoMemory → new ≡ old → Puts bytes before old new s

@@ -161,7 +161,7 @@ pub fn make(
 }
 
 /// Tests that each file has at most the bytes that it may.
-fn check_lengths(alloc: Global, files: &[BundleFile]) -> Result<(), Refusal>
+pub fn check_lengths(alloc: Global, files: &[BundleFile]) -> Result<(), Refusal>
     ensures fit { OnOk result (spec.AllFit (map named_of files.now)) }
     ensures too_long { IfErr result (MadeTooLong (map named_of files.now)) }
 {

@@ -2,6 +2,8 @@
 #![tactic(auto)]
 
 pub mod bundle;
+pub mod compiler;
+pub mod driver;
 pub mod json;
 pub mod lower;
 pub mod network;

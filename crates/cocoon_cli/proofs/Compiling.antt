@@ -1,0 +1,71 @@
+-- Why `compile` refuses, put together from its steps.
+use Rattle.std.proofs.Common.{◌≡◌, ℕ, List, Option, Some, None, Result, Ok, Err, IsErrAnd, refl, sym, subst, ◌∙◌}
+use Rattle.cocoon_io.specs.Files.{Files}
+use Rattle.cocoon_io.specs.Told.{ReadAnswers}
+use Rattle.cocoon_io.specs.declared.folder.FolderFault.{FolderFault}
+use Rattle.cocoon_io.specs.declared.folder.FolderFault.TheVariants.{Failed, TooLong as TooLongFile, NoMemory as NoMemoryFault}
+use Rattle.cocoon_parse.specs.declared.parts.Thin.{Thin}
+use Rattle.cocoon_parse.specs.Thin.{AreThin}
+use Rattle.cocoon_cli.specs.declared.refusal.Refusal.{Refusal}
+use Rattle.cocoon_cli.specs.declared.refusal.Refusal.TheVariants.{Usage, Design, Definitions, ReadFault, WriteFault, TooLong, NoMemory, NoFile}
+use Rattle.cocoon_cli.specs.declared.refusal.Totals.{Totals}
+use Rattle.cocoon_cli.specs.Bundle.{NamedFile, bundle, SomeWritten, AllFit}
+use Rattle.cocoon_cli.specs.Causes.{Gives, NotRead, Inputs, NotMade, NotWritten, Makes, Refuses, Compiles, no_design, no_defs, not_made, not_written, design_most, defs_most, totals_of}
+use Rattle.cocoon_cli.specs.NetOf.{IsReadRefusal, IsThinRefusal, MadeTooLong}
+
+-- a read that failed
+pub read_cause : (told : Option Files) (name : List ℕ) (most : ℕ) (fault : FolderFault) (r : Refusal) → ReadAnswers told name most (Err fault) → IsReadRefusal name most fault r → NotRead told name most r
+read_cause told name most fault NoMemory a e = tt
+read_cause told name most Failed (ReadFault file) a e = e
+read_cause None name most (TooLongFile n) (TooLong file m) a e = (e.0, e.1, tt)
+read_cause (Some files) name most (TooLongFile n) (TooLong file m) a e = (e.0, e.1, (a.1, a.2, a.3))
+read_cause told name most fault r a e = absurd e
+
+thin_not_made : (d e o x y : List ℕ) (r : Refusal) → IsThinRefusal d e x y r → NotMade d e o x y r
+thin_not_made d e o x y (Design file) h = h
+thin_not_made d e o x y (Definitions file) h = h
+thin_not_made d e o x y NoMemory h = tt
+thin_not_made d e o x y r h = absurd h
+
+long_not_made : (d e o x y : List ℕ) (t : Thin) (r : Refusal) → AreThin x y t → MadeTooLong (bundle o x t) r → NotMade d e o x y r
+long_not_made d e o x y t (TooLong file n) h l = (l.0, t, h, l.1)
+long_not_made d e o x y t NoMemory h l = tt
+long_not_made d e o x y t r h l = absurd l
+
+-- the definitions are not read
+pub defs_refused : (a b c : Option Files) (d e o x : List ℕ) (r : Refusal) → b ≡ a → c ≡ b → Gives a d design_most x → NotRead b e defs_most r → Refuses a d e o r c
+defs_refused a b c d e o x r p q g n = no_defs x (q ∙ p) g (subst (λ t. NotRead t e defs_most r) p n)
+
+inputs : (a b : Option Files) (d e x y : List ℕ) → b ≡ a → Gives a d design_most x → Gives b e defs_most y → Inputs a d e x y
+inputs a b d e x y p g h = record { design_is = g; defs_are = subst (λ t. Gives t e defs_most y) p h }
+
+-- the texts are not thin
+pub parts_refused : (a b c : Option Files) (d e o x y : List ℕ) (r : Refusal) → b ≡ a → c ≡ b → Gives a d design_most x → Gives b e defs_most y → IsThinRefusal d e x y r → Refuses a d e o r c
+parts_refused a b c d e o x y r p q g h n = not_made x y (q ∙ p) (inputs a b d e x y p g h) (thin_not_made d e o x y r n)
+
+-- the bundle is not made
+pub files_refused : (a b c : Option Files) (d e o x y : List ℕ) (t : Thin) (r : Refusal) → b ≡ a → c ≡ b → Gives a d design_most x → Gives b e defs_most y → AreThin x y t → MadeTooLong (bundle o x t) r → Refuses a d e o r c
+files_refused a b c d e o x y t r p q g h n l = not_made x y (q ∙ p) (inputs a b d e x y p g h) (long_not_made d e o x y t r n l)
+
+-- the bundle is not wholly written
+pub write_refused : (a b c now : Option Files) (d e o x y : List ℕ) (t : Thin) (fs : List NamedFile) (r : Refusal) → b ≡ a → c ≡ b → Gives a d design_most x → Gives b e defs_most y → AreThin x y t
+    → fs ≡ bundle o x t → AllFit fs → SomeWritten fs c now → NotWritten fs r → Refuses a d e o r now
+write_refused a b c now d e o x y t fs r p q g h n f fit w v =
+    not_written fs (totals_of t)
+    (record { design = x; defs = y; parts = t; inputs = inputs a b d e x y p g h; thin = n; files_are = f; totals_are = refl; fit = fit })
+    (subst (λ (told : Option Files). SomeWritten fs told now) (q ∙ p) w) v
+
+-- a refusal that is passed on
+pub passed_on : (told : Option Files) (d e o : List ℕ) (now : Option Files) (found : Result Totals Refusal) (r : Refusal) → IsErrAnd found (λ x. x ≡ r) → Refuses told d e o r now → Compiles told d e o found now
+passed_on told d e o now (Ok totals) r h k = absurd h
+passed_on told d e o now (Err x) r h k = subst (λ (y : Refusal). Refuses told d e o y now) (sym h) k
+
+-- what is known of some bytes is known of the same bytes
+pub same_texts : (x y x' y' : List ℕ) (t : Thin) → x' ≡ x → y' ≡ y → AreThin x' y' t → AreThin x y t
+same_texts x y x' y' t p q h = subst (λ (b : List ℕ). AreThin x b t) q (subst (λ (a : List ℕ). AreThin a y' t) p h)
+
+pub same_refusal : (d e x y x' y' : List ℕ) (r : Refusal) → x' ≡ x → y' ≡ y → IsThinRefusal d e x' y' r → IsThinRefusal d e x y r
+same_refusal d e x y x' y' r p q h = subst (λ (b : List ℕ). IsThinRefusal d e x b r) q (subst (λ (a : List ℕ). IsThinRefusal d e a y' r) p h)
+
+pub same_length : (o x x' : List ℕ) (t : Thin) (r : Refusal) → x' ≡ x → MadeTooLong (bundle o x' t) r → MadeTooLong (bundle o x t) r
+same_length o x x' t r p h = subst (λ (a : List ℕ). MadeTooLong (bundle o a t) r) p h
