@@ -1,7 +1,13 @@
 //! The texts of designs and definitions that `compile` takes today: thin ones.
 #![tactic(auto)]
 
+pub mod cursor;
+pub mod kinds;
+pub mod definitions;
+pub mod design;
+pub mod names;
 pub mod parts;
+pub mod places;
 pub mod texts;
 
 pub use parts::{Thin, ThinField};

@@ -1,0 +1,148 @@
+-- What stands in the tokens of a text at the places where a thin text has its parts. Where something else stands there
+-- it is an empty name or 0: then the tokens are not those of the parts so read, and the text is not thin.
+use Rattle.std.specs.Prelude.{ℕ, zero, suc, ◌-◌, Bool, true, false, min, nat_le, List, [], ◌∷◌, map, drop, slice_get, if◌then◌else◌, Option, Some, None, codes}
+use Rattle.cocoon_num.specs.Names.{same_name}
+use Rattle.cocoon_num.specs.Tokens.{Kind, word, keyword, plain, literal, mark, finish}
+use Rattle.cocoon_parse.specs.Follow.{alike}
+use Rattle.cocoon_parse.specs.Thin.{ThinNames, ThinEntry, its_default, its_row}
+use Rattle.cocoon_parse.specs.declared.names.Names.{Names}
+use Rattle.cocoon_parse.specs.declared.definitions.Entry.{Entry}
+use Rattle.cocoon_parse.specs.declared.definitions.Entry.TheVariants.{Default, Row}
+use Rattle.cocoon_parse.specs.declared.parts.ThinField.{ThinField}
+use Rattle.cocoon_parse.specs.declared.parts.Thin.{Thin}
+
+-- ---- what the values of the code stand for
+
+abbrev pub names_of : Names → ThinNames
+names_of n = record {
+  host_guard = n.host_guard;
+  switch_guard = n.switch_guard;
+  entry = n.entry;
+  sink = n.sink;
+  into = n.into;
+  out = n.out;
+  host = n.host;
+  switch = n.switch;
+  port = n.port;
+}
+
+abbrev pub entry_of : Entry → ThinEntry
+entry_of (Default function) = its_default function
+entry_of (Row function n holds) = its_row function n holds
+
+-- ---- what stands at one place
+
+abbrev pub word_in : Option Kind → List ℕ
+word_in (Some (word text)) = text
+word_in _ = []
+
+-- a name
+abbrev pub word_at : List Kind → ℕ → List ℕ
+word_at ks i = word_in (slice_get ks i)
+
+abbrev pub plain_in : ℕ → Option Kind → ℕ
+plain_in most (Some (plain n)) = if nat_le n most then n else 0
+plain_in most _ = 0
+
+-- a number without a width, which is at most this
+abbrev pub plain_at : ℕ → List Kind → ℕ → ℕ
+plain_at most ks i = plain_in most (slice_get ks i)
+
+abbrev pub literal_in : ℕ → Option Kind → ℕ
+literal_in widest (Some (literal width n)) = if nat_le width widest then n else 0
+literal_in widest _ = 0
+
+-- a number of a width, which is at most this
+abbrev pub literal_at : ℕ → List Kind → ℕ → ℕ
+literal_at widest ks i = literal_in widest (slice_get ks i)
+
+abbrev pub is_kind : Kind → Option Kind → Bool
+is_kind k None = false
+is_kind k (Some x) = alike k x
+
+-- whether this reserved word stands there
+abbrev pub is_keyword_at : List ℕ → List Kind → ℕ → Bool
+is_keyword_at text ks i = is_kind (keyword text) (slice_get ks i)
+
+-- ---- designs
+
+abbrev pub begins_with_name : List Kind → Bool
+begins_with_name (word text ∷ ks) = true
+begins_with_name _ = false
+
+abbrev pub field_in : List Kind → ThinField
+field_in ks = record { name = word_at ks 0; width = plain_at 64 ks 4 }
+
+-- the fields, of seven tokens each, where so many tokens belong to the field before
+abbrev pub fields_from : ℕ → List Kind → List ThinField
+fields_from covered [] = []
+fields_from (suc covered) (k ∷ ks) = fields_from covered ks
+fields_from zero (k ∷ ks) = if begins_with_name (k ∷ ks) then field_in (k ∷ ks) ∷ fields_from 6 ks else []
+
+-- the tokens after these fields
+abbrev pub after_fields : ℕ → List Kind → List Kind
+after_fields covered [] = []
+after_fields (suc covered) (k ∷ ks) = after_fields covered ks
+after_fields zero (k ∷ ks) = if begins_with_name (k ∷ ks) then after_fields 6 ks else k ∷ ks
+
+-- the place of the first of these that is this name, or how many there are
+abbrev pub position : List ℕ → List (List ℕ) → ℕ
+position x [] = 0
+position x (y ∷ ys) = if same_name x y then 0 else suc (position x ys)
+
+-- the names, from the tokens after the fields
+abbrev pub names_in : List Kind → ThinNames
+names_in ks = record {
+  host_guard = word_at ks 3;
+  switch_guard = word_at ks 16;
+  entry = word_at ks 29;
+  sink = word_at ks 55;
+  into = word_at ks 46;
+  out = word_at ks 117;
+  host = word_at ks 5;
+  switch = word_at ks 18;
+  port = word_at ks 87;
+}
+
+-- the parts, from the name of the header, the fields and the tokens after them
+abbrev pub parts_in : List ℕ → List ThinField → List Kind → Thin
+parts_in header fields ks = record {
+  header = header;
+  fields = fields;
+  tested = min (position (word_at ks 111) (map (λ (f : ThinField). f.name) fields)) 64;
+  literal = literal_at 64 ks 113;
+  entry_switch = literal_at 16 ks 48;
+  first_port = literal_at 16 ks 121;
+  other_port = literal_at 16 ks 132;
+  ports = literal_at 16 ks 102;
+  hosts = [];
+  switches = [];
+}
+
+-- the same from all tokens of a text
+abbrev pub design_names : List Kind → ThinNames
+design_names ks = names_in (after_fields 0 (drop 5 ks))
+
+abbrev pub design_parts : List Kind → Thin
+design_parts ks = parts_in (word_at ks 3) (fields_from 0 (drop 5 ks)) (after_fields 0 (drop 5 ks))
+
+-- ---- definitions
+
+abbrev pub begins_with_keyword : List Kind → Bool
+begins_with_keyword (keyword text ∷ ks) = true
+begins_with_keyword _ = false
+
+-- a default, or else a row
+abbrev pub entry_in : List Kind → ThinEntry
+entry_in ks =
+    if is_keyword_at (codes "default") ks 0 then its_default (word_at ks 1)
+    else its_row (word_at ks 1) (literal_at 16 ks 3) (is_keyword_at (codes "true") ks 6)
+
+abbrev pub entry_size : List Kind → ℕ
+entry_size ks = if is_keyword_at (codes "default") ks 0 then 5 else 8
+
+-- the entries, where so many tokens belong to the entry before
+abbrev pub entries_from : ℕ → List Kind → List ThinEntry
+entries_from covered [] = []
+entries_from (suc covered) (k ∷ ks) = entries_from covered ks
+entries_from zero (k ∷ ks) = if begins_with_keyword (k ∷ ks) then entry_in (k ∷ ks) ∷ entries_from (entry_size (k ∷ ks) - 1) ks else []
