@@ -1,1 +1,5 @@
-mod Follows
+pub mod Back
+pub mod Designs
+pub mod Follows
+pub mod Good
+pub mod Here

@@ -1,10 +1,10 @@
 -- What stands in the tokens of a text at the places where a thin text has its parts. Where something else stands there
 -- it is an empty name or 0: then the tokens are not those of the parts so read, and the text is not thin.
-use Rattle.std.specs.Prelude.{ℕ, zero, suc, ◌-◌, Bool, true, false, min, nat_le, List, [], ◌∷◌, map, drop, slice_get, if◌then◌else◌, Option, Some, None, codes}
+use Rattle.std.specs.Prelude.{ℕ, zero, suc, ◌-◌, ◌&&◌, Bool, true, false, min, nat_le, List, [], ◌∷◌, ◌++◌, map, drop, slice_get, if◌then◌else◌, Option, Some, None, codes}
 use Rattle.cocoon_num.specs.Names.{same_name}
 use Rattle.cocoon_num.specs.Tokens.{Kind, word, keyword, plain, literal, mark, finish}
-use Rattle.cocoon_parse.specs.Follow.{alike}
-use Rattle.cocoon_parse.specs.Thin.{ThinNames, ThinEntry, its_default, its_row}
+use Rattle.cocoon_parse.specs.Follow.{after_all, alike, is_all}
+use Rattle.cocoon_parse.specs.Thin.{ThinNames, ThinEntry, design_tokens, field_name, field_width, fields_fit, function_tokens, host_role, into_body, its_default, its_row, names_fit, numbers_fit, said, switch_role}
 use Rattle.cocoon_parse.specs.declared.names.Names.{Names}
 use Rattle.cocoon_parse.specs.declared.definitions.Entry.{Entry}
 use Rattle.cocoon_parse.specs.declared.definitions.Entry.TheVariants.{Default, Row}
@@ -29,6 +29,12 @@ names_of n = record {
 abbrev pub entry_of : Entry → ThinEntry
 entry_of (Default function) = its_default function
 entry_of (Row function n holds) = its_row function n holds
+
+abbrev pub field_names : List ThinField → List (List ℕ)
+field_names fields = map (λ (f : ThinField). f.name) fields
+
+abbrev pub field_widths : List ThinField → List ℕ
+field_widths fields = map (λ (f : ThinField). f.width) fields
 
 -- ---- what stands at one place
 
@@ -109,7 +115,7 @@ abbrev pub parts_in : List ℕ → List ThinField → List Kind → Thin
 parts_in header fields ks = record {
   header = header;
   fields = fields;
-  tested = min (position (word_at ks 111) (map (λ (f : ThinField). f.name) fields)) 64;
+  tested = min (position (word_at ks 111) (field_names fields)) 64;
   literal = literal_at 64 ks 113;
   entry_switch = literal_at 16 ks 48;
   first_port = literal_at 16 ks 121;
@@ -125,6 +131,50 @@ design_names ks = names_in (after_fields 0 (drop 5 ks))
 
 abbrev pub design_parts : List Kind → Thin
 design_parts ks = parts_in (word_at ks 3) (fields_from 0 (drop 5 ks)) (after_fields 0 (drop 5 ks))
+
+-- ---- the tokens of a design, part by part
+
+-- { send INTO[16wENTRY_SWITCH, HOST]; }
+abbrev pub entry_send : ThinNames → ℕ → List Kind
+entry_send n switch = said (codes "= { send") ++ (word n.into ∷ (said (codes "[") ++ (literal 16 switch ∷ (said (codes ",") ++ (word n.host ∷ said (codes "]; }"))))))
+
+-- FIELD == LITERAL
+abbrev pub tested_is : List ThinField → ℕ → ℕ → List Kind
+tested_is fields tested n = word (field_name fields tested) ∷ (said (codes "==") ++ (literal (field_width fields tested) n ∷ []))
+
+-- packet { header HEADER {
+abbrev pub header_tokens : List ℕ → List Kind
+header_tokens header = said (codes "packet { header") ++ (word header ∷ said (codes "{"))
+
+-- the entry role, the sink and their declaration
+abbrev pub host_roles : ThinNames → Thin → List Kind
+host_roles n t =
+    host_role n n.entry ++ (entry_send n t.entry_switch ++ (host_role n n.sink ++ (said (codes ";")
+    ++ (said (codes "host (") ++ (word n.entry ∷ (said (codes ",") ++ (word n.sink ∷ said (codes ");"))))))))
+
+-- the two roles of a switch
+abbrev pub switch_roles : ThinNames → Thin → List Kind
+switch_roles n t =
+    switch_role n t.ports n.into ++ (into_body n t ++ (switch_role n t.ports n.out
+    ++ (said (codes "= { send") ++ (word n.sink ∷ (said (codes "[") ++ (word n.port ∷ said (codes "]; }")))))))
+
+-- switch (INTO, OUT) ports PORTS;
+abbrev pub ports_are : ThinNames → ℕ → List Kind
+ports_are n ports = said (codes "switch (") ++ (word n.into ∷ (said (codes ",") ++ (word n.out ∷ (said (codes ") ports") ++ (plain ports ∷ said (codes ";"))))))
+
+-- all tokens after the fields
+abbrev pub tokens_after : ThinNames → Thin → List Kind
+tokens_after n t =
+    said (codes "} }") ++ (function_tokens n.host_guard n.host ++ (function_tokens n.switch_guard n.switch
+    ++ (host_roles n t ++ (switch_roles n t ++ (ports_are n t.ports ++ (finish ∷ []))))))
+
+-- the tokens are those of the design
+abbrev pub has_design : List Kind → ThinNames → Thin → Bool
+has_design ks n t = is_all (after_all (design_tokens n t) (Some ks))
+
+-- the design may have these names and parts
+abbrev pub design_fits : ThinNames → Thin → Bool
+design_fits n t = names_fit n && fields_fit t.fields && numbers_fit t
 
 -- ---- definitions
 

@@ -2,6 +2,7 @@
 #![tactic(auto)]
 
 pub mod cursor;
+pub mod fits;
 pub mod kinds;
 pub mod definitions;
 pub mod design;
@@ -9,6 +10,7 @@ pub mod names;
 pub mod parts;
 pub mod places;
 pub mod texts;
+pub mod tokens;
 
 pub use parts::{Thin, ThinField};
 pub use texts::{ThinFault, thin};

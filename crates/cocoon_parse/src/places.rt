@@ -1,5 +1,5 @@
 //! What stands at a place of a text's tokens.
-ghost use Rattle.std.specs.Prelude.{◌≡◌, ◌≤◌, ◌<◌, ◌^◌, ◌∷◌, ℕ, List, Some, drop};
+ghost use Rattle.std.specs.Prelude.{◌≡◌, ◌≤◌, ◌<◌, ◌^◌, ◌∷◌, ℕ, List, Some, drop, length, true};
 ghost use Rattle.cocoon_num.specs.Tokens.{Kind};
 ghost use Rattle.cocoon_lex.specs.Kinds.{keyword_text, kind_of};
 ghost use Rattle.cocoon_parse.specs.Follow.{kind_at, kinds_at};
@@ -91,7 +91,8 @@ pub fn is_keyword_at(tokens: &[Token], place: usize, wanted: Keyword) -> bool
 
 /// Whether a name comes next.
 pub fn begins_with_name(tokens: &[Token]) -> bool
-    ensures { (text : List ℕ) → result ≡ spec.begins_with_name (kinds_at text tokens.now) }
+    ensures value { (text : List ℕ) → result ≡ spec.begins_with_name (kinds_at text tokens.now) }
+    ensures some { result ≡ true → 0 < length tokens.now }
 {
     match tokens.split_first() {
         Some((token, _)) => is_any_name(token.kind),
@@ -110,7 +111,8 @@ fn is_any_name(kind: TokenKind) -> bool
 
 /// Whether a reserved word comes next.
 pub fn begins_with_keyword(tokens: &[Token]) -> bool
-    ensures { (text : List ℕ) → result ≡ spec.begins_with_keyword (kinds_at text tokens.now) }
+    ensures value { (text : List ℕ) → result ≡ spec.begins_with_keyword (kinds_at text tokens.now) }
+    ensures some { result ≡ true → 0 < length tokens.now }
 {
     match tokens.split_first() {
         Some((token, _)) => is_any_keyword(token.kind),
