@@ -4,10 +4,10 @@ use Rattle.std.specs.Prelude.{ℕ, zero, suc, ◌-◌, ◌&&◌, Bool, true, fal
 use Rattle.cocoon_num.specs.Names.{same_name}
 use Rattle.cocoon_num.specs.Tokens.{Kind, word, keyword, plain, literal, mark, finish}
 use Rattle.cocoon_parse.specs.Follow.{after_all, alike, is_all}
-use Rattle.cocoon_parse.specs.Thin.{ThinNames, ThinEntry, design_tokens, field_name, field_width, fields_fit, function_tokens, host_role, into_body, its_default, its_row, names_fit, numbers_fit, said, switch_role}
+use Rattle.cocoon_parse.specs.Thin.{ThinNames, ThinEntry, defs_tokens, design_tokens, field_name, field_width, fields_fit, function_tokens, host_role, into_body, its_default, its_row, names_fit, numbers_fit, said, switch_role}
 use Rattle.cocoon_parse.specs.declared.names.Names.{Names}
-use Rattle.cocoon_parse.specs.declared.definitions.Entry.{Entry}
-use Rattle.cocoon_parse.specs.declared.definitions.Entry.TheVariants.{Default, Row}
+use Rattle.cocoon_parse.specs.declared.entry.Entry.{Entry}
+use Rattle.cocoon_parse.specs.declared.entry.Entry.TheVariants.{Default, Row}
 use Rattle.cocoon_parse.specs.declared.parts.ThinField.{ThinField}
 use Rattle.cocoon_parse.specs.declared.parts.Thin.{Thin}
 
@@ -29,6 +29,9 @@ names_of n = record {
 abbrev pub entry_of : Entry → ThinEntry
 entry_of (Default function) = its_default function
 entry_of (Row function n holds) = its_row function n holds
+
+abbrev pub entries_of : List Entry → List ThinEntry
+entries_of entries = map entry_of entries
 
 abbrev pub field_names : List ThinField → List (List ℕ)
 field_names fields = map (λ (f : ThinField). f.name) fields
@@ -196,3 +199,7 @@ abbrev pub entries_from : ℕ → List Kind → List ThinEntry
 entries_from covered [] = []
 entries_from (suc covered) (k ∷ ks) = entries_from covered ks
 entries_from zero (k ∷ ks) = if begins_with_keyword (k ∷ ks) then entry_in (k ∷ ks) ∷ entries_from (entry_size (k ∷ ks) - 1) ks else []
+
+-- the tokens are those of the entries
+abbrev pub has_entries : List Kind → List ThinEntry → Bool
+has_entries ks entries = is_all (after_all (defs_tokens entries) (Some ks))

@@ -6,6 +6,7 @@ pub mod fits;
 pub mod kinds;
 pub mod definitions;
 pub mod design;
+pub mod entry;
 pub mod names;
 pub mod parts;
 pub mod places;
