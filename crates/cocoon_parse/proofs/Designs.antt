@@ -61,7 +61,7 @@ thin_fits text ks h (n, t, d) =
     passes_again design_fits design_names design_parts ks (design_tokens n t) n (bare t) (one_kinds h d.tokens) (names_back n t) (parts_back n t d.fields d.numbers)
     (fits_together (names_fit n) (fields_fit t.fields) (numbers_fit t) d.names d.fields d.numbers)
 
-no_less : (a b : Bool) → a ≡ true → b ≡ true → (a && b) ≡ false → ⊥
+pub no_less : (a b : Bool) → a ≡ true → b ≡ true → (a && b) ≡ false → ⊥
 no_less true true ea eb f = cc
 no_less true false ea eb f = cc
 no_less false b ea eb f = cc

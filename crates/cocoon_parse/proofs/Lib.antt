@@ -1,5 +1,7 @@
+pub mod Ascending
 pub mod Back
 pub mod Designs
+pub mod Entries
 pub mod Follows
 pub mod Good
 pub mod Here

@@ -1,6 +1,6 @@
 -- What stands in the tokens of a text at the places where a thin text has its parts. Where something else stands there
 -- it is an empty name or 0: then the tokens are not those of the parts so read, and the text is not thin.
-use Rattle.std.specs.Prelude.{ℕ, zero, suc, ◌-◌, ◌&&◌, Bool, true, false, min, nat_le, List, [], ◌∷◌, ◌++◌, map, drop, slice_get, if◌then◌else◌, Option, Some, None, codes}
+use Rattle.std.specs.Prelude.{ℕ, zero, suc, ◌-◌, ◌&&◌, Bool, true, false, min, nat_le, nat_lt, ◌==◌, List, [], ◌∷◌, ◌++◌, map, drop, slice_get, if◌then◌else◌, Option, Some, None, codes}
 use Rattle.cocoon_num.specs.Names.{same_name}
 use Rattle.cocoon_num.specs.Tokens.{Kind, word, keyword, plain, literal, mark, finish}
 use Rattle.cocoon_parse.specs.Follow.{after_all, alike, is_all}
@@ -203,3 +203,14 @@ entries_from zero (k ∷ ks) = if begins_with_keyword (k ∷ ks) then entry_in (
 -- the tokens are those of the entries
 abbrev pub has_entries : List Kind → List ThinEntry → Bool
 has_entries ks entries = is_all (after_all (defs_tokens entries) (Some ks))
+
+-- ---- ascending numbers
+
+-- how many are below n, from the front on
+abbrev pub below : ℕ → List ℕ → ℕ
+below n [] = 0
+below n (m ∷ ms) = if nat_lt m n then suc (below n ms) else 0
+
+abbrev pub is_number : ℕ → Option ℕ → Bool
+is_number n None = false
+is_number n (Some m) = m == n

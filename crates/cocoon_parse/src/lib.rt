@@ -12,6 +12,7 @@ pub mod parts;
 pub mod places;
 pub mod texts;
 pub mod tokens;
+pub mod values;
 
 pub use parts::{Thin, ThinField};
 pub use texts::{ThinFault, thin};

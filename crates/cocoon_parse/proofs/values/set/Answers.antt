@@ -1,0 +1,1 @@
+use Rattle.cocoon_parse.proofs.values.set.Goals as goal
