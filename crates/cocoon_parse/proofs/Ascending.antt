@@ -1,6 +1,7 @@
 -- Ascending numbers: one put among them, and one taken away.
 use Rattle.std.proofs.Common.{◌≡◌, ℕ, zero, suc, ◌+◌, ◌<◌, ◌≤◌, ◌==◌, Bool, true, false, ◌&&◌, ◌||◌, List, [], ◌∷◌, ◌++◌, take, drop, length, Some, None, Option, ap, refl, sym, ◌∙◌, arith}
-use Rattle.std.specs.Prelude.{if◌then◌else◌, insert, nat_le, nat_lt, remove, slice_get}
+use mathlib.Core.Bool.{beq}
+use Rattle.std.specs.Prelude.{if◌then◌else◌, insert, not, nat_le, nat_lt, remove, slice_get}
 use Rattle.std.proofs.lemmas.Bool.Decides.{nat_tests}
 use Rattle.cocoon_num.specs.Lists.{ascend, has_number}
 use Rattle.cocoon_parse.specs.Read.{below, is_number}
@@ -34,6 +35,18 @@ swapped m n = grind (arith, nat_tests)
 
 and_true : (a b : Bool) → a ≡ true → b ≡ true → (a && b) ≡ true
 and_true a b ea eb = rw (ea, eb) refl
+
+pub same_bools : (a b : Bool) → beq a b ≡ true → b ≡ a
+same_bools true true h = refl
+same_bools true false h = cc
+same_bools false true h = cc
+same_bools false false h = refl
+
+pub other_bool : (a b c : Bool) → beq a b ≡ false → a ≡ c → b ≡ not c
+other_bool true true c h e = cc
+other_bool true false c h e = ap not e
+other_bool false true c h e = ap not e
+other_bool false false c h e = cc
 
 -- ---- ascending
 
@@ -75,9 +88,131 @@ or_swap true true c = refl
 or_swap true false c = refl
 or_swap false b c = refl
 
-has_put : (x n : ℕ) (xs : List ℕ) → has_number x (put n xs) ≡ ((x == n) || has_number x xs)
 has_put_by : (x n m : ℕ) (ms : List ℕ) (b : Bool) → nat_lt m n ≡ b → has_number x (put n ms) ≡ ((x == n) || has_number x ms) → has_number x (put n (m ∷ ms)) ≡ ((x == n) || ((x == m) || has_number x ms))
 has_put_by x n m ms true e ih = ap (has_number x) (put_after n m ms e) ∙ ap (λ b. (x == m) || b) ih ∙ or_swap (x == m) (x == n) (has_number x ms)
 has_put_by x n m ms false e ih = ap (has_number x) (put_first n m ms e)
+
+has_put : (x n : ℕ) (xs : List ℕ) → has_number x (put n xs) ≡ ((x == n) || has_number x xs)
 has_put x n [] = refl
 has_put x n (m ∷ ms) = has_put_by x n m ms (nat_lt m n) refl (has_put x n ms)
+
+begins_put_by : (k n m : ℕ) (ms : List ℕ) (b : Bool) → nat_lt m n ≡ b → k < n → nat_lt k m ≡ true → begins_above k (put n (m ∷ ms)) ≡ true
+begins_put_by k n m ms true e h a = ap (begins_above k) (put_after n m ms e) ∙ a
+begins_put_by k n m ms false e h a = ap (begins_above k) (put_first n m ms e) ∙ is_below k n h
+
+begins_put : (k n : ℕ) (xs : List ℕ) → k < n → begins_above k xs ≡ true → begins_above k (put n xs) ≡ true
+begins_put k n [] h b = is_below k n h
+begins_put k n (m ∷ ms) h b = begins_put_by k n m ms (nat_lt m n) refl h b
+
+ascend_put_by : (n m : ℕ) (ms : List ℕ) (b : Bool) → nat_lt m n ≡ b → ascend (m ∷ ms) ≡ true → is_number n (slice_get (m ∷ ms) (below n (m ∷ ms))) ≡ false →
+    (is_number n (slice_get ms (below n ms)) ≡ false → ascend (put n ms) ≡ true) → ascend (put n (m ∷ ms)) ≡ true
+ascend_put_by n m ms true e a none ih =
+    let parts = parts_of m ms a in
+    let none_later = sym (ap (λ b. is_number n (slice_get (m ∷ ms) (if b then suc (below n ms) else 0))) e) ∙ none in
+    ap ascend (put_after n m ms e) ∙ of_parts m (put n ms) (begins_put m n ms (below_is m n e) parts.0) (ih none_later)
+ascend_put_by n m ms false e a none ih =
+    let differs : (m == n) ≡ false = sym (ap (λ b. is_number n (slice_get (m ∷ ms) (if b then suc (below n ms) else 0))) e) ∙ none in
+    ap ascend (put_first n m ms e) ∙ and_true (nat_lt n m) (ascend (m ∷ ms)) (is_below n m (different m n (above_is m n e) differs)) a
+
+ascend_put : (n : ℕ) (xs : List ℕ) → ascend xs ≡ true → is_number n (slice_get xs (below n xs)) ≡ false → ascend (put n xs) ≡ true
+ascend_put n [] a none = refl
+ascend_put n (m ∷ ms) a none = ascend_put_by n m ms (nat_lt m n) refl a none (ascend_put n ms (parts_of m ms a).1)
+
+-- ---- taken away
+
+abbrev cut : ℕ → List ℕ → List ℕ
+cut n xs = remove xs (below n xs)
+
+cut_after : (n m : ℕ) (ms : List ℕ) → nat_lt m n ≡ true → cut n (m ∷ ms) ≡ m ∷ cut n ms
+cut_after n m ms h = ap (λ b. remove (m ∷ ms) (if b then suc (below n ms) else 0)) h
+
+cut_first : (n m : ℕ) (ms : List ℕ) → nat_lt m n ≡ false → cut n (m ∷ ms) ≡ ms
+cut_first n m ms h = ap (λ b. remove (m ∷ ms) (if b then suc (below n ms) else 0)) h
+
+begins_cut_by : (k n m : ℕ) (ms : List ℕ) (b : Bool) → nat_lt m n ≡ b → nat_lt k m ≡ true → begins_above m ms ≡ true → begins_above k (cut n (m ∷ ms)) ≡ true
+begins_cut_by k n m ms true e h a = ap (begins_above k) (cut_after n m ms e) ∙ h
+begins_cut_by k n m [] false e h a = ap (begins_above k) (cut_first n m [] e)
+begins_cut_by k n m (j ∷ js) false e h a =
+    let one : k < m = below_is k m h in
+    let two : m < j = below_is m j a in
+    ap (begins_above k) (cut_first n m (j ∷ js) e) ∙ is_below k j (omega arith)
+
+begins_cut : (k n : ℕ) (xs : List ℕ) → begins_above k xs ≡ true → ascend xs ≡ true → begins_above k (cut n xs) ≡ true
+begins_cut k n [] h a = refl
+begins_cut k n (m ∷ ms) h a = begins_cut_by k n m ms (nat_lt m n) refl h (parts_of m ms a).0
+
+ascend_cut_by : (n m : ℕ) (ms : List ℕ) (b : Bool) → nat_lt m n ≡ b → ascend (m ∷ ms) ≡ true → ascend (cut n ms) ≡ true → ascend (cut n (m ∷ ms)) ≡ true
+ascend_cut_by n m ms true e a ih = let parts = parts_of m ms a in ap ascend (cut_after n m ms e) ∙ of_parts m (cut n ms) (begins_cut m n ms parts.0 parts.1) ih
+ascend_cut_by n m ms false e a ih = ap ascend (cut_first n m ms e) ∙ (parts_of m ms a).1
+
+ascend_cut : (n : ℕ) (xs : List ℕ) → ascend xs ≡ true → ascend (cut n xs) ≡ true
+ascend_cut n [] a = refl
+ascend_cut n (m ∷ ms) a = ascend_cut_by n m ms (nat_lt m n) refl a (ascend_cut n ms (parts_of m ms a).1)
+
+kept_later : (x n m : ℕ) (h : Bool) (b : Bool) → (x == n) ≡ b → m < n → ((x == m) || (if (x == n) then false else h)) ≡ (if (x == n) then false else ((x == m) || h))
+kept_later x n m h true e lt =
+    let same : x ≡ n = the_same x n e in
+    rw (e, other_above x m (omega arith)) refl
+kept_later x n m h false e lt = rw e refl
+
+kept_first : (x n m : ℕ) (ms : List ℕ) (b : Bool) → (x == n) ≡ b → m ≡ n → ascend (m ∷ ms) ≡ true → has_number x ms ≡ (if (x == n) then false else ((x == m) || has_number x ms))
+kept_first x n m ms true e same a = let at : x ≡ n = the_same x n e in rw e (has_none x m ms a (omega arith))
+kept_first x n m ms false e same a = let no : (x == m) ≡ false = ap (λ k. x == k) same ∙ e in rw (e, no) refl
+
+has_cut_by : (x n m : ℕ) (ms : List ℕ) (b : Bool) → nat_lt m n ≡ b → ascend (m ∷ ms) ≡ true → is_number n (slice_get (m ∷ ms) (below n (m ∷ ms))) ≡ true →
+    (is_number n (slice_get ms (below n ms)) ≡ true → has_number x (cut n ms) ≡ (if (x == n) then false else has_number x ms)) →
+    has_number x (cut n (m ∷ ms)) ≡ (if (x == n) then false else ((x == m) || has_number x ms))
+has_cut_by x n m ms true e a found ih =
+    let found_later = sym (ap (λ b. is_number n (slice_get (m ∷ ms) (if b then suc (below n ms) else 0))) e) ∙ found in
+    ap (has_number x) (cut_after n m ms e) ∙ ap (λ b. (x == m) || b) (ih found_later) ∙ kept_later x n m (has_number x ms) (x == n) refl (below_is m n e)
+has_cut_by x n m ms false e a found ih =
+    let same : (m == n) ≡ true = sym (ap (λ b. is_number n (slice_get (m ∷ ms) (if b then suc (below n ms) else 0))) e) ∙ found in
+    ap (has_number x) (cut_first n m ms e) ∙ kept_first x n m ms (x == n) refl (the_same m n same) a
+
+has_cut : (x n : ℕ) (xs : List ℕ) → ascend xs ≡ true → is_number n (slice_get xs (below n xs)) ≡ true → has_number x (cut n xs) ≡ (if (x == n) then false else has_number x xs)
+has_cut x n [] a found = cc
+has_cut x n (m ∷ ms) a found = has_cut_by x n m ms (nat_lt m n) refl a found (has_cut x n ms (parts_of m ms a).1)
+
+-- ---- there or not
+
+or_false : (a : Bool) → (a || false) ≡ a
+or_false true = refl
+or_false false = refl
+
+is_there_by : (n m : ℕ) (ms : List ℕ) (b : Bool) → nat_lt m n ≡ b → ascend (m ∷ ms) ≡ true → has_number n ms ≡ is_number n (slice_get ms (below n ms)) →
+    ((n == m) || has_number n ms) ≡ is_number n (slice_get (m ∷ ms) (below n (m ∷ ms)))
+is_there_by n m ms true e a ih =
+    ap (λ b. b || has_number n ms) (other_above n m (below_is m n e)) ∙ ih
+    ∙ sym (ap (λ b. is_number n (slice_get (m ∷ ms) (if b then suc (below n ms) else 0))) e)
+is_there_by n m ms false e a ih =
+    ap (λ b. (n == m) || b) (has_none n m ms a (above_is m n e)) ∙ or_false (n == m) ∙ swapped n m
+    ∙ sym (ap (λ b. is_number n (slice_get (m ∷ ms) (if b then suc (below n ms) else 0))) e)
+
+is_there : (n : ℕ) (xs : List ℕ) → ascend xs ≡ true → has_number n xs ≡ is_number n (slice_get xs (below n xs))
+is_there n [] a = refl
+is_there n (m ∷ ms) a = is_there_by n m ms (nat_lt m n) refl a (is_there n ms (parts_of m ms a).1)
+
+-- ---- what is said of the three outcomes
+
+same_by : (x n : ℕ) (xs : List ℕ) (is b : Bool) → (x == n) ≡ b → has_number n xs ≡ is → has_number x xs ≡ (if (x == n) then is else has_number x xs)
+same_by x n xs is true e h = let at : x ≡ n = the_same x n e in rw e (ap (λ k. has_number k xs) at ∙ h)
+same_by x n xs is false e h = rw e refl
+
+pub stays : (n : ℕ) (xs : List ℕ) (is : Bool) → ascend xs ≡ true → is_number n (slice_get xs (below n xs)) ≡ is → (x : ℕ) → has_number x xs ≡ (if (x == n) then is else has_number x xs)
+stays n xs is a e x = same_by x n xs is (x == n) refl (is_there n xs a ∙ e)
+
+or_if : (a b : Bool) → (a || b) ≡ (if a then true else b)
+or_if true b = refl
+or_if false b = refl
+
+pub put_has : (n : ℕ) (xs : List ℕ) (x : ℕ) → has_number x (insert xs (below n xs) n) ≡ (if (x == n) then true else has_number x xs)
+put_has n xs x = has_put x n xs ∙ or_if (x == n) (has_number x xs)
+
+pub put_ascends : (n : ℕ) (xs : List ℕ) → ascend xs ≡ true → is_number n (slice_get xs (below n xs)) ≡ false → ascend (insert xs (below n xs) n) ≡ true
+put_ascends = ascend_put
+
+pub cut_has : (n : ℕ) (xs : List ℕ) → ascend xs ≡ true → is_number n (slice_get xs (below n xs)) ≡ true → (x : ℕ) → has_number x (remove xs (below n xs)) ≡ (if (x == n) then false else has_number x xs)
+cut_has n xs a found x = has_cut x n xs a found
+
+pub cut_ascends : (n : ℕ) (xs : List ℕ) → ascend xs ≡ true → ascend (remove xs (below n xs)) ≡ true
+cut_ascends = ascend_cut

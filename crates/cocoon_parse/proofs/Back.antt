@@ -6,7 +6,7 @@ use Rattle.cocoon_num.specs.Lists.{each, is_one_of}
 use Rattle.cocoon_num.specs.Names.{same_name}
 use Rattle.cocoon_num.specs.Tokens.{Kind, finish, word}
 use Rattle.cocoon_parse.specs.Follow.{after_all}
-use Rattle.cocoon_parse.specs.Read.{after_fields, begins_with_name, design_names, design_parts, field_names, field_in, fields_from, header_tokens, host_roles, names_in, parts_in, ports_are, position, switch_roles, tokens_after}
+use Rattle.cocoon_parse.specs.Read.{after_fields, bare, begins_with_name, design_names, design_parts, field_names, field_in, fields_from, header_tokens, host_roles, names_in, parts_in, ports_are, position, switch_roles, tokens_after}
 use Rattle.cocoon_parse.specs.Thin.{ThinNames, all_distinct, design_tokens, field_name, field_tokens, field_width, fields_fit, function_tokens, into_body, numbers_fit, said, switch_role}
 use Rattle.cocoon_parse.specs.declared.parts.ThinField.{ThinField}
 use Rattle.cocoon_parse.specs.declared.parts.Thin.{Thin}
@@ -25,10 +25,6 @@ is_within m n h = grind (arith, nat_tests)
 
 abbrev pub are_narrow : List ThinField → Bool
 are_narrow fields = each (λ (f : ThinField). nat_le 1 f.width && nat_le f.width 64) fields
-
--- a design without its hosts and switches
-abbrev pub bare : Thin → Thin
-bare t = record t { hosts = []; switches = [] }
 
 -- ---- the fields
 

@@ -4,11 +4,11 @@ use Rattle.std.specs.Prelude.{All}
 use Rattle.cocoon_num.specs.Lists.{each}
 use Rattle.cocoon_num.specs.Tokens.{Kind, kinds, lex, language}
 use Rattle.cocoon_parse.specs.Follow.{after_all, is_all, kinds_at}
-use Rattle.cocoon_parse.specs.Read.{design_fits, design_names, design_parts, has_design, parts_in}
+use Rattle.cocoon_parse.specs.Read.{OneThinDesign, bare, design_fits, design_names, design_parts, has_design, parts_in}
 use Rattle.cocoon_parse.specs.Thin.{HasTokens, HasWords, IsThinDesign, ThinDesign, ThinNames, design_tokens, fields_fit, names_fit, numbers_fit}
 use Rattle.cocoon_parse.specs.declared.parts.Thin.{Thin}
 use Rattle.cocoon_parse.specs.declared.parts.ThinField.{ThinField}
-use Rattle.cocoon_parse.proofs.Back.{bare, bare_tokens, both, names_back, parts_back}
+use Rattle.cocoon_parse.proofs.Back.{bare_tokens, both, names_back, parts_back}
 use Rattle.cocoon_lex.specs.declared.token.Token.{Token}
 use Rattle.cocoon_lex.specs.Kinds.{IsSpelled}
 use Rattle.cocoon_parse.proofs.Good.{has_words, is_good, tokens_good}
@@ -81,3 +81,26 @@ not_thin text ks n t h en et f d =
 
 pub words_of : (text : List ℕ) (ts : List Token) (n : ThinNames) (t : Thin) → All (IsSpelled text) ts → has_design (kinds_at text ts) n t ≡ true → HasWords t
 words_of text ts n t s h = has_words n t (subst (λ ks. each is_good ks ≡ true) (all_are (design_tokens n t) (kinds_at text ts) h) (tokens_good text ts s))
+
+-- ---- one reading
+
+pub one_reading : OneThinDesign
+one_reading text n m t u d e =
+    let same : design_tokens n t ≡ design_tokens m u = one_kinds d.tokens e.tokens in
+    (
+      sym (names_back n t) ∙ ap design_names same ∙ names_back m u,
+      sym (parts_back n t d.fields d.numbers) ∙ ap design_parts same ∙ parts_back m u e.fields e.numbers,
+    )
+
+-- hosts and switches play no part in a design
+pub is_with_others : (text : List ℕ) (n : ThinNames) (t u : Thin) → IsThinDesign text n t → bare u ≡ bare t → IsThinDesign text n u
+is_with_others text n t u d e =
+    record {
+      tokens = subst (HasTokens text) (sym (bare_tokens n t) ∙ ap (design_tokens n) (sym e) ∙ bare_tokens n u) d.tokens;
+      names = d.names;
+      fields = ap (λ (v : Thin). fields_fit v.fields) e ∙ d.fields;
+      numbers = ap numbers_fit e ∙ d.numbers;
+    }
+
+pub words_with_others : (t u : Thin) → HasWords t → bare u ≡ bare t → HasWords u
+words_with_others t u w e = subst HasWords (sym e) w

@@ -1,10 +1,10 @@
 -- What stands in the tokens of a text at the places where a thin text has its parts. Where something else stands there
 -- it is an empty name or 0: then the tokens are not those of the parts so read, and the text is not thin.
-use Rattle.std.specs.Prelude.{ℕ, zero, suc, ◌-◌, ◌&&◌, Bool, true, false, min, nat_le, nat_lt, ◌==◌, List, [], ◌∷◌, ◌++◌, map, drop, slice_get, if◌then◌else◌, Option, Some, None, codes}
+use Rattle.std.specs.Prelude.{ℕ, ◌≡◌, zero, suc, ◌-◌, ◌&&◌, Bool, true, false, min, nat_le, nat_lt, ◌==◌, List, [], ◌∷◌, ◌++◌, map, drop, slice_get, if◌then◌else◌, Option, Some, None, codes}
 use Rattle.cocoon_num.specs.Names.{same_name}
 use Rattle.cocoon_num.specs.Tokens.{Kind, word, keyword, plain, literal, mark, finish}
 use Rattle.cocoon_parse.specs.Follow.{after_all, alike, is_all}
-use Rattle.cocoon_parse.specs.Thin.{ThinNames, ThinEntry, defs_tokens, design_tokens, field_name, field_width, fields_fit, function_tokens, host_role, into_body, its_default, its_row, names_fit, numbers_fit, said, switch_role}
+use Rattle.cocoon_parse.specs.Thin.{AreTrueAt, IsThinDefs, IsThinDesign, ThinNames, ThinEntry, defs_tokens, design_tokens, field_name, field_width, fields_fit, function_tokens, host_role, into_body, its_default, its_row, names_fit, numbers_fit, said, switch_role}
 use Rattle.cocoon_parse.specs.declared.names.Names.{Names}
 use Rattle.cocoon_parse.specs.declared.entry.Entry.{Entry}
 use Rattle.cocoon_parse.specs.declared.entry.Entry.TheVariants.{Default, Row}
@@ -214,3 +214,21 @@ below n (m ∷ ms) = if nat_lt m n then suc (below n ms) else 0
 abbrev pub is_number : ℕ → Option ℕ → Bool
 is_number n None = false
 is_number n (Some m) = m == n
+
+-- ---- both texts
+
+-- the part of a thin design and its definitions that is the design's
+abbrev pub bare : Thin → Thin
+bare t = record t { hosts = []; switches = [] }
+
+-- these are the parts of the design with the numbers at which the definitions make its guards true
+pub record AreWith (defs : List ℕ) (n : ThinNames) (design t : Thin) : Type 0 where
+  pub entries : List ThinEntry
+  pub defs_are : IsThinDefs defs n entries
+  pub hosts : AreTrueAt entries n.host_guard t.hosts
+  pub switches : AreTrueAt entries n.switch_guard t.switches
+  pub same : bare t ≡ bare design
+
+-- a thin design has its names and its parts
+abbrev pub OneThinDesign : Type 0
+OneThinDesign = (text : List ℕ) (n m : ThinNames) (t u : Thin) → IsThinDesign text n t → IsThinDesign text m u → (n ≡ m) × (bare t ≡ bare u)
