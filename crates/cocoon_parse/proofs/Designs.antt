@@ -4,8 +4,8 @@ use Rattle.std.specs.Prelude.{All}
 use Rattle.cocoon_num.specs.Lists.{each}
 use Rattle.cocoon_num.specs.Tokens.{Kind, kinds, lex, language}
 use Rattle.cocoon_parse.specs.Follow.{after_all, is_all, kinds_at}
-use Rattle.cocoon_parse.specs.Read.{OneThinDesign, bare, design_fits, design_names, design_parts, has_design, parts_in}
-use Rattle.cocoon_parse.specs.Thin.{HasTokens, HasWords, IsThinDesign, ThinDesign, ThinNames, design_tokens, fields_fit, names_fit, numbers_fit}
+use Rattle.cocoon_parse.specs.Read.{AreWith, OneThinDesign, bare, design_fits, design_names, design_parts, has_design, parts_in}
+use Rattle.cocoon_parse.specs.Thin.{AreThin, HasTokens, HasWords, IsThinDefs, IsThinDesign, ThinDefs, ThinDesign, ThinEntry, ThinNames, design_tokens, fields_fit, names_fit, numbers_fit}
 use Rattle.cocoon_parse.specs.declared.parts.Thin.{Thin}
 use Rattle.cocoon_parse.specs.declared.parts.ThinField.{ThinField}
 use Rattle.cocoon_parse.proofs.Back.{bare_tokens, both, names_back, parts_back}
@@ -102,5 +102,18 @@ is_with_others text n t u d e =
       numbers = ap numbers_fit e ∙ d.numbers;
     }
 
-pub words_with_others : (t u : Thin) → HasWords t → bare u ≡ bare t → HasWords u
-words_with_others t u w e = subst HasWords (sym e) w
+-- a thin design with thin definitions
+pub whole : (design defs : List ℕ) (n : ThinNames) (t u : Thin) → IsThinDesign design n t → AreWith defs n t u → AreThin design defs u
+whole design defs n t u d w = record {
+  names = n;
+  entries = w.entries;
+  design_is = is_with_others design n t u d w.same;
+  defs_are = w.defs_are;
+  hosts = w.hosts;
+  switches = w.switches;
+}
+
+-- definitions that are thin for no reading are not thin
+pub never : (design defs : List ℕ) (n : ThinNames) (t : Thin) → IsThinDesign design n t → ((entries : List ThinEntry) → ¬ IsThinDefs defs n entries) → ¬ ThinDefs design defs
+never design defs n t d none (m, u, entries, e, f) =
+    none entries (subst (λ l. IsThinDefs defs l entries) (one_reading design m n u t e d).0 f)

@@ -26,6 +26,11 @@ pub enum ThinFault {
 }
 
 impl From<NoMemory> for ThinFault {
+    ghost use Rattle.std.specs.Prelude.{◌≡◌};
+    ghost use Rattle.cocoon_parse.specs.declared.texts.ThinFault.TheVariants.{NoMemory as Wanting};
+
+    ghost from_gives = { λ _ fault. fault ≡ Wanting };
+
     fn from(_: NoMemory) -> ThinFault {
         ThinFault::NoMemory
     }
