@@ -1,1 +1,3 @@
+pub mod Fronts
 pub mod Kinds
+pub mod Places

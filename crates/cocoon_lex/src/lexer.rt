@@ -1,10 +1,11 @@
 //! The tokens of a text, or its first fault.
-ghost use Rattle.std.specs.Prelude.{All, ◌≡◌, ◌<◌, ◌^◌, IfErr, IfOk, Ok, length, map};
+ghost use Rattle.std.specs.Prelude.{All, ◌≡◌, ◌<◌, ◌≤◌, ◌^◌, IfErr, IfOk, Ok, drop, length, map};
 ghost use Rattle.cocoon_num.specs.Tokens.{language, lex as tokens_of};
 ghost use Rattle.cocoon_lex.specs.Kinds.{HasFault, IsSpelled, StandsIn, token_of};
 
-use crate::token::Token;
-use std::alloc::{AllocError, AllocFailed, Global};
+use crate::fronts::{Front, read_front};
+use crate::token::{Token, TokenKind};
+use std::alloc::{AllocFailed, Global};
 
 /// The first fault of a text, with the offset of its first byte.
 #[derive(Clone, Copy, Debug, Drop, PartialEq, Eq)]
@@ -18,13 +19,52 @@ pub enum LexFault {
     NoMemory,
 }
 
+impl<T: Drop> From<AllocFailed<T>> for LexFault {
+    ghost use Rattle.std.specs.Prelude.{◌≡◌};
+    ghost use Rattle.cocoon_lex.specs.declared.lexer.LexFault.TheVariants.{NoMemory};
+
+    ghost from_gives = { λ _ fault. fault ≡ NoMemory };
+
+    fn from(_: AllocFailed<T>) -> LexFault {
+        LexFault::NoMemory
+    }
+}
+
 /// The tokens of a text, with one `End` at its length, or the first fault.
-pub fn lex(_alloc: Global, text: &[u8]) -> Result<Vec<Token>, LexFault>
+pub fn lex(alloc: Global, text: &[u8]) -> Result<Vec<Token>, LexFault>
     requires { length text.now < 2 ^ 32 }
     ensures ok { IfOk result (λ v. tokens_of language text.now ≡ Ok (map (token_of text.now) v.items)) }
     ensures places { IfOk result (λ v. All (StandsIn text.now) v.items) }
     ensures names { IfOk result (λ v. All (IsSpelled text.now) v.items) }
     ensures fault { IfErr result (λ f. HasFault text.now f) }
 {
-    Err(LexFault::NoMemory)
+    let mut found = Vec::new(alloc);
+    let mut at = 0;
+    while at < text.len() {
+        let start = at as u32;
+        match read_front(rest(text, at)) {
+            Front::Gap(size) => at += size,
+            Front::Piece(kind, size) => {
+                at += size;
+                let end = at as u32;
+                found.push(Token { kind, start, end })?;
+            }
+            Front::Faulty(fault) => return Err(fault.at(start)),
+        }
+    }
+    let end = at as u32;
+    found.push(Token {
+        kind: TokenKind::End,
+        start: end,
+        end,
+    })?;
+    Ok(found)
+}
+
+/// The bytes from a place on.
+fn rest(text: &[u8], at: usize) -> &[u8]
+    requires { at ≤ length text.now }
+    ensures { result.now ≡ drop at text.now }
+{
+    &text[at..]
 }

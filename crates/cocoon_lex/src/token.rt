@@ -1,4 +1,7 @@
 //! Tokens. Their kinds follow "Tokens" in docs/LANGUAGE.md.
+ghost use Rattle.std.specs.Prelude.{◌≡◌};
+ghost use Rattle.cocoon_lex.specs.Kinds.{keyword_text, mark_text};
+
 use cocoon_num::Bits;
 
 /// A reserved word.
@@ -31,6 +34,43 @@ pub enum Keyword {
     Not,
     Default,
     Define,
+}
+
+impl Keyword {
+    /// How it is written.
+    pub fn text(self) -> &'static str
+        ensures { result.now ≡ keyword_text self }
+    {
+        match self {
+            Keyword::Packet => "packet",
+            Keyword::Header => "header",
+            Keyword::Function => "function",
+            Keyword::Assume => "assume",
+            Keyword::Role => "role",
+            Keyword::Host => "host",
+            Keyword::Switch => "switch",
+            Keyword::Refine => "refine",
+            Keyword::Within => "within",
+            Keyword::Ports => "ports",
+            Keyword::Let => "let",
+            Keyword::If => "if",
+            Keyword::Else => "else",
+            Keyword::Filter => "filter",
+            Keyword::Havoc => "havoc",
+            Keyword::Fork => "fork",
+            Keyword::Send => "send",
+            Keyword::Pkt => "pkt",
+            Keyword::Bit => "bit",
+            Keyword::Bool => "bool",
+            Keyword::True => "true",
+            Keyword::False => "false",
+            Keyword::And => "and",
+            Keyword::Or => "or",
+            Keyword::Not => "not",
+            Keyword::Default => "default",
+            Keyword::Define => "define",
+        }
+    }
 }
 
 /// A mark.
@@ -92,6 +132,44 @@ pub enum Mark {
     Mask,
     /// `_`
     Any,
+}
+
+impl Mark {
+    /// How it is written.
+    pub fn text(self) -> &'static str
+        ensures { result.now ≡ mark_text self }
+    {
+        match self {
+            Mark::OpenBrace => "{",
+            Mark::CloseBrace => "}",
+            Mark::OpenParen => "(",
+            Mark::CloseParen => ")",
+            Mark::OpenBracket => "[",
+            Mark::CloseBracket => "]",
+            Mark::Less => "<",
+            Mark::Greater => ">",
+            Mark::LessEqual => "<=",
+            Mark::GreaterEqual => ">=",
+            Mark::Equal => "==",
+            Mark::Unequal => "!=",
+            Mark::Assign => "=",
+            Mark::Implies => "=>",
+            Mark::Plus => "+",
+            Mark::PlusPlus => "++",
+            Mark::Minus => "-",
+            Mark::And => "&",
+            Mark::Or => "|",
+            Mark::Xor => "^",
+            Mark::Flip => "~",
+            Mark::Comma => ",",
+            Mark::Semicolon => ";",
+            Mark::Colon => ":",
+            Mark::Dot => ".",
+            Mark::Question => "?",
+            Mark::Mask => "&&&",
+            Mark::Any => "_",
+        }
+    }
 }
 
 /// What a token is.

@@ -8,9 +8,8 @@ pub mod text;
 
 pub use bits::Bits;
 pub use list::List;
-pub use text::Text;
-
 use std::alloc::{AllocError, AllocFailed};
+pub use text::Text;
 
 /// There was no memory for what a call had to make.
 #[derive(Clone, Copy, Debug, Drop, PartialEq, Eq)]
