@@ -86,8 +86,7 @@ words_of text ts n t s h = has_words n t (subst (λ ks. each is_good ks ≡ true
 
 pub one_reading : OneThinDesign
 one_reading text n m t u d e =
-    let same : design_tokens n t ≡ design_tokens m u = one_kinds d.tokens e.tokens in
-    (
+    let same : design_tokens n t ≡ design_tokens m u = one_kinds d.tokens e.tokens in (
       sym (names_back n t) ∙ ap design_names same ∙ names_back m u,
       sym (parts_back n t d.fields d.numbers) ∙ ap design_parts same ∙ parts_back m u e.fields e.numbers,
     )

@@ -20,9 +20,13 @@ use std::alloc::Global;
 
 // how many tokens a default and a row have, and the places of their parts
 const DEFAULT_SIZE: usize = 5;
+
 const ROW_SIZE: usize = 8;
+
 const FUNCTION: usize = 1;
+
 const NUMBER: usize = 3;
+
 const TRUTH: usize = 6;
 
 /// The most rows of a function.
@@ -41,7 +45,12 @@ pub fn read_definitions(alloc: Global, text: &[u8], names: &Names) -> Result<Vec
 }
 
 /// The entries of the thin definitions that have these tokens.
-fn definitions_of(alloc: Global, text: &[u8], tokens: &[Token], names: &Names) -> Result<Vec<Entry>, Stop>
+fn definitions_of(
+    alloc: Global,
+    text: &[u8],
+    tokens: &[Token],
+    names: &Names,
+) -> Result<Vec<Entry>, Stop>
     requires { HasTokens text.now (kinds_at text.now tokens.now) }
     ensures ok { IfOk result (λ v. IsThinDefs text.now (names_of names.now) (entries_of v.items)) }
     ensures not_thin { result ≡ Err Stop.NotThin → (entries : List ThinEntry) → ¬ IsThinDefs text.now (names_of names.now) entries }
@@ -54,7 +63,13 @@ fn definitions_of(alloc: Global, text: &[u8], tokens: &[Token], names: &Names) -
     }
 }
 
-fn are_thin(alloc: Global, text: &[u8], tokens: &[Token], entries: &[Entry], names: &Names) -> Result<bool, NoMemory>
+fn are_thin(
+    alloc: Global,
+    text: &[u8],
+    tokens: &[Token],
+    entries: &[Entry],
+    names: &Names,
+) -> Result<bool, NoMemory>
     ensures { IfOk result (λ are. are ≡ (spec.has_entries (kinds_at text.now tokens.now) (entries_of entries.now) && thin.entries_fit (names_of names.now) (entries_of entries.now))) }
 {
     let are_these = has_entries(alloc, text, tokens, entries)?;
@@ -104,7 +119,12 @@ fn entry_size(tokens: &[Token]) -> usize
 // ---- comparing
 
 /// Whether the tokens are those of these entries.
-fn has_entries(alloc: Global, text: &[u8], tokens: &[Token], entries: &[Entry]) -> Result<bool, NoMemory>
+fn has_entries(
+    alloc: Global,
+    text: &[u8],
+    tokens: &[Token],
+    entries: &[Entry],
+) -> Result<bool, NoMemory>
     ensures { IfOk result (λ has. has ≡ spec.has_entries (kinds_at text.now tokens.now) (entries_of entries.now)) }
 {
     let mut cursor = Cursor::new(alloc, text, tokens);

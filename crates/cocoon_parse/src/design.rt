@@ -20,7 +20,9 @@ use std::alloc::Global;
 
 // the places of the header's name and of the fields among all tokens, and how many tokens a field has
 const HEADER: usize = 3;
+
 const FIELDS: usize = 5;
+
 const FIELD_SIZE: usize = 7;
 
 // the place of the width among the tokens of a field
@@ -28,19 +30,33 @@ const WIDTH: usize = 4;
 
 // the places of the parts among the tokens after the fields
 const HOST_GUARD: usize = 3;
+
 const HOST: usize = 5;
+
 const SWITCH_GUARD: usize = 16;
+
 const SWITCH: usize = 18;
+
 const ENTRY: usize = 29;
+
 const INTO: usize = 46;
+
 const ENTRY_SWITCH: usize = 48;
+
 const SINK: usize = 55;
+
 const PORT: usize = 87;
+
 const PORTS: usize = 102;
+
 const TESTED: usize = 111;
+
 const LITERAL: usize = 113;
+
 const OUT: usize = 117;
+
 const FIRST_PORT: usize = 121;
+
 const OTHER_PORT: usize = 132;
 
 /// A thin design: its names and its parts, but for hosts and switches, of which there are none yet.
@@ -163,7 +179,13 @@ fn names_in(alloc: Global, text: &[u8], tokens: &[Token]) -> Result<Names, NoMem
     })
 }
 
-fn parts_in(alloc: Global, text: &[u8], header: Text, fields: Vec<ThinField>, tokens: &[Token]) -> Thin
+fn parts_in(
+    alloc: Global,
+    text: &[u8],
+    header: Text,
+    fields: Vec<ThinField>,
+    tokens: &[Token],
+) -> Thin
     ensures { result ≡ spec.parts_in header fields.items (kinds_at text.now tokens.now) }
 {
     let tested = position(fields.as_slice(), name_at(text, tokens, TESTED));
@@ -196,7 +218,12 @@ fn position(fields: &[ThinField], name: &[u8]) -> usize
 // ---- comparing
 
 /// Whether the tokens are those of a design.
-fn is_design(alloc: Global, text: &[u8], tokens: &[Token], design: &Design) -> Result<bool, NoMemory>
+fn is_design(
+    alloc: Global,
+    text: &[u8],
+    tokens: &[Token],
+    design: &Design,
+) -> Result<bool, NoMemory>
     ensures { IfOk result (λ is. is ≡ spec.has_design (kinds_at text.now tokens.now) (names_of design.now.names) design.now.parts) }
 {
     let mut cursor = Cursor::new(alloc, text, tokens);
@@ -323,7 +350,12 @@ fn ask_switch_roles(cursor: &mut Cursor, names: &Names, parts: &Thin) -> Result<
     Ok(())
 }
 
-fn ask_switch_role(cursor: &mut Cursor, names: &Names, ports: u16, name: &Text) -> Result<(), NoMemory>
+fn ask_switch_role(
+    cursor: &mut Cursor,
+    names: &Names,
+    ports: u16,
+    name: &Text,
+) -> Result<(), NoMemory>
     ensures { OnOk result (cursor.new ≡ after_all (switch_role (names_of names.now) ports name.now) cursor.old) }
 {
     cursor.said("role")?;
@@ -359,7 +391,12 @@ fn ask_into_body(cursor: &mut Cursor, names: &Names, parts: &Thin) -> Result<(),
     Ok(())
 }
 
-fn ask_tested(cursor: &mut Cursor, fields: &[ThinField], tested: u32, literal: u64) -> Result<(), NoMemory>
+fn ask_tested(
+    cursor: &mut Cursor,
+    fields: &[ThinField],
+    tested: u32,
+    literal: u64,
+) -> Result<(), NoMemory>
     ensures { OnOk result (cursor.new ≡ after_all (spec.tested_is fields.now tested literal) cursor.old) }
 {
     match fields.get(tested as usize) {

@@ -2,11 +2,11 @@
 #![tactic(auto)]
 
 pub mod cursor;
-pub mod fits;
-pub mod kinds;
 pub mod definitions;
 pub mod design;
 pub mod entry;
+pub mod fits;
+pub mod kinds;
 pub mod names;
 pub mod parts;
 pub mod places;

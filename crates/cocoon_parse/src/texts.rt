@@ -81,7 +81,10 @@ fn with_values(alloc: Global, design: Design, entries: &[Entry]) -> Result<Thin,
     let hosts = true_numbers(alloc, entries, design.names.host_guard.bytes())?;
     let hosts = widened(alloc, hosts.as_slice())?;
     let switches = true_numbers(alloc, entries, design.names.switch_guard.bytes())?;
-    let Design { names: _, mut parts } = design;
+    let Design {
+        names: _,
+        mut parts,
+    } = design;
     parts.hosts = List::from(hosts);
     parts.switches = List::from(switches);
     Ok(parts)
@@ -100,5 +103,4 @@ fn widened(alloc: Global, numbers: &[u16]) -> Result<Vec<u64>, NoMemory>
 /// A thin design has one reading: the names and the parts, but for hosts and switches, which the design does not say.
 pub fn one_thin_design()
     ensures { OneThinDesign }
-{
-}
+{}

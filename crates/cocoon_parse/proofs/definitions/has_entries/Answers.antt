@@ -12,6 +12,6 @@ returns c =
     let entries = entries_of c.args.entries.now in
     c.is_done.ensures
     ∙ ap is_all
-      (c.end.ensures
-       ∙ ap (after finish) (c.in_ok-ask_entries.ensures ∙ ap (after_all (flat_map entry_tokens entries)) c.new-cursor.ensures)
-       ∙ sym (ask_end entries (Some (kinds_at c.args.text.now c.args.tokens.now))))
+    (c.end.ensures
+    ∙ ap (after finish) (c.in_ok-ask_entries.ensures ∙ ap (after_all (flat_map entry_tokens entries)) c.new-cursor.ensures)
+    ∙ sym (ask_end entries (Some (kinds_at c.args.text.now c.args.tokens.now))))

@@ -12,7 +12,7 @@ returns c =
     let t = c.args.parts.now in
     c.in_ok-ask_after.ensures
     ∙ ap (after_all (tokens_after n t))
-      (c.in_ok-ask_fields.ensures
-       ∙ ap (λ fields. after_all (flat_map field_tokens fields) c.ask_header.new.cursor) c.items.ensures
-       ∙ ap (after_all (flat_map field_tokens t.fields)) c.in_ok-ask_header.ensures)
+    (c.in_ok-ask_fields.ensures
+    ∙ ap (λ fields. after_all (flat_map field_tokens fields) c.ask_header.new.cursor) c.items.ensures
+    ∙ ap (after_all (flat_map field_tokens t.fields)) c.in_ok-ask_header.ensures)
     ∙ sym (design_after n t c.args.cursor.now)

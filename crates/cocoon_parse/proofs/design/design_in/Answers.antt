@@ -11,9 +11,9 @@ returns-clause-names c =
     let tokens = c.args.tokens.now in
     c.in_ok-names.ensures
     ∙ ap names_in
-      (c.after_fields-rest.ensures text
-       ∙ ap (λ ts. after_fields 0 (kinds_at text ts)) c.after-from_fields.ensures
-       ∙ ap (after_fields 0) (kinds_drop text 5 tokens))
+    (c.after_fields-rest.ensures text
+    ∙ ap (λ ts. after_fields 0 (kinds_at text ts)) c.after-from_fields.ensures
+    ∙ ap (after_fields 0) (kinds_drop text 5 tokens))
 
 pub returns-clause-parts : goal.returns-clause-parts
 returns-clause-parts c =
@@ -23,6 +23,6 @@ returns-clause-parts c =
     let rest : kinds_at text c.after_fields-rest.result.now ≡ after_fields 0 (drop 5 (kinds_at text tokens)) = c.after_fields-rest.ensures text ∙ ap (after_fields 0) from in
     c.parts_in-parts.ensures
     ∙ same_parts c.in_ok-header.header (word_at (kinds_at text tokens) 3)
-      c.in_ok-fields.fields.items (fields_from 0 (drop 5 (kinds_at text tokens)))
-      (kinds_at text c.after_fields-rest.result.now) (after_fields 0 (drop 5 (kinds_at text tokens)))
-      (c.in_ok-header.ensures ∙ c.name_at.ensures) (c.in_ok-fields.ensures ∙ ap (fields_from 0) from) rest
+    c.in_ok-fields.fields.items (fields_from 0 (drop 5 (kinds_at text tokens)))
+    (kinds_at text c.after_fields-rest.result.now) (after_fields 0 (drop 5 (kinds_at text tokens)))
+    (c.in_ok-header.ensures ∙ c.name_at.ensures) (c.in_ok-fields.ensures ∙ ap (fields_from 0) from) rest

@@ -8,6 +8,6 @@ pub returns-in-Ok : goal.returns-in-Ok
 returns-in-Ok c =
     c.tokens_of.ensures
     ∙ ap (λ ks. after_all ks c.args.self.now)
-      (ap (λ ts. without_finish (kinds_at c.as_bytes-text.result.now ts)) c.as_slice.ensures.value
-       ∙ sym (piece_says c.as_bytes-text.result.now c.in-Ok.tokens.items c.in-Ok.ensures.ok)
-       ∙ ap said c.as_bytes-text.ensures.value)
+    (ap (λ ts. without_finish (kinds_at c.as_bytes-text.result.now ts)) c.as_slice.ensures.value
+    ∙ sym (piece_says c.as_bytes-text.result.now c.in-Ok.tokens.items c.in-Ok.ensures.ok)
+    ∙ ap said c.as_bytes-text.ensures.value)
