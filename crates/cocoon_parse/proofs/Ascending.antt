@@ -1,7 +1,7 @@
 -- Ascending numbers: one put among them, and one taken away.
-use Rattle.std.proofs.Common.{◌≡◌, ℕ, zero, suc, ◌+◌, ◌<◌, ◌≤◌, ◌==◌, Bool, true, false, ◌&&◌, ◌||◌, List, [], ◌∷◌, ◌++◌, take, drop, length, Some, None, Option, ap, refl, sym, ◌∙◌, arith}
+use Rattle.std.proofs.Common.{◌≡◌, ℕ, suc, ◌<◌, ◌≤◌, ◌==◌, Bool, true, false, ◌&&◌, ◌||◌, List, [], ◌∷◌, ap, refl, sym, ◌∙◌, arith}
 use mathlib.Core.Bool.{beq}
-use Rattle.std.specs.Prelude.{if◌then◌else◌, insert, not, nat_le, nat_lt, remove, slice_get}
+use Rattle.std.specs.Prelude.{if◌then◌else◌, insert, not, nat_lt, remove, slice_get}
 use Rattle.std.proofs.lemmas.Bool.Decides.{nat_tests}
 use Rattle.cocoon_num.specs.Lists.{ascend, has_number}
 use Rattle.cocoon_parse.specs.Read.{below, is_number}

@@ -1,6 +1,6 @@
 -- The parts that are read from the tokens of a thin design are its own.
-use Rattle.std.proofs.Common.{◌≡◌, ℕ, zero, suc, ◌+◌, ◌<◌, ◌≤◌, Bool, true, false, ◌&&◌, ◌||◌, List, [], ◌∷◌, ◌++◌, map, length, ap, refl, sym, ◌∙◌, arith}
-use Rattle.std.specs.Prelude.{IsTrue, flat_map, min, nat_le, nat_lt, not, if◌then◌else◌, slice_get, Option, Some, None, codes}
+use Rattle.std.proofs.Common.{◌≡◌, ℕ, zero, suc, ◌<◌, ◌≤◌, Bool, true, false, ◌&&◌, ◌||◌, List, [], ◌∷◌, ◌++◌, length, ap, refl, sym, ◌∙◌, arith}
+use Rattle.std.specs.Prelude.{flat_map, min, nat_le, nat_lt, not, if◌then◌else◌, Option, codes}
 use Rattle.std.proofs.lemmas.Bool.Decides.{nat_tests}
 use Rattle.cocoon_num.specs.Lists.{each, is_one_of}
 use Rattle.cocoon_num.specs.Names.{same_name}

@@ -1,8 +1,8 @@
 -- Whether a text is a thin design is told by what is read from it.
-use Rattle.std.proofs.Common.{◌≡◌, ℕ, Bool, true, false, ◌&&◌, List, Some, Ok, ap, refl, sym, ◌∙◌, subst}
+use Rattle.std.proofs.Common.{◌≡◌, ℕ, Bool, true, false, ◌&&◌, List, Some, ap, refl, sym, ◌∙◌, subst}
 use Rattle.std.specs.Prelude.{All}
 use Rattle.cocoon_num.specs.Lists.{each}
-use Rattle.cocoon_num.specs.Tokens.{Kind, kinds, lex, language}
+use Rattle.cocoon_num.specs.Tokens.{Kind, kinds}
 use Rattle.cocoon_parse.specs.Follow.{after_all, is_all, kinds_at}
 use Rattle.cocoon_parse.specs.Read.{AreWith, OneThinDesign, bare, design_fits, design_names, design_parts, has_design, parts_in}
 use Rattle.cocoon_parse.specs.Thin.{AreThin, HasTokens, HasWords, IsThinDefs, IsThinDesign, ThinDefs, ThinDesign, ThinEntry, ThinNames, design_tokens, fields_fit, names_fit, numbers_fit}

@@ -1,6 +1,6 @@
 -- The entries that are read from the tokens of thin definitions are its own.
-use Rattle.std.proofs.Common.{◌≡◌, ℕ, zero, suc, ◌+◌, ◌-◌, ◌<◌, Bool, true, false, ◌&&◌, List, [], ◌∷◌, ◌++◌, drop, length, map, Some, Option, slice_index_or, ap, refl, sym, ◌∙◌, subst, arith}
-use Rattle.std.specs.Prelude.{IsTrue, flat_map, if◌then◌else◌, codes}
+use Rattle.std.proofs.Common.{◌≡◌, ℕ, zero, suc, ◌+◌, ◌-◌, ◌<◌, Bool, true, false, ◌&&◌, List, [], ◌∷◌, ◌++◌, drop, length, Some, Option, slice_index_or, ap, refl, sym, ◌∙◌, subst}
+use Rattle.std.specs.Prelude.{flat_map, if◌then◌else◌, codes}
 use Rattle.cocoon_num.specs.Tokens.{Kind, finish}
 use Rattle.cocoon_parse.specs.Follow.{after, after_all, is_all}
 use Rattle.cocoon_parse.specs.Read.{begins_with_keyword, entries_from, entries_of, entry_in, entry_of, entry_size, has_entries, is_keyword_at}

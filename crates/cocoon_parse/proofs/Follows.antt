@@ -1,5 +1,5 @@
 -- Laws of comparing tokens one after another.
-use Rattle.std.proofs.Common.{◌≡◌, ℕ, zero, suc, Bool, true, false, drop, List, [], ◌∷◌, ◌++◌, map, Option, Some, None, Ok, ap, refl, sym, ◌∙◌, arith}
+use Rattle.std.proofs.Common.{◌≡◌, ℕ, zero, suc, Bool, true, false, drop, List, [], ◌∷◌, ◌++◌, map, Option, Some, None, Ok, ap, refl, ◌∙◌, arith}
 use Rattle.std.proofs.lemmas.Bool.Decides.{nat_tests}
 use Rattle.cocoon_num.specs.Names.{same_name}
 use Rattle.cocoon_num.specs.Tokens.{Kind, word, keyword, plain, literal, mark, finish, lex, kinds, language}

@@ -1,14 +1,14 @@
 -- Names in the tokens of a text are words, and numbers fit their widths.
-use Rattle.std.proofs.Common.{◌≡◌, ℕ, zero, suc, ◌+◌, ◌<◌, ◌^◌, Bool, true, false, ◌&&◌, List, [], ◌∷◌, ◌++◌, length, map, Some, Option, slice_index_or, ap, refl, sym, ◌∙◌, subst, arith}
-use Rattle.std.specs.Prelude.{All, IsTrue, flat_map, nat_lt, slice_get, slice_range}
+use Rattle.std.proofs.Common.{◌≡◌, ℕ, zero, suc, ◌<◌, ◌^◌, Bool, true, ◌&&◌, List, [], ◌∷◌, ◌++◌, Some, refl, subst, arith}
+use Rattle.std.specs.Prelude.{All, IsTrue, flat_map, nat_lt, slice_get}
 use Rattle.std.proofs.lemmas.Bool.Decides.{nat_tests}
 use Rattle.cocoon_num.specs.Lists.{each}
-use Rattle.cocoon_num.specs.Tokens.{Kind, word, keyword, plain, literal, mark, finish, is_run}
+use Rattle.cocoon_num.specs.Tokens.{Kind, word, literal, is_run}
 use Rattle.cocoon_lex.specs.declared.token.Token.{Token}
 use Rattle.cocoon_lex.specs.declared.token.TokenKind.{TokenKind}
 use Rattle.cocoon_lex.specs.declared.token.TokenKind.TheVariants.{Name, Keyword, Plain, Literal, Mark, End}
 use Rattle.cocoon_lex.specs.Kinds.{IsSpelled, kind_of}
-use Rattle.cocoon_parse.specs.Follow.{kind_at, kinds_at}
+use Rattle.cocoon_parse.specs.Follow.{kinds_at}
 use Rattle.cocoon_parse.specs.Read.{header_tokens, tokens_after}
 use Rattle.cocoon_parse.specs.Thin.{HasWords, ThinNames, design_tokens, field_tokens, field_width}
 use Rattle.cocoon_parse.specs.declared.parts.Thin.{Thin}

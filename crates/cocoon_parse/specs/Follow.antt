@@ -1,5 +1,5 @@
 -- Comparing the tokens of a text with those that it should have, one after another.
-use Rattle.std.specs.Prelude.{ℕ, ◌==◌, ◌&&◌, Bool, true, false, List, [], ◌∷◌, map, slice_range, if◌then◌else◌, Option, Some, None}
+use Rattle.std.specs.Prelude.{ℕ, ◌==◌, ◌&&◌, Bool, true, false, List, [], ◌∷◌, map, slice_range, Option, Some, None}
 use Rattle.cocoon_num.specs.Names.{same_name}
 use Rattle.cocoon_num.specs.Tokens.{Kind, word, keyword, plain, literal, mark, finish}
 use Rattle.cocoon_lex.specs.declared.token.Token.{Token}

@@ -2,7 +2,7 @@
 -- it is an empty name or 0: then the tokens are not those of the parts so read, and the text is not thin.
 use Rattle.std.specs.Prelude.{ℕ, ◌≡◌, zero, suc, ◌-◌, ◌&&◌, Bool, true, false, min, nat_le, nat_lt, ◌==◌, List, [], ◌∷◌, ◌++◌, map, drop, slice_get, if◌then◌else◌, Option, Some, None, codes}
 use Rattle.cocoon_num.specs.Names.{same_name}
-use Rattle.cocoon_num.specs.Tokens.{Kind, word, keyword, plain, literal, mark, finish}
+use Rattle.cocoon_num.specs.Tokens.{Kind, word, keyword, plain, literal, finish}
 use Rattle.cocoon_parse.specs.Follow.{after_all, alike, is_all}
 use Rattle.cocoon_parse.specs.Thin.{AreTrueAt, IsThinDefs, IsThinDesign, ThinNames, ThinEntry, defs_tokens, design_tokens, field_name, field_width, fields_fit, function_tokens, host_role, into_body, its_default, its_row, names_fit, numbers_fit, said, switch_role}
 use Rattle.cocoon_parse.specs.declared.names.Names.{Names}

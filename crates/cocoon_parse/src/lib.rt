@@ -1,18 +1,20 @@
 //! The texts of designs and definitions that `compile` takes today: thin ones.
 #![tactic(auto)]
 
-pub mod cursor;
-pub mod definitions;
-pub mod design;
-pub mod entry;
-pub mod fits;
-pub mod kinds;
-pub mod names;
+mod cursor;
+mod definitions;
+mod design;
+mod entry;
+mod fits;
+mod kinds;
+mod names;
 pub mod parts;
-pub mod places;
+mod places;
+#[cfg(test)]
+mod tests;
 pub mod texts;
-pub mod tokens;
-pub mod values;
+mod tokens;
+mod values;
 
 pub use parts::{Thin, ThinField};
 pub use texts::{ThinFault, thin};

@@ -1,4 +1,4 @@
-use Rattle.std.proofs.Common.{◌≡◌, ◌∙◌, ap, sym}
+use Rattle.std.proofs.Common.{◌∙◌, ap, sym}
 use Rattle.cocoon_parse.specs.Follow.{kinds_at}
 use Rattle.cocoon_parse.specs.Read.{entries_of, names_of}
 use Rattle.cocoon_parse.proofs.Entries.{are_thin_defs, not_thin_defs, passes}

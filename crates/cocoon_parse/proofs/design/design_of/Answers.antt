@@ -1,4 +1,4 @@
-use Rattle.std.proofs.Common.{◌≡◌, ◌∙◌, ap, sym, true}
+use Rattle.std.proofs.Common.{◌∙◌, sym}
 use Rattle.cocoon_parse.specs.Follow.{kinds_at}
 use Rattle.cocoon_parse.specs.Read.{names_of, design_fits, has_design}
 use Rattle.cocoon_parse.proofs.Back.{both}

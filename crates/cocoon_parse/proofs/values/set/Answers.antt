@@ -1,4 +1,4 @@
-use Rattle.std.proofs.Common.{◌≡◌, ◌∙◌, Bool, true, false, ap, sym, subst}
+use Rattle.std.proofs.Common.{◌≡◌, ◌∙◌, Bool, true, false, ap, sym}
 use Rattle.std.specs.Prelude.{if◌then◌else◌, insert, remove, slice_get, ◌==◌, ℕ, List}
 use Rattle.cocoon_num.specs.Lists.{ascend, has_number}
 use Rattle.cocoon_parse.specs.Read.{below, is_number}
