@@ -53,19 +53,23 @@ thin_has_all text ks h (n, t, d) =
     ap (λ ls. is_all (after_all ls (Some ks))) (tokens_again design_tokens design_names design_parts ks n t (bare t) e (names_back n t) (parts_back n t d.fields d.numbers) (bare_tokens n t))
     ∙ all_same ks
 
+-- passing three tests
 fits_together : (a b c : Bool) → a ≡ true → b ≡ true → c ≡ true → (a && b && c) ≡ true
 fits_together a b c ea eb ec = rw (ea, eb, ec) refl
 
+-- its names and parts are in their ranges
 pub thin_fits : (text : List ℕ) (ks : List Kind) → HasTokens text ks → ThinDesign text → design_fits (design_names ks) (design_parts ks) ≡ true
 thin_fits text ks h (n, t, d) =
     passes_again design_fits design_names design_parts ks (design_tokens n t) n (bare t) (one_kinds h d.tokens) (names_back n t) (parts_back n t d.fields d.numbers)
     (fits_together (names_fit n) (fields_fit t.fields) (numbers_fit t) d.names d.fields d.numbers)
 
+-- two tests that are passed are not failed together
 pub no_less : (a b : Bool) → a ≡ true → b ≡ true → (a && b) ≡ false → ⊥
 no_less true true ea eb f = cc
 no_less true false ea eb f = cc
 no_less false b ea eb f = cc
 
+-- a test of what was read
 passed_too : (test : ThinNames → Thin → Bool) (ks : List Kind) (n : ThinNames) (t : Thin) → n ≡ design_names ks → t ≡ design_parts ks → test (design_names ks) (design_parts ks) ≡ true → test n t ≡ true
 passed_too test ks n t en et h = ap (λ m. test m t) en ∙ ap (test (design_names ks)) et ∙ h
 
@@ -79,11 +83,13 @@ not_thin text ks n t h en et f d =
 
 -- ---- words
 
+-- names of a design are words, and its literal fits
 pub words_of : (text : List ℕ) (ts : List Token) (n : ThinNames) (t : Thin) → All (IsSpelled text) ts → has_design (kinds_at text ts) n t ≡ true → HasWords t
 words_of text ts n t s h = has_words n t (subst (λ ks. each is_good ks ≡ true) (all_are (design_tokens n t) (kinds_at text ts) h) (tokens_good text ts s))
 
 -- ---- one reading
 
+-- two readings of one design are one
 pub one_reading : OneThinDesign
 one_reading text n m t u d e =
     let same : design_tokens n t ≡ design_tokens m u = one_kinds d.tokens e.tokens in (

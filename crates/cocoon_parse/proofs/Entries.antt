@@ -13,15 +13,18 @@ use Rattle.cocoon_parse.proofs.Here.{at_place}
 
 -- ---- one entry after another
 
+-- the entries after so many tokens
 from_later : (n : ℕ) (ks : List Kind) → entries_from n ks ≡ entries_from 0 (drop n ks)
 from_later zero ks = refl
 from_later (suc n) [] = refl
 from_later (suc n) (k ∷ ks) = from_later n ks
 
+-- the tokens after an entry
 drop_size : (is : Bool) (k : Kind) (ks : List Kind) → drop ((if is then 5 else 8) - 1) ks ≡ drop (if is then 5 else 8) (k ∷ ks)
 drop_size true k ks = refl
 drop_size false k ks = refl
 
+-- the entry that begins here, and those after it
 entry_here : (ks : List Kind) → begins_with_keyword ks ≡ true → entries_from 0 ks ≡ entry_in ks ∷ entries_from 0 (drop (entry_size ks) ks)
 entry_here [] h = cc
 entry_here (k ∷ ks) h =
@@ -41,17 +44,20 @@ ask_more entries i x s h e =
     ap (λ es. after_all (flat_map entry_tokens (entries_of es)) s) (at_place entries i x h e)
     ∙ after_append (entry_tokens (entry_of x)) (flat_map entry_tokens (entries_of (drop (i + 1) entries))) s
 
+-- comparing the entries and the end of the text
 pub ask_end : (entries : List ThinEntry) (s : Option (List Kind)) → after_all (defs_tokens entries) s ≡ after finish (after_all (flat_map entry_tokens entries) s)
 ask_end entries s = after_append (flat_map entry_tokens entries) (finish ∷ []) s
 
 -- ---- whole definitions
 
+-- the entries of the tokens of entries
 entries_back : (entries : List ThinEntry) → entries_from 0 (defs_tokens entries) ≡ entries
 entries_back [] = refl
 entries_back (its_default f ∷ entries) = ap (λ es. its_default f ∷ es) (entries_back entries)
 entries_back (its_row f n true ∷ entries) = ap (λ es. its_row f n true ∷ es) (entries_back entries)
 entries_back (its_row f n false ∷ entries) = ap (λ es. its_row f n false ∷ es) (entries_back entries)
 
+-- the tokens are those of the entries, and the entries are as they should be
 abbrev pub passes : List Kind → ThinNames → List ThinEntry → Bool
 passes ks n entries = has_entries ks entries && entries_fit n entries
 

@@ -15,6 +15,7 @@ pub one_of_here : (fields : List ThinField) (i : ℕ) (x : ThinField) (name b : 
     is_one_of (field_names (drop i fields)) name ≡ (same_name b name || is_one_of (field_names (drop (i + 1) fields)) name)
 one_of_here fields i x name b h e eb = ap (λ fs. is_one_of (field_names fs) name) (at_place fields i x h e) ∙ ap (λ a. same_name a name || is_one_of (field_names (drop (i + 1) fields)) name) (sym eb)
 
+-- an item between two lists belongs to either
 regrouped : {A : Type 0} (rest later : List A) (x : A) → rest ++ (x ∷ later) ≡ (rest ++ x ∷ []) ++ later
 regrouped [] later x = refl
 regrouped (r ∷ rest) later x = ap (λ ys. r ∷ ys) (regrouped rest later x)

@@ -19,6 +19,7 @@ alike _ _ = false
 abbrev pub kind_at : List ℕ → Token → Kind
 kind_at text t = kind_of t.kind (slice_range text t.start t.end)
 
+-- the kinds of tokens of a text
 abbrev pub kinds_at : List ℕ → List Token → List Kind
 kinds_at text tokens = map (kind_at text) tokens
 

@@ -13,6 +13,7 @@ use Rattle.cocoon_parse.specs.declared.parts.Thin.{Thin}
 
 -- ---- what the values of the code stand for
 
+-- the names of a design
 abbrev pub names_of : Names → ThinNames
 names_of n = record {
   host_guard = n.host_guard;
@@ -26,21 +27,26 @@ names_of n = record {
   port = n.port;
 }
 
+-- an entry
 abbrev pub entry_of : Entry → ThinEntry
 entry_of (Default function) = its_default function
 entry_of (Row function n holds) = its_row function n holds
 
+-- entries
 abbrev pub entries_of : List Entry → List ThinEntry
 entries_of entries = map entry_of entries
 
+-- the names of fields
 abbrev pub field_names : List ThinField → List (List ℕ)
 field_names fields = map (λ (f : ThinField). f.name) fields
 
+-- the widths of fields
 abbrev pub field_widths : List ThinField → List ℕ
 field_widths fields = map (λ (f : ThinField). f.width) fields
 
 -- ---- what stands at one place
 
+-- the name that this is, if it is one
 abbrev pub word_in : Option Kind → List ℕ
 word_in (Some (word text)) = text
 word_in _ = []
@@ -49,6 +55,7 @@ word_in _ = []
 abbrev pub word_at : List Kind → ℕ → List ℕ
 word_at ks i = word_in (slice_get ks i)
 
+-- the number without a width that this is, if it is at most so large
 abbrev pub plain_in : ℕ → Option Kind → ℕ
 plain_in most (Some (plain n)) = if nat_le n most then n else 0
 plain_in most _ = 0
@@ -57,6 +64,7 @@ plain_in most _ = 0
 abbrev pub plain_at : ℕ → List Kind → ℕ → ℕ
 plain_at most ks i = plain_in most (slice_get ks i)
 
+-- the number of a width that this is, if it is at most so wide
 abbrev pub literal_in : ℕ → Option Kind → ℕ
 literal_in widest (Some (literal width n)) = if nat_le width widest then n else 0
 literal_in widest _ = 0
@@ -65,6 +73,7 @@ literal_in widest _ = 0
 abbrev pub literal_at : ℕ → List Kind → ℕ → ℕ
 literal_at widest ks i = literal_in widest (slice_get ks i)
 
+-- whether something stands there, and it is this
 abbrev pub is_kind : Kind → Option Kind → Bool
 is_kind k None = false
 is_kind k (Some x) = alike k x
@@ -75,10 +84,12 @@ is_keyword_at text ks i = is_kind (keyword text) (slice_get ks i)
 
 -- ---- designs
 
+-- whether a name comes first
 abbrev pub begins_with_name : List Kind → Bool
 begins_with_name (word text ∷ ks) = true
 begins_with_name _ = false
 
+-- the field that begins there
 abbrev pub field_in : List Kind → ThinField
 field_in ks = record { name = word_at ks 0; width = plain_at 64 ks 4 }
 
@@ -132,6 +143,7 @@ parts_in header fields ks = record {
 abbrev pub design_names : List Kind → ThinNames
 design_names ks = names_in (after_fields 0 (drop 5 ks))
 
+-- the parts of a design
 abbrev pub design_parts : List Kind → Thin
 design_parts ks = parts_in (word_at ks 3) (fields_from 0 (drop 5 ks)) (after_fields 0 (drop 5 ks))
 
@@ -181,6 +193,7 @@ design_fits n t = names_fit n && fields_fit t.fields && numbers_fit t
 
 -- ---- definitions
 
+-- whether a reserved word comes first
 abbrev pub begins_with_keyword : List Kind → Bool
 begins_with_keyword (keyword text ∷ ks) = true
 begins_with_keyword _ = false
@@ -191,6 +204,7 @@ entry_in ks =
     if is_keyword_at (codes "default") ks 0 then its_default (word_at ks 1)
     else its_row (word_at ks 1) (literal_at 16 ks 3) (is_keyword_at (codes "true") ks 6)
 
+-- how many tokens that entry has
 abbrev pub entry_size : List Kind → ℕ
 entry_size ks = if is_keyword_at (codes "default") ks 0 then 5 else 8
 
@@ -211,6 +225,7 @@ abbrev pub below : ℕ → List ℕ → ℕ
 below n [] = 0
 below n (m ∷ ms) = if nat_lt m n then suc (below n ms) else 0
 
+-- whether something stands there, and it is n
 abbrev pub is_number : ℕ → Option ℕ → Bool
 is_number n None = false
 is_number n (Some m) = m == n

@@ -1,6 +1,7 @@
 //! The texts of designs and definitions that `compile` takes today: thin ones.
 #![tactic(auto)]
 
+mod comparing;
 mod cursor;
 mod definitions;
 mod design;

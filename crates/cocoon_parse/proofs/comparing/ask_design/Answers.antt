@@ -4,7 +4,7 @@ use Rattle.cocoon_parse.specs.Follow.{after_all}
 use Rattle.cocoon_parse.specs.Read.{names_of, tokens_after}
 use Rattle.cocoon_parse.specs.Thin.{field_tokens}
 use Rattle.cocoon_parse.proofs.Back.{design_after}
-use Rattle.cocoon_parse.proofs.design.ask_design.Goals as goal
+use Rattle.cocoon_parse.proofs.comparing.ask_design.Goals as goal
 
 pub returns : goal.returns
 returns c =
