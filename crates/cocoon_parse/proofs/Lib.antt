@@ -20,3 +20,10 @@ pub mod ThinDelivered
 pub mod OneLevel
 pub mod ThinMean
 pub mod ThinExample
+pub mod Ascending
+pub mod Back
+pub mod Designs
+pub mod Entries
+pub mod Follows
+pub mod Good
+pub mod Here

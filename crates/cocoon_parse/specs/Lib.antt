@@ -1,3 +1,5 @@
+pub mod Follow
+pub mod Read
 pub mod Thin
 pub mod Design
 pub mod Tables

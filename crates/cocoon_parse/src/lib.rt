@@ -1,10 +1,23 @@
-//! The texts of designs and definitions that `compile` takes today: thin ones.
+//! The texts of designs and definitions that `compile` takes today: thin ones, and what they mean.
 #![tactic(auto)]
 
+mod comparing;
+mod cursor;
+mod definitions;
+mod design;
+mod entry;
+mod fits;
+mod kinds;
 pub mod meaning;
+mod names;
 pub mod parts;
+mod places;
 pub mod runs;
+#[cfg(test)]
+mod tests;
 pub mod texts;
+mod tokens;
+mod values;
 
 pub use parts::{Thin, ThinField};
 pub use texts::{ThinFault, thin};

@@ -1,0 +1,12 @@
+use Rattle.std.proofs.Common.{◌≡◌, ◌++◌, List, length}
+use Rattle.cocoon_parse.specs.Read.{entries_of}
+use Rattle.cocoon_parse.specs.Thin.{AreTrueAt}
+use Rattle.cocoon_parse.specs.declared.entry.Entry.{Entry}
+use Rattle.cocoon_parse.proofs.values.true_numbers.Given as goal
+
+-- the later entries are those that have been applied
+abbrev pub invariant-loop-entry : goal.invariant-loop-entry
+invariant-loop-entry l = (later : List Entry) × (l.earlier ++ later ≡ l.entries) × AreTrueAt (entries_of later) l.function l.numbers.items
+
+abbrev pub decreases-loop-entry : goal.decreases-loop-entry
+decreases-loop-entry l = length l.earlier
