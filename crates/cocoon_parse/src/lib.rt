@@ -5,6 +5,7 @@ pub mod meaning;
 pub mod parts;
 pub mod runs;
 pub mod texts;
+pub mod visits;
 
 pub use parts::{Thin, ThinField};
 pub use texts::{ThinFault, thin};
