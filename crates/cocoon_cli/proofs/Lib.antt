@@ -6,3 +6,5 @@ pub mod NetData
 pub mod ThinVisit
 pub mod ThinLinks
 pub mod ThinNetwork
+pub mod ThinRoles
+pub mod NetMeans

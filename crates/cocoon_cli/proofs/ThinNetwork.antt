@@ -10,59 +10,10 @@ use Rattle.p4_emit.specs.NetTree.{LinkEnd, to_host, SwitchFiles}
 use Rattle.p4_emit.specs.Switch.{switch_go}
 use Rattle.p4_emit.specs.NetRuns.{link_at, Onward, Visits, NetGo}
 use Rattle.cocoon_cli.specs.Lowered.{links}
-use Rattle.cocoon_cli.specs.ThinNet.{thin_switch, thin_net, thin_leaves, thin_visit}
+use Rattle.cocoon_cli.specs.ThinNet.{thin_switch, thin_net, thin_visit}
 use Rattle.cocoon_cli.specs.Visits.{NetDelivers}
-use Rattle.cocoon_cli.proofs.ThinVisit.{visits}
+use Rattle.cocoon_cli.proofs.ThinVisit.{visits, left, leaves}
 use Rattle.cocoon_cli.proofs.ThinLinks.{attached, switch_there, linked}
-
--- what a visit that leaves has been
-record Left (t : Thin) (bytes choices : List ℕ) (port : ℕ) (out : List ℕ) : Type 0 where
-  packet : Packet
-  payload : List ℕ
-  enters : enter (thin_layout t) bytes ≡ Some (packet, payload)
-  chosen : leaves_at t packet ≡ Some port
-  no_choices : choices ≡ []
-  leaves : out ≡ leave (thin_layout t) packet payload
-
--- the parts of what leaves
-abbrev port_or : ℕ → Option (ℕ × List ℕ) → ℕ
-port_or x None = x
-port_or x (Some l) = l.0
-
--- the bytes
-abbrev bytes_or : List ℕ → Option (ℕ × List ℕ) → List ℕ
-bytes_or x None = x
-bytes_or x (Some l) = l.1
-
--- bytes at a port
-abbrev leaving : List ℕ → ℕ → ℕ × List ℕ
-leaving bytes port = (port, bytes)
-
--- the visit that left them
-left : (t : Thin) (bytes choices : List ℕ) (port : ℕ) (out : List ℕ) → thin_visit t bytes choices ≡ Some (port, out) → Left t bytes choices port out
-left t bytes (rid ∷ rids) port out h = absurd (cc h)
-left t bytes [] port out h = entered (enter (thin_layout t) bytes) refl h
-  where
-    at_port : (packet : Packet) (payload : List ℕ) (o : Option ℕ) → enter (thin_layout t) bytes ≡ Some (packet, payload) → leaves_at t packet ≡ o
-        → option_map (leaving (leave (thin_layout t) packet payload)) o ≡ Some (port, out) → Left t bytes [] port out
-    at_port packet payload None e l h = absurd (cc h)
-    at_port packet payload (Some p) e l h = record {
-      packet = packet;
-      payload = payload;
-      enters = e;
-      chosen = l ∙ ap (λ x. Some x) (ap (port_or p) h);
-      no_choices = refl;
-      leaves = sym (ap (bytes_or out) h);
-    }
-    entered : (o : Option (Packet × List ℕ)) → enter (thin_layout t) bytes ≡ o → option_and_then (thin_leaves t) o ≡ Some (port, out) → Left t bytes [] port out
-    entered None e h = absurd (cc h)
-    entered (Some p) e h = at_port p.0 p.1 (leaves_at t p.0) e refl h
-
--- and such a visit there is
-leaves : (t : Thin) (bytes choices : List ℕ) (port : ℕ) (out : List ℕ) → Left t bytes choices port out → thin_visit t bytes choices ≡ Some (port, out)
-leaves t bytes choices port out l =
-    ap (thin_visit t bytes) l.no_choices ∙ ap (option_and_then (thin_leaves t)) l.enters
-    ∙ ap (option_map (leaving (leave (thin_layout t) l.packet l.payload))) l.chosen ∙ ap (λ bs. Some (port, bs)) (sym l.leaves)
 
 -- what two tests let through
 through : {A : Type 0} (b c : Bool) (x y : A) → (if b then (if c then Some x else None) else None) ≡ Some y → (b ≡ true) × (c ≡ true) × (x ≡ y)
@@ -133,5 +84,6 @@ module _ (t : Thin) (tested : t.tested < length t.fields) (narrow : t.entry_swit
       let arrived : Onward (Visits (thin_net t) n b out) (link_at (links t) t.entry_switch b) out [] b out = subst (λ o. Onward (Visits (thin_net t) n b out) o out [] b out) (sym link) (refl, refl, refl) in
       (t.entry_switch, a, at, (thin_switch t t.entry_switch, b, out, [], [], found, went, d.no_choices, arrived))
 
+  -- both ways
   pub net_delivers : NetDelivers t
   net_delivers a bytes rids n b out = (delivered a bytes rids n b out, delivers a bytes rids n b out)

@@ -99,3 +99,52 @@ pub visits : (t : Thin) → t.tested < length t.fields → VisitsAreThin t
 visits t h tag port bytes [] =
     visit_entered t h port (enter (program_layout (thin_program t)) bytes) ∙ ap (λ l. option_and_then (thin_leaves t) (enter l bytes)) (same_layout t)
 visits t h tag port bytes (rid ∷ rids) = copy_entered t h port rid rids (enter (program_layout (thin_program t)) bytes)
+
+-- what a visit that leaves has been
+pub record VisitLeft (t : Thin) (bytes choices : List ℕ) (port : ℕ) (out : List ℕ) : Type 0 where
+  pub packet : Packet
+  pub payload : List ℕ
+  pub enters : enter (thin_layout t) bytes ≡ Some (packet, payload)
+  pub chosen : leaves_at t packet ≡ Some port
+  pub no_choices : choices ≡ []
+  pub leaves : out ≡ leave (thin_layout t) packet payload
+
+-- the parts of what leaves
+abbrev port_or : ℕ → Option (ℕ × List ℕ) → ℕ
+port_or x None = x
+port_or x (Some l) = l.0
+
+-- the bytes
+abbrev bytes_or : List ℕ → Option (ℕ × List ℕ) → List ℕ
+bytes_or x None = x
+bytes_or x (Some l) = l.1
+
+-- bytes at a port
+abbrev with_port : List ℕ → ℕ → ℕ × List ℕ
+with_port bytes port = (port, bytes)
+
+-- the visit that left them
+pub left : (t : Thin) (bytes choices : List ℕ) (port : ℕ) (out : List ℕ) → thin_visit t bytes choices ≡ Some (port, out) → VisitLeft t bytes choices port out
+left t bytes (rid ∷ rids) port out h = absurd (cc h)
+left t bytes [] port out h = entered (enter (thin_layout t) bytes) refl h
+  where
+    at_port : (packet : Packet) (payload : List ℕ) (o : Option ℕ) → enter (thin_layout t) bytes ≡ Some (packet, payload) → leaves_at t packet ≡ o
+        → option_map (with_port (leave (thin_layout t) packet payload)) o ≡ Some (port, out) → VisitLeft t bytes [] port out
+    at_port packet payload None e l h = absurd (cc h)
+    at_port packet payload (Some p) e l h = record {
+      packet = packet;
+      payload = payload;
+      enters = e;
+      chosen = l ∙ ap (λ x. Some x) (ap (port_or p) h);
+      no_choices = refl;
+      leaves = sym (ap (bytes_or out) h);
+    }
+    entered : (o : Option (Packet × List ℕ)) → enter (thin_layout t) bytes ≡ o → option_and_then (thin_leaves t) o ≡ Some (port, out) → VisitLeft t bytes [] port out
+    entered None e h = absurd (cc h)
+    entered (Some p) e h = at_port p.0 p.1 (leaves_at t p.0) e refl h
+
+-- and such a visit there is
+pub leaves : (t : Thin) (bytes choices : List ℕ) (port : ℕ) (out : List ℕ) → VisitLeft t bytes choices port out → thin_visit t bytes choices ≡ Some (port, out)
+leaves t bytes choices port out l =
+    ap (thin_visit t bytes) l.no_choices ∙ ap (option_and_then (thin_leaves t)) l.enters
+    ∙ ap (option_map (with_port (leave (thin_layout t) l.packet l.payload))) l.chosen ∙ ap (λ bs. Some (port, bs)) (sym l.leaves)
