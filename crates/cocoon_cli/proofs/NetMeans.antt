@@ -1,21 +1,12 @@
 -- The network of two thin texts delivers what the last level of the design delivers.
-use Rattle.std.proofs.Common.{◌≡◌, ℕ, ◌<◌, ◌≤◌, ◌&&◌, List, true, length, nat_lt}
-use Rattle.std.specs.Prelude.{nat_le}
-use Rattle.std.proofs.lemmas.Bool.{and_parts, ltb-true}
+use Rattle.std.proofs.Common.{◌≡◌, ℕ, List}
 use Rattle.cocoon_num.specs.Tree.{Design}
 use Rattle.cocoon_parse.specs.declared.parts.Thin.{Thin}
 use Rattle.cocoon_parse.specs.Design.{last_level}
 use Rattle.cocoon_parse.specs.Tables.{Defs, defs_of}
 use Rattle.cocoon_parse.specs.Runs.{LastGo, MayMake}
-use Rattle.cocoon_parse.specs.Thin.{numbers_fit}
 use Rattle.cocoon_parse.specs.ThinRuns.{ThinMeaning}
 use Rattle.cocoon_cli.specs.Visits.{NetDelivers, NetMeaning}
-
--- the tested field is there
-pub in_range : (t : Thin) → numbers_fit t ≡ true → t.tested < length t.fields
-in_range t h =
-    let a = and_parts (nat_lt t.tested (length t.fields) && nat_le 1 t.ports) (nat_le t.ports 256) h in
-    ltb-true _ _ (and_parts (nat_lt t.tested (length t.fields)) (nat_le 1 t.ports) a.0).0
 
 -- both deliver what the parts say
 pub means : (design defs : List ℕ) (t : Thin) → NetDelivers t → ThinMeaning design defs t

@@ -1,5 +1,5 @@
 -- The look-ups in the network of a thin design.
-use Rattle.std.proofs.Common.{◌≡◌, ℕ, List, [], ◌∷◌, ◌++◌, Bool, true, false, ◌&&◌, ◌||◌, Option, Some, None, map, filter, flat_map, nat_lt, if◌then◌else◌, refl, ap, ap₂, sym, subst, ◌∙◌}
+use Rattle.std.proofs.Common.{◌≡◌, ℕ, List, [], ◌∷◌, ◌++◌, Bool, true, false, ◌&&◌, ◌||◌, Option, Some, None, map, filter, flat_map, nat_lt, if◌then◌else◌, refl, ap, ap₂, sym, ◌∙◌}
 use Rattle.std.specs.Prelude.{◌==◌}
 use Rattle.std.proofs.lemmas.Bool.{eq-eqb, eqb-true, eqb-false, ne_eqb}
 use Rattle.cocoon_num.specs.Lists.{has_number}
@@ -33,6 +33,7 @@ step f m n among = by_case (m == n) refl
 abbrev attach_of : Thin → ℕ → Option (ℕ × ℕ)
 attach_of t h = if has_number t.entry_switch t.switches && nat_lt h t.ports then Some (t.entry_switch, h) else None
 
+-- the attachment of a host
 pub attached : (t : Thin) (hosts : List ℕ) (a : ℕ) → attach_at (map (host_port t) hosts) a ≡ (if has_number a hosts then attach_of t a else None)
 attached t [] a = refl
 attached t (h ∷ hosts) a = ap (λ o. if h == a then attach_of t h else o) (attached t hosts a) ∙ step (attach_of t) h a (has_number a hosts)
@@ -51,10 +52,12 @@ port_step n h p hosts rest = by_case (nat_lt h n) refl
     both : (e x y : Bool) → (e ≡ true → x ≡ true) → e || (y && x) ≡ (e || y) && x
     both true x y f = sym (f refl)
     both false x y f = refl
+
     neither : (e x y : Bool) → (e ≡ true → x ≡ false) → y && x ≡ (e || y) && x
     neither true x true f = refl
     neither true x false f = sym (f refl)
     neither false x y f = refl
+
     by_case : (below : Bool) → nat_lt h n ≡ below → has_number p (filter (λ h. nat_lt h n) (h ∷ hosts)) ≡ has_number p (h ∷ hosts) && nat_lt p n
     by_case true e =
         ap (λ b. has_number p (if b then h ∷ filter (λ h. nat_lt h n) hosts else filter (λ h. nat_lt h n) hosts)) e
@@ -113,6 +116,7 @@ linked_among hosts (x ∷ switches) s p =
     either true false false = refl
     either false b c = refl
 
+-- and of the network
 pub linked : (t : Thin) (s p : ℕ) → link_at (links t) s p ≡ host_end (has_number s t.switches && (has_number p t.hosts && nat_lt p t.ports)) p
 linked t s p =
     linked_among (port_hosts t) t.switches s p ∙ ap (λ b. host_end (has_number s t.switches && b) p) (ports_among t.ports t.hosts p)

@@ -1,12 +1,10 @@
 -- What the network of a thin design delivers is what the parts of the design say.
-use Rattle.std.proofs.Common.{◌≡◌, ◌↔◌, ℕ, zero, suc, ◌^◌, ◌<◌, ◌≤◌, List, [], ◌∷◌, ◌++◌, Bool, true, false, ◌&&◌, Option, Some, None, length, nat_lt, if◌then◌else◌, refl, ap, ap₂, sym, subst, ◌∙◌, arith}
-use Rattle.std.specs.Prelude.{option_map, option_and_then}
+use Rattle.std.proofs.Common.{◌≡◌, ℕ, zero, suc, ◌^◌, ◌<◌, List, [], ◌++◌, Bool, true, false, ◌&&◌, Option, Some, None, length, nat_lt, if◌then◌else◌, refl, ap, ap₂, sym, subst, ◌∙◌, arith}
 use Rattle.std.proofs.lemmas.Bool.{and_parts, and_from, lt-ltb}
 use Rattle.cocoon_num.specs.Lists.{has_number}
-use Rattle.cocoon_num.specs.Packets.{Packet, enter, leave}
 use Rattle.cocoon_parse.specs.declared.parts.Thin.{Thin}
-use Rattle.cocoon_parse.specs.ThinRuns.{thin_layout, leaves_at, has_port, ThinDelivers}
-use Rattle.p4_emit.specs.NetTree.{LinkEnd, to_host, SwitchFiles}
+use Rattle.cocoon_parse.specs.ThinRuns.{has_port, ThinDelivers}
+use Rattle.p4_emit.specs.NetTree.{to_host, SwitchFiles}
 use Rattle.p4_emit.specs.Switch.{switch_go}
 use Rattle.p4_emit.specs.NetRuns.{link_at, Onward, Visits, NetGo}
 use Rattle.cocoon_cli.specs.Lowered.{links}

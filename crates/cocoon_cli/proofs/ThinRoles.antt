@@ -1,5 +1,5 @@
 -- What a visit of a switch sends is what the ingress role of the design sends.
-use Rattle.std.proofs.Common.{◌≡◌, ◌↔◌, ℕ, ◌<◌, List, Bool, true, ◌&&◌, Some, length, nat_lt, sym, ◌∙◌}
+use Rattle.std.proofs.Common.{◌≡◌, ◌↔◌, ℕ, ◌<◌, List, true, ◌&&◌, length, nat_lt, sym, ◌∙◌}
 use Rattle.std.proofs.lemmas.Bool.{and_parts, and_from, lt-ltb, ltb-true}
 use Rattle.cocoon_num.specs.Values.{fits_width}
 use Rattle.cocoon_num.specs.Lists.{has_number}
@@ -32,7 +32,7 @@ sends : (t : Thin) → t.tested < length t.fields → (s port : ℕ) (bytes choi
 sends t h s port bytes choices to out v =
     let below = (and_parts (fits_width 16 s && has_number s t.switches) (nat_lt to t.ports) v.out_at).1 in (
       visits t h 0 port bytes choices
-      ∙ leaves t bytes choices to out (record { packet = v.packet; payload = v.payload; enters = v.enters; chosen = v.chosen; no_choices = v.no_choices; leaves = v.leaves }),
+          ∙ leaves t bytes choices to out (record { packet = v.packet; payload = v.payload; enters = v.enters; chosen = v.chosen; no_choices = v.no_choices; leaves = v.leaves }),
       ltb-true to t.ports below,
     )
 
@@ -40,6 +40,7 @@ sends t h s port bytes choices to out v =
 pub runs : (t : Thin) → t.tested < length t.fields → (design : Design) (defs : Defs) (n : ThinNames)
     → ((s port : ℕ) (bytes choices : List ℕ) (to : ℕ) (out : List ℕ) → VisitRun design defs n s port bytes choices to out ↔ ThinVisit t s port bytes choices to out)
     → VisitsAreRuns design defs n t
-runs t h design defs n roles s port i bytes choices to out =
-    (λ e. (roles s port bytes choices to out).1 (sent t h s port i bytes choices to out e),
-     λ r. sends t h s port bytes choices to out ((roles s port bytes choices to out).0 r))
+runs t h design defs n roles s port i bytes choices to out = (
+  λ e. (roles s port bytes choices to out).1 (sent t h s port i bytes choices to out e),
+  λ r. sends t h s port bytes choices to out ((roles s port bytes choices to out).0 r),
+)

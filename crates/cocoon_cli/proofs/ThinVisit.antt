@@ -1,5 +1,5 @@
 -- One visit of a switch that runs the program of a thin design.
-use Rattle.std.proofs.Common.{◌≡◌, ℕ, zero, suc, ◌<◌, List, [], ◌∷◌, Bool, true, false, Option, Some, None, length, map, replicate, if◌then◌else◌, refl, ap, ap₂, sym, ◌∙◌, arith}
+use Rattle.std.proofs.Common.{◌≡◌, ℕ, zero, suc, ◌<◌, List, [], ◌∷◌, Bool, true, false, Option, Some, None, length, map, if◌then◌else◌, refl, ap, sym, ◌∙◌, arith}
 use Rattle.std.specs.Prelude.{◌==◌, slice_get, option_map, option_and_then}
 use Rattle.std.proofs.lemmas.Bool.{eq-eqb}
 use Rattle.cocoon_num.specs.Values.{Value, number, truth, of_binary, equal, with_both}
@@ -8,8 +8,8 @@ use Rattle.cocoon_parse.specs.declared.parts.ThinField.{ThinField}
 use Rattle.cocoon_parse.specs.declared.parts.Thin.{Thin}
 use Rattle.cocoon_parse.specs.Thin.{field_width}
 use Rattle.cocoon_parse.specs.ThinRuns.{thin_layout, port_of, leaves_at}
-use Rattle.p4_emit.specs.P4Tree.{P4Field, p_done, field_widths, program_layout}
-use Rattle.p4_emit.specs.Switch.{State, Place, both, choose, then_run, state_of, p4_run_all, ingress_of, after_ingress, switch_go}
+use Rattle.p4_emit.specs.P4Tree.{p_done, field_widths, program_layout}
+use Rattle.p4_emit.specs.Switch.{State, Place, both, choose, then_run, state_of, p4_run_all, ingress_of, after_ingress}
 use Rattle.cocoon_cli.specs.Lowered.{fields_of, sends, thin_program}
 use Rattle.cocoon_cli.specs.ThinNet.{no_rows, thin_leaves, thin_visit}
 use Rattle.cocoon_cli.specs.Visits.{VisitsAreThin}
@@ -139,6 +139,7 @@ left t bytes [] port out h = entered (enter (thin_layout t) bytes) refl h
       no_choices = refl;
       leaves = sym (ap (bytes_or out) h);
     }
+
     entered : (o : Option (Packet × List ℕ)) → enter (thin_layout t) bytes ≡ o → option_and_then (thin_leaves t) o ≡ Some (port, out) → VisitLeft t bytes [] port out
     entered None e h = absurd (cc h)
     entered (Some p) e h = at_port p.0 p.1 (leaves_at t p.0) e refl h

@@ -1,5 +1,5 @@
 -- The whole network of a thin design, and what one visit of its switches does.
-use Rattle.std.specs.Prelude.{ℕ, List, [], ◌∷◌, map, Option, None, option_map, option_and_then}
+use Rattle.std.specs.Prelude.{ℕ, List, [], ◌∷◌, map, None, option_map, option_and_then}
 use Rattle.cocoon_num.specs.Packets.{Packet, enter, leave}
 use Rattle.cocoon_parse.specs.declared.parts.Thin.{Thin}
 use Rattle.cocoon_parse.specs.ThinRuns.{thin_layout, leaves_at}
@@ -12,9 +12,11 @@ use Rattle.cocoon_cli.specs.Lowered.{thin_program, host_ports, links}
 abbrev pub no_rows : RowsFile
 no_rows = record { tables = []; groups = [] }
 
+-- a switch with the program that all have
 abbrev pub thin_switch : Thin → ℕ → SwitchFiles
 thin_switch t s = record { number = s; program = thin_program t; rows = no_rows }
 
+-- the switches, links and hosts of a thin design
 abbrev pub thin_net : Thin → NetData
 thin_net t = record { ports = t.ports; switches = map (thin_switch t) t.switches; links = links t; hosts = host_ports t }
 

@@ -8,13 +8,13 @@ use Rattle.cocoon_num.specs.Packets.{Packet, enter, leave}
 use Rattle.cocoon_parse.specs.declared.parts.Thin.{Thin}
 use Rattle.cocoon_parse.specs.Thin.{ThinNames, AreThin}
 use Rattle.cocoon_parse.specs.Tables.{Defs}
-use Rattle.cocoon_parse.specs.Runs.{Loc, World, Go}
+use Rattle.cocoon_parse.specs.Runs.{Loc, Go}
 use Rattle.cocoon_parse.specs.ThinTree.{thin_tree, thin_defs}
 use Rattle.cocoon_parse.specs.ThinRuns.{tested_number, port_of, leaves_at}
 use Rattle.cocoon_parse.specs.ThinVisits.{enters_at, goes_out_at, is_port, ThinStep, VisitRun, ThinVisit}
 use Rattle.cocoon_parse.proofs.NameFacts.{AllApart, names_apart}
 use Rattle.cocoon_parse.proofs.ThinFields.{FieldFacts, field_facts}
-use Rattle.cocoon_parse.proofs.Taking.{Reached, go, go_takes, go_gives, Used}
+use Rattle.cocoon_parse.proofs.Taking.{go, go_takes, go_gives}
 use Rattle.cocoon_parse.proofs.ThinWalks.{Guards, thin_world, place, next_of, into_goes}
 use Rattle.cocoon_parse.proofs.ThinDelivered.{among, guards_of, mapped, none_behind, same_layout}
 

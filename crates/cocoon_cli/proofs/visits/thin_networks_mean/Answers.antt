@@ -1,4 +1,5 @@
-use Rattle.cocoon_cli.proofs.NetMeans.{in_range, means}
+use Rattle.cocoon_cli.proofs.Lowerable.{in_range}
+use Rattle.cocoon_cli.proofs.NetMeans.{means}
 use Rattle.cocoon_cli.proofs.ThinNetwork.{net_delivers}
 use Rattle.cocoon_cli.proofs.visits.thin_networks_mean.Goals as goal
 

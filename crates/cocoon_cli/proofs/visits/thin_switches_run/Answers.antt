@@ -1,4 +1,4 @@
-use Rattle.cocoon_cli.proofs.NetMeans.{in_range}
+use Rattle.cocoon_cli.proofs.Lowerable.{in_range}
 use Rattle.cocoon_cli.proofs.ThinRoles.{runs}
 use Rattle.cocoon_cli.proofs.visits.thin_switches_run.Goals as goal
 
