@@ -5,3 +5,8 @@ pub mod Lowerable
 pub mod NetData
 pub mod Placing
 pub mod Compiling
+pub mod ThinVisit
+pub mod ThinLinks
+pub mod ThinNetwork
+pub mod ThinRoles
+pub mod NetMeans

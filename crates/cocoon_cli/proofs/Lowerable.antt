@@ -52,7 +52,7 @@ fields_parts fields h =
     let c = and_parts (nat_le 1 (length fields) && nat_le (length fields) 64) _ b.0 in
     record { widths = c.1; bytes = b.1; distinct = a.1 }
 
-in_range : (t : Thin) → numbers_fit t ≡ true → t.tested < length t.fields
+pub in_range : (t : Thin) → numbers_fit t ≡ true → t.tested < length t.fields
 in_range t h =
     let a = and_parts (nat_lt t.tested (length t.fields) && nat_le 1 t.ports) _ h in
     lt_true _ _ (and_parts (nat_lt t.tested (length t.fields)) _ a.0).0

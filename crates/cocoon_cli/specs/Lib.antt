@@ -6,3 +6,5 @@ pub mod Lowered
 pub mod Bundle
 pub mod NetOf
 pub mod Causes
+pub mod ThinNet
+pub mod Visits

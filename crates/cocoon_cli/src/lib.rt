@@ -10,6 +10,7 @@ pub mod network;
 pub mod refusal;
 pub mod report;
 pub mod status;
+pub mod visits;
 pub mod words;
 
 pub use status::Status;

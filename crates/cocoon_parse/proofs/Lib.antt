@@ -17,6 +17,7 @@ pub mod ThinDefsFit
 pub mod Taking
 pub mod ThinWalks
 pub mod ThinDelivered
+pub mod ThinVisited
 pub mod OneLevel
 pub mod ThinMean
 pub mod ThinExample

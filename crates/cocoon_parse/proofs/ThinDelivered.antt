@@ -103,7 +103,7 @@ abbrev value_or : ℕ → Loc → ℕ
 value_or x at = first_or x at.values
 
 -- nothing before nothing
-none_behind : (cs : List ℕ) → cs ++ [] ≡ [] → cs ≡ []
+pub none_behind : (cs : List ℕ) → cs ++ [] ≡ [] → cs ≡ []
 none_behind [] h = refl
 none_behind (c ∷ cs) h = absurd (cc h)
 
@@ -187,7 +187,7 @@ known_part : (hosts : ℕ → Bool) (a : ℕ) → known_host hosts a ≡ true �
 known_part hosts a h = (and_parts (fits_width 16 a) (hosts a) h).1
 
 -- the number is in the list
-abbrev among : List ℕ → ℕ → Bool
+abbrev pub among : List ℕ → ℕ → Bool
 among xs x = has_number x xs
 
 -- a place of the switch of the hosts is a port that it has
@@ -213,7 +213,7 @@ port_place t p f h =
     and_from _ _ b.0 (and_from _ _ (port_fits t p f h) (and_from _ _ b.1 a.1))
 
 -- what is mapped to a number was there
-mapped : (f : ℕ → ℕ) (o : Option ℕ) (b : ℕ) → option_map f o ≡ Some b → (v : ℕ) × (o ≡ Some v) × (f v ≡ b)
+pub mapped : (f : ℕ → ℕ) (o : Option ℕ) (b : ℕ) → option_map f o ≡ Some b → (v : ℕ) × (o ≡ Some v) × (f v ≡ b)
 mapped f None b h = absurd (cc h)
 mapped f (Some v) b h = (v, refl, ap (number_or 0) h)
   where
@@ -222,7 +222,7 @@ mapped f (Some v) b h = (v, refl, ap (number_or 0) h)
     number_or x (Some y) = y
 
 -- the layout of the tree
-same_layout : (n : ThinNames) (t : Thin) → layout (thin_tree n t) ≡ thin_layout t
+pub same_layout : (n : ThinNames) (t : Thin) → layout (thin_tree n t) ≡ thin_layout t
 same_layout n t = ap (λ ws. ws ∷ []) (widths_are t.fields 5)
 
 -- the host declaration of the tree
@@ -284,7 +284,7 @@ module _ (n : ThinNames) (t : Thin) (defs : Defs) (d : AllApart n) (f : FieldFac
       }
 
 -- the guards of thin texts, by the lists of their numbers
-guards_of : (design defs : List ℕ) (t : Thin) (h : AreThin design defs t) → Guards h.names t (thin_defs h.names t h.entries) (among t.hosts) (among t.switches)
+pub guards_of : (design defs : List ℕ) (t : Thin) (h : AreThin design defs t) → Guards h.names t (thin_defs h.names t h.entries) (among t.hosts) (among t.switches)
 guards_of design defs t h = record {
   host = λ x. host_guard_gives design defs h.names t h.entries h.design_is h.defs_are x ∙ ap (λ b. Some (truth b)) (sym (h.hosts.exactly x));
   switch = λ x. switch_guard_gives design defs h.names t h.entries h.design_is h.defs_are x ∙ ap (λ b. Some (truth b)) (sym (h.switches.exactly x));

@@ -11,4 +11,5 @@ pub mod Rules
 pub mod DefsRules
 pub mod ThinTree
 pub mod ThinRuns
+pub mod ThinVisits
 pub mod ExampleThin

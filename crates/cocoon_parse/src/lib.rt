@@ -18,6 +18,7 @@ mod tests;
 pub mod texts;
 mod tokens;
 mod values;
+pub mod visits;
 
 pub use parts::{Thin, ThinField};
 pub use texts::{ThinFault, thin};

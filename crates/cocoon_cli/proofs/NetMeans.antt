@@ -1,0 +1,23 @@
+-- The network of two thin texts delivers what the last level of the design delivers.
+use Rattle.std.proofs.Common.{◌≡◌, ℕ, List}
+use Rattle.cocoon_num.specs.Tree.{Design}
+use Rattle.cocoon_parse.specs.declared.parts.Thin.{Thin}
+use Rattle.cocoon_parse.specs.Design.{last_level}
+use Rattle.cocoon_parse.specs.Tables.{Defs, defs_of}
+use Rattle.cocoon_parse.specs.Runs.{LastGo, MayMake}
+use Rattle.cocoon_parse.specs.ThinRuns.{ThinMeaning}
+use Rattle.cocoon_cli.specs.Visits.{NetDelivers, NetMeaning}
+
+-- both deliver what the parts say
+pub means : (design defs : List ℕ) (t : Thin) → NetDelivers t → ThinMeaning design defs t
+    → ((design : Design) (defs : Defs) (a : ℕ) (bytes choices : List ℕ) (visits b : ℕ) (out : List ℕ) → last_level design ≡ 0 → LastGo design defs a bytes choices visits b out → MayMake design defs a bytes b out)
+    → NetMeaning design defs t
+means design defs t net m level = record {
+  texts = m;
+  last_level = λ a bytes choices visits b out. (
+    λ g. (m.delivers a bytes choices visits b out).1 ((net a bytes choices visits b out).0 g),
+    λ l. (net a bytes choices visits b out).1 ((m.delivers a bytes choices visits b out).0 l),
+  );
+  may_make = λ a bytes choices visits b out g.
+      level m.tree (defs_of m.tree m.entries) a bytes choices visits b out m.one_level ((m.delivers a bytes choices visits b out).1 ((net a bytes choices visits b out).0 g));
+}

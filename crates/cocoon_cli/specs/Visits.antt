@@ -1,0 +1,40 @@
+-- What the network of a thin design does, against what the design says.
+use Rattle.std.specs.Prelude.{◌≡◌, ◌↔◌, ℕ, ◌<◌, List, Some, IsTrue}
+use Rattle.cocoon_num.specs.Tree.{Design}
+use Rattle.cocoon_parse.specs.declared.parts.Thin.{Thin}
+use Rattle.cocoon_parse.specs.Tables.{Defs, defs_of}
+use Rattle.cocoon_parse.specs.Runs.{LastGo, MayMake}
+use Rattle.cocoon_parse.specs.Thin.{ThinNames}
+use Rattle.cocoon_parse.specs.ThinRuns.{ThinDelivers, ThinMeaning}
+use Rattle.cocoon_parse.specs.ThinVisits.{is_port, VisitRun}
+use Rattle.p4_emit.specs.Switch.{switch_go}
+use Rattle.p4_emit.specs.NetRuns.{NetGo}
+use Rattle.cocoon_cli.specs.Lowered.{thin_program}
+use Rattle.cocoon_cli.specs.ThinNet.{no_rows, thin_net, thin_visit}
+
+-- a visit of a switch gives what the parts of the design say, at every port
+abbrev pub VisitsAreThin : Thin → Type 0
+VisitsAreThin t = (tag port : ℕ) (bytes choices : List ℕ) → switch_go (thin_program t) no_rows tag port bytes choices ≡ thin_visit t bytes choices
+
+-- the switch sends these bytes at one of its ports
+abbrev pub SendsAt : Thin → (port : ℕ) → (bytes choices : List ℕ) → (to : ℕ) → (out : List ℕ) → Type 0
+SendsAt t port bytes choices to out = (switch_go (thin_program t) no_rows 0 port bytes choices ≡ Some (to, out)) × (to < t.ports)
+
+-- at each port of each switch it sends what the ingress role of the design sends
+abbrev pub VisitsAreRuns : Design → Defs → ThinNames → Thin → Type 0
+VisitsAreRuns design defs n t = (s port : ℕ) → IsTrue (is_port t s port) → (bytes choices : List ℕ) (to : ℕ) (out : List ℕ) →
+    SendsAt t port bytes choices to out ↔ VisitRun design defs n s port bytes choices to out
+
+-- the network delivers what the parts of the design say, and nothing else
+abbrev pub NetDelivers : Thin → Type 0
+NetDelivers t = (a : ℕ) (bytes choices : List ℕ) (visits b : ℕ) (out : List ℕ) →
+    NetGo (thin_net t) a bytes choices visits b out ↔ ThinDelivers t a bytes choices visits b out
+
+-- What the network of two thin texts is to them: it delivers what the last level of the design delivers, and the
+-- topmost specification may make of the bytes what it delivers.
+pub record NetMeaning (design defs : List ℕ) (t : Thin) : Type 0 where
+  pub texts : ThinMeaning design defs t
+  pub last_level : (a : ℕ) (bytes choices : List ℕ) (visits b : ℕ) (out : List ℕ) →
+      NetGo (thin_net t) a bytes choices visits b out ↔ LastGo texts.tree (defs_of texts.tree texts.entries) a bytes choices visits b out
+  pub may_make : (a : ℕ) (bytes choices : List ℕ) (visits b : ℕ) (out : List ℕ) →
+      NetGo (thin_net t) a bytes choices visits b out → MayMake texts.tree (defs_of texts.tree texts.entries) a bytes b out
