@@ -1,8 +1,9 @@
 //! The top call: the words are read, the command is done, and one report is told.
-ghost use Rattle.std.specs.Prelude.{◌≡◌, ◌≤◌, ◌⊎◌, IfErr, OnErr, map, string_bytes};
+ghost use Rattle.std.specs.Prelude.{◌≡◌, ◌⊎◌, IfErr, map, string_bytes};
 ghost use Rattle.cocoon_cli.specs.Causes.{Finds};
 ghost use Rattle.cocoon_cli.specs.NetOf.{FaultRose, ReadFaultRose};
-ghost use Rattle.cocoon_cli.specs.Report.{Says, no_memory_line};
+ghost use Rattle.cocoon_cli.specs.Report.{Puts, Says};
+ghost use Rattle.cocoon_cli.specs.Run.{Exactly, Leaves, MayWrite, PutFailed, Ran, TellFailed, UsageExactly, Writes, a_file_missing, a_file_too_long, all_good, not_thin, not_thin_defs};
 ghost use Rattle.cocoon_io.specs.Told.{Rose};
 
 use crate::compiler::compile;
@@ -51,4 +52,33 @@ fn find<F: Folder>(
         Some(names) => compile(alloc, &names, folder),
         None => Err(Refusal::Usage),
     }
+}
+
+/// Does what the words ask for, the program's name first, and tells the sink one report of it.
+///
+/// The files that are read and written are those of the folder; the names are those of the words.
+pub fn run<F: Folder, S: Sink>(
+    alloc: Global,
+    words: &[String],
+    folder: &mut F,
+    out: &mut S,
+) -> Status
+    // every answer has its cause, and the report says it
+    ensures ran { Ran (map string_bytes words.now) (F.told folder.old) (F.told folder.new) (S.told out.old) (S.told out.new) result }
+    ensures usage { UsageExactly (map string_bytes words.now) result }
+    ensures no_file { Exactly (map string_bytes words.now) (F.told folder.old) a_file_missing result }
+    ensures limit { Exactly (map string_bytes words.now) (F.told folder.old) a_file_too_long result }
+    ensures language { Exactly (map string_bytes words.now) (F.told folder.old) not_thin result }
+    ensures broken { Exactly (map string_bytes words.now) (F.told folder.old) not_thin_defs result }
+    ensures done { Exactly (map string_bytes words.now) (F.told folder.old) all_good result }
+    ensures read_fault { result ≡ Status.ReadFault → Rose F.last_read_fault (F.read_faults folder.old) (F.read_faults folder.new) }
+    ensures write_fault { result ≡ Status.WriteFault → Rose F.last_write_fault (F.write_faults folder.old) (F.write_faults folder.new) ⊎ Rose S.last_fault (S.faults out.old) (S.faults out.new) }
+
+    // what is left in the folder and in the sink
+    ensures writes { result ≡ Status.Done → Writes (map string_bytes words.now) (F.told folder.old) (F.told folder.new) (S.told out.old) (S.told out.new) }
+    ensures unchanged { MayWrite result ⊎ (F.told folder.new ≡ F.told folder.old) }
+    ensures leaves { Leaves (map string_bytes words.now) (F.told folder.old) (F.told folder.new) }
+{
+    let found = find(alloc, words, folder);
+    tell(alloc, out, &found)
 }
