@@ -10,3 +10,4 @@ pub mod ThinLinks
 pub mod ThinNetwork
 pub mod ThinRoles
 pub mod NetMeans
+pub mod OneReading
