@@ -11,3 +11,4 @@ pub mod ThinNetwork
 pub mod ThinRoles
 pub mod NetMeans
 pub mod OneReading
+pub mod Running

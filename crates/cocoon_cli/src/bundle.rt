@@ -187,11 +187,7 @@ fn write_refusal(alloc: Global, name: &str, fault: &FolderFault) -> Refusal
 }
 
 /// Writes the files, one after another.
-pub fn write<F: Folder>(
-    alloc: Global,
-    folder: &mut F,
-    files: &[BundleFile],
-) -> Result<(), Refusal>
+pub fn write<F: Folder>(alloc: Global, folder: &mut F, files: &[BundleFile]) -> Result<(), Refusal>
     ensures ok { OnOk result (F.told folder.new ≡ spec.with_files (map named_of files.now) (F.told folder.old)) }
     ensures err { OnErr result (spec.SomeWritten (map named_of files.now) (F.told folder.old) (F.told folder.new)) }
     ensures cause { IfErr result (NotWritten (map named_of files.now)) }

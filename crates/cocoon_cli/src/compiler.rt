@@ -14,6 +14,7 @@ use std::alloc::Global;
 
 /// The numbers of bytes that the design and the definitions may have.
 const DESIGN_MOST: u64 = 1_048_576;
+
 const DEFS_MOST: u64 = 4_194_304;
 
 /// What a read that failed is told as.
@@ -31,12 +32,7 @@ fn read_refusal(alloc: Global, name: &str, most: u64, fault: &FolderFault) -> Re
 }
 
 /// The bytes of a file that has to be there.
-fn read<F: Folder>(
-    alloc: Global,
-    folder: &mut F,
-    name: &str,
-    most: u64,
-) -> Result<Vec<u8>, Refusal>
+fn read<F: Folder>(alloc: Global, folder: &mut F, name: &str, most: u64) -> Result<Vec<u8>, Refusal>
     ensures ok { IfOk result (λ v. Gives (F.told folder.old) name.now most v.items) }
     ensures err { IfErr result (NotRead (F.told folder.old) name.now most) }
     ensures failed { IfErr result (ReadFaultRose F.last_read_fault (F.read_faults folder.old) (F.read_faults folder.new)) }
@@ -52,12 +48,7 @@ fn read<F: Folder>(
 }
 
 /// The parts of the two texts, or what is told of them.
-fn parts(
-    alloc: Global,
-    names: &Compile<'_>,
-    design: &[u8],
-    defs: &[u8],
-) -> Result<Thin, Refusal>
+fn parts(alloc: Global, names: &Compile<'_>, design: &[u8], defs: &[u8]) -> Result<Thin, Refusal>
     ensures thin { IfOk result (AreThin design.now defs.now) }
     ensures lowerable { IfOk result IsLowerable }
     ensures refused { IfErr result (IsThinRefusal names.now.design.now names.now.defs.now design.now defs.now) }

@@ -13,6 +13,7 @@ use crate::status::Status;
 use crate::words::command;
 use cocoon_io::{Folder, Sink, SinkFault};
 use cocoon_num::NoMemory;
+use cocoon_parse::texts::one_thin_design;
 use std::alloc::Global;
 
 /// Tells the bytes; where that fails, the status says so.
@@ -39,11 +40,7 @@ fn tell<S: Sink>(alloc: Global, out: &mut S, found: &Result<Totals, Refusal>) ->
 }
 
 /// Does what the words ask for.
-fn find<F: Folder>(
-    alloc: Global,
-    words: &[String],
-    folder: &mut F,
-) -> Result<Totals, Refusal>
+fn find<F: Folder>(alloc: Global, words: &[String], folder: &mut F) -> Result<Totals, Refusal>
     ensures found { Finds (map string_bytes words.now) (F.told folder.old) result (F.told folder.new) }
     ensures read_failed { IfErr result (ReadFaultRose F.last_read_fault (F.read_faults folder.old) (F.read_faults folder.new)) }
     ensures write_failed { IfErr result (FaultRose F.last_write_fault (F.write_faults folder.old) (F.write_faults folder.new)) }
@@ -79,6 +76,7 @@ pub fn run<F: Folder, S: Sink>(
     ensures unchanged { MayWrite result ⊎ (F.told folder.new ≡ F.told folder.old) }
     ensures leaves { Leaves (map string_bytes words.now) (F.told folder.old) (F.told folder.new) }
 {
+    one_thin_design();
     let found = find(alloc, words, folder);
     tell(alloc, out, &found)
 }

@@ -55,7 +55,11 @@ fn sends(alloc: Global, port: u16) -> Result<Vec<P4Stmt>, NoMemory>
     ensures { IfOk result (λ v. block_of (map stmt_of v.items) ≡ spec.sends port) }
 {
     let port = P4Expr::Lit(Bits::new(16, u128::from(port)));
-    Ok(vec![in alloc; P4Stmt::Verdict(1), P4Stmt::EgressPort(port), P4Stmt::Return]?)
+    Ok(vec![in alloc;
+        P4Stmt::Verdict(1),
+        P4Stmt::EgressPort(port),
+        P4Stmt::Return,
+    ]?)
 }
 
 /// `if (h.HEADER.FIELD == LITERAL) { .. } else { .. }`

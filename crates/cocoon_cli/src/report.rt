@@ -33,9 +33,9 @@ fn totals_line(alloc: Global, totals: &Totals) -> Result<String, NoMemory>
         hosts,
         links,
     } = *totals;
-    Ok(
-        format!(in alloc; "compiled switches {switches} hosts {hosts} links {links} obligations 0\n")?,
-    )
+    Ok(format!(in alloc;
+        "compiled switches {switches} hosts {hosts} links {links} obligations 0\n"
+    )?)
 }
 
 /// The report of what a command found.

@@ -1,0 +1,32 @@
+use Rattle.cocoon_cli.proofs.Running.{exact_of, usage_of, read_fault_of, writes_of, same_of, leaves_of}
+use Rattle.cocoon_cli.proofs.driver.run.Goals as goal
+
+pub returns-clause-usage : goal.returns-clause-usage
+returns-clause-usage g c = usage_of _ _ c.find-found.result _ _ _ c.tell.result c.find-found.ensures.found c.tell.ensures.says
+
+pub returns-clause-no_file : goal.returns-clause-no_file
+returns-clause-no_file g c = exact_of c.one_thin_design.ensures _ _ c.find-found.result _ _ _ _ c.tell.result c.find-found.ensures.found c.tell.ensures.says
+
+pub returns-clause-limit : goal.returns-clause-limit
+returns-clause-limit g c = exact_of c.one_thin_design.ensures _ _ c.find-found.result _ _ _ _ c.tell.result c.find-found.ensures.found c.tell.ensures.says
+
+pub returns-clause-language : goal.returns-clause-language
+returns-clause-language g c = exact_of c.one_thin_design.ensures _ _ c.find-found.result _ _ _ _ c.tell.result c.find-found.ensures.found c.tell.ensures.says
+
+pub returns-clause-broken : goal.returns-clause-broken
+returns-clause-broken g c = exact_of c.one_thin_design.ensures _ _ c.find-found.result _ _ _ _ c.tell.result c.find-found.ensures.found c.tell.ensures.says
+
+pub returns-clause-done : goal.returns-clause-done
+returns-clause-done g c = exact_of c.one_thin_design.ensures _ _ c.find-found.result _ _ _ _ c.tell.result c.find-found.ensures.found c.tell.ensures.says
+
+pub returns-clause-read_fault : goal.returns-clause-read_fault
+returns-clause-read_fault g c = read_fault_of _ _ _ c.find-found.result _ _ c.tell.result c.find-found.ensures.read_failed c.tell.ensures.says
+
+pub returns-clause-writes : goal.returns-clause-writes
+returns-clause-writes g c = writes_of _ _ c.find-found.result _ _ _ c.tell.result c.find-found.ensures.found c.tell.ensures.says
+
+pub returns-clause-unchanged : goal.returns-clause-unchanged
+returns-clause-unchanged g c = same_of _ _ c.find-found.result _ _ _ c.tell.result c.find-found.ensures.found c.tell.ensures.says
+
+pub returns-clause-leaves : goal.returns-clause-leaves
+returns-clause-leaves g c = leaves_of _ _ c.find-found.result _ c.find-found.ensures.found
