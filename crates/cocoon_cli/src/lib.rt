@@ -13,4 +13,5 @@ pub mod status;
 pub mod visits;
 pub mod words;
 
+pub use driver::run;
 pub use status::Status;

@@ -1,0 +1,80 @@
+//! A folder with the texts in it, and what a command leaves there.
+use crate::texts::{BUNDLE, DEFINITIONS, DESIGN, NO_DEFAULT, REFINED};
+use cocoon_cli::run;
+use cocoon_io::{MemFolder, MemSink};
+use cocoon_num::NoMemory;
+use std::alloc::Global;
+use std::process::Abort;
+
+/// The words of a command that compiles the first design into the bundle `one`.
+pub const COMPILE: [&str; 5] = ["cocoon", "compile", "c.ccn", "c.defs", "one"];
+
+/// What an older bundle has in each of its files.
+pub const OLDER: &str = "older";
+
+/// A folder with the designs and definitions, whose calls with these numbers fail.
+pub fn folder(alloc: Global, failing: Vec<u64>) -> Result<MemFolder, NoMemory> {
+    let mut folder = MemFolder::new(alloc, failing);
+    folder.place_file(alloc, "c.ccn", DESIGN.as_bytes())?;
+    folder.place_file(alloc, "c.defs", DEFINITIONS.as_bytes())?;
+    folder.place_file(alloc, "m.ccn", REFINED.as_bytes())?;
+    folder.place_file(alloc, "no-default.defs", NO_DEFAULT.as_bytes())?;
+    Ok(folder)
+}
+
+/// Puts an older bundle `one` there.
+pub fn place_older(alloc: Global, folder: &mut MemFolder) -> Result<(), NoMemory> {
+    for (name, _) in BUNDLE {
+        folder.place_file(alloc, name, OLDER.as_bytes())?;
+    }
+    Ok(())
+}
+
+fn owned(alloc: Global, words: &[&str]) -> Result<Vec<String>, NoMemory> {
+    let mut all = Vec::new(alloc);
+    for word in words {
+        all.push(String::from_str(alloc, word)?)?;
+    }
+    Ok(all)
+}
+
+/// Runs the words, and gives the number of the status.
+pub fn status(
+    alloc: Global,
+    words: &[&str],
+    folder: &mut MemFolder,
+    sink: &mut MemSink,
+) -> Result<u8, NoMemory> {
+    let words = owned(alloc, words)?;
+    Ok(run(alloc, &words, folder, sink).number())
+}
+
+/// Runs the words, and asserts the number of the status and the report.
+pub fn assert_report(
+    rt: &impl Abort,
+    alloc: Global,
+    words: &[&str],
+    folder: &mut MemFolder,
+    wanted: (u8, &str),
+) -> Result<(), NoMemory> {
+    let mut sink = MemSink::new(alloc, Vec::new(alloc));
+    let status = status(alloc, words, folder, &mut sink)?;
+    assert_eq!(rt; sink.bytes(), wanted.1.as_bytes());
+    assert_eq!(rt; status, wanted.0);
+    Ok(())
+}
+
+/// Asserts that so many files of the bundle `one` are written, and the others are of the older one.
+pub fn assert_written(rt: &impl Abort, folder: &MemFolder, count: usize) {
+    for (place, (name, text)) in BUNDLE.into_iter().enumerate() {
+        let wanted = if place < count { text } else { OLDER };
+        assert_eq!(rt; folder.file(name), Some(wanted.as_bytes()), "{name}");
+    }
+}
+
+/// Asserts that no file of the bundle `one` is there.
+pub fn assert_none(rt: &impl Abort, folder: &MemFolder) {
+    for (name, _) in BUNDLE {
+        assert!(rt; folder.file(name).is_none(), "{name}");
+    }
+}

@@ -1,0 +1,16 @@
+//! What `run` writes and reports over a folder and a sink in memory, to the byte, at examples that were worked by hand.
+//!
+//! No clause says that there is memory, nor that the definitions which the clauses cite mean what was meant. So these
+//! rows are tried.
+#![tactic(auto)]
+
+#[cfg(test)]
+mod bench;
+#[cfg(test)]
+mod faults;
+#[cfg(test)]
+mod refusals;
+#[cfg(test)]
+mod texts;
+#[cfg(test)]
+mod written;
