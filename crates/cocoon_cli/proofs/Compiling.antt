@@ -3,14 +3,14 @@ use Rattle.std.proofs.Common.{◌≡◌, ℕ, List, Option, Some, None, Result, 
 use Rattle.cocoon_io.specs.Files.{Files}
 use Rattle.cocoon_io.specs.Told.{ReadAnswers}
 use Rattle.cocoon_io.specs.declared.folder.FolderFault.{FolderFault}
-use Rattle.cocoon_io.specs.declared.folder.FolderFault.TheVariants.{Failed, TooLong as TooLongFile, NoMemory as NoMemoryFault}
+use Rattle.cocoon_io.specs.declared.folder.FolderFault.TheVariants.{Failed, TooLong as TooLongFile}
 use Rattle.cocoon_parse.specs.declared.parts.Thin.{Thin}
 use Rattle.cocoon_parse.specs.Thin.{AreThin}
 use Rattle.cocoon_cli.specs.declared.refusal.Refusal.{Refusal}
-use Rattle.cocoon_cli.specs.declared.refusal.Refusal.TheVariants.{Usage, Design, Definitions, ReadFault, WriteFault, TooLong, NoMemory, NoFile}
+use Rattle.cocoon_cli.specs.declared.refusal.Refusal.TheVariants.{Design, Definitions, ReadFault, TooLong, NoMemory}
 use Rattle.cocoon_cli.specs.declared.refusal.Totals.{Totals}
 use Rattle.cocoon_cli.specs.Bundle.{NamedFile, bundle, SomeWritten, AllFit}
-use Rattle.cocoon_cli.specs.Causes.{Gives, NotRead, Inputs, NotMade, NotWritten, Makes, Refuses, Compiles, no_design, no_defs, not_made, not_written, design_most, defs_most, totals_of}
+use Rattle.cocoon_cli.specs.Causes.{Gives, NotRead, Inputs, NotMade, NotWritten, Refuses, Compiles, no_defs, not_made, not_written, design_most, defs_most, totals_of}
 use Rattle.cocoon_cli.specs.NetOf.{IsReadRefusal, IsThinRefusal, MadeTooLong}
 
 -- a read that failed

@@ -1,6 +1,6 @@
 -- The value of the file of a network: how it is put together, and that it has no fraction.
-use Rattle.std.proofs.Common.{◌≡◌, ℕ, List, [], ◌∷◌, map, Option, Some, None, Bool, false, ◌||◌, refl, sym, ap, ap₂, ◌∙◌, codes}
-use Rattle.serde_json.specs.Data.{Data, object, number, string, array, Members, no_members, member, put}
+use Rattle.std.proofs.Common.{◌≡◌, ℕ, List, [], ◌∷◌, map, Option, Some, None, false, ◌||◌, refl, ap, ap₂, ◌∙◌, codes}
+use Rattle.serde_json.specs.Data.{Data, object, Members, no_members, member, put}
 use Rattle.serde_json.specs.View.{items_of}
 use Rattle.serde_json.specs.Written.{has_float, items_have_float}
 use Rattle.p4_emit.specs.NetTree.{LinkEnd, to_switch, to_host, Link, HostPort}

@@ -1,5 +1,5 @@
 -- Files that are put into a folder one after another, and what is said of some from a place on.
-use Rattle.std.proofs.Common.{◌≡◌, ℕ, zero, suc, ◌+◌, ◌≤◌, ◌<◌, List, [], ◌∷◌, ◌++◌, Option, length, map, take, drop, slice_index_or, refl, sym, ap, ◌∙◌, subst, inl, inr, arith, ◌⊎◌, append_assoc, add-one}
+use Rattle.std.proofs.Common.{◌≡◌, ℕ, zero, suc, ◌+◌, ◌≤◌, ◌<◌, List, [], ◌∷◌, ◌++◌, Option, length, map, take, drop, slice_index_or, refl, sym, ap, ◌∙◌, subst, inl, inr, arith, ◌⊎◌}
 use Rattle.std.proofs.lemmas.List.{take-map, take_more, drop_more}
 use Rattle.cocoon_io.specs.Files.{Files}
 use Rattle.cocoon_io.specs.Told.{with_file, Rose}

@@ -1,9 +1,9 @@
 -- What the top call promises, put together from what was found and what was said.
-use Rattle.std.proofs.Common.{◌≡◌, ◌⊎◌, ℕ, ◌<◌, ◌≤◌, List, [], ◌∷◌, length, take, Bool, true, false, nat_lt, Option, Some, None, Result, Ok, Err, if◌then◌else◌, IfErr, refl, sym, ap, subst, ◌∙◌, inl, inr, arith}
+use Rattle.std.proofs.Common.{◌≡◌, ◌⊎◌, ℕ, ◌<◌, ◌≤◌, List, [], ◌∷◌, length, take, Bool, true, false, nat_lt, Option, Some, None, Result, Ok, Err, IfErr, refl, sym, ap, subst, ◌∙◌, inl, inr, arith}
 use Rattle.std.specs.FinMap.{get}
 use Rattle.std.proofs.lemmas.Bool.Decides.{nat_tests}
 use Rattle.cocoon_io.specs.Files.{Files}
-use Rattle.cocoon_io.specs.Told.{appended, AppendsFront, Rose}
+use Rattle.cocoon_io.specs.Told.{appended, Rose}
 use Rattle.cocoon_parse.specs.declared.parts.Thin.{Thin}
 use Rattle.cocoon_parse.specs.Thin.{AreThin, ThinDesign, ThinDefs}
 use Rattle.cocoon_cli.specs.declared.refusal.Refusal.{Refusal}
@@ -11,13 +11,13 @@ use Rattle.cocoon_cli.specs.declared.refusal.Refusal.TheVariants as refusal
 use Rattle.cocoon_cli.specs.declared.refusal.Totals.{Totals}
 use Rattle.cocoon_cli.specs.declared.status.Status.{Status}
 use Rattle.cocoon_cli.specs.declared.status.Status.TheVariants.{Done, Usage, Language, Broken, ReadFault, WriteFault, Limit, NoMemory, NoFile}
-use Rattle.cocoon_cli.specs.Command.{Command, command, compile}
+use Rattle.cocoon_cli.specs.Command.{Command, compile}
 use Rattle.cocoon_parse.specs.Read.{OneThinDesign}
 use Rattle.cocoon_cli.proofs.OneReading.{one_reading}
-use Rattle.cocoon_cli.specs.Bundle.{NamedFile, bundle, with_files, SomeWritten, AllFit, SomeExceeds, made_most}
-use Rattle.cocoon_cli.specs.Causes.{Gives, Lacks, Exceeds, NotRead, Inputs, NotMade, NotWritten, Makes, Refuses, no_design, no_defs, not_made, not_written, Compiles, FindsOf, Finds, design_most, defs_most, totals_of}
-use Rattle.cocoon_cli.specs.NetOf.{FaultRose, ReadFaultRose}
-use Rattle.cocoon_cli.specs.Report.{Says, whole, front, no_memory, front_of_no_memory, Puts, all, a_front, nothing, status_of, refusal_status, report_of, no_memory_line, totals_line}
+use Rattle.cocoon_cli.specs.Bundle.{NamedFile, bundle, with_files, AllFit, SomeExceeds, made_most}
+use Rattle.cocoon_cli.specs.Causes.{Gives, Lacks, Exceeds, NotRead, Inputs, NotMade, NotWritten, Makes, Refuses, no_design, no_defs, not_made, not_written, Compiles, FindsOf, design_most, defs_most}
+use Rattle.cocoon_cli.specs.NetOf.{ReadFaultRose}
+use Rattle.cocoon_cli.specs.Report.{Says, whole, front, no_memory, front_of_no_memory, Puts, all, a_front, nothing, status_of, refusal_status, report_of, no_memory_line}
 use Rattle.cocoon_cli.specs.Run as spec
 use Rattle.cocoon_cli.specs.Run.{Stage, missing, long, there, stage_of, Verdict, a_file_missing, a_file_too_long, not_thin, not_thin_defs, all_good, JudgesTexts, JudgesStages, Judges, verdict_status, Yields, to_read_fault, to_write_fault, to_no_memory, ExactOf, Exactly, UsageOf, UsageExactly, WritesOf, Writes, SomeOf, Leaves, MayWrite, done, failed, TellFailed}
 

@@ -1,6 +1,6 @@
 -- The network of a thin design: the program of its switches, where hosts are attached, and the links. It follows
 -- "Lowering" in docs/FORMATS.md.
-use Rattle.std.specs.Prelude.{ℕ, ◌&&◌, Bool, nat_lt, List, [], ◌∷◌, map, filter, flat_map, length, if◌then◌else◌, Some, None, codes}
+use Rattle.std.specs.Prelude.{ℕ, ◌&&◌, nat_lt, List, [], ◌∷◌, map, filter, flat_map, if◌then◌else◌, Some, None, codes}
 use Rattle.cocoon_num.specs.Values.{equal}
 use Rattle.cocoon_num.specs.Lists.{has_number}
 use Rattle.cocoon_parse.specs.declared.parts.ThinField.{ThinField}

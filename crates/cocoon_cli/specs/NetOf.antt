@@ -1,6 +1,5 @@
 -- The parts of networks and bundles that values of the code stand for.
-use Rattle.std.specs.Prelude.{◌≡◌, ℕ, ◌<◌, Bool, ◌&&◌, IsTrue, List, map, length, Option, Some, None, Vec, String, codes}
-use Rattle.std.specs.declared.alloc.Global.{Global}
+use Rattle.std.specs.Prelude.{◌≡◌, ℕ, IsTrue, List, map, Option}
 use Rattle.std.specs.String.{string_bytes}
 use Rattle.cocoon_parse.specs.declared.parts.Thin.{Thin}
 use Rattle.cocoon_parse.specs.Thin.{fields_fit, numbers_fit, HasWords, ThinDesign, ThinDefs}

@@ -1,5 +1,5 @@
 -- What the top call promises. It follows "Statuses" and "Reports" in docs/FORMATS.md.
-use Rattle.std.specs.Prelude.{◌≡◌, ◌⊎◌, ℕ, ◌<◌, List, length, nat_lt, if◌then◌else◌, Option, Some, None, Result, Ok, Err}
+use Rattle.std.specs.Prelude.{◌≡◌, ◌⊎◌, ℕ, List, length, nat_lt, if◌then◌else◌, Option, Some, None, Result}
 use Rattle.std.specs.FinMap.{get}
 use Rattle.cocoon_io.specs.Files.{Files}
 use Rattle.cocoon_io.specs.Told.{Rose, appended}

@@ -1,6 +1,4 @@
-use Rattle.std.proofs.Common.{◌≡◌, ◌∙◌, ◌+◌, ap, sym, subst, refl, rules, arith, map, drop, length, []}
-use Rattle.cocoon_cli.specs.Bundle.{AllFit}
-use Rattle.cocoon_cli.specs.NetOf.{named_of}
+use Rattle.std.proofs.Common.{sym, refl, arith}
 use Rattle.cocoon_cli.proofs.Placing.{fits_on, none_left, exceeds_here, exceeds_later}
 use Rattle.cocoon_cli.proofs.bundle.check_lengths.Goals as goal
 

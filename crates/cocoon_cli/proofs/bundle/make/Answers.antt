@@ -1,7 +1,5 @@
-use Rattle.std.proofs.Common.{◌∙◌, ap, map}
+use Rattle.std.proofs.Common.{◌∙◌}
 use Rattle.std.proofs.lemmas.Result.{IfOk-weaker}
-use Rattle.cocoon_cli.specs.Bundle as spec
-use Rattle.cocoon_cli.specs.NetOf.{named_of}
 use Rattle.cocoon_cli.proofs.Placing.{made}
 use Rattle.cocoon_cli.proofs.bundle.make.Goals as goal
 

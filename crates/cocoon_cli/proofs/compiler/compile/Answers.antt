@@ -1,7 +1,6 @@
-use Rattle.std.proofs.Common.{◌∙◌, ap, sym, subst, map, List}
-use Rattle.cocoon_parse.specs.Thin.{AreThin}
-use Rattle.cocoon_cli.specs.Bundle.{NamedFile, bundle, AllFit}
-use Rattle.cocoon_cli.specs.NetOf.{named_of, IsThinRefusal, MadeTooLong}
+use Rattle.std.proofs.Common.{◌∙◌, ap, sym, subst, map}
+use Rattle.cocoon_cli.specs.Bundle.{bundle, AllFit}
+use Rattle.cocoon_cli.specs.NetOf.{named_of}
 use Rattle.cocoon_cli.proofs.Compiling.{defs_refused, parts_refused, files_refused, write_refused, passed_on, same_texts, same_refusal, same_length}
 use Rattle.cocoon_cli.proofs.compiler.compile.Goals as goal
 

@@ -1,7 +1,5 @@
-use Rattle.std.proofs.Common.{◌∙◌, subst, List, ℕ}
-use Rattle.cocoon_cli.specs.Report.{Puts, report_of, status_of}
-use Rattle.cocoon_cli.specs.declared.status.Status.{Status}
-use Rattle.cocoon_cli.proofs.Running.{put_report, put_line, put_as}
+use Rattle.std.proofs.Common.{◌∙◌}
+use Rattle.cocoon_cli.proofs.Running.{put_line, put_as}
 use Rattle.cocoon_cli.proofs.driver.tell.Goals as goal
 
 pub returns-in-Ok-clause-says : goal.returns-in-Ok-clause-says
