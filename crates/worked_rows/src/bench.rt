@@ -68,7 +68,8 @@ pub fn assert_report(
 pub fn assert_written(rt: &impl Abort, folder: &MemFolder, count: usize) {
     for (place, (name, text)) in BUNDLE.into_iter().enumerate() {
         let wanted = if place < count { text } else { OLDER };
-        assert_eq!(rt; folder.file(name), Some(wanted.as_bytes()), "{name}");
+        let bytes = folder.file(name).unwrap_or_default();
+        assert_eq!(rt; bytes, wanted.as_bytes(), "{name}");
     }
 }
 
