@@ -30,7 +30,8 @@ pub fn place_older(alloc: Global, folder: &mut MemFolder) -> Result<(), NoMemory
     Ok(())
 }
 
-fn owned(alloc: Global, words: &[&str]) -> Result<Vec<String>, NoMemory> {
+/// The words as a command line gives them.
+pub fn owned(alloc: Global, words: &[&str]) -> Result<Vec<String>, NoMemory> {
     let mut all = Vec::new(alloc);
     for word in words {
         all.push(String::from_str(alloc, word)?)?;
