@@ -1,0 +1,1 @@
+//! Texts of P4 programs.
