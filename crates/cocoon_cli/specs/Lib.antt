@@ -8,3 +8,6 @@ pub mod NetOf
 pub mod Causes
 pub mod ThinNet
 pub mod Visits
+pub mod Network
+pub mod Readable
+pub mod Headline

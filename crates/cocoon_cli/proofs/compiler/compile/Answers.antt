@@ -1,6 +1,7 @@
 use Rattle.std.proofs.Common.{◌∙◌, ap, sym, subst, map}
 use Rattle.cocoon_cli.specs.Bundle.{bundle, AllFit}
 use Rattle.cocoon_cli.specs.NetOf.{named_of}
+use Rattle.cocoon_cli.specs.Readable.{Readable}
 use Rattle.cocoon_cli.proofs.Compiling.{defs_refused, parts_refused, files_refused, write_refused, passed_on, same_texts, same_refusal, same_length}
 use Rattle.cocoon_cli.proofs.compiler.compile.Goals as goal
 
@@ -30,4 +31,5 @@ returns-in_err-write-clause-found g c =
     (same_texts _ _ _ _ _ c.deref.ensures.value c.deref-2.ensures.value c.in_ok-parts.ensures.thin)
     (ap (map named_of) c.deref-4.ensures.value ∙ c.in_ok-files.ensures.files ∙ ap (λ x. bundle c.args.names.now.out.now x c.in_ok-parts.parts) c.deref-3.ensures.value)
     (subst AllFit (ap (map named_of) (sym c.deref-4.ensures.value)) c.in_ok-files.ensures.fit)
+    (subst (λ x. Readable x c.in_ok-parts.parts) c.deref-3.ensures.value c.in_ok-files.ensures.readable)
     c.in_err-write.ensures.err c.in_err-write.ensures.cause)
