@@ -12,3 +12,8 @@ pub mod ThinRoles
 pub mod NetMeans
 pub mod OneReading
 pub mod Running
+pub mod ReadingLists
+pub mod ReadingDigests
+pub mod ReadingWiring
+pub mod ReadingNames
+pub mod ReadingBack
