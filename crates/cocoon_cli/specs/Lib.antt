@@ -11,3 +11,4 @@ pub mod Visits
 pub mod Network
 pub mod Readable
 pub mod Headline
+pub mod ExampleNet

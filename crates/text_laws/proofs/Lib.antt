@@ -1,0 +1,4 @@
+pub mod DesignEnough
+pub mod DesignParts
+pub mod DesignReader
+pub mod DesignReads
