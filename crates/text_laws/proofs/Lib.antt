@@ -1,0 +1,3 @@
+pub mod ProgramLists
+pub mod ProgramReader
+pub mod ProgramSpells
