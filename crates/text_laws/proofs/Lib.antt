@@ -1,3 +1,4 @@
 pub mod ProgramLists
 pub mod ProgramReader
 pub mod ProgramSpells
+pub mod ProgramReads

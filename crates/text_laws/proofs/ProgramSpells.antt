@@ -14,16 +14,16 @@ one_part a r k = append_assoc a (k ∷ []) r
 two_parts : (a b r : List Kind) (k l : Kind) → ((a ++ (k ∷ b)) ++ (l ∷ [])) ++ r ≡ a ++ (k ∷ (b ++ (l ∷ r)))
 two_parts a b r k l = simp append_assoc
 
-three_parts : (a b c r : List Kind) (k l m : Kind) → ((a ++ (k ∷ (b ++ (l ∷ c)))) ++ (m ∷ [])) ++ r ≡ a ++ (k ∷ (b ++ (l ∷ (c ++ (m ∷ r)))))
+three_parts : (a b c r : List Kind) (k l m : Kind) → (((a ++ (k ∷ b)) ++ (l ∷ c)) ++ (m ∷ [])) ++ r ≡ a ++ (k ∷ (b ++ (l ∷ (c ++ (m ∷ r)))))
 three_parts a b c r k l m = simp append_assoc
 
-assigned : (a b r : List Kind) (k l : Kind) → (a ++ (k ∷ (b ++ (l ∷ [])))) ++ r ≡ a ++ (k ∷ (b ++ (l ∷ r)))
+assigned : (a b r : List Kind) (k l : Kind) → ((a ++ (k ∷ b)) ++ (l ∷ [])) ++ r ≡ a ++ (k ∷ (b ++ (l ∷ r)))
 assigned a b r k l = simp append_assoc
 
 if_parts : (a b r : List Kind) (k l m : Kind) → ((a ++ (k ∷ [])) ++ (l ∷ (b ++ (m ∷ [])))) ++ r ≡ a ++ (k ∷ l ∷ (b ++ (m ∷ r)))
 if_parts a b r k l m = simp append_assoc
 
-else_parts : (a b c r : List Kind) (k l m n o q : Kind) → ((a ++ (k ∷ [])) ++ ((l ∷ (b ++ (m ∷ []))) ++ (n ∷ o ∷ (c ++ (q ∷ []))))) ++ r ≡ a ++ (k ∷ l ∷ (b ++ (m ∷ n ∷ o ∷ (c ++ (q ∷ r)))))
+else_parts : (a b c r : List Kind) (k l m n o q : Kind) → (((a ++ (k ∷ [])) ++ (l ∷ (b ++ (m ∷ [])))) ++ (n ∷ o ∷ (c ++ (q ∷ [])))) ++ r ≡ a ++ (k ∷ l ∷ (b ++ (m ∷ n ∷ o ∷ (c ++ (q ∷ r)))))
 else_parts a b c r k l m n o q = simp append_assoc
 
 -- ---- names
@@ -80,7 +80,7 @@ expr_spells p (p_pick c a b) r =
 
 -- ---- statements
 
-value_spells : (p : Program) (e : P4Expr) (to r : List Kind) → (to ++ (mark (codes "=") ∷ (expr_tokens p e ++ (mark (codes ";") ∷ [])))) ++ r ≡ to ++ (mark (codes "=") ∷ expr_then p.headers p.meta e (mark (codes ";") ∷ r))
+value_spells : (p : Program) (e : P4Expr) (to r : List Kind) → ((to ++ (mark (codes "=") ∷ expr_tokens p e)) ++ (mark (codes ";") ∷ [])) ++ r ≡ to ++ (mark (codes "=") ∷ expr_then p.headers p.meta e (mark (codes ";") ∷ r))
 value_spells p e to r = assigned to (expr_tokens p e) r (mark (codes "=")) (mark (codes ";")) ∙ ap (λ l. to ++ (mark (codes "=") ∷ l)) (expr_spells p e (mark (codes ";") ∷ r))
 
 mutual
