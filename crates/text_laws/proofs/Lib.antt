@@ -2,3 +2,4 @@ pub mod ProgramLists
 pub mod ProgramReader
 pub mod ProgramSpells
 pub mod ProgramReads
+pub mod ProgramBlocks

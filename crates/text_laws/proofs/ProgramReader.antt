@@ -229,12 +229,15 @@ abbrev pub stmt_head : Kind → StmtHead
 stmt_head (word w) = stmt_word w
 stmt_head _ = at_end
 
+abbrev pub with_else : P4Expr → P4Block → Read P4Block → Read P4Stmt
+with_else e first x = (p_if_else e first x.0, drop 1 x.1)
+
+abbrev pub by_else : (List Kind → Read P4Block) → P4Expr → Read P4Block → Bool → Read P4Stmt
+by_else read e x true = with_else e x.0 (read (drop 3 x.1))
+by_else read e x false = (p_if e x.0, drop 1 x.1)
+
 abbrev pub else_of : (List Kind → Read P4Block) → P4Expr → Read P4Block → Read P4Stmt
-else_of read e x =
-    elim (first_is (is_word (codes "else")) (drop 1 x.1)) [
-      | true ↦ (let y = read (drop 3 x.1) in (p_if_else e x.0 y.0, drop 1 y.1))
-      | false ↦ (p_if e x.0, drop 1 x.1)
-    ]
+else_of read e x = by_else read e x (first_is (is_word (codes "else")) (drop 1 x.1))
 
 abbrev pub if_of : (List Kind → Read P4Block) → Read P4Expr → Read P4Stmt
 if_of read x = else_of read x.0 (read (drop 2 x.1))
@@ -263,16 +266,21 @@ read_stmt hs ms expr block (k ∷ ks) =
       | at_table n ↦ (apply_table n, drop 5 ks)
     ]
 
+abbrev pub next_of : P4Stmt → Read P4Block → Read P4Block
+next_of s x = (p_then s x.0, x.1)
+
+abbrev pub then_of : (List Kind → Read P4Block) → Read P4Stmt → Read P4Block
+then_of block x = next_of x.0 (block x.1)
+
+abbrev pub block_by : (List Kind → Read P4Stmt) → (List Kind → Read P4Block) → List Kind → Bool → Read P4Block
+block_by stmt block ks true = (p_done, ks)
+block_by stmt block ks false = then_of block (stmt ks)
+
+-- the statements up to a brace
 abbrev pub read_block : List P4Header → List P4Field → ℕ → List Kind → Read P4Block
 read_block hs ms zero ks = (p_done, ks)
 read_block hs ms (suc n) ks =
-    elim (first_is (is_mark (codes "}")) ks) [
-      | true ↦ (p_done, ks)
-      | false ↦
-          (let s = read_stmt hs ms (λ l. read_expr hs ms n l) (λ l. read_block hs ms n l) ks in
-          let b = read_block hs ms n s.1 in
-          (p_then s.0 b.0, b.1))
-    ]
+    block_by (λ l. read_stmt hs ms (λ e. read_expr hs ms n e) (λ b. read_block hs ms n b) l) (λ l. read_block hs ms n l) ks (first_is (is_mark (codes "}")) ks)
 
 abbrev mutual
   pub stmt_size : P4Stmt → ℕ

@@ -30,22 +30,22 @@ each_at P (y ∷ ys) (suc i) x e h = each_at P ys i x e.1 h
 pub meta_there : (ms : List P4Field) (i : ℕ) (f : P4Field) (r : List Kind) → slice_get ms i ≡ Some f → meta_then ms i r ≡ word (codes "m") ∷ mark (codes ".") ∷ word f.name ∷ r
 meta_there ms i f r h = ap (λ o. elim o as (λ _. List Kind) [ Some f ↦ word (codes "m") ∷ mark (codes ".") ∷ word f.name ∷ r | None ↦ r ]) h
 
-meta_read : (ms : List P4Field) (i : ℕ) (f : P4Field) (r : List Kind) → are_distinct (map (λ (f : P4Field). f.name) ms) ≡ true → slice_get ms i ≡ Some f → meta_number ms f.name ≡ i
-meta_read ms i f r d h = number_is (λ (f : P4Field). f.name) ms i f d h
+pub meta_read : (ms : List P4Field) (i : ℕ) (f : P4Field) → are_distinct (map (λ (f : P4Field). f.name) ms) ≡ true → slice_get ms i ≡ Some f → meta_number ms f.name ≡ i
+meta_read ms i f d h = number_is (λ (f : P4Field). f.name) ms i f d h
 
 in_header_there : (d : P4Header) (f : ℕ) (x : P4Field) (r : List Kind) → slice_get d.fields f ≡ Some x → in_header d f r ≡ word (codes "h") ∷ mark (codes ".") ∷ word (codes "h_" ++ d.name) ∷ mark (codes ".") ∷ word (codes "f_" ++ x.name) ∷ r
 in_header_there d f x r h = ap (λ o. elim o as (λ _. List Kind) [ Some x ↦ word (codes "h") ∷ mark (codes ".") ∷ word (codes "h_" ++ d.name) ∷ mark (codes ".") ∷ word (codes "f_" ++ x.name) ∷ r | None ↦ r ]) h
 
-field_there : (hs : List P4Header) (h f : ℕ) (d : P4Header) (x : P4Field) (r : List Kind) → slice_get hs h ≡ Some d → slice_get d.fields f ≡ Some x → field_then hs h f r ≡ word (codes "h") ∷ mark (codes ".") ∷ word (codes "h_" ++ d.name) ∷ mark (codes ".") ∷ word (codes "f_" ++ x.name) ∷ r
+pub field_there : (hs : List P4Header) (h f : ℕ) (d : P4Header) (x : P4Field) (r : List Kind) → slice_get hs h ≡ Some d → slice_get d.fields f ≡ Some x → field_then hs h f r ≡ word (codes "h") ∷ mark (codes ".") ∷ word (codes "h_" ++ d.name) ∷ mark (codes ".") ∷ word (codes "f_" ++ x.name) ∷ r
 field_there hs h f d x r e g = ap (λ o. elim o as (λ _. List Kind) [ Some d ↦ in_header d f r | None ↦ r ]) e ∙ in_header_there d f x r g
 
-field_read : (hs : List P4Header) (ms : List P4Field) (h f : ℕ) (d : P4Header) (x : P4Field) (r : List Kind) → Names hs ms → slice_get hs h ≡ Some d → slice_get d.fields f ≡ Some x
+pub field_read : (hs : List P4Header) (ms : List P4Field) (h f : ℕ) (d : P4Header) (x : P4Field) (r : List Kind) → Names hs ms → slice_get hs h ≡ Some d → slice_get d.fields f ≡ Some x
     → read_field hs (mark (codes ".") ∷ word (codes "h_" ++ d.name) ∷ mark (codes ".") ∷ word (codes "f_" ++ x.name) ∷ r) ≡ (h, f, r)
 field_read hs ms h f d x r names e g =
     let at : header_number hs d.name ≡ h = number_is (λ (d : P4Header). d.name) hs h d names.headers e in
     let within : fields_of (slice_get hs (header_number hs d.name)) ≡ d.fields = ap (λ i. fields_of (slice_get hs i)) at ∙ ap fields_of e in
     let distinct = each_at (λ (d : P4Header). are_distinct (map (λ (f : P4Field). f.name) d.fields) ≡ true) hs h d names.fields e in
-    ap₂ {C = ℕ × ℕ × List Kind} (λ i j. (i, j, r)) at (ap (λ fs. meta_number fs x.name) within ∙ meta_read d.fields f x r distinct g)
+    ap₂ {C = ℕ × ℕ × List Kind} (λ i j. (i, j, r)) at (ap (λ fs. meta_number fs x.name) within ∙ meta_read d.fields f x distinct g)
 
 -- ---- sorts
 
@@ -66,18 +66,18 @@ no_implies : (b : Bool) (o : Option Sort) (u : Sort) → cond b None o ≡ Some 
 no_implies true o u h = absurd (let e : None ≡ Some u = h in cc)
 no_implies false o u h = (refl, h)
 
-meta_found : (o : Option P4Field) (s : Sort) → option_map (λ (f : P4Field). bits_sort f.width) o ≡ Some s → (f : P4Field) × (o ≡ Some f)
+pub meta_found : (o : Option P4Field) (s : Sort) → option_map (λ (f : P4Field). bits_sort f.width) o ≡ Some s → (f : P4Field) × (o ≡ Some f)
 meta_found None s h = cc
 meta_found (Some f) s h = (f, refl)
 
-field_found : (o : Option P4Header) (f : ℕ) (s : Sort) → option_and_then (λ (d : P4Header). option_map (λ (x : P4Field). bits_sort x.width) (slice_get d.fields f)) o ≡ Some s
+pub field_found : (o : Option P4Header) (f : ℕ) (s : Sort) → option_and_then (λ (d : P4Header). option_map (λ (x : P4Field). bits_sort x.width) (slice_get d.fields f)) o ≡ Some s
     → (d : P4Header) × (o ≡ Some d) × ((x : P4Field) × (slice_get d.fields f ≡ Some x))
 field_found None f s h = cc
 field_found (Some d) f s h = (d, refl, meta_found (slice_get d.fields f) s h)
 
 -- ---- expressions
 
-stops : (x : P4Expr) (k : Kind) (r : List Kind) → is_mark (codes "[") k ≡ false → sliced x (k ∷ r) ≡ (x, k ∷ r)
+pub stops : (x : P4Expr) (k : Kind) (r : List Kind) → is_mark (codes "[") k ≡ false → sliced x (k ∷ r) ≡ (x, k ∷ r)
 stops x k [] h = refl
 stops x k (a ∷ []) h = refl
 stops x k (a ∷ b ∷ []) h = refl
@@ -126,7 +126,7 @@ reads_expr c names (p_truth false) s n r l h = refl
 reads_expr c names (p_meta i) s n r l h =
     let f = meta_found (slice_get c.program.meta i) s h in
     ap (λ t. read_expr c.program.headers c.program.meta (suc n) t) (meta_there c.program.meta i f.0 r f.1)
-    ∙ ap (λ j. sliced (p_meta j) r) (meta_read c.program.meta i f.0 r names.meta f.1)
+    ∙ ap (λ j. sliced (p_meta j) r) (meta_read c.program.meta i f.0 names.meta f.1)
 reads_expr c names (p_field d f) s n r l h =
     let g = field_found (slice_get c.program.headers d) f s h in
     ap (λ t. read_expr c.program.headers c.program.meta (suc n) t) (field_there c.program.headers d f g.0 g.2.0 r g.1 g.2.1)
