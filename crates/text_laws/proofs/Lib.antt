@@ -3,3 +3,4 @@ pub mod ProgramReader
 pub mod ProgramSpells
 pub mod ProgramReads
 pub mod ProgramBlocks
+pub mod ProgramDeclarations

@@ -8,7 +8,7 @@ use Rattle.text_laws.proofs.ProgramReader.{meta_then, in_header, field_then, exp
 
 -- ---- groups
 
-one_part : (a r : List Kind) (k : Kind) → (a ++ (k ∷ [])) ++ r ≡ a ++ (k ∷ r)
+pub one_part : (a r : List Kind) (k : Kind) → (a ++ (k ∷ [])) ++ r ≡ a ++ (k ∷ r)
 one_part a r k = append_assoc a (k ∷ []) r
 
 two_parts : (a b r : List Kind) (k l : Kind) → ((a ++ (k ∷ b)) ++ (l ∷ [])) ++ r ≡ a ++ (k ∷ (b ++ (l ∷ r)))
