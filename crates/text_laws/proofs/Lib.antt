@@ -4,3 +4,4 @@ pub mod ProgramSpells
 pub mod ProgramReads
 pub mod ProgramBlocks
 pub mod ProgramDeclarations
+pub mod ProgramWhole
