@@ -1,15 +1,15 @@
 -- Headers, meta fields, tables and controls with the same tokens are the same.
-use Rattle.std.proofs.Common.{◌≡◌, ℕ, zero, suc, ◌+◌, ◌-◌, ◌^◌, ◌≤◌, ◌<◌, List, [], ◌∷◌, ◌++◌, Bool, true, false, not, ◌&&◌, Option, Some, None, refl, ap, ap₂, sym, ◌∙◌, arith, length, map, flat_map, append_assoc}
+use Rattle.std.proofs.Common.{◌≡◌, ℕ, zero, suc, ◌+◌, ◌-◌, ◌^◌, ◌<◌, List, [], ◌∷◌, ◌++◌, Bool, true, false, not, ◌&&◌, Some, refl, ap, ap₂, sym, ◌∙◌, arith, length, flat_map, append_assoc}
 use Rattle.std.specs.Prelude.{◌==◌, codes, decimal, slice_get, nat_lt}
 use Rattle.std.proofs.lemmas.Bool.{and_parts, ltb-true}
 use Rattle.std.proofs.lemmas.Fmt.{decimal_injective}
 use Rattle.cocoon_num.specs.Lists.{each}
 use Rattle.cocoon_num.specs.Tokens.{Kind, word, plain, literal, mark}
 use Rattle.p4_emit.specs.P4Tree.{P4Block, P4Field, P4Header, P4Table, Control, Program}
-use Rattle.p4_emit.specs.P4Text.{said, header_type, field_name, table_name, action_name, meta_tokens, declared, in_parentheses, in_braces, assignment, block_tokens, header_tokens, meta_member_tokens, match_kind, result_width, table_tokens, control_tokens}
+use Rattle.p4_emit.specs.P4Text.{said, field_name, table_name, action_name, meta_tokens, declared, in_parentheses, in_braces, assignment, block_tokens, header_tokens, meta_member_tokens, match_kind, result_width, table_tokens, control_tokens}
 use Rattle.p4_emit.specs.P4Kinds.{Within, table_fits, numbers_of, block_fits}
 use Rattle.text_laws.proofs.ProgramLists.{Each, each_of, cancel, same_list}
-use Rattle.text_laws.proofs.ProgramReader.{Read, is_mark, is_word, first_is, meta_number, meta_then, read_block, block_size, block_then}
+use Rattle.text_laws.proofs.ProgramReader.{Read, is_word, first_is, meta_number, read_block, block_size, block_then}
 use Rattle.text_laws.proofs.ProgramSpells.{one_part, meta_spells, block_spells}
 use Rattle.text_laws.proofs.ProgramReads.{Names, meta_there, meta_read}
 use Rattle.text_laws.proofs.ProgramBlocks.{reads_block}
@@ -30,6 +30,7 @@ field_with name width = record { name = name; width = width }
 abbrev header_with : List ℕ → List P4Field → P4Header
 header_with name fields = record { name = name; fields = fields }
 
+-- bit<W> NAME;
 abbrev declared_with : ℕ → List ℕ → List Kind → List Kind
 declared_with w name r = word (codes "bit") ∷ mark (codes "<") ∷ plain w ∷ mark (codes ">") ∷ word name ∷ mark (codes ";") ∷ r
 
@@ -45,6 +46,7 @@ meta_apart f r s _ e = apart_by (is_word (codes "bit")) (meta_member_tokens f ++
 pub metas_same : (fs gs : List P4Field) (r s : List Kind) → flat_map meta_member_tokens fs ++ (mark (codes "}") ∷ r) ≡ flat_map meta_member_tokens gs ++ (mark (codes "}") ∷ s) → (fs ≡ gs) × (r ≡ s)
 metas_same fs gs r s e = same_list meta_member_tokens meta_member_tokens (λ _. Unit {0}) (λ _. Unit {0}) (mark (codes "}")) meta_same meta_apart meta_apart fs gs r s (every fs) (every gs) e
 
+-- bit<W> f_NAME;
 abbrev field_member : P4Field → List Kind
 field_member f = declared f.width (field_name f.name) ++ mark (codes ";") ∷ []
 
@@ -68,7 +70,7 @@ header_same : (d e : P4Header) (r s : List Kind) → Unit {0} → Unit {0} → h
 header_same d e r s _ _ h =
     let x = header_front d.name e.name ((flat_map field_member d.fields ++ (mark (codes "}") ∷ [])) ++ r) ((flat_map field_member e.fields ++ (mark (codes "}") ∷ [])) ++ s) h in
     let y = same_list field_member field_member (λ _. Unit {0}) (λ _. Unit {0}) (mark (codes "}")) field_same field_apart field_apart d.fields e.fields r s (every d.fields) (every e.fields)
-        (sym (one_part (flat_map field_member d.fields) r (mark (codes "}"))) ∙ x.1 ∙ one_part (flat_map field_member e.fields) s (mark (codes "}"))) in
+    (sym (one_part (flat_map field_member d.fields) r (mark (codes "}"))) ∙ x.1 ∙ one_part (flat_map field_member e.fields) s (mark (codes "}"))) in
     (ap₂ header_with x.0 y.0, y.1)
 
 header_apart : (d : P4Header) (r s : List Kind) → Unit {0} → header_tokens d ++ r ≡ word (codes "struct") ∷ s → ⊥
@@ -89,7 +91,7 @@ known [] i h = absurd (omega arith)
 known (f ∷ ms) zero h = record { field = f; is = refl }
 known (f ∷ ms) (suc i) h = let k = known ms i (omega arith) in record { field = k.field; is = k.is }
 
--- what is read of one table or key needs: the fields of both programs, which are the same and have distinct names
+-- two programs with the same headers and meta fields, whose names are distinct
 pub record SameMeta (p q : Program) : Type 0 where
   pub names_p : Names p.headers p.meta
   pub names_q : Names q.headers q.meta
@@ -109,6 +111,7 @@ number_same p q m i j k l r s e =
     let at_j : meta_number q.meta l.field.name ≡ j = meta_read q.meta j l.field m.names_q.meta l.is in
     (sym at_i ∙ ap₂ (λ ms w. meta_number ms w) m.meta h.0 ∙ at_j, h.1)
 
+-- m.NAME : exact;
 abbrev key_tokens : Program → Bool → ℕ → List Kind
 key_tokens p b i = meta_tokens p i ++ mark (codes ":") ∷ match_kind b ∷ mark (codes ";") ∷ []
 
@@ -126,7 +129,7 @@ key_all p q m b c i j k l r s e =
     let tail_p = mark (codes ":") ∷ match_kind b ∷ mark (codes ";") ∷ [] in
     let tail_q = mark (codes ":") ∷ match_kind c ∷ mark (codes ";") ∷ [] in
     let h = number_same p q m i j k l (mark (codes ":") ∷ match_kind b ∷ mark (codes ";") ∷ r) (mark (codes ":") ∷ match_kind c ∷ mark (codes ";") ∷ s)
-        (sym (append_assoc (meta_tokens p i) tail_p r) ∙ e ∙ append_assoc (meta_tokens q j) tail_q s) in
+    (sym (append_assoc (meta_tokens p i) tail_p r) ∙ e ∙ append_assoc (meta_tokens q j) tail_q s) in
     let t = kind_front (match_kind b) (match_kind c) r s h.1 in
     (h.0, exact_same b c t.0, t.1)
 
@@ -142,7 +145,7 @@ keys_exact p q m b c [] js r s x y k l e = absurd (let h : false ≡ true = x in
 keys_exact p q m b c (i ∷ is) [] r s x y k l e = absurd (let h : false ≡ true = y in cc)
 keys_exact p q m b c (i ∷ is) (j ∷ js) r s x y k l e =
     (key_all p q m b c i j k.0 l.0 (flat_map (key_tokens p b) is ++ r) (flat_map (key_tokens q c) js ++ s)
-        (sym (append_assoc (key_tokens p b i) (flat_map (key_tokens p b) is) r) ∙ e ∙ append_assoc (key_tokens q c j) (flat_map (key_tokens q c) js) s)).1
+    (sym (append_assoc (key_tokens p b i) (flat_map (key_tokens p b) is) r) ∙ e ∙ append_assoc (key_tokens q c j) (flat_map (key_tokens q c) js) s)).1
 
 keys_same : (p q : Program) → SameMeta p q → (b c : Bool) (is js : List ℕ) (r s : List Kind) → Each (λ i. Known p.meta i) is → Each (λ j. Known q.meta j) js
     → flat_map (key_tokens p b) is ++ (mark (codes "}") ∷ r) ≡ flat_map (key_tokens q c) js ++ (mark (codes "}") ∷ s) → (is ≡ js) × (r ≡ s)
@@ -151,7 +154,7 @@ keys_same p q m b c is js r s k l e =
     (λ i j r s x y h. let t = key_all p q m b c i j x y r s h in (t.0, t.2))
     (λ i r s x h. key_apart p b i r s x h) (λ j r s y h. key_apart q c j r s y h) is js r s k l e
 
--- a table whose fields are there
+-- a table that keeps the kind rules: it has keys, and its meta fields are there
 pub record TableFits (p : Program) (t : P4Table) : Type 0 where
   number : t.number < 2 ^ 32
   some : not (length t.keys == 0) ≡ true
@@ -185,16 +188,19 @@ table_with w action table to keys =
     ++ word (codes "actions") ∷ mark (codes "=") ∷ in_braces (action ∷ mark (codes ";") ∷ [])
     ++ assignment (word (codes "default_action") ∷ []) (action ∷ in_parentheses (literal w 0 ∷ [])))
 
+-- its tokens grouped from the left, from the keys' closing brace on
 abbrev table_end : ℕ → Kind → List Kind → List Kind
 table_end w action r =
     word (codes "actions") ∷ mark (codes "=") ∷ mark (codes "{") ∷ action ∷ mark (codes ";") ∷ mark (codes "}")
     ∷ word (codes "default_action") ∷ mark (codes "=") ∷ action ∷ mark (codes "(") ∷ literal w 0 ∷ mark (codes ")") ∷ mark (codes ";") ∷ mark (codes "}") ∷ r
 
+-- and from after its result on
 abbrev table_keys : ℕ → Kind → Kind → List Kind → List Kind → List Kind
 table_keys w action table keys r =
     mark (codes "=") ∷ word (codes "v") ∷ mark (codes ";") ∷ mark (codes "}") ∷ word (codes "table") ∷ table ∷ mark (codes "{") ∷ word (codes "key") ∷ mark (codes "=") ∷ mark (codes "{")
     ∷ (keys ++ (mark (codes "}") ∷ table_end w action r))
 
+-- and from the front
 abbrev table_begin : ℕ → Kind → List Kind → List Kind
 table_begin w action r =
     word (codes "action") ∷ action ∷ mark (codes "(") ∷ word (codes "bit") ∷ mark (codes "<") ∷ plain w ∷ mark (codes ">") ∷ word (codes "v") ∷ mark (codes ")") ∷ mark (codes "{") ∷ r
@@ -210,7 +216,7 @@ table_spells w action table to keys r =
     ap (λ l. table_begin w action l)
     (result_parts to _ r (mark (codes "=")) (word (codes "v")) (mark (codes ";")) (mark (codes "}"))
     ∙ ap (λ l. to ++ (mark (codes "=") ∷ word (codes "v") ∷ mark (codes ";") ∷ mark (codes "}") ∷ word (codes "table") ∷ table ∷ mark (codes "{") ∷ word (codes "key") ∷ mark (codes "=") ∷ mark (codes "{") ∷ l))
-        (keys_parts keys (word (codes "actions") ∷ mark (codes "=") ∷ in_braces (action ∷ mark (codes ";") ∷ [])) (assignment (word (codes "default_action") ∷ []) (action ∷ in_parentheses (literal w 0 ∷ []))) r (mark (codes "}")) (mark (codes "}"))))
+    (keys_parts keys (word (codes "actions") ∷ mark (codes "=") ∷ in_braces (action ∷ mark (codes ";") ∷ [])) (assignment (word (codes "default_action") ∷ []) (action ∷ in_parentheses (literal w 0 ∷ []))) r (mark (codes "}")) (mark (codes "}"))))
 
 begin_same : (v w : ℕ) (a b : Kind) (r s : List Kind) → table_begin v a r ≡ table_begin w b s → (a ≡ b) × (r ≡ s)
 begin_same v w a b r s e = let x : a ≡ b = cc in let y : r ≡ s = cc in (x, y)
@@ -240,14 +246,15 @@ table_same p q m t u r s x y e =
     let v = result_width p t in
     let w = result_width q u in
     let h1 = begin_same v w (action_name t.number) (action_name u.number)
-        (meta_tokens p t.result ++ table_keys v (action_name t.number) (table_name t.number) keys_t r) (meta_tokens q u.result ++ table_keys w (action_name u.number) (table_name u.number) keys_u s)
-        (sym (table_spells v (action_name t.number) (table_name t.number) (meta_tokens p t.result) keys_t r) ∙ e ∙ table_spells w (action_name u.number) (table_name u.number) (meta_tokens q u.result) keys_u s) in
+    (meta_tokens p t.result ++ table_keys v (action_name t.number) (table_name t.number) keys_t r) (meta_tokens q u.result ++ table_keys w (action_name u.number) (table_name u.number) keys_u s)
+    (sym (table_spells v (action_name t.number) (table_name t.number) (meta_tokens p t.result) keys_t r) ∙ e ∙ table_spells w (action_name u.number) (table_name u.number) (meta_tokens q u.result) keys_u s) in
     let h2 = number_same p q m t.result u.result x.result y.result _ _ h1.1 in
     let h3 = keys_from v w (action_name t.number) (action_name u.number) (table_name t.number) (table_name u.number) keys_t keys_u r s h2.1 in
     let exact = keys_exact p q m t.exact u.exact t.keys u.keys _ _ x.some y.some x.keys y.keys h3 in
-    let h4 = keys_same p q m t.exact u.exact t.keys u.keys _ _ x.keys y.keys h3 in
-    (all_same t.number u.number t.exact u.exact t.keys u.keys t.result u.result (action_number t.number u.number x.number y.number h1.0) exact h4.0 h2.0,
-        end_same v w (action_name t.number) (action_name u.number) r s h4.1)
+    let h4 = keys_same p q m t.exact u.exact t.keys u.keys _ _ x.keys y.keys h3 in (
+      all_same t.number u.number t.exact u.exact t.keys u.keys t.result u.result (action_number t.number u.number x.number y.number h1.0) exact h4.0 h2.0,
+      end_same v w (action_name t.number) (action_name u.number) r s h4.1,
+    )
 
 table_apart : (p : Program) (t : P4Table) (r s : List Kind) → TableFits p t → table_tokens p t ++ r ≡ word (codes "apply") ∷ s → ⊥
 table_apart p t r s x e = apart_by (is_word (codes "action")) (table_tokens p t ++ r) (word (codes "apply") ∷ s) refl refl e
@@ -268,7 +275,7 @@ block_same c d m small_c small_d a b r s x y e =
     let read_a = reads_block c m.names_p small_c a n r (omega arith) x in
     let read_b = reads_block d m.names_q small_d b n s (omega arith) y in
     let tokens : block_then c.program.headers c.program.meta a (mark (codes "}") ∷ r) ≡ block_then d.program.headers d.program.meta b (mark (codes "}") ∷ s) =
-        sym (block_spells c.program a (mark (codes "}") ∷ r)) ∙ e ∙ block_spells d.program b (mark (codes "}") ∷ s) in
+    sym (block_spells c.program a (mark (codes "}") ∷ r)) ∙ e ∙ block_spells d.program b (mark (codes "}") ∷ s) in
     let same_reader = ap₂ (λ hs ms. read_block hs ms (suc n) (block_then c.program.headers c.program.meta a (mark (codes "}") ∷ r))) m.headers m.meta in
     let read : ◌≡◌ {A = Read P4Block} (a, mark (codes "}") ∷ r) (b, mark (codes "}") ∷ s) = sym read_a ∙ same_reader ∙ ap (λ l. read_block d.program.headers d.program.meta (suc n) l) tokens ∙ read_b in
     (ap (λ (z : Read P4Block). z.0) read, cancel (mark (codes "}") ∷ []) r s (ap (λ (z : Read P4Block). z.1) read))
@@ -279,7 +286,7 @@ control_parts t g b r o a c = simp append_assoc
 abbrev control_with : List P4Table → P4Block → Control
 control_with ts b = record { tables = ts; body = b }
 
--- what a control needs
+-- a control that keeps the kind rules
 pub record ControlFits (c : Within) (x : Control) : Type 0 where
   pub tables : Each (TableFits c.program) x.tables
   pub small : Each (λ m. m < 2 ^ 32) c.tables

@@ -1,7 +1,7 @@
 -- What an equation of two lists of tokens says of their parts, and the look-up of a name.
-use Rattle.std.proofs.Common.{◌≡◌, ℕ, zero, suc, ◌+◌, ◌^◌, ◌≤◌, ◌<◌, List, [], ◌∷◌, ◌++◌, Bool, true, false, not, ◌&&◌, ◌||◌, Option, Some, None, refl, ap, ap₂, sym, subst, ◌∙◌, arith, length, map, flat_map, append_assoc, inl, inr}
+use Rattle.std.proofs.Common.{◌≡◌, ℕ, zero, suc, List, [], ◌∷◌, ◌++◌, Bool, true, false, not, ◌&&◌, ◌||◌, Some, refl, ap, ap₂, sym, ◌∙◌, map, flat_map, append_assoc}
 use Rattle.std.specs.Prelude.{◌==◌, slice_get}
-use Rattle.std.proofs.lemmas.Bool.{and_parts, or_cases, eqb-true, eq-eqb}
+use Rattle.std.proofs.lemmas.Bool.{and_parts, eqb-true, eq-eqb}
 use Rattle.cocoon_num.specs.Names.{same_name}
 use Rattle.cocoon_num.specs.Lists.{each, is_one_of}
 use Rattle.cocoon_num.specs.Tokens.{Kind}

@@ -1,10 +1,10 @@
 -- A reader of expressions and statements: it takes tokens from the front, and finds names among the headers and meta fields.
-use Rattle.std.proofs.Common.{◌≡◌, ℕ, zero, suc, ◌+◌, ◌^◌, ◌≤◌, ◌<◌, List, [], ◌∷◌, ◌++◌, Bool, true, false, if◌then◌else◌, Option, Some, None, refl, ap, sym, ◌∙◌, drop}
-use Rattle.std.specs.Prelude.{codes, decimal, slice_get}
+use Rattle.std.proofs.Common.{ℕ, zero, suc, ◌+◌, List, [], ◌∷◌, ◌++◌, Bool, true, false, if◌then◌else◌, Option, Some, None, drop}
+use Rattle.std.specs.Prelude.{codes, slice_get}
 use Rattle.std.specs.Str.Parse.{digits_value}
 use Rattle.cocoon_num.specs.Names.{same_name}
-use Rattle.cocoon_num.specs.Values.{UnaryOp, flip, not_, BinaryOp, add, sub, bits_and, bits_or, bits_xor, concat, equal, unequal, less, less_equal, greater, greater_equal, and_, or_, implies}
-use Rattle.cocoon_num.specs.Tokens.{Kind, word, keyword, plain, literal, mark, finish}
+use Rattle.cocoon_num.specs.Values.{UnaryOp, flip, not_, BinaryOp, add, sub, bits_and, bits_or, bits_xor, concat, equal, unequal, less, less_equal, greater, greater_equal, and_, or_}
+use Rattle.cocoon_num.specs.Tokens.{Kind, word, plain, literal, mark}
 use Rattle.p4_emit.specs.P4Text.{unary_mark, binary_mark, table_name}
 use Rattle.p4_emit.specs.P4Tree.{P4Expr, p_lit, p_truth, p_meta, p_field, p_port, p_rid, p_unary, p_binary, p_slice, p_pick, P4Stmt, set_meta, set_header, apply_table, p_if, p_if_else, verdict, egress_port, group, p_return, P4Block, p_done, p_then, P4Field, P4Header}
 use Rattle.text_laws.proofs.ProgramLists.{number_named}
@@ -134,12 +134,15 @@ sliced x (open_ ∷ high ∷ colon ∷ low ∷ close ∷ ks) =
     elim (is_mark (codes "[") open_) [ true ↦ sliced (p_slice x (plain_of high) (plain_of low)) ks | false ↦ (x, open_ ∷ high ∷ colon ∷ low ∷ close ∷ ks) ]
 sliced x ks = (x, ks)
 
+-- what f makes of an expression, and then its closing parenthesis
 abbrev pub closed : (P4Expr → P4Expr) → Read P4Expr → Read P4Expr
 closed f x = sliced (f x.0) (drop 1 x.1)
 
+-- a choice, from behind its `?` on
 abbrev pub arms : (List Kind → Read P4Expr) → P4Expr → Read P4Expr → Read P4Expr
 arms read c x = closed (λ b. p_pick c x.0 b) (read (drop 1 x.1))
 
+-- the rest of what stands in parentheses, by what follows its first expression
 abbrev pub after_by : (List Kind → Read P4Expr) → P4Expr → After → List Kind → Read P4Expr
 after_by read a after_close ks = sliced a ks
 after_by read a (after_binary op) ks = closed (λ b. p_binary op a b) (read ks)
@@ -158,6 +161,7 @@ meta_expr x = sliced (p_meta x.0) x.1
 abbrev pub field_expr : ℕ × ℕ × List Kind → Read P4Expr
 field_expr x = sliced (p_field x.0 x.1) x.2
 
+-- an expression, read at most so deep
 abbrev pub read_expr : List P4Header → List P4Field → ℕ → List Kind → Read P4Expr
 read_expr hs ms zero ks = (p_port, ks)
 read_expr hs ms (suc n) [] = (p_port, [])
@@ -242,6 +246,7 @@ else_of read e x = by_else read e x (first_is (is_word (codes "else")) (drop 1 x
 abbrev pub if_of : (List Kind → Read P4Block) → Read P4Expr → Read P4Stmt
 if_of read x = else_of read x.0 (read (drop 2 x.1))
 
+-- X = E;
 abbrev pub set_to : (P4Expr → P4Stmt) → Read P4Expr → Read P4Stmt
 set_to f x = (f x.0, drop 1 x.1)
 
@@ -251,6 +256,7 @@ meta_stmt read x = set_to (λ e. set_meta x.0 e) (read (drop 1 x.1))
 abbrev pub header_stmt : (List Kind → Read P4Expr) → ℕ × ℕ × List Kind → Read P4Stmt
 header_stmt read x = set_to (λ e. set_header x.0 x.1 e) (read (drop 1 x.2))
 
+-- a statement, by readers of what it holds
 abbrev pub read_stmt : List P4Header → List P4Field → (List Kind → Read P4Expr) → (List Kind → Read P4Block) → List Kind → Read P4Stmt
 read_stmt hs ms expr block [] = (p_return, [])
 read_stmt hs ms expr block (k ∷ ks) =
@@ -276,7 +282,7 @@ abbrev pub block_by : (List Kind → Read P4Stmt) → (List Kind → Read P4Bloc
 block_by stmt block ks true = (p_done, ks)
 block_by stmt block ks false = then_of block (stmt ks)
 
--- the statements up to a brace
+-- the statements up to a closing brace, read at most so deep
 abbrev pub read_block : List P4Header → List P4Field → ℕ → List Kind → Read P4Block
 read_block hs ms zero ks = (p_done, ks)
 read_block hs ms (suc n) ks =

@@ -1,18 +1,14 @@
 -- The reader gives back each well-kinded expression and statement.
-use Rattle.std.proofs.Common.{◌≡◌, ℕ, zero, suc, ◌+◌, ◌^◌, ◌≤◌, ◌<◌, List, [], ◌∷◌, ◌++◌, Bool, true, false, cond, not, ◌&&◌, ◌||◌, Option, Some, None, refl, ap, ap₂, sym, subst, ◌∙◌, arith, map, inl, inr, drop}
-use Rattle.std.specs.Prelude.{◌==◌, codes, decimal, slice_get, option_map, option_and_then}
-use Rattle.std.specs.Str.Parse.{digits_value}
-use Rattle.std.proofs.lemmas.Bool.{and_parts, or_cases, eqb-true}
-use Rattle.std.proofs.lemmas.Fmt.{decimal_is_IsNumeral}
-use Rattle.cocoon_num.specs.Lists.{has_number}
+use Rattle.std.proofs.Common.{◌≡◌, ℕ, zero, suc, ◌≤◌, List, [], ◌∷◌, ◌++◌, Bool, true, false, cond, Option, Some, None, refl, ap, ap₂, subst, ◌∙◌, arith, map}
+use Rattle.std.specs.Prelude.{codes, slice_get, option_map, option_and_then}
 use Rattle.cocoon_num.specs.Values.{flip, not_, BinaryOp, add, sub, bits_and, bits_or, bits_xor, concat, equal, unequal, less, less_equal, greater, greater_equal, and_, or_, implies}
-use Rattle.cocoon_num.specs.Sorts.{Sort, bits_sort, truth_sort, unary_sort, binary_sort, slice_sort, pick_sort, of_two, of_three, has_sort}
-use Rattle.cocoon_num.specs.Tokens.{Kind, word, plain, literal, mark}
-use Rattle.p4_emit.specs.P4Tree.{P4Expr, p_lit, p_truth, p_meta, p_field, p_port, p_rid, p_unary, p_binary, p_slice, p_pick, P4Stmt, set_meta, set_header, apply_table, p_if, p_if_else, verdict, egress_port, group, p_return, P4Block, p_done, p_then, P4Field, P4Header}
-use Rattle.p4_emit.specs.P4Text.{unary_mark, binary_mark, table_name}
-use Rattle.p4_emit.specs.P4Kinds.{are_distinct, Within, meta_sort, field_sort, is_implies, p4_sort, sets, is_empty, stmt_fits, block_fits}
+use Rattle.cocoon_num.specs.Sorts.{Sort, bits_sort, unary_sort, binary_sort, slice_sort, pick_sort, of_two, of_three}
+use Rattle.cocoon_num.specs.Tokens.{Kind, word, plain, mark}
+use Rattle.p4_emit.specs.P4Tree.{P4Expr, p_lit, p_truth, p_meta, p_field, p_port, p_rid, p_unary, p_binary, p_slice, p_pick, P4Field, P4Header}
+use Rattle.p4_emit.specs.P4Text.{binary_mark}
+use Rattle.p4_emit.specs.P4Kinds.{are_distinct, Within, is_implies, p4_sort}
 use Rattle.text_laws.proofs.ProgramLists.{Each, number_is}
-use Rattle.text_laws.proofs.ProgramReader.{Read, is_mark, is_word, first_is, plain_of, header_number, meta_number, fields_of, read_meta, read_field, After, after_binary, after_of, sliced, closed, arms, after_by, after_first, with_unary, meta_expr, field_expr, read_expr, size_of, meta_then, in_header, field_then, expr_then, else_of, if_of, set_to, meta_stmt, header_stmt, read_stmt, read_block, stmt_size, block_size, stmt_then, block_then}
+use Rattle.text_laws.proofs.ProgramReader.{Read, is_mark, plain_of, header_number, meta_number, fields_of, read_field, after_binary, after_of, sliced, closed, arms, after_by, after_first, with_unary, field_expr, read_expr, size_of, meta_then, in_header, field_then, expr_then}
 
 -- ---- names
 

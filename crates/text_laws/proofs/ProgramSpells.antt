@@ -1,7 +1,7 @@
 -- The tokens of an expression or a statement before others, grouped as the reader takes them.
 use Rattle.std.proofs.Common.{◌≡◌, ℕ, List, [], ◌∷◌, ◌++◌, true, false, Option, Some, None, refl, ap, ◌∙◌, append_assoc}
 use Rattle.std.specs.Prelude.{codes, slice_get}
-use Rattle.cocoon_num.specs.Tokens.{Kind, word, plain, literal, mark}
+use Rattle.cocoon_num.specs.Tokens.{Kind, word, plain, mark}
 use Rattle.p4_emit.specs.P4Tree.{P4Expr, p_lit, p_truth, p_meta, p_field, p_port, p_rid, p_unary, p_binary, p_slice, p_pick, P4Stmt, set_meta, set_header, apply_table, p_if, p_if_else, verdict, egress_port, group, p_return, P4Block, p_done, p_then, P4Field, P4Header, Program}
 use Rattle.p4_emit.specs.P4Text.{said, of_found, header_name, field_name, meta_tokens, field_tokens, unary_mark, binary_mark, expr_tokens, stmt_tokens, block_tokens}
 use Rattle.text_laws.proofs.ProgramReader.{meta_then, in_header, field_then, expr_then, stmt_then, block_then}
@@ -75,8 +75,8 @@ expr_spells p (p_pick c a b) r =
     (three_parts (expr_tokens p c) (expr_tokens p a) (expr_tokens p b) r (mark (codes "?")) (mark (codes ":")) (mark (codes ")"))
     ∙ expr_spells p c (mark (codes "?") ∷ (expr_tokens p a ++ (mark (codes ":") ∷ (expr_tokens p b ++ (mark (codes ")") ∷ r)))))
     ∙ ap (λ l. expr_then p.headers p.meta c (mark (codes "?") ∷ l))
-        (expr_spells p a (mark (codes ":") ∷ (expr_tokens p b ++ (mark (codes ")") ∷ r)))
-        ∙ ap (λ l. expr_then p.headers p.meta a (mark (codes ":") ∷ l)) (expr_spells p b (mark (codes ")") ∷ r))))
+    (expr_spells p a (mark (codes ":") ∷ (expr_tokens p b ++ (mark (codes ")") ∷ r)))
+    ∙ ap (λ l. expr_then p.headers p.meta a (mark (codes ":") ∷ l)) (expr_spells p b (mark (codes ")") ∷ r))))
 
 -- ---- statements
 
@@ -98,8 +98,8 @@ mutual
       (else_parts (expr_tokens p e) (block_tokens p first) (block_tokens p second) r (mark (codes ")")) (mark (codes "{")) (mark (codes "}")) (word (codes "else")) (mark (codes "{")) (mark (codes "}"))
       ∙ expr_spells p e (mark (codes ")") ∷ mark (codes "{") ∷ (block_tokens p first ++ (mark (codes "}") ∷ word (codes "else") ∷ mark (codes "{") ∷ (block_tokens p second ++ (mark (codes "}") ∷ r)))))
       ∙ ap (λ l. expr_then p.headers p.meta e (mark (codes ")") ∷ mark (codes "{") ∷ l))
-          (block_spells p first (mark (codes "}") ∷ word (codes "else") ∷ mark (codes "{") ∷ (block_tokens p second ++ (mark (codes "}") ∷ r)))
-          ∙ ap (λ l. block_then p.headers p.meta first (mark (codes "}") ∷ word (codes "else") ∷ mark (codes "{") ∷ l)) (block_spells p second (mark (codes "}") ∷ r))))
+      (block_spells p first (mark (codes "}") ∷ word (codes "else") ∷ mark (codes "{") ∷ (block_tokens p second ++ (mark (codes "}") ∷ r)))
+      ∙ ap (λ l. block_then p.headers p.meta first (mark (codes "}") ∷ word (codes "else") ∷ mark (codes "{") ∷ l)) (block_spells p second (mark (codes "}") ∷ r))))
   stmt_spells p (verdict n) r = refl
   stmt_spells p (egress_port e) r = value_spells p e (word (codes "egress_port") ∷ []) r
   stmt_spells p (group e) r = value_spells p e (word (codes "group") ∷ []) r

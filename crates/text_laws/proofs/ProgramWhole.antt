@@ -1,15 +1,14 @@
 -- Well-kinded programs with the same tokens are the same, so a text reads as at most one.
-use Rattle.std.proofs.Common.{◌≡◌, ℕ, ◌%◌, List, [], ◌∷◌, ◌++◌, Bool, true, false, ◌&&◌, Result, Ok, refl, ap, sym, ◌∙◌, map, flat_map, append_assoc}
-use Rattle.std.specs.Prelude.{◌==◌, codes}
+use Rattle.std.proofs.Common.{◌≡◌, ℕ, List, [], ◌∷◌, ◌++◌, Bool, true, false, ◌&&◌, Result, Ok, ap, sym, ◌∙◌, map, flat_map, append_assoc}
+use Rattle.std.specs.Prelude.{codes}
 use Rattle.std.proofs.lemmas.Bool.{and_parts}
 use Rattle.cocoon_num.specs.Lists.{each, ascend}
-use Rattle.cocoon_num.specs.Packets.{total}
 use Rattle.cocoon_num.specs.Tokens.{Kind, word, mark, finish, Token, LexFault, lex, kinds, is_run}
-use Rattle.p4_emit.specs.P4Tree.{P4Field, P4Header, Control, Program, field_widths}
+use Rattle.p4_emit.specs.P4Tree.{P4Field, P4Header, Control, Program}
 use Rattle.p4_emit.specs.P4Text.{p4_lexicon, said, header_name, in_braces, architecture, header_tokens, member_tokens, meta_member_tokens, control_tokens, program_tokens}
-use Rattle.p4_emit.specs.P4Kinds.{are_distinct, is_meta_name, names_fit, is_width, widths_fit, table_fits, tables_fit, numbers_of, Within, block_fits, is_well_kinded}
+use Rattle.p4_emit.specs.P4Kinds.{are_distinct, is_meta_name, names_fit, widths_fit, table_fits, tables_fit, numbers_of, Within, block_fits, is_well_kinded}
 use Rattle.p4_emit.specs.P4Reads.{P4Reads}
-use Rattle.text_laws.proofs.ProgramLists.{Each, each_of, cancel, cancel_same}
+use Rattle.text_laws.proofs.ProgramLists.{each_of, cancel, cancel_same}
 use Rattle.text_laws.proofs.ProgramSpells.{one_part}
 use Rattle.text_laws.proofs.ProgramReads.{Names}
 use Rattle.text_laws.proofs.ProgramDeclarations.{metas_same, headers_same, SameMeta, TableFits, table_of_kind, numbers_small, ControlFits, control_same}
@@ -118,6 +117,7 @@ all_same : (gs hs : List P4Header) (ms ns : List P4Field) (i j e f : Control) �
 all_same gs hs ms ns i j e f a b c d =
     ap (λ x. program_with x ms i e) a ∙ ap (λ x. program_with hs x i e) b ∙ ap (λ x. program_with hs ns x e) c ∙ ap (λ x. program_with hs ns j x) d
 
+-- two programs that declare the same, and whose tokens after that are the same
 record Declared (p q : Program) : Type 0 where
   headers : p.headers ≡ q.headers
   meta : p.meta ≡ q.meta
@@ -129,8 +129,8 @@ declared_same p q h =
     let meta_q = flat_map meta_member_tokens q.meta in
     let h1 = headers_same p.headers q.headers _ _ (cancel architecture (flat_map header_tokens p.headers ++ after_headers p) (flat_map header_tokens q.headers ++ after_headers q) (sym (parts p) ∙ h ∙ parts q)) in
     let h2 = cancel_same (word (codes "Headers") ∷ member_parts p.headers) (word (codes "Headers") ∷ member_parts q.headers)
-        (said (codes "struct Meta") ++ (in_braces meta_p ++ after_meta p)) (said (codes "struct Meta") ++ (in_braces meta_q ++ after_meta q))
-        (ap (λ hs. word (codes "Headers") ∷ member_parts hs) h1.0) h1.1 in
+    (said (codes "struct Meta") ++ (in_braces meta_p ++ after_meta p)) (said (codes "struct Meta") ++ (in_braces meta_q ++ after_meta q))
+    (ap (λ hs. word (codes "Headers") ∷ member_parts hs) h1.0) h1.1 in
     let h3 = cancel (said (codes "struct Meta") ++ (mark (codes "{") ∷ [])) ((meta_p ++ (mark (codes "}") ∷ [])) ++ after_meta p) ((meta_q ++ (mark (codes "}") ∷ [])) ++ after_meta q) h2 in
     let h4 = metas_same p.meta q.meta (after_meta p) (after_meta q) (sym (one_part meta_p (after_meta p) (mark (codes "}"))) ∙ h3 ∙ one_part meta_q (after_meta q) (mark (codes "}"))) in
     record { headers = h1.0; meta = h4.0; rest = h4.1 }
