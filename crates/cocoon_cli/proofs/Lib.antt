@@ -12,3 +12,6 @@ pub mod ThinRoles
 pub mod NetMeans
 pub mod OneReading
 pub mod Running
+pub mod ExampleNetwork
+pub mod ReadingBack
+pub mod Headlines

@@ -8,3 +8,7 @@ pub mod NetOf
 pub mod Causes
 pub mod ThinNet
 pub mod Visits
+pub mod Network
+pub mod Readable
+pub mod Headline
+pub mod ExampleNet

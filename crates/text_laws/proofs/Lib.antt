@@ -1,3 +1,7 @@
+pub mod DesignEnough
+pub mod DesignParts
+pub mod DesignReader
+pub mod DesignReads
 pub mod ProgramLists
 pub mod ProgramReader
 pub mod ProgramSpells
