@@ -8,3 +8,4 @@ pub mod NetOf
 pub mod Causes
 pub mod ThinNet
 pub mod Visits
+pub mod Wires
