@@ -1,5 +1,5 @@
 -- What the entry role and the egress role of a thin design do with a packet is what its parts say.
-use Rattle.std.specs.Prelude.{◌≡◌, ◌↔◌, ℕ, Bool, true, false, List, [], ◌∷◌, ◌++◌, if◌then◌else◌, Option, Some, None, refl}
+use Rattle.std.specs.Prelude.{◌≡◌, ◌↔◌, ℕ, Bool, true, false, List, [], ◌++◌, if◌then◌else◌, Option, Some, None, refl}
 use Rattle.std.proofs.Common.{sym, ◌∙◌, ap, ap₂, subst}
 use Rattle.std.proofs.lemmas.Bool.{and_from, and_parts}
 use Rattle.cocoon_num.specs.Values.{fits_width}
@@ -9,8 +9,8 @@ use Rattle.cocoon_parse.specs.declared.parts.Thin.{Thin}
 use Rattle.cocoon_parse.specs.Thin.{ThinNames, AreThin}
 use Rattle.cocoon_parse.specs.Tables.{Defs}
 use Rattle.cocoon_parse.specs.Runs.{Loc, World, Go}
-use Rattle.cocoon_parse.specs.ThinTree.{thin_tree, thin_defs}
-use Rattle.cocoon_parse.specs.ThinVisits.{enters_at, goes_out_at, is_port}
+use Rattle.cocoon_parse.specs.ThinTree.{thin_defs}
+use Rattle.cocoon_parse.specs.ThinVisits.{enters_at, goes_out_at}
 use Rattle.cocoon_parse.specs.ThinWires.{begins_at, ends_at, ThinEnters, ThinExits}
 use Rattle.cocoon_parse.proofs.NameFacts.{AllApart, names_apart}
 use Rattle.cocoon_parse.proofs.ThinFields.{FieldFacts, field_facts}
