@@ -9,6 +9,7 @@ pub mod ThinVisit
 pub mod ThinLinks
 pub mod ThinNetwork
 pub mod ThinRoles
+pub mod Wired
 pub mod NetMeans
 pub mod OneReading
 pub mod Running
