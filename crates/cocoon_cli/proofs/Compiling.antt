@@ -1,5 +1,5 @@
 -- Why `compile` refuses, put together from its steps.
-use Rattle.std.proofs.Common.{◌≡◌, ℕ, List, Option, Some, None, Result, Ok, Err, IsErrAnd, refl, sym, subst, ◌∙◌}
+use Rattle.std.proofs.Common.{◌≡◌, ℕ, List, Option, Some, None, Result, Ok, Err, IsErrAnd, refl, sym, ap, subst, ◌∙◌}
 use Rattle.cocoon_io.specs.Files.{Files}
 use Rattle.cocoon_io.specs.Told.{ReadAnswers}
 use Rattle.cocoon_io.specs.declared.folder.FolderFault.{FolderFault}
@@ -9,9 +9,10 @@ use Rattle.cocoon_parse.specs.Thin.{AreThin}
 use Rattle.cocoon_cli.specs.declared.refusal.Refusal.{Refusal}
 use Rattle.cocoon_cli.specs.declared.refusal.Refusal.TheVariants.{Design, Definitions, ReadFault, TooLong, NoMemory}
 use Rattle.cocoon_cli.specs.declared.refusal.Totals.{Totals}
-use Rattle.cocoon_cli.specs.Bundle.{NamedFile, bundle, SomeWritten, AllFit}
-use Rattle.cocoon_cli.specs.Causes.{Gives, NotRead, Inputs, NotMade, NotWritten, Refuses, Compiles, no_defs, not_made, not_written, design_most, defs_most, totals_of}
+use Rattle.cocoon_cli.specs.Bundle.{NamedFile, bundle, with_files, SomeWritten, AllFit}
+use Rattle.cocoon_cli.specs.Causes.{Gives, NotRead, Inputs, NotMade, NotWritten, Makes, Refuses, Compiles, no_defs, not_made, not_written, design_most, defs_most, totals_of}
 use Rattle.cocoon_cli.specs.NetOf.{IsReadRefusal, IsThinRefusal, MadeTooLong}
+use Rattle.cocoon_cli.specs.Readable.{Readable}
 
 -- a read that failed
 pub read_cause : (told : Option Files) (name : List ℕ) (most : ℕ) (fault : FolderFault) (r : Refusal) → ReadAnswers told name most (Err fault) → IsReadRefusal name most fault r → NotRead told name most r
@@ -49,10 +50,10 @@ files_refused a b c d e o x y t r p q g h n l = not_made x y (q ∙ p) (inputs a
 
 -- the bundle is not wholly written
 pub write_refused : (a b c now : Option Files) (d e o x y : List ℕ) (t : Thin) (fs : List NamedFile) (r : Refusal) → b ≡ a → c ≡ b → Gives a d design_most x → Gives b e defs_most y → AreThin x y t
-    → fs ≡ bundle o x t → AllFit fs → SomeWritten fs c now → NotWritten fs r → Refuses a d e o r now
-write_refused a b c now d e o x y t fs r p q g h n f fit w v =
+    → fs ≡ bundle o x t → AllFit fs → Readable x t → SomeWritten fs c now → NotWritten fs r → Refuses a d e o r now
+write_refused a b c now d e o x y t fs r p q g h n f fit readable w v =
     not_written fs (totals_of t)
-    (record { design = x; defs = y; parts = t; inputs = inputs a b d e x y p g h; thin = n; files_are = f; totals_are = refl; fit = fit })
+    (record { design = x; defs = y; parts = t; inputs = inputs a b d e x y p g h; thin = n; files_are = f; totals_are = refl; fit = fit; readable = readable })
     (subst (λ (told : Option Files). SomeWritten fs told now) (q ∙ p) w) v
 
 -- a refusal that is passed on
@@ -69,3 +70,9 @@ same_refusal d e x y x' y' r p q h = subst (λ (b : List ℕ). IsThinRefusal d e
 
 pub same_length : (o x x' : List ℕ) (t : Thin) (r : Refusal) → x' ≡ x → MadeTooLong (bundle o x' t) r → MadeTooLong (bundle o x t) r
 same_length o x x' t r p h = subst (λ (a : List ℕ). MadeTooLong (bundle o a t) r) p h
+
+-- the bundle is wholly written
+pub wholly_written : (a b c now : Option Files) (d e o x y : List ℕ) (t : Thin) (fs : List NamedFile) (totals : Totals) → b ≡ a → c ≡ b → Gives a d design_most x → Gives b e defs_most y → AreThin x y t
+    → fs ≡ bundle o x t → AllFit fs → Readable x t → totals ≡ totals_of t → now ≡ with_files fs c → (gs : List NamedFile) × Makes a d e o gs totals × (now ≡ with_files gs a)
+wholly_written a b c now d e o x y t fs totals p q g h n f fit readable same w =
+    (fs, record { design = x; defs = y; parts = t; inputs = inputs a b d e x y p g h; thin = n; files_are = f; totals_are = same; fit = fit; readable = readable }, w ∙ ap (with_files fs) (q ∙ p))

@@ -13,3 +13,10 @@ pub mod Wired
 pub mod NetMeans
 pub mod OneReading
 pub mod Running
+pub mod ExampleNetwork
+pub mod ReadingLists
+pub mod ReadingDigests
+pub mod ReadingWiring
+pub mod ReadingNames
+pub mod ReadingBack
+pub mod Headlines

@@ -1,7 +1,8 @@
--- The value of the file of a network: how it is put together, and that it has no fraction.
-use Rattle.std.proofs.Common.{◌≡◌, ℕ, List, [], ◌∷◌, map, Option, Some, None, false, ◌||◌, refl, ap, ap₂, ◌∙◌, codes}
-use Rattle.serde_json.specs.Data.{Data, object, Members, no_members, member, put}
+-- The value of the file of a network: how it is put together, that it has no fraction, and that it is shallow.
+use Rattle.std.proofs.Common.{◌≡◌, ◌≤◌, ℕ, suc, List, [], ◌∷◌, map, Option, Some, None, false, ◌||◌, refl, sym, ap, ap₂, subst, ◌∙◌, codes, max, arith}
+use Rattle.serde_json.specs.Data.{Data, object, Members, no_members, member, put, depth, items_depth}
 use Rattle.serde_json.specs.View.{items_of}
+use Rattle.serde_json.specs.Read.{read, max_depth}
 use Rattle.serde_json.specs.Written.{has_float, items_have_float}
 use Rattle.p4_emit.specs.NetTree.{LinkEnd, to_switch, to_host, Link, HostPort}
 use Rattle.cocoon_cli.specs.NetJson.{KeptDigest, NetFile, number_data, host_data, link_data, digest_data, net_data}
@@ -47,3 +48,39 @@ link_plain l = end_plain l.switch l.port l.to
 
 pub net_plain : (f : NetFile) → has_float (net_data f) ≡ false
 net_plain f = rw (no_float digest_data digest_plain f.files, no_float host_data host_plain f.hosts, no_float link_data link_plain f.links, no_float number_data number_plain f.switches) refl
+
+-- a list whose values are flat lists
+flat : {A : Type 0} (f : A → Data) → ((x : A) → depth (f x) ≤ 1) → (xs : List A) → items_depth (items_of (map f xs)) ≤ 1
+flat f h [] = omega arith
+flat f h (x ∷ xs) = let a = h x in let b = flat f h xs in grind (arith, a, b)
+
+number_flat : (n : ℕ) → depth (number_data n) ≤ 1
+number_flat n = omega arith
+
+digest_flat : (k : KeptDigest) → depth (digest_data k) ≤ 1
+digest_flat k = omega arith
+
+attach_flat : (n : ℕ) (a : Option (ℕ × ℕ)) → depth (host_data (record { host = n; attach = a })) ≤ 1
+attach_flat n None = omega arith
+attach_flat n (Some at) = omega arith
+
+host_flat : (h : HostPort) → depth (host_data h) ≤ 1
+host_flat h = attach_flat h.host h.attach
+
+end_flat : (s p : ℕ) (e : LinkEnd) → depth (link_data (record { switch = s; port = p; to = e })) ≤ 1
+end_flat s p (to_host h) = omega arith
+end_flat s p (to_switch n q) = omega arith
+
+link_flat : (l : Link) → depth (link_data l) ≤ 1
+link_flat l = end_flat l.switch l.port l.to
+
+-- seven members, of which four are lists
+seven_deep : (a b c d : ℕ) → a ≤ 1 → b ≤ 1 → c ≤ 1 → d ≤ 1 → suc (max 0 (max 0 (max (suc a) (max (suc b) (max (suc c) (max 0 (max (suc d) 0))))))) ≤ max_depth
+seven_deep a b c d h i j k = grind (arith)
+
+pub net_shallow : (f : NetFile) → depth (net_data f) ≤ max_depth
+net_shallow f = seven_deep _ _ _ _ (flat digest_data digest_flat f.files) (flat host_data host_flat f.hosts) (flat link_data link_flat f.links) (flat number_data number_flat f.switches)
+
+-- what was written of a value is read back as it
+pub net_reads : (d : Data) (bytes : List ℕ) (f : NetFile) → d ≡ net_data f → (depth d ≤ max_depth → read bytes ≡ Some d) → read bytes ≡ Some (net_data f)
+net_reads d bytes f e h = h (subst (λ (x : Data). depth x ≤ max_depth) (sym e) (net_shallow f)) ∙ ap Some e

@@ -11,6 +11,7 @@ use Rattle.cocoon_cli.specs.declared.refusal.Totals.{Totals}
 use Rattle.cocoon_cli.specs.Command.{Command, command, compile}
 use Rattle.cocoon_cli.specs.Lowered.{links}
 use Rattle.cocoon_cli.specs.Bundle.{NamedFile, bundle, with_files, SomeWritten, AllFit, HasFile, SomeExceeds, made_most}
+use Rattle.cocoon_cli.specs.Readable.{Readable}
 
 -- ---- files that are read: what is said of told files holds of every folder that does not tell
 
@@ -79,6 +80,7 @@ pub record Makes (told : Option Files) (design_name defs_name out : List ℕ) (f
   pub files_are : files ≡ bundle out design parts
   pub totals_are : totals ≡ totals_of parts
   pub fit : AllFit files
+  pub readable : Readable design parts
 
 -- A refusal comes from the design's file, from the definitions' file, from what they hold, or from a write; before
 -- that the folder is as it was, and after it some of the files stand.

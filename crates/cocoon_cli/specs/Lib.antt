@@ -3,9 +3,13 @@ pub mod Report
 pub mod Run
 pub mod NetJson
 pub mod Lowered
-pub mod Wires
 pub mod Bundle
 pub mod NetOf
 pub mod Causes
 pub mod ThinNet
 pub mod Visits
+pub mod Network
+pub mod Readable
+pub mod Headline
+pub mod ExampleNet
+pub mod Wires

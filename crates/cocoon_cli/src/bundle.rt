@@ -1,8 +1,14 @@
 //! The files of a bundle: all of them are made, and then they are written, the file of the network last.
-ghost use Rattle.std.specs.Prelude.{◌≡◌, ◌≤◌, ◌++◌, IfErr, IfOk, OnErr, OnOk, codes, map, string_bytes};
+ghost use Rattle.std.specs.Prelude.{◌≡◌, ◌≤◌, ◌++◌, ◌^◌, IfErr, IfOk, OnErr, OnOk, codes, map, string_bytes};
 ghost use Rattle.cocoon_cli.specs.Bundle as spec;
 ghost use Rattle.cocoon_cli.specs.Causes.{NotWritten, totals_of};
+ghost use Rattle.cocoon_cli.specs.Lowered.{thin_program};
+ghost use Rattle.cocoon_cli.specs.NetJson.{net_data};
 ghost use Rattle.cocoon_cli.specs.NetOf.{FaultRose, IsLowerable, IsWriteRefusal, MadeTooLong, kept_of, named_of, net_file_of};
+ghost use Rattle.cocoon_cli.specs.Network.{IsJson};
+ghost use Rattle.cocoon_cli.specs.Readable.{AllBelow, NumbersFit, Readable};
+ghost use Rattle.p4_emit.specs.P4Reads.{P4Reads};
+ghost use Rattle.p4_emit.specs.Printed.{printed};
 
 use crate::json::{KeptDigest, NetFile, net_text};
 use crate::lower::{host_ports, links, program_text};
@@ -62,7 +68,8 @@ fn push_switch_files(
 /// The files of all switches, by what follows the bundle's name.
 fn switch_files(alloc: Global, thin: &Thin) -> Result<Vec<BundleFile>, NoMemory>
     requires { IsLowerable thin.now }
-    ensures { IfOk result (λ v. map named_of v.items ≡ spec.all_switch_files thin.now) }
+    ensures files { IfOk result (λ v. map named_of v.items ≡ spec.all_switch_files thin.now) }
+    ensures reads { IfOk result (λ v. P4Reads (printed (thin_program thin.now)) (thin_program thin.now)) }
 {
     let text = program_text(alloc, thin)?;
     let mut files = Vec::new(alloc);
@@ -120,7 +127,8 @@ fn net_json(
     files: &[BundleFile],
 ) -> Result<BundleFile, NoMemory>
     requires { map named_of files.now ≡ spec.all_switch_files thin.now }
-    ensures { IfOk result (λ f. named_of f ≡ spec.net_json design.now thin.now) }
+    ensures file { IfOk result (λ f. named_of f ≡ spec.net_json design.now thin.now) }
+    ensures reads { IfOk result (λ f. IsJson (spec.net_text design.now thin.now) (net_data (spec.net_file design.now thin.now))) }
 {
     let net = net_file(alloc, design, thin, files)?;
     Ok(BundleFile {
@@ -144,6 +152,33 @@ fn named(alloc: Global, out: &str, files: Vec<BundleFile>) -> Result<Vec<BundleF
     Ok(named)
 }
 
+/// That switches have the numbers of their type.
+fn know_switches(switches: &[u16])
+    ensures { AllBelow (2 ^ 16) switches.now }
+{
+    for switch in switches {
+        let _switch = *switch;
+    }
+}
+
+/// That hosts have the numbers of their type.
+fn know_hosts(hosts: &[u64])
+    ensures { AllBelow (2 ^ 64) hosts.now }
+{
+    for host in hosts {
+        let _host = *host;
+    }
+}
+
+/// That all numbers of a network have the sizes of their types.
+fn know_numbers(thin: &Thin)
+    ensures { NumbersFit thin.now }
+{
+    let _entry = thin.entry_switch;
+    know_switches(thin.switches.items());
+    know_hosts(thin.hosts.items());
+}
+
 /// The files of the bundle `out`, in the order in which they are written.
 pub fn make(
     alloc: Global,
@@ -152,8 +187,10 @@ pub fn make(
     thin: &Thin,
 ) -> Result<Vec<BundleFile>, NoMemory>
     requires { IsLowerable thin.now }
-    ensures { IfOk result (λ v. map named_of v.items ≡ spec.bundle out.now design.now thin.now) }
+    ensures files { IfOk result (λ v. map named_of v.items ≡ spec.bundle out.now design.now thin.now) }
+    ensures readable { IfOk result (λ v. Readable design.now thin.now) }
 {
+    know_numbers(thin);
     let mut files = switch_files(alloc, thin)?;
     let net = net_json(alloc, design, thin, &files)?;
     files.push(net)?;

@@ -3,6 +3,7 @@ ghost use Rattle.std.specs.Prelude.{◌≡◌, ◌≤◌, IfErr, IfOk, map};
 ghost use Rattle.cocoon_cli.specs.Bundle.{AllFit, bundle};
 ghost use Rattle.cocoon_cli.specs.Causes.{Compiles, Gives, NotRead};
 ghost use Rattle.cocoon_cli.specs.NetOf.{FaultRose, IsLowerable, IsOfCompile, IsReadRefusal, IsThinRefusal, MadeTooLong, ReadFaultRose, named_of};
+ghost use Rattle.cocoon_cli.specs.Readable.{Readable};
 ghost use Rattle.cocoon_parse.specs.Thin.{AreThin};
 
 use crate::bundle::{self, BundleFile};
@@ -89,6 +90,7 @@ fn made(
     parts: &Thin,
 ) -> Result<Vec<BundleFile>, Refusal>
     requires { IsLowerable parts.now }
+    ensures readable { IfOk result (λ v. Readable design.now parts.now) }
     ensures files { IfOk result (λ v. map named_of v.items ≡ bundle names.now.out.now design.now parts.now) }
     ensures fit { IfOk result (λ v. AllFit (map named_of v.items)) }
     ensures refused { IfErr result (MadeTooLong (bundle names.now.out.now design.now parts.now)) }

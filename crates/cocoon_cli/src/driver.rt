@@ -1,6 +1,7 @@
 //! The top call: the words are read, the command is done, and one report is told.
 ghost use Rattle.std.specs.Prelude.{◌≡◌, ◌⊎◌, IfErr, map, string_bytes};
 ghost use Rattle.cocoon_cli.specs.Causes.{Finds};
+ghost use Rattle.cocoon_cli.specs.Headline.{Headline};
 ghost use Rattle.cocoon_cli.specs.NetOf.{FaultRose, ReadFaultRose};
 ghost use Rattle.cocoon_cli.specs.Report.{Puts, Says};
 ghost use Rattle.cocoon_cli.specs.Run.{Exactly, Leaves, MayWrite, PutFailed, Ran, TellFailed, UsageExactly, Writes, a_file_missing, a_file_too_long, all_good, not_thin, not_thin_defs};
@@ -10,6 +11,7 @@ use crate::compiler::compile;
 use crate::refusal::{Refusal, Totals, status_of};
 use crate::report::report;
 use crate::status::Status;
+use crate::visits::thin_networks_mean;
 use crate::words::command;
 use cocoon_io::{Folder, Sink, SinkFault};
 use cocoon_num::NoMemory;
@@ -71,12 +73,16 @@ pub fn run<F: Folder, S: Sink>(
     ensures read_fault { result ≡ Status.ReadFault → Rose F.last_read_fault (F.read_faults folder.old) (F.read_faults folder.new) }
     ensures write_fault { result ≡ Status.WriteFault → Rose F.last_write_fault (F.write_faults folder.old) (F.write_faults folder.new) ⊎ Rose S.last_fault (S.faults out.old) (S.faults out.new) }
 
+    // the network that the files give delivers what the design's last level delivers, which its topmost specification may make
+    ensures headline { result ≡ Status.Done → Headline (map string_bytes words.now) (F.told folder.old) (F.told folder.new) }
+
     // what is left in the folder and in the sink
     ensures writes { result ≡ Status.Done → Writes (map string_bytes words.now) (F.told folder.old) (F.told folder.new) (S.told out.old) (S.told out.new) }
     ensures unchanged { MayWrite result ⊎ (F.told folder.new ≡ F.told folder.old) }
     ensures leaves { Leaves (map string_bytes words.now) (F.told folder.old) (F.told folder.new) }
 {
     one_thin_design();
+    thin_networks_mean();
     let found = find(alloc, words, folder);
     tell(alloc, out, &found)
 }

@@ -5,6 +5,7 @@ ghost use Rattle.serde_json.specs.View.{members_view, view};
 ghost use Rattle.serde_json.specs.Written.{compact_text};
 ghost use Rattle.cocoon_cli.specs.NetJson as spec;
 ghost use Rattle.cocoon_cli.specs.NetOf.{host_port_of, kept_of, link_of, net_file_of};
+ghost use Rattle.cocoon_cli.specs.Network.{IsJson};
 
 use crate::network::{HostPort, Link, LinkEnd};
 use cocoon_num::NoMemory;
@@ -141,7 +142,8 @@ fn net_value(alloc: Global, file: &NetFile) -> Result<Value, NoMemory>
 
 /// The text of the file of a network.
 pub fn net_text(alloc: Global, file: &NetFile) -> Result<Vec<u8>, NoMemory>
-    ensures { IfOk result (λ v. v.items ≡ compact_text (spec.net_data (net_file_of file.now))) }
+    ensures text { IfOk result (λ v. v.items ≡ compact_text (spec.net_data (net_file_of file.now))) }
+    ensures reads { IfOk result (λ v. IsJson v.items (spec.net_data (net_file_of file.now))) }
 {
     let value = net_value(alloc, file)?;
     Ok(value.to_vec(alloc)?)

@@ -4,6 +4,7 @@
 pub mod bundle;
 pub mod compiler;
 pub mod driver;
+pub mod example;
 pub mod json;
 pub mod lower;
 pub mod network;

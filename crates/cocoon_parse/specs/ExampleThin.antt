@@ -5,11 +5,11 @@ use Rattle.cocoon_parse.specs.Thin.{ThinNames, ThinEntry, its_default, its_row}
 
 -- the text of the design
 abbrev pub example_design : List ℕ
-example_design = codes "packet { header e { tag: bit<8>; } } function h(a: bit<16>): bool; function g(s: bit<16>): bool; role Out[a: bit<16>] | h(a) = { send SwIn[16w1, a]; } role In[a: bit<16>] | h(a); host (Out, In); role SwIn[s: bit<16>, p: bit<16>] | g(s) and p < 16w4 = { if (pkt.e.tag == 8w1) { send SwOut[s, 16w1]; } else { send SwOut[s, 16w2]; } } role SwOut[s: bit<16>, p: bit<16>] | g(s) and p < 16w4 = { send In[p]; } switch (SwIn, SwOut) ports 4; "
+example_design = codes "packet { header e { tag: bit<8>; } }\nfunction h(a: bit<16>): bool;\nfunction g(s: bit<16>): bool;\nrole Out[a: bit<16>] | h(a) = { send SwIn[16w1, a]; }\nrole In[a: bit<16>] | h(a);\nhost (Out, In);\nrole SwIn[s: bit<16>, p: bit<16>] | g(s) and p < 16w4 = {\n  if (pkt.e.tag == 8w1) { send SwOut[s, 16w1]; } else { send SwOut[s, 16w2]; }\n}\nrole SwOut[s: bit<16>, p: bit<16>] | g(s) and p < 16w4 = { send In[p]; }\nswitch (SwIn, SwOut) ports 4;\n"
 
 -- the text of the definitions
 abbrev pub example_defs : List ℕ
-example_defs = codes "default h = false; default g = false; define h(16w0) = true; define h(16w1) = true; define h(16w2) = true; define h(16w3) = true; define g(16w1) = true; "
+example_defs = codes "default h = false;\ndefault g = false;\ndefine h(16w0) = true;\ndefine h(16w1) = true;\ndefine h(16w2) = true;\ndefine h(16w3) = true;\ndefine g(16w1) = true;\n"
 
 -- the names of the design
 abbrev pub example_names : ThinNames

@@ -1,3 +1,4 @@
+use Rattle.cocoon_cli.proofs.Headlines.{headline_of}
 use Rattle.cocoon_cli.proofs.Running.{exact_of, usage_of, read_fault_of, writes_of, same_of, leaves_of}
 use Rattle.cocoon_cli.proofs.driver.run.Goals as goal
 
@@ -30,3 +31,8 @@ returns-clause-unchanged g c = same_of _ _ c.find-found.result _ _ _ c.tell.resu
 
 pub returns-clause-leaves : goal.returns-clause-leaves
 returns-clause-leaves g c = leaves_of _ _ c.find-found.result _ c.find-found.ensures.found
+
+pub returns-clause-headline : goal.returns-clause-headline
+returns-clause-headline g c done =
+    headline_of c.thin_networks_mean.ensures _ _ _ (g.S.Sink.told c.args.out.now) (g.S.Sink.told c.tell.new.out)
+    (writes_of _ _ c.find-found.result _ _ _ c.tell.result c.find-found.ensures.found c.tell.ensures.says done)

@@ -1,0 +1,17 @@
+use Rattle.std.proofs.Common.{arith}
+use Rattle.cocoon_parse.specs.ExampleThin.{example_thin}
+use Rattle.cocoon_cli.proofs.ExampleNetwork.{c_network, c_goes, c_goes_otherwise}
+use Rattle.cocoon_cli.proofs.example.example_network.Goals as goal
+
+pub returns-clause-network : goal.returns-clause-network
+returns-clause-network c = c_network
+
+pub returns-clause-tagged : goal.returns-clause-tagged
+returns-clause-tagged c = c_goes
+
+pub returns-clause-untagged : goal.returns-clause-untagged
+returns-clause-untagged c = c_goes_otherwise
+
+pub returns-clause-too_short : goal.returns-clause-too_short
+returns-clause-too_short c a choices visits b out h =
+    c.thin_example.ensures.too_short _ _ _ _ _ ((c.thin_networks_deliver.ensures example_thin (omega arith) (omega arith) a _ choices visits b out).0 h)

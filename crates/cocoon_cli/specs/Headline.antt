@@ -1,0 +1,61 @@
+-- The main promise. Whenever `compile` ends with status 0, the files that it wrote read as a P4-16 network that, for
+-- every packet entering at any host port and any number of switch visits, delivers copy for copy exactly what the
+-- design's last level delivers under the given definitions; and each such delivery, its port, headers and payload, is
+-- one that the design's topmost specification may make.
+use Rattle.std.specs.Prelude.{◌≡◌, ◌↔◌, ℕ, List, Option, Some, None}
+use Rattle.std.specs.FinMap.{get}
+use Rattle.cocoon_num.specs.Tree.{Design, DefsText}
+use Rattle.cocoon_num.specs.Reads.{Reads, ReadsDefs}
+use Rattle.cocoon_io.specs.Files.{Files}
+use Rattle.cocoon_parse.specs.Tables.{Defs, defs_of}
+use Rattle.cocoon_parse.specs.Rules.{WellFormed}
+use Rattle.cocoon_parse.specs.DefsRules.{DefsFit}
+use Rattle.cocoon_parse.specs.Runs.{LastGo, MayMake}
+use Rattle.p4_emit.specs.NetTree.{NetData}
+use Rattle.p4_emit.specs.NetRuns.{NetGo}
+use Rattle.cocoon_cli.specs.Bundle.{digest_of}
+use Rattle.cocoon_cli.specs.Command.{Command, command, compile}
+use Rattle.cocoon_cli.specs.Network.{Network, InBundle}
+
+-- for every host, bytes, choices and number of visits the network delivers what the last level delivers, and nothing
+-- where that delivers nothing
+abbrev pub DeliversExactly : NetData → Design → Defs → Type 0
+DeliversExactly net design defs = (a : ℕ) (bytes choices : List ℕ) (visits b : ℕ) (sent : List ℕ) →
+    NetGo net a bytes choices visits b sent ↔ LastGo design defs a bytes choices visits b sent
+
+-- each delivery of the network is one that the topmost specification may make
+abbrev pub DeliversWithin : NetData → Design → Defs → Type 0
+DeliversWithin net design defs = (a : ℕ) (bytes choices : List ℕ) (visits b : ℕ) (sent : List ℕ) →
+    NetGo net a bytes choices visits b sent → MayMake design defs a bytes b sent
+
+-- what the files `is` hold after a `compile` of the design and the definitions that stood in the files `was`
+pub record Compiled (was is : Files) (design_name defs_name out : List ℕ) : Type 0 where
+  pub design_text : List ℕ
+  pub defs_text : List ℕ
+  pub design : Design
+  pub entries : DefsText
+  pub net : NetData
+  -- the given design and definitions
+  pub design_is : get was design_name ≡ Some design_text
+  pub defs_are : get was defs_name ≡ Some defs_text
+  pub design_reads : Reads design_text design
+  pub well_formed : WellFormed design
+  pub defs_read : ReadsDefs defs_text entries
+  pub defs_fit : DefsFit design entries
+  -- the files that were written, and no others
+  pub network : Network is out net
+  pub digest : network.file.design ≡ digest_of design_text
+  pub others_same : (name : List ℕ) → ¬ InBundle out net.switches name → get is name ≡ get was name
+  -- what they do
+  pub exact : DeliversExactly net design (defs_of design entries)
+  pub within : DeliversWithin net design (defs_of design entries)
+
+abbrev pub CompiledOf : Option Command → Option Files → Option Files → Type 0
+CompiledOf None told told' = ⊥
+CompiledOf (Some (compile design defs out)) None told' = Unit {0}
+CompiledOf (Some (compile design defs out)) (Some was) None = ⊥
+CompiledOf (Some (compile design defs out)) (Some was) (Some is) = Compiled was is design defs out
+
+-- The words are a `compile`, and where the folder tells its content the files are those of its design and definitions.
+abbrev pub Headline : List (List ℕ) → Option Files → Option Files → Type 0
+Headline words told told' = CompiledOf (command words) told told'

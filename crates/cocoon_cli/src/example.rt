@@ -1,0 +1,36 @@
+//! The first example, worked out from the definitions. The functions do nothing; their contracts are the laws.
+ghost use Rattle.std.specs.Prelude.{[], ◌∷◌, List, codes, ℕ};
+ghost use Rattle.cocoon_cli.specs.ExampleNet.{c_files, c_net};
+ghost use Rattle.cocoon_cli.specs.Network.{Network};
+ghost use Rattle.cocoon_parse.specs.ExampleThin.{example_defs, example_design, example_thin};
+ghost use Rattle.cocoon_parse.specs.Runs.{LastGo};
+ghost use Rattle.cocoon_parse.specs.Tables.{defs_of};
+ghost use Rattle.cocoon_parse.specs.ThinRuns.{ThinMeaning};
+ghost use Rattle.p4_emit.specs.NetRuns.{NetGo};
+
+use crate::visits::thin_networks_deliver;
+use cocoon_parse::meaning::{thin_example, thin_texts_mean};
+
+/// The files that `compile` writes for the example are a network. It delivers at host 1 what has the tag and at host 2
+/// what has not, and nothing of no bytes.
+pub fn example_network()
+    ensures network { Network c_files (codes "one") c_net }
+    ensures tagged { NetGo c_net 0 (1 ∷ 255 ∷ []) [] 1 1 (1 ∷ 255 ∷ []) }
+    ensures untagged { NetGo c_net 3 (2 ∷ []) [] 1 2 (2 ∷ []) }
+    ensures too_short { (a : ℕ) (choices : List ℕ) (visits b : ℕ) (out : List ℕ) → NetGo c_net a [] choices visits b out → ⊥ }
+{
+    thin_networks_deliver();
+    thin_example();
+}
+
+/// The two texts of the example read and keep all rules. The last level of the design delivers at host 1 what has the
+/// tag and at host 2 what has not, and nothing of no bytes.
+pub fn example_delivers()
+    ensures means { ThinMeaning example_design example_defs example_thin }
+    ensures tagged { (m : ThinMeaning example_design example_defs example_thin) → LastGo m.tree (defs_of m.tree m.entries) 0 (1 ∷ 255 ∷ []) [] 1 1 (1 ∷ 255 ∷ []) }
+    ensures untagged { (m : ThinMeaning example_design example_defs example_thin) → LastGo m.tree (defs_of m.tree m.entries) 3 (2 ∷ []) [] 1 2 (2 ∷ []) }
+    ensures too_short { (m : ThinMeaning example_design example_defs example_thin) (a : ℕ) (choices : List ℕ) (visits b : ℕ) (out : List ℕ) → LastGo m.tree (defs_of m.tree m.entries) a [] choices visits b out → ⊥ }
+{
+    thin_texts_mean();
+    thin_example();
+}

@@ -1,0 +1,11 @@
+pub mod DesignEnough
+pub mod DesignParts
+pub mod DesignReader
+pub mod DesignReads
+pub mod ProgramLists
+pub mod ProgramReader
+pub mod ProgramSpells
+pub mod ProgramReads
+pub mod ProgramBlocks
+pub mod ProgramDeclarations
+pub mod ProgramWhole
