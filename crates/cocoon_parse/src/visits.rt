@@ -2,8 +2,9 @@
 ghost use Rattle.std.specs.Prelude.{[], ◌∷◌, ◌≡◌, ◌↔◌, List, Some, option_map, ℕ};
 ghost use Rattle.cocoon_num.specs.Lists.{has_number};
 ghost use Rattle.cocoon_num.specs.Packets.{Packet};
+ghost use Rattle.cocoon_num.specs.Tree.{SwitchDecl};
 ghost use Rattle.cocoon_num.specs.Values.{truth};
-ghost use Rattle.cocoon_parse.specs.Design.{host_decl};
+ghost use Rattle.cocoon_parse.specs.Design.{host_decl, switch_decl};
 ghost use Rattle.cocoon_parse.specs.Runs.{entry_at, Go, Loc, sink_at, world};
 ghost use Rattle.cocoon_parse.specs.Thin.{AreThin, ThinNames};
 ghost use Rattle.cocoon_parse.specs.ThinTree.{thin_defs, thin_tree};
@@ -26,6 +27,13 @@ pub fn thin_roles_send()
 pub fn thin_hosts_are_declared()
     ensures entry { (n : ThinNames) (t : Thin) (a : ℕ) → option_map (λ h. entry_at h a) (host_decl (thin_tree n t)) ≡ Some (begins_at n a) }
     ensures sink { (n : ThinNames) (t : Thin) (b : ℕ) → option_map (λ h. sink_at h b) (host_decl (thin_tree n t)) ≡ Some (ends_at n b) }
+{}
+
+/// The declaration of switches names the ingress and the egress role, and says how many ports a switch has.
+pub fn thin_switches_are_declared()
+    ensures into { (n : ThinNames) (t : Thin) → option_map (λ (d : SwitchDecl). d.into.text) (switch_decl (thin_tree n t)) ≡ Some n.into }
+    ensures out { (n : ThinNames) (t : Thin) → option_map (λ (d : SwitchDecl). d.out.text) (switch_decl (thin_tree n t)) ≡ Some n.out }
+    ensures ports { (n : ThinNames) (t : Thin) → option_map (λ (d : SwitchDecl). d.ports) (switch_decl (thin_tree n t)) ≡ Some t.ports }
 {}
 
 /// From a known host the entry role leads to the port of the host's number at the switch of the hosts, and to nothing else.
