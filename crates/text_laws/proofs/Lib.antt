@@ -9,3 +9,5 @@ pub mod ProgramReads
 pub mod ProgramBlocks
 pub mod ProgramDeclarations
 pub mod ProgramWhole
+pub mod DeliveryDesign
+pub mod DeliveryNetwork
