@@ -11,3 +11,6 @@ pub mod ProgramDeclarations
 pub mod ProgramWhole
 pub mod DeliveryDesign
 pub mod DeliveryNetwork
+pub mod NetworkFile
+pub mod NetworkRows
+pub mod NetworkReads
