@@ -1,5 +1,5 @@
 -- The same choices lead to one location and one packet, so the last level delivers one thing at most.
-use Rattle.std.specs.Prelude.{◌≡◌, ℕ, zero, suc, ◌+◌, ◌*◌, List, [], ◌∷◌, ◌++◌, Option, Some, None, refl}
+use Rattle.std.specs.Prelude.{◌≡◌, ℕ, zero, suc, ◌+◌, ◌*◌, List, [], ◌∷◌, ◌++◌, Option, Some, None}
 use Rattle.std.proofs.Common.{sym, ◌∙◌, ap, subst, inl, inr}
 use Rattle.cocoon_num.specs.Packets.{Packet, enter, leave}
 use Rattle.cocoon_num.specs.Tree.{Block, Role, HostDecl, Design}
@@ -7,13 +7,11 @@ use Rattle.cocoon_parse.specs.Design.{host_decl, layout, last_level}
 use Rattle.cocoon_parse.specs.Tables.{Defs}
 use Rattle.cocoon_parse.specs.Val.{Env, bind}
 use Rattle.cocoon_parse.specs.Runs.{Loc, World, world, End, sends, DoesAll, Go, IsSink, Walk, LastGo, entry_at, sink_at}
+use Rattle.text_laws.proofs.NetworkFound.{some_same}
 
 -- a block's run has one end, and at most one front of a list of choices gives any
 abbrev pub OneEnd : Type 0
 OneEnd = (w : World) (b : Block) (env : Env) (packet : Packet) (cs ds rest more : List ℕ) (x y : End) → DoesAll w b env packet cs x → DoesAll w b env packet ds y → cs ++ rest ≡ ds ++ more → (x ≡ y) × (rest ≡ more)
-
-some_same : {A : Type 0} (o : Option A) (x y : A) → o ≡ Some x → o ≡ Some y → x ≡ y
-some_same o x y a b = cc
 
 sends_same : (to at : Loc) (sent left : Packet) → sends to sent ≡ sends at left → (to ≡ at) × (sent ≡ left)
 sends_same to at sent left e = (cc, cc)
@@ -26,7 +24,7 @@ one_body one w from packet cs ds rest more to at sent left g h e =
     let b : h.body ≡ g.body = some_same g.role.body h.body g.body (sym (ap (λ (x : Role). x.body) r) ∙ h.body_is) g.body_is in
     let v : h.env ≡ g.env = some_same (bind g.role.params from.values) h.env g.env (sym (ap (λ (x : Role). bind x.params from.values) r) ∙ h.env_is) g.env_is in
     let d : DoesAll w g.body g.env packet ds (sends at left) =
-        subst (λ x. DoesAll w x g.env packet ds (sends at left)) b (subst (λ x. DoesAll w h.body x packet ds (sends at left)) v h.does) in
+    subst (λ x. DoesAll w x g.env packet ds (sends at left)) b (subst (λ x. DoesAll w h.body x packet ds (sends at left)) v h.does) in
     let o = one w g.body g.env packet cs ds rest more (sends to sent) (sends at left) g.does d e in
     let s = sends_same to at sent left o.0 in
     (s.0, s.1, o.1)
@@ -70,8 +68,9 @@ one_delivery one design defs a bytes choices visits b c x y l m =
     let hosts : m.hosts ≡ l.hosts = some_same (host_decl design) m.hosts l.hosts m.hosts_are l.hosts_are in
     let entered = entered_same (enter (layout design) bytes) m.packet l.packet m.payload l.payload m.enters l.enters in
     let walks : Walk w n (entry_at l.hosts a) l.packet choices (sink_at l.hosts c) m.sent =
-        subst (λ h. Walk w n (entry_at h a) l.packet choices (sink_at h c) m.sent) hosts
-        (subst (λ p. Walk w n (entry_at m.hosts a) p choices (sink_at m.hosts c) m.sent) entered.0 m.walks) in
-    let o = one_walk one w n (entry_at l.hosts a) l.packet choices (sink_at l.hosts b) (sink_at l.hosts c) l.sent m.sent l.walks walks in
-    (one_host l.hosts b c o.0,
-    l.leaves ∙ ap (λ s. leave (layout design) s l.payload) o.1 ∙ ap (λ p. leave (layout design) m.sent p) (sym entered.1) ∙ sym m.leaves)
+    subst (λ h. Walk w n (entry_at h a) l.packet choices (sink_at h c) m.sent) hosts
+    (subst (λ p. Walk w n (entry_at m.hosts a) p choices (sink_at m.hosts c) m.sent) entered.0 m.walks) in
+    let o = one_walk one w n (entry_at l.hosts a) l.packet choices (sink_at l.hosts b) (sink_at l.hosts c) l.sent m.sent l.walks walks in (
+      one_host l.hosts b c o.0,
+      l.leaves ∙ ap (λ s. leave (layout design) s l.payload) o.1 ∙ ap (λ p. leave (layout design) m.sent p) (sym entered.1) ∙ sym m.leaves,
+    )

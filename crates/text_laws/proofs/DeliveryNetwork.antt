@@ -4,12 +4,10 @@ use Rattle.std.proofs.Common.{sym, ◌∙◌, ap, subst}
 use Rattle.std.proofs.lemmas.Bool.{eqb-true}
 use Rattle.cocoon_num.specs.Packets.{Packet, enter}
 use Rattle.p4_emit.specs.P4Tree.{Program, RowsFile, program_layout}
-use Rattle.p4_emit.specs.Switch.{State, ingress_of, after_ingress, sent_by, copied, switch_go}
+use Rattle.p4_emit.specs.Switch.{State, ingress_of, after_ingress, copied, switch_go}
 use Rattle.p4_emit.specs.NetTree.{LinkEnd, to_switch, to_host, SwitchFiles, NetData}
 use Rattle.p4_emit.specs.NetRuns.{switch_at, link_at, attach_at, Onward, Visits, NetGo}
-
-some_same : {A : Type 0} (o : Option A) (x y : A) → o ≡ Some x → o ≡ Some y → x ≡ y
-some_same o x y a b = cc
+use Rattle.text_laws.proofs.NetworkFound.{some_same}
 
 if_taken : {A : Type 0} (b : Bool) (o : Option A) (x : A) → (if b then o else None) ≡ Some x → b ≡ true
 if_taken true o x e = refl
@@ -70,7 +68,7 @@ one_end net zero b c x y s p bytes rids v w = absurd v
 one_end net (suc n) b c x y s p bytes rids (f, port, left, first, more, is, goes, rids_are, on) (g, port', left', front, others, is', goes', rids_are', on') =
     let same : g ≡ f = some_same (switch_at net.switches s) g f is' is in
     let o = one_visit f.program f.rows p bytes first front more others (port, left) (port', left') goes
-        (subst (λ (k : SwitchFiles). switch_go k.program k.rows 0 p bytes front ≡ Some (port', left')) same goes') (sym rids_are ∙ rids_are') in
+    (subst (λ (k : SwitchFiles). switch_go k.program k.rows 0 p bytes front ≡ Some (port', left')) same goes') (sym rids_are ∙ rids_are') in
     let ports : port' ≡ port = sym (ap (λ (k : ℕ × List ℕ). k.0) o.0) in
     let bytes_left : left' ≡ left = sym (ap (λ (k : ℕ × List ℕ). k.1) o.0) in
     one_onward net n (one_end net n) b c x y (link_at net.links s port) left more on

@@ -9,6 +9,7 @@ pub mod ProgramReads
 pub mod ProgramBlocks
 pub mod ProgramDeclarations
 pub mod ProgramWhole
+pub mod NetworkFound
 pub mod DeliveryDesign
 pub mod DeliveryNetwork
 pub mod NetworkFile

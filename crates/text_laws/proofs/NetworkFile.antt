@@ -1,7 +1,7 @@
 -- The value of the network's file gives back what the file holds.
 use Rattle.std.specs.Prelude.{◌≡◌, ℕ, List, [], ◌∷◌, map, Option, Some, None, refl}
 use Rattle.std.proofs.Common.{sym, ◌∙◌, ap, ap₂}
-use Rattle.serde_json.specs.Data.{unsigned, Data, number, string, array, object, Items, item, Members, member}
+use Rattle.serde_json.specs.Data.{Data, object, Items, item, Members, member}
 use Rattle.serde_json.specs.View.{items_of}
 use Rattle.p4_emit.specs.NetTree.{LinkEnd, to_switch, to_host, Link, HostPort}
 use Rattle.cocoon_cli.specs.NetJson.{KeptDigest, NetFile, number_data, array_data, host_data, link_data, digest_data, net_data}
@@ -10,9 +10,6 @@ use Rattle.cocoon_cli.specs.NetJson.{KeptDigest, NetFile, number_data, array_dat
 
 pub number_same : (m n : ℕ) → number_data m ≡ number_data n → m ≡ n
 number_same m n e = cc
-
-string_same : (s t : List ℕ) → string s ≡ string t → s ≡ t
-string_same s t e = cc
 
 pub object_same : (ms ns : Members) → object ms ≡ object ns → ms ≡ ns
 object_same ms ns e = cc
@@ -82,12 +79,14 @@ link_same k l e =
     let s = link_from_same k.switch l.switch k.port l.port k.to l.to e in
     ap₂ (λ a b. link_from a b k.to) s.0 s.1 ∙ ap (link_from l.switch l.port) s.2
 
+abbrev digest_with : List ℕ → List ℕ → KeptDigest
+digest_with name digest = record { name = name; digest = digest }
+
 digest_same : (k l : KeptDigest) → digest_data k ≡ digest_data l → k ≡ l
 digest_same k l e =
-    let n : k.name ≡ l.name = cc in
-    let d : k.digest ≡ l.digest = cc in
-    let both : (a b c d : List ℕ) → a ≡ c → b ≡ d → ◌≡◌ {A = KeptDigest} (record { name = a; digest = b }) (record { name = c; digest = d }) = λ a b c d g h. ap₂ (λ x y. record { name = x; digest = y }) g h in
-    both k.name k.digest l.name l.digest n d
+    let name : k.name ≡ l.name = cc in
+    let digest : k.digest ≡ l.digest = cc in
+    ap₂ digest_with name digest
 
 -- ---- the file
 

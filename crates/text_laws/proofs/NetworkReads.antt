@@ -1,8 +1,7 @@
 -- Each file has one content, which reads as one thing, so the files of a folder give at most one network under a name.
-use Rattle.std.specs.Prelude.{◌≡◌, ℕ, List, [], ◌∷◌, ◌++◌, Option, Some, refl, codes}
+use Rattle.std.specs.Prelude.{◌≡◌, ℕ, List, [], ◌∷◌, ◌++◌, refl, codes}
 use Rattle.std.specs.FinMap.{get}
 use Rattle.std.proofs.Common.{sym, ◌∙◌, ap, ap₂, subst}
-use Rattle.serde_json.specs.Data.{Data}
 use Rattle.serde_json.specs.Read.{read}
 use Rattle.cocoon_io.specs.Files.{Files}
 use Rattle.p4_emit.specs.P4Tree.{Program, RowsFile}
@@ -11,19 +10,13 @@ use Rattle.p4_emit.specs.NetTree.{Link, HostPort, SwitchFiles, NetData}
 use Rattle.cocoon_cli.specs.NetJson.{KeptDigest, net_data}
 use Rattle.cocoon_cli.specs.Bundle.{program_name, rows_name, file_name}
 use Rattle.cocoon_cli.specs.Network.{rows_data, SwitchReads, SwitchesRead, Network}
-use Rattle.text_laws.proofs.NetworkFile.{SameFile, file_same}
+use Rattle.text_laws.proofs.NetworkFile.{file_same}
 use Rattle.text_laws.proofs.NetworkRows.{rows_same}
+use Rattle.text_laws.proofs.NetworkFound.{some_same, found_same}
 
 -- a text reads as at most one program
 abbrev pub OneProgram : Type 0
 OneProgram = (text : List ℕ) (p q : Program) → P4Reads text p → P4Reads text q → p ≡ q
-
-some_same : {A : Type 0} (o : Option A) (x y : A) → o ≡ Some x → o ≡ Some y → x ≡ y
-some_same o x y a b = cc
-
--- what is found by equal keys is equal
-found_same : {A B : Type 0} (f : A → Option B) (a b : A) (x y : B) → a ≡ b → f a ≡ Some x → f b ≡ Some y → x ≡ y
-found_same f a b x y e p q = some_same (f a) x y p (ap f e ∙ q)
 
 rest_same : (first front rest others kept : List KeptDigest) (a b c d : KeptDigest) → first ≡ a ∷ b ∷ [] → front ≡ c ∷ d ∷ [] → kept ≡ first ++ rest → kept ≡ front ++ others → rest ≡ others
 rest_same first front rest others kept a b c d p q f g =
@@ -67,8 +60,8 @@ one_network one files out m n a b =
     let values = found_same read a.text b.text (net_data a.file) (net_data b.file) text a.json.1 b.json.1 in
     let same = file_same a.file b.file values in
     let reads : SwitchesRead files out a.file.files a.file.switches n.switches =
-        subst (λ k. SwitchesRead files out k a.file.switches n.switches) (sym same.files)
-        (subst (λ k. SwitchesRead files out b.file.files k n.switches) (sym same.switches) b.switches) in
+    subst (λ k. SwitchesRead files out k a.file.switches n.switches) (sym same.files)
+    (subst (λ k. SwitchesRead files out b.file.files k n.switches) (sym same.switches) b.switches) in
     net_same m n (a.ports ∙ same.ports ∙ sym b.ports)
     (switches_same one files out a.file.files a.file.switches m.switches n.switches a.switches reads)
     (a.links ∙ same.links ∙ sym b.links) (a.hosts ∙ same.hosts ∙ sym b.hosts)

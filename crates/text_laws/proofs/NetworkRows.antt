@@ -1,12 +1,12 @@
 -- The value of a file of rows gives back the rows, where each row has as many masks as values.
 use Rattle.std.specs.Prelude.{◌≡◌, ℕ, ◌^◌, ◌==◌, ◌&&◌, Bool, true, nat_lt, List, [], ◌∷◌, map, length, refl}
-use Rattle.std.proofs.Common.{sym, ◌∙◌, ap, ap₂, arith}
+use Rattle.std.proofs.Common.{◌∙◌, ap, ap₂, arith}
 use Rattle.std.proofs.lemmas.Bool.{and_parts, eqb-true}
-use Rattle.serde_json.specs.Data.{Data, array, Items, item}
+use Rattle.serde_json.specs.Data.{Data}
 use Rattle.serde_json.specs.View.{items_of}
 use Rattle.cocoon_num.specs.Lists.{each}
 use Rattle.p4_emit.specs.P4Tree.{KeyRow, TableRows, Group, RowsFile}
-use Rattle.cocoon_cli.specs.NetJson.{number_data, array_data, these}
+use Rattle.cocoon_cli.specs.NetJson.{number_data, array_data}
 use Rattle.cocoon_cli.specs.Network.{key_data, row_data, table_data, group_data, rows_data, row_numbers_fit, table_numbers_fit, group_numbers_fit, rows_file_fits}
 use Rattle.text_laws.proofs.NetworkFile.{number_same, object_same, member_same, array_same, numbers_same}
 
