@@ -9,3 +9,9 @@ pub mod ProgramReads
 pub mod ProgramBlocks
 pub mod ProgramDeclarations
 pub mod ProgramWhole
+pub mod NetworkFound
+pub mod DeliveryDesign
+pub mod DeliveryNetwork
+pub mod NetworkFile
+pub mod NetworkRows
+pub mod NetworkReads

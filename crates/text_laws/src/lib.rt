@@ -1,5 +1,7 @@
-//! Laws of texts: what they read as is one thing. The functions do nothing; their contracts are the laws.
+//! Laws of texts, networks and deliveries: each gives one thing at most. The functions do nothing; their contracts are the laws.
 #![tactic(auto)]
 
+pub mod deliveries;
 pub mod designs;
+pub mod networks;
 pub mod programs;
