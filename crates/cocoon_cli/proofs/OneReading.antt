@@ -3,10 +3,10 @@ use Rattle.std.proofs.Common.{◌≡◌, ℕ, ◌≤◌, ◌==◌, Bool, true, f
 use Rattle.std.proofs.lemmas.Bool.{and_parts}
 use Rattle.std.proofs.lemmas.Bool.Decides.{nat_tests}
 use Rattle.cocoon_num.specs.Lists.{ascend, has_number}
-use Rattle.cocoon_parse.specs.Read.{OneThinDesign, bare, entries_from}
-use Rattle.cocoon_parse.specs.Thin.{AreThin, AreTrueAt, IsThinDefs, ThinEntry, ThinNames, defs_tokens, is_true_at, its_default, its_row}
-use Rattle.cocoon_parse.specs.declared.parts.Thin.{Thin}
-use Rattle.cocoon_parse.proofs.Designs.{one_kinds}
+use Rattle.cocoon_thin.specs.Read.{OneThinDesign, bare, entries_from}
+use Rattle.cocoon_thin.specs.Thin.{AreThin, AreTrueAt, IsThinDefs, ThinEntry, ThinNames, defs_tokens, is_true_at, its_default, its_row}
+use Rattle.cocoon_thin.specs.declared.parts.Thin.{Thin}
+use Rattle.cocoon_thin.proofs.Designs.{one_kinds}
 
 -- ---- entries
 

@@ -9,8 +9,8 @@ use Rattle.serde_json.proofs.OnLiterals.{serde_json_on_literals}
 use Rattle.serde_json.specs.Read.{read}
 use Rattle.cocoon_num.specs.Lists.{has_number}
 use Rattle.cocoon_io.specs.Files.{Files}
-use Rattle.cocoon_parse.specs.declared.parts.Thin.{Thin}
-use Rattle.cocoon_parse.specs.Thin.{AreThin}
+use Rattle.cocoon_thin.specs.declared.parts.Thin.{Thin}
+use Rattle.cocoon_thin.specs.Thin.{AreThin}
 use Rattle.p4_emit.specs.P4Reads.{P4Reads}
 use Rattle.p4_emit.specs.Printed.{printed}
 use Rattle.cocoon_cli.specs.Bundle.{NamedFile, digest_of, program_name, rows_name, empty_rows, switch_files, all_switch_files, kept, net_file, net_text, file_name, in_bundle, bundle, with_files, HasFile}

@@ -4,15 +4,15 @@ use Rattle.std.specs.FinMap.{get}
 use Rattle.std.proofs.lemmas.Bool.Decides.{nat_tests}
 use Rattle.cocoon_io.specs.Files.{Files}
 use Rattle.cocoon_io.specs.Told.{appended, Rose}
-use Rattle.cocoon_parse.specs.declared.parts.Thin.{Thin}
-use Rattle.cocoon_parse.specs.Thin.{AreThin, ThinDesign, ThinDefs}
+use Rattle.cocoon_thin.specs.declared.parts.Thin.{Thin}
+use Rattle.cocoon_thin.specs.Thin.{AreThin, ThinDesign, ThinDefs}
 use Rattle.cocoon_cli.specs.declared.refusal.Refusal.{Refusal}
 use Rattle.cocoon_cli.specs.declared.refusal.Refusal.TheVariants as refusal
 use Rattle.cocoon_cli.specs.declared.refusal.Totals.{Totals}
 use Rattle.cocoon_cli.specs.declared.status.Status.{Status}
 use Rattle.cocoon_cli.specs.declared.status.Status.TheVariants.{Done, Usage, Language, Broken, ReadFault, WriteFault, Limit, NoMemory, NoFile}
 use Rattle.cocoon_cli.specs.Command.{Command, compile}
-use Rattle.cocoon_parse.specs.Read.{OneThinDesign}
+use Rattle.cocoon_thin.specs.Read.{OneThinDesign}
 use Rattle.cocoon_cli.proofs.OneReading.{one_reading}
 use Rattle.cocoon_cli.specs.Bundle.{NamedFile, bundle, with_files, AllFit, SomeExceeds, made_most}
 use Rattle.cocoon_cli.specs.Causes.{Gives, Lacks, Exceeds, NotRead, Inputs, NotMade, NotWritten, Makes, Refuses, no_design, no_defs, not_made, not_written, Compiles, FindsOf, design_most, defs_most}

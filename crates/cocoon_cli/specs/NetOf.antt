@@ -1,8 +1,8 @@
 -- The parts of networks and bundles that values of the code stand for.
 use Rattle.std.specs.Prelude.{◌≡◌, ℕ, IsTrue, List, map, Option}
 use Rattle.std.specs.String.{string_bytes}
-use Rattle.cocoon_parse.specs.declared.parts.Thin.{Thin}
-use Rattle.cocoon_parse.specs.Thin.{fields_fit, numbers_fit, HasWords, ThinDesign, ThinDefs}
+use Rattle.cocoon_thin.specs.declared.parts.Thin.{Thin}
+use Rattle.cocoon_thin.specs.Thin.{fields_fit, numbers_fit, HasWords, ThinDesign, ThinDefs}
 use Rattle.p4_emit.specs.NetTree as tree
 use Rattle.cocoon_cli.specs.NetJson as json
 use Rattle.cocoon_cli.specs.Bundle as files

@@ -4,13 +4,13 @@ ghost use Rattle.cocoon_cli.specs.Bundle.{AllFit, bundle};
 ghost use Rattle.cocoon_cli.specs.Causes.{Compiles, Gives, NotRead};
 ghost use Rattle.cocoon_cli.specs.NetOf.{FaultRose, IsLowerable, IsOfCompile, IsReadRefusal, IsThinRefusal, MadeTooLong, ReadFaultRose, named_of};
 ghost use Rattle.cocoon_cli.specs.Readable.{Readable};
-ghost use Rattle.cocoon_parse.specs.Thin.{AreThin};
+ghost use Rattle.cocoon_thin.specs.Thin.{AreThin};
 
 use crate::bundle::{self, BundleFile};
 use crate::refusal::{Refusal, Totals};
 use crate::words::Compile;
 use cocoon_io::{Folder, FolderFault};
-use cocoon_parse::{Thin, ThinFault, thin};
+use cocoon_thin::{Thin, ThinFault, thin};
 use std::alloc::Global;
 
 /// The numbers of bytes that the design and the definitions may have.

@@ -15,7 +15,7 @@ use crate::visits::thin_networks_mean;
 use crate::words::command;
 use cocoon_io::{Folder, Sink, SinkFault};
 use cocoon_num::NoMemory;
-use cocoon_parse::texts::one_thin_design;
+use cocoon_thin::texts::one_thin_design;
 use std::alloc::Global;
 
 /// Tells the bytes; where that fails, the status says so.
