@@ -51,7 +51,7 @@ ask_end entries s = after_append (flat_map entry_tokens entries) (finish ∷ [])
 -- ---- whole definitions
 
 -- the entries of the tokens of entries
-entries_back : (entries : List ThinEntry) → entries_from 0 (defs_tokens entries) ≡ entries
+pub entries_back : (entries : List ThinEntry) → entries_from 0 (defs_tokens entries) ≡ entries
 entries_back [] = refl
 entries_back (its_default f ∷ entries) = ap (λ es. its_default f ∷ es) (entries_back entries)
 entries_back (its_row f n true ∷ entries) = ap (λ es. its_row f n true ∷ es) (entries_back entries)

@@ -24,6 +24,7 @@ pub mod Ascending
 pub mod Back
 pub mod Designs
 pub mod Entries
+pub mod OneReading
 pub mod Follows
 pub mod Good
 pub mod Here

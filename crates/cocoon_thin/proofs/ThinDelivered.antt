@@ -17,7 +17,7 @@ use Rattle.cocoon_thin.proofs.NameFacts.{AllApart, names_apart}
 use Rattle.cocoon_thin.proofs.ThinFields.{FieldFacts, field_facts, widths_are}
 use Rattle.cocoon_thin.proofs.ThinScope.{end_of, entry_of, sink_of, into_of, out_of, entry_is, sink_is, into_is, out_is}
 use Rattle.cocoon_thin.proofs.ThinTables.{host_guard_gives, switch_guard_gives}
-use Rattle.cocoon_types.proofs.Taking.{Reached, or_stop, then_walk, go, walk, walk_takes, walk_gives}
+use Rattle.cocoon_types.specs.Taken.{Reached, RunsAreTaken, or_stop, then_walk, go, walk}
 use Rattle.cocoon_thin.proofs.ThinWalks.{Guards, thin_world, entry_loc, sink_loc, into_loc, out_loc, place, known_host, next_of, entry_goes, into_goes, out_goes}
 
 -- ---- steps of a walk
@@ -107,7 +107,7 @@ pub none_behind : (cs : List ℕ) → cs ++ [] ≡ [] → cs ≡ []
 none_behind [] h = refl
 none_behind (c ∷ cs) h = absurd (cc h)
 
-module _ (n : ThinNames) (t : Thin) (defs : Defs) (hosts switches : ℕ → Bool) (d : AllApart n) (f : FieldFacts t) (g : Guards n t defs hosts switches) where
+module _ (taken : RunsAreTaken) (n : ThinNames) (t : Thin) (defs : Defs) (hosts switches : ℕ → Bool) (d : AllApart n) (f : FieldFacts t) (g : Guards n t defs hosts switches) where
   -- three bodies lead to the sink
   three : (m a : ℕ) (packet : Packet) (cs : List ℕ) (y : Loc × Packet × List ℕ) → walk (thin_world n t defs) (suc (suc (suc m))) (entry_loc n a) packet cs ≡ Some y
       → (v : ℕ) × Through t hosts switches a packet 1 v × (Some (sink_loc n (port_of t v), packet, cs) ≡ Some y)
@@ -155,11 +155,11 @@ module _ (n : ThinNames) (t : Thin) (defs : Defs) (hosts switches : ℕ → Bool
   -- a walk of the bodies of so many visits
   walked : (k a b : ℕ) (packet sent : Packet) (cs : List ℕ) → Walk (thin_world n t defs) (2 * k + 1) (entry_loc n a) packet cs (sink_loc n b) sent
       → (v : ℕ) × Through t hosts switches a packet k v × (port_of t v ≡ b) × (sent ≡ packet) × (cs ≡ [])
-  walked zero a b packet sent cs h = absurd (one_body a packet (cs ++ []) _ (walk_takes (thin_world n t defs) 1 (entry_loc n a) packet cs (sink_loc n b) sent h []))
+  walked zero a b packet sent cs h = absurd (one_body a packet (cs ++ []) _ (taken.walk_takes (thin_world n t defs) 1 (entry_loc n a) packet cs (sink_loc n b) sent h []))
   walked (suc k) a b packet sent cs h =
       let w : World = thin_world n t defs in
       let three_more : 2 * suc k + 1 ≡ suc (suc (suc (2 * k))) = omega arith in
-      let e = walk_takes w (2 * suc k + 1) (entry_loc n a) packet cs (sink_loc n b) sent h [] in
+      let e = taken.walk_takes w (2 * suc k + 1) (entry_loc n a) packet cs (sink_loc n b) sent h [] in
       let r = three (2 * k) a packet (cs ++ []) _ (subst (λ m. walk w m (entry_loc n a) packet (cs ++ []) ≡ Some (sink_loc n b, sent, [])) three_more e) in (
         r.0,
         record { from = r.1.from; in_at = r.1.in_at; read = r.1.read; out_at = r.1.out_at; to = r.1.to; visited = omega arith },
@@ -175,7 +175,7 @@ module _ (n : ThinNames) (t : Thin) (defs : Defs) (hosts switches : ℕ → Bool
       let w : World = thin_world n t defs in
       let three_more : suc (suc (suc (2 * k))) ≡ 2 * suc k + 1 = omega arith in
       let there = walk_there (2 * k) a packet [] v (record { from = h.from; in_at = h.in_at; read = h.read; out_at = h.out_at; to = h.to; visited = omega arith }) in
-      let u = walk_gives w (suc (suc (suc (2 * k)))) (entry_loc n a) packet [] (sink_loc n (port_of t v)) packet [] there in
+      let u = taken.walk_gives w (suc (suc (suc (2 * k)))) (entry_loc n a) packet [] (sink_loc n (port_of t v)) packet [] there in
       subst (λ m. Walk w m (entry_loc n a) packet [] (sink_loc n b) packet) three_more
       (subst (λ p. Walk w (suc (suc (suc (2 * k)))) (entry_loc n a) packet [] (sink_loc n p) packet) e
       (subst (λ cs. Walk w (suc (suc (suc (2 * k)))) (entry_loc n a) packet cs (sink_loc n (port_of t v)) packet) (none_behind u.0 (sym u.1)) u.2))
@@ -234,14 +234,14 @@ abbrev decl_or : HostDecl → Option HostDecl → HostDecl
 decl_or x None = x
 decl_or x (Some y) = y
 
-module _ (n : ThinNames) (t : Thin) (defs : Defs) (d : AllApart n) (f : FieldFacts t) (g : Guards n t defs (among t.hosts) (among t.switches)) where
+module _ (taken : RunsAreTaken) (n : ThinNames) (t : Thin) (defs : Defs) (d : AllApart n) (f : FieldFacts t) (g : Guards n t defs (among t.hosts) (among t.switches)) where
   -- a delivery of the tree is one by the parts
   delivered : (a : ℕ) (bytes cs : List ℕ) (k b : ℕ) (out : List ℕ) → LastGo (thin_tree n t) defs a bytes cs k b out → ThinDelivers t a bytes cs k b out
   delivered a bytes cs k b out l =
       let same : l.hosts ≡ hosts_at n t = sym (ap (decl_or l.hosts) l.hosts_are) in
       let walk : Walk (thin_world n t defs) (2 * k + 1) (entry_loc n a) l.packet cs (sink_loc n b) l.sent =
       subst (λ h. Walk (thin_world n t defs) (2 * k + 1) (entry_at h a) l.packet cs (sink_at h b) l.sent) same l.walks in
-      let r = walked n t defs (among t.hosts) (among t.switches) d f g k a b l.packet l.sent cs walk in
+      let r = walked taken n t defs (among t.hosts) (among t.switches) d f g k a b l.packet l.sent cs walk in
       record {
         packet = l.packet;
         payload = l.payload;
@@ -279,7 +279,7 @@ module _ (n : ThinNames) (t : Thin) (defs : Defs) (d : AllApart n) (f : FieldFac
         enters = subst (λ x. enter x bytes ≡ Some (h.packet, h.payload)) (sym (same_layout n t)) h.enters;
         walks =
             subst (λ c. Walk (thin_world n t defs) (2 * k + 1) (entry_loc n a) h.packet c (sink_loc n b) h.packet) (sym h.no_choices)
-            (walks n t defs (among t.hosts) (among t.switches) d f g k a b h.packet v.0 through v.2);
+            (walks taken n t defs (among t.hosts) (among t.switches) d f g k a b h.packet v.0 through v.2);
         leaves = h.leaves ∙ ap (λ x. leave x h.packet h.payload) (sym (same_layout n t));
       }
 
@@ -291,10 +291,10 @@ guards_of design defs t h = record {
 }
 
 -- both ways
-pub thin_delivers : (design defs : List ℕ) (t : Thin) (h : AreThin design defs t) (a : ℕ) (bytes cs : List ℕ) (k b : ℕ) (out : List ℕ)
+pub thin_delivers : (taken : RunsAreTaken) (design defs : List ℕ) (t : Thin) (h : AreThin design defs t) (a : ℕ) (bytes cs : List ℕ) (k b : ℕ) (out : List ℕ)
     → LastGo (thin_tree h.names t) (thin_defs h.names t h.entries) a bytes cs k b out ↔ ThinDelivers t a bytes cs k b out
-thin_delivers design defs t h a bytes cs k b out =
+thin_delivers taken design defs t h a bytes cs k b out =
     let d = names_apart h.names h.design_is.names in
     let f = field_facts t h.design_is.fields h.design_is.numbers in
     let g = guards_of design defs t h in
-    (delivered h.names t (thin_defs h.names t h.entries) d f g a bytes cs k b out, delivers h.names t (thin_defs h.names t h.entries) d f g a bytes cs k b out)
+    (delivered taken h.names t (thin_defs h.names t h.entries) d f g a bytes cs k b out, delivers taken h.names t (thin_defs h.names t h.entries) d f g a bytes cs k b out)

@@ -14,7 +14,7 @@ use Rattle.cocoon_thin.specs.ThinRuns.{tested_number, port_of, leaves_at}
 use Rattle.cocoon_thin.specs.ThinVisits.{enters_at, goes_out_at, is_port, ThinStep, VisitRun, ThinVisit}
 use Rattle.cocoon_thin.proofs.NameFacts.{AllApart, names_apart}
 use Rattle.cocoon_thin.proofs.ThinFields.{FieldFacts, field_facts}
-use Rattle.cocoon_types.proofs.Taking.{go, go_takes, go_gives}
+use Rattle.cocoon_types.specs.Taken.{RunsAreTaken, go}
 use Rattle.cocoon_thin.proofs.ThinWalks.{Guards, thin_world, place, next_of, into_goes}
 use Rattle.cocoon_thin.proofs.ThinDelivered.{among, guards_of, mapped, none_behind, same_layout}
 
@@ -68,12 +68,12 @@ let_through n t s port packet cs y true (Some v) e r h = by_place (place t (amon
     by_place true f h = record { in_at = e; v = v; read = r; out_at = f; reached = ap (or_else (goes_out_at n s (port_of t v), packet, cs)) h }
     by_place false f h = absurd (cc h)
 
-module _ (n : ThinNames) (t : Thin) (defs : Defs) (d : AllApart n) (f : FieldFacts t) (g : Guards n t defs (among t.hosts) (among t.switches)) where
+module _ (taken : RunsAreTaken) (n : ThinNames) (t : Thin) (defs : Defs) (d : AllApart n) (f : FieldFacts t) (g : Guards n t defs (among t.hosts) (among t.switches)) where
   -- a run of the role is one by the parts
   stepped : (s port : ℕ) (packet : Packet) (cs : List ℕ) (to : Loc) (sent : Packet) → Go (thin_world n t defs) (enters_at n s port) packet cs to sent → ThinStep n t s port packet cs to sent
   stepped s port packet cs to sent r =
       let l = let_through n t s port packet (cs ++ []) (to, sent, []) (place t (among t.switches) s port) (tested_number t packet) refl refl
-      (sym (into_goes n t defs (among t.hosts) (among t.switches) d f g s port packet (cs ++ [])) ∙ go_takes (thin_world n t defs) (enters_at n s port) packet cs to sent r []) in
+      (sym (into_goes n t defs (among t.hosts) (among t.switches) d f g s port packet (cs ++ [])) ∙ taken.takes (thin_world n t defs) (enters_at n s port) packet cs to sent r []) in
       record {
         in_at = place_is_port t s port l.in_at;
         chosen_port = port_of t l.v;
@@ -93,7 +93,7 @@ module _ (n : ThinNames) (t : Thin) (defs : Defs) (d : AllApart n) (f : FieldFac
       into_goes n t defs (among t.hosts) (among t.switches) d f g s port packet []
       ∙ ap₂ (λ b o. if b then next_of n t (among t.switches) s packet [] o else None) (port_is_place t s port f i) v.1
       ∙ ap (λ b. if b then Some (goes_out_at n s (port_of t v.0), packet, []) else None) out_at in
-      let u = go_gives (thin_world n t defs) (enters_at n s port) packet [] (goes_out_at n s (port_of t v.0)) packet [] goes in
+      let u = taken.gives (thin_world n t defs) (enters_at n s port) packet [] (goes_out_at n s (port_of t v.0)) packet [] goes in
       subst (λ p. Go (thin_world n t defs) (enters_at n s port) packet [] (goes_out_at n s p) packet) v.2
       (subst (λ cs. Go (thin_world n t defs) (enters_at n s port) packet cs (goes_out_at n s (port_of t v.0)) packet) (none_behind u.0 (sym u.1)) u.2)
 
@@ -133,19 +133,19 @@ module _ (n : ThinNames) (t : Thin) (defs : Defs) (d : AllApart n) (f : FieldFac
   }
 
 -- both ways, for thin texts
-pub roles_run : (design defs : List ℕ) (t : Thin) (h : AreThin design defs t) (s port : ℕ) (packet : Packet) (cs : List ℕ) (to : Loc) (sent : Packet)
+pub roles_run : (taken : RunsAreTaken) (design defs : List ℕ) (t : Thin) (h : AreThin design defs t) (s port : ℕ) (packet : Packet) (cs : List ℕ) (to : Loc) (sent : Packet)
     → Go (thin_world h.names t (thin_defs h.names t h.entries)) (enters_at h.names s port) packet cs to sent ↔ ThinStep h.names t s port packet cs to sent
-roles_run design defs t h s port packet cs to sent =
+roles_run taken design defs t h s port packet cs to sent =
     let d = names_apart h.names h.design_is.names in
     let f = field_facts t h.design_is.fields h.design_is.numbers in
     let g = guards_of design defs t h in
-    (stepped h.names t (thin_defs h.names t h.entries) d f g s port packet cs to sent, takes_step h.names t (thin_defs h.names t h.entries) d f g s port packet cs to sent)
+    (stepped taken h.names t (thin_defs h.names t h.entries) d f g s port packet cs to sent, takes_step taken h.names t (thin_defs h.names t h.entries) d f g s port packet cs to sent)
 
 -- the same of bytes
-pub roles_send : (design defs : List ℕ) (t : Thin) (h : AreThin design defs t) (s port : ℕ) (bytes cs : List ℕ) (to : ℕ) (out : List ℕ)
+pub roles_send : (taken : RunsAreTaken) (design defs : List ℕ) (t : Thin) (h : AreThin design defs t) (s port : ℕ) (bytes cs : List ℕ) (to : ℕ) (out : List ℕ)
     → VisitRun (thin_tree h.names t) (thin_defs h.names t h.entries) h.names s port bytes cs to out ↔ ThinVisit t s port bytes cs to out
-roles_send design defs t h s port bytes cs to out =
+roles_send taken design defs t h s port bytes cs to out =
     let d = names_apart h.names h.design_is.names in
     let f = field_facts t h.design_is.fields h.design_is.numbers in
     let g = guards_of design defs t h in
-    (visited h.names t (thin_defs h.names t h.entries) d f g s port bytes cs to out, visits h.names t (thin_defs h.names t h.entries) d f g s port bytes cs to out)
+    (visited taken h.names t (thin_defs h.names t h.entries) d f g s port bytes cs to out, visits taken h.names t (thin_defs h.names t h.entries) d f g s port bytes cs to out)

@@ -19,7 +19,7 @@ use Rattle.cocoon_thin.specs.ThinRuns.{tested_number, port_of}
 use Rattle.cocoon_thin.proofs.NameFacts.{same_name-refl, AllApart}
 use Rattle.cocoon_thin.proofs.ThinFields.{FieldFacts, name_of, not_among}
 use Rattle.cocoon_thin.proofs.ThinScope.{end_of, entry_of, sink_of, into_of, out_of, entry_is, sink_is, into_is, out_is}
-use Rattle.cocoon_types.proofs.Taking.{guard_at, run_all, body_go, go, if_true, if_reached, where_true, by_truth, back, go_on, Reached, Left}
+use Rattle.cocoon_types.specs.Taken.{guard_at, run_all, body_go, go, if_true, if_reached, where_true, by_truth, back, go_on, Reached, Ended}
 
 -- a value that is there where a number fits
 only_if : {A B : Type 0} (b : Bool) (f : A → Option B) (x : A) → option_and_then f (if b then Some x else None) ≡ (if b then f x else None)
@@ -74,7 +74,7 @@ abbrev pub out_loc : ThinNames → ℕ → ℕ → Loc
 out_loc n s p = record { role = n.out; values = s ∷ p ∷ [] }
 
 -- the empty block behind the last statement
-abbrev ends_there : Env → Packet → List ℕ → Left
+abbrev ends_there : Env → Packet → List ℕ → Ended
 ends_there env packet more = Some (falls env packet, more)
 
 -- a place of a switch: the guard of both switch roles
@@ -163,7 +163,7 @@ body_found w at r b v packet cs h e g =
     ∙ ap (λ o. if_true v (body_go w r o at packet cs)) e
 
 -- what a send to a port of the switch gives
-abbrev sent_to : ThinNames → Thin → (ℕ → Bool) → (s port : ℕ) → Packet → List ℕ → Left
+abbrev sent_to : ThinNames → Thin → (ℕ → Bool) → (s port : ℕ) → Packet → List ℕ → Ended
 sent_to n t switches s port packet cs = go_on (where_true (place_value t switches s port) (Some (sends (out_loc n s port) packet, cs))) ends_there
 
 -- where a packet goes from the switch, by the number in its field

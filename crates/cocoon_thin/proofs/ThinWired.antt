@@ -14,7 +14,7 @@ use Rattle.cocoon_thin.specs.ThinVisits.{enters_at, goes_out_at}
 use Rattle.cocoon_thin.specs.ThinWires.{begins_at, ends_at, ThinEnters, ThinExits}
 use Rattle.cocoon_thin.proofs.NameFacts.{AllApart, names_apart}
 use Rattle.cocoon_thin.proofs.ThinFields.{FieldFacts, field_facts}
-use Rattle.cocoon_types.proofs.Taking.{go, go_takes, go_gives}
+use Rattle.cocoon_types.specs.Taken.{RunsAreTaken, go}
 use Rattle.cocoon_thin.proofs.ThinWalks.{Guards, thin_world, place, known_host, entry_goes, out_goes}
 use Rattle.cocoon_thin.proofs.ThinDelivered.{among, guards_of, none_behind}
 use Rattle.cocoon_thin.proofs.ThinVisited.{place_is_port, port_is_place}
@@ -37,17 +37,17 @@ let_through true false to packet cs y h = absurd (cc h)
 let_through false c to packet cs y h = absurd (cc h)
 
 -- a run that uses no choices, by what is computed of none
-runs_with_none : (w : World) (from to : Loc) (packet : Packet) → go w from packet [] ≡ Some (to, packet, []) → Go w from packet [] to packet
-runs_with_none w from to packet goes =
-    let u = go_gives w from packet [] to packet [] goes in
+runs_with_none : (taken : RunsAreTaken) (w : World) (from to : Loc) (packet : Packet) → go w from packet [] ≡ Some (to, packet, []) → Go w from packet [] to packet
+runs_with_none taken w from to packet goes =
+    let u = taken.gives w from packet [] to packet [] goes in
     subst (λ cs. Go w from packet cs to packet) (none_behind u.0 (sym u.1)) u.2
 
-module _ (n : ThinNames) (t : Thin) (defs : Defs) (d : AllApart n) (f : FieldFacts t) (g : Guards n t defs (among t.hosts) (among t.switches)) where
+module _ (taken : RunsAreTaken) (n : ThinNames) (t : Thin) (defs : Defs) (d : AllApart n) (f : FieldFacts t) (g : Guards n t defs (among t.hosts) (among t.switches)) where
   -- a run of the entry role is one by the parts
   entered : (a : ℕ) (packet : Packet) (cs : List ℕ) (to : Loc) (sent : Packet) → Go (thin_world n t defs) (begins_at n a) packet cs to sent → ThinEnters n t a packet cs to sent
   entered a packet cs to sent r =
       let l = let_through (known_host (among t.hosts) a) (place t (among t.switches) t.entry_switch a) (enters_at n t.entry_switch a) packet (cs ++ []) (to, sent, [])
-      (sym (entry_goes n t defs (among t.hosts) (among t.switches) d f g a packet (cs ++ [])) ∙ go_takes (thin_world n t defs) (begins_at n a) packet cs to sent r []) in
+      (sym (entry_goes n t defs (among t.hosts) (among t.switches) d f g a packet (cs ++ [])) ∙ taken.takes (thin_world n t defs) (begins_at n a) packet cs to sent r []) in
       record {
         from_host = (and_parts (fits_width 16 a) (has_number a t.hosts) l.first).1;
         in_at = place_is_port t t.entry_switch a l.second;
@@ -70,13 +70,13 @@ module _ (n : ThinNames) (t : Thin) (defs : Defs) (d : AllApart n) (f : FieldFac
       subst (λ x. Go (thin_world n t defs) (begins_at n a) packet cs x sent) (sym h.goes_to)
       (subst (λ p. Go (thin_world n t defs) (begins_at n a) packet cs (enters_at n t.entry_switch a) p) (sym h.unchanged)
       (subst (λ c. Go (thin_world n t defs) (begins_at n a) packet c (enters_at n t.entry_switch a) packet) (sym h.no_choices)
-      (runs_with_none (thin_world n t defs) (begins_at n a) (enters_at n t.entry_switch a) packet goes)))
+      (runs_with_none taken (thin_world n t defs) (begins_at n a) (enters_at n t.entry_switch a) packet goes)))
 
   -- a run of the egress role is one by the parts
   left : (s p : ℕ) (packet : Packet) (cs : List ℕ) (to : Loc) (sent : Packet) → Go (thin_world n t defs) (goes_out_at n s p) packet cs to sent → ThinExits n t s p packet cs to sent
   left s p packet cs to sent r =
       let l = let_through (place t (among t.switches) s p) (known_host (among t.hosts) p) (ends_at n p) packet (cs ++ []) (to, sent, [])
-      (sym (out_goes n t defs (among t.hosts) (among t.switches) d f g s p packet (cs ++ [])) ∙ go_takes (thin_world n t defs) (goes_out_at n s p) packet cs to sent r []) in
+      (sym (out_goes n t defs (among t.hosts) (among t.switches) d f g s p packet (cs ++ [])) ∙ taken.takes (thin_world n t defs) (goes_out_at n s p) packet cs to sent r []) in
       record {
         out_at = place_is_port t s p l.first;
         to_host = (and_parts (fits_width 16 p) (has_number p t.hosts) l.second).1;
@@ -95,22 +95,22 @@ module _ (n : ThinNames) (t : Thin) (defs : Defs) (d : AllApart n) (f : FieldFac
       subst (λ x. Go (thin_world n t defs) (goes_out_at n s p) packet cs x sent) (sym h.goes_to)
       (subst (λ q. Go (thin_world n t defs) (goes_out_at n s p) packet cs (ends_at n p) q) (sym h.unchanged)
       (subst (λ c. Go (thin_world n t defs) (goes_out_at n s p) packet c (ends_at n p) packet) (sym h.no_choices)
-      (runs_with_none (thin_world n t defs) (goes_out_at n s p) (ends_at n p) packet goes)))
+      (runs_with_none taken (thin_world n t defs) (goes_out_at n s p) (ends_at n p) packet goes)))
 
 -- both ways, for thin texts
-pub entries_run : (design defs : List ℕ) (t : Thin) (h : AreThin design defs t) (a : ℕ) (packet : Packet) (cs : List ℕ) (to : Loc) (sent : Packet)
+pub entries_run : (taken : RunsAreTaken) (design defs : List ℕ) (t : Thin) (h : AreThin design defs t) (a : ℕ) (packet : Packet) (cs : List ℕ) (to : Loc) (sent : Packet)
     → Go (thin_world h.names t (thin_defs h.names t h.entries)) (begins_at h.names a) packet cs to sent ↔ ThinEnters h.names t a packet cs to sent
-entries_run design defs t h a packet cs to sent =
+entries_run taken design defs t h a packet cs to sent =
     let d = names_apart h.names h.design_is.names in
     let f = field_facts t h.design_is.fields h.design_is.numbers in
     let g = guards_of design defs t h in
-    (entered h.names t (thin_defs h.names t h.entries) d f g a packet cs to sent, enters h.names t (thin_defs h.names t h.entries) d f g a packet cs to sent)
+    (entered taken h.names t (thin_defs h.names t h.entries) d f g a packet cs to sent, enters taken h.names t (thin_defs h.names t h.entries) d f g a packet cs to sent)
 
 -- the same of the way out
-pub exits_run : (design defs : List ℕ) (t : Thin) (h : AreThin design defs t) (s p : ℕ) (packet : Packet) (cs : List ℕ) (to : Loc) (sent : Packet)
+pub exits_run : (taken : RunsAreTaken) (design defs : List ℕ) (t : Thin) (h : AreThin design defs t) (s p : ℕ) (packet : Packet) (cs : List ℕ) (to : Loc) (sent : Packet)
     → Go (thin_world h.names t (thin_defs h.names t h.entries)) (goes_out_at h.names s p) packet cs to sent ↔ ThinExits h.names t s p packet cs to sent
-exits_run design defs t h s p packet cs to sent =
+exits_run taken design defs t h s p packet cs to sent =
     let d = names_apart h.names h.design_is.names in
     let f = field_facts t h.design_is.fields h.design_is.numbers in
     let g = guards_of design defs t h in
-    (left h.names t (thin_defs h.names t h.entries) d f g s p packet cs to sent, exits h.names t (thin_defs h.names t h.entries) d f g s p packet cs to sent)
+    (left taken h.names t (thin_defs h.names t h.entries) d f g s p packet cs to sent, exits taken h.names t (thin_defs h.names t h.entries) d f g s p packet cs to sent)

@@ -4,7 +4,7 @@ use Rattle.std.specs.Prelude.{ℕ, ◌≡◌, zero, suc, ◌-◌, ◌&&◌, Bool
 use Rattle.cocoon_num.specs.Names.{same_name}
 use Rattle.cocoon_num.specs.Tokens.{Kind, word, keyword, plain, literal, finish}
 use Rattle.cocoon_thin.specs.Follow.{after_all, alike, is_all}
-use Rattle.cocoon_thin.specs.Thin.{AreTrueAt, IsThinDefs, IsThinDesign, ThinNames, ThinEntry, defs_tokens, design_tokens, field_name, field_width, fields_fit, function_tokens, host_role, into_body, its_default, its_row, names_fit, numbers_fit, said, switch_role}
+use Rattle.cocoon_thin.specs.Thin.{AreThin, AreTrueAt, IsThinDefs, IsThinDesign, ThinNames, ThinEntry, defs_tokens, design_tokens, field_name, field_width, fields_fit, function_tokens, host_role, into_body, its_default, its_row, names_fit, numbers_fit, said, switch_role}
 use Rattle.cocoon_thin.specs.declared.names.Names.{Names}
 use Rattle.cocoon_thin.specs.declared.entry.Entry.{Entry}
 use Rattle.cocoon_thin.specs.declared.entry.Entry.TheVariants.{Default, Row}
@@ -247,3 +247,7 @@ pub record AreWith (defs : List ℕ) (n : ThinNames) (design t : Thin) : Type 0 
 -- a thin design has its names and its parts
 abbrev pub OneThinDesign : Type 0
 OneThinDesign = (text : List ℕ) (n m : ThinNames) (t u : Thin) → IsThinDesign text n t → IsThinDesign text m u → (n ≡ m) × (bare t ≡ bare u)
+
+-- and with its definitions it has one, with all parts
+abbrev pub OneThinReading : Type 0
+OneThinReading = (design defs : List ℕ) (t u : Thin) → AreThin design defs t → AreThin design defs u → t ≡ u

@@ -1,5 +1,5 @@
 //! What a thin design means: the tree that its text reads as, that this tree keeps every rule, and the same of its
-//! definitions. The functions do nothing; their contracts are the laws.
+//! definitions. The functions compute nothing; their contracts are the laws.
 ghost use Rattle.std.specs.Prelude.{[], ◌∷◌, ◌≡◌, ◌↔◌, List, Some, ℕ};
 ghost use Rattle.cocoon_num.specs.Reads.{Reads, ReadsDefs};
 ghost use Rattle.cocoon_num.specs.Values.{truth};
@@ -13,6 +13,8 @@ ghost use Rattle.cocoon_thin.specs.ThinRuns.{ThinDelivers, ThinMeaning};
 ghost use Rattle.cocoon_thin.specs.ThinTree.{thin_defs, thin_entries, thin_tree};
 ghost use Rattle.cocoon_thin.specs.declared.parts.Thin.{Thin};
 ghost use Rattle.cocoon_types.specs.Val.{apply};
+
+use cocoon_types::runs::runs_are_taken;
 
 /// The text of a thin design reads as its tree.
 pub fn thin_designs_read()
@@ -49,12 +51,16 @@ pub fn thin_guards_apply()
 /// The last level of a thin design delivers what its parts say, and nothing else.
 pub fn thin_designs_deliver()
     ensures { (design defs : List ℕ) (t : Thin) (h : AreThin design defs t) (a : ℕ) (bytes choices : List ℕ) (visits b : ℕ) (out : List ℕ) → LastGo (thin_tree h.names t) (thin_defs h.names t h.entries) a bytes choices visits b out ↔ ThinDelivers t a bytes choices visits b out }
-{}
+{
+    runs_are_taken();
+}
 
 /// What two thin texts mean, put together.
 pub fn thin_texts_mean()
     ensures { (design defs : List ℕ) (t : Thin) → AreThin design defs t → ThinMeaning design defs t }
-{}
+{
+    runs_are_taken();
+}
 
 /// The example is thin. It delivers at host 1 what has the tag and at host 2 what has not, and nothing of no bytes.
 pub fn thin_example()

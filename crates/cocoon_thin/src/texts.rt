@@ -1,6 +1,6 @@
 //! Whether two texts are a thin design with its definitions, and their parts.
 ghost use Rattle.std.specs.Prelude.{List as Items, ◌≡◌, ◌≢◌, ◌<◌, ◌^◌, Err, IfOk, length};
-ghost use Rattle.cocoon_thin.specs.Read.{AreWith, OneThinDesign, bare, entries_of, names_of};
+ghost use Rattle.cocoon_thin.specs.Read.{AreWith, OneThinDesign, OneThinReading, bare, entries_of, names_of};
 ghost use Rattle.cocoon_thin.specs.Thin.{AreThin, AreTrueAt, HasWords, IsThinDefs, IsThinDesign, ThinDefs, ThinDesign, ThinEntry};
 ghost use Rattle.cocoon_thin.specs.ThinRuns.{ThinMeaning};
 
@@ -109,4 +109,9 @@ fn widened(alloc: Global, numbers: &[u16]) -> Result<Vec<u64>, NoMemory>
 /// A thin design has one reading: the names and the parts, but for hosts and switches, which the design does not say.
 pub fn one_thin_design()
     ensures { OneThinDesign }
+{}
+
+/// And with its definitions it has one, with all parts.
+pub fn one_thin_reading()
+    ensures { OneThinReading }
 {}

@@ -1,6 +1,6 @@
--- A run that takes its choices from the front of a list and hands the rest on. It computes what `Does` relates:
--- `takes` and `takes_all` say that a run so related is computed, whatever choices follow, and `gives` and
--- `gives_all` that what is computed is so related. So a run has one end, and one front of a list of choices.
+-- The run that takes its choices from the front of a list computes what `Does` relates: `takes` and `takes_all` say that
+-- a run so related is computed, whatever choices follow, and `gives` and `gives_all` that what is computed is so
+-- related. So a run has one end, and one front of a list of choices.
 use Rattle.std.specs.Prelude.{◌≡◌, ℕ, zero, suc, ◌^◌, ◌⊎◌, Bool, true, false, List, [], ◌∷◌, ◌++◌, cond, if◌then◌else◌, Option, Some, None, option_map, option_and_then, refl}
 use Rattle.std.proofs.Common.{sym, ◌∙◌, ap, inl, inr}
 use Rattle.std.proofs.lemmas.Bool.{lt-ltb, ltb-true}
@@ -10,86 +10,8 @@ use Rattle.cocoon_num.specs.Tree.{Stmt, let_, set_field, if_, filter, havoc_var,
 use Rattle.cocoon_num.specs.Packets.{Packet}
 use Rattle.cocoon_types.specs.Design.{write_field, field_width}
 use Rattle.cocoon_types.specs.Val.{Env, bound, bind, value, numbers}
+use Rattle.cocoon_types.specs.Taken.{Ended, Reached, Used, RunsAreTaken, where_true, by_truth, take_one, back, only_sent, only_sends, after, go_on, guard_at, run, run_all, reached, if_reached, if_true, body_go, go, or_stop, then_walk, walk}
 use Rattle.cocoon_types.specs.Runs.{Loc, World, End, falls, sends, Stands, back_to, Does, DoesAll, Go, IsSink, Walk}
-
--- how a run ends, and the choices that are left
-abbrev pub Left : Type 0
-Left = Option (End × List ℕ)
-
--- goes on where a value is true
-abbrev pub where_true : Option Value → Left → Left
-where_true None r = None
-where_true (Some (truth true)) r = r
-where_true (Some (truth false)) r = None
-where_true (Some (number w n)) r = None
-
--- one of two, by a value
-abbrev pub by_truth : Option Value → Left → Left → Left
-by_truth None r s = None
-by_truth (Some (truth true)) r s = r
-by_truth (Some (truth false)) r s = s
-by_truth (Some (number w n)) r s = None
-
--- takes one choice that fits a width
-abbrev pub take_one : ℕ → List ℕ → (ℕ → List ℕ → Left) → Left
-take_one width [] f = None
-take_one width (c ∷ cs) f = if fits_width width c then f c cs else None
-
--- a branch's variables end with it
-abbrev pub back : Env → Left → Left
-back env None = None
-back env (Some r) = Some (back_to env r.0, r.1)
-
--- an end that sends
-abbrev pub only_sent : End → List ℕ → Left
-only_sent (falls env packet) cs = None
-only_sent (sends to packet) cs = Some (sends to packet, cs)
-
--- a run that sends
-abbrev pub only_sends : Left → Left
-only_sends None = None
-only_sends (Some r) = only_sent r.0 r.1
-
--- what follows an end that falls
-abbrev pub after : End → List ℕ → (Env → Packet → List ℕ → Left) → Left
-after (falls env packet) cs f = f env packet cs
-after (sends to packet) cs f = Some (sends to packet, cs)
-
--- what follows a run that falls
-abbrev pub go_on : Left → (Env → Packet → List ℕ → Left) → Left
-go_on None f = None
-go_on (Some r) f = after r.0 r.1 f
-
--- the value of the guard of a location
-abbrev pub guard_at : World → Loc → Option Value
-guard_at w at = option_and_then (λ (r : Role). option_and_then (λ env. value w.scope env [] r.guard) (bind r.params at.values)) (w.role at.role)
-
-abbrev mutual
-  -- a statement's run
-  pub run : World → Stmt → Env → Packet → List ℕ → Left
-  run w (let_ at x width e) env packet cs = option_map (λ v. (falls (bound x.text v env) packet, cs)) (value w.scope env packet e)
-  run w (set_field at h f e) env packet cs =
-      option_map (λ n. (falls env (write_field w.scope.headers packet h.text f.text n), cs)) (option_and_then number_of (value w.scope env packet e))
-  run w (if_ at e first second) env packet cs =
-      back env (by_truth (value w.scope env packet e) (run_all w first env packet cs) (run_all w second env packet cs))
-  run w (filter at e) env packet cs = where_true (value w.scope env packet e) (Some (falls env packet, cs))
-  run w (havoc_var at x width) env packet cs =
-      take_one width cs (λ c rest. Some (falls (bound x.text (number width c) env) packet, rest))
-  run w (havoc_field at h f) env packet cs =
-      option_and_then (λ width. take_one width cs (λ c rest. Some (falls env (write_field w.scope.headers packet h.text f.text c), rest)))
-      (field_width w.scope.headers h.text f.text)
-  run w (assume at e) env packet cs = where_true (value w.scope env packet e) (Some (falls env packet, cs))
-  run w (fork at x width e body) env packet cs =
-      take_one width cs (λ c rest. where_true (value w.scope (bound x.text (number width c) env) packet e)
-      (only_sends (run_all w body (bound x.text (number width c) env) packet rest)))
-  run w (send at r es) env packet cs =
-      option_and_then (λ ns. where_true (guard_at w (record { role = r.text; values = ns })) (Some (sends (record { role = r.text; values = ns }) packet, cs)))
-      (numbers w.scope env packet es)
-
-  -- a block's run
-  pub run_all : World → Block → Env → Packet → List ℕ → Left
-  run_all w no_stmts env packet cs = Some (falls env packet, cs)
-  run_all w (stmt s rest) env packet cs = go_on (run w s env packet cs) (λ env' packet' more. run_all w rest env' packet' more)
 
 -- the guard of a location that stands is true
 at_guard : (w : World) (at : Loc) → Stands w at → guard_at w at ≡ Some (truth true)
@@ -123,25 +45,25 @@ mutual
       ]
 
 -- how a run ended
-abbrev end_or : End → Left → End
+abbrev end_or : End → Ended → End
 end_or x None = x
 end_or x (Some r) = r.0
 
 -- what it left
-abbrev rest_or : List ℕ → Left → List ℕ
+abbrev rest_or : List ℕ → Ended → List ℕ
 rest_or cs None = cs
 rest_or cs (Some r) = r.1
 
 -- Where a run uses up a front of a list of choices, the rest aside, no other run does so.
 pub one_end : (w : World) (b : Block) (env : Env) (packet : Packet) (cs ds rest more : List ℕ) (x y : End) → DoesAll w b env packet cs x → DoesAll w b env packet ds y → cs ++ rest ≡ ds ++ more → (x ≡ y) × (rest ≡ more)
 one_end w b env packet cs ds rest more x y d e h =
-    let both : ◌≡◌ {A = Left} (Some (x, rest)) (Some (y, more)) = sym (takes_all w b env packet cs x d rest) ∙ ap (run_all w b env packet) h ∙ takes_all w b env packet ds y e more in
+    let both : ◌≡◌ {A = Ended} (Some (x, rest)) (Some (y, more)) = sym (takes_all w b env packet cs x d rest) ∙ ap (run_all w b env packet) h ∙ takes_all w b env packet ds y e more in
     (ap (end_or x) both, ap (rest_or rest) both)
 
 -- ---- what was computed is so related
 
 -- an end with its choices
-abbrev some_of : End → List ℕ → Left
+abbrev some_of : End → List ℕ → Ended
 some_of e cs = Some (e, cs)
 
 -- the pair of both
@@ -149,7 +71,7 @@ abbrev pair_with : End → List ℕ → End × List ℕ
 pair_with e cs = (e, cs)
 
 -- the parts of two equal ends
-pair_of : {x y : End} {cs ds : List ℕ} → ◌≡◌ {A = Left} (Some (x, cs)) (Some (y, ds)) → (x ≡ y) × (cs ≡ ds)
+pair_of : {x y : End} {cs ds : List ℕ} → ◌≡◌ {A = Ended} (Some (x, cs)) (Some (y, ds)) → (x ≡ y) × (cs ≡ ds)
 pair_of {x} {y} {cs} {ds} h = (ap (end_or x) h, ap (rest_or cs) h)
 
 -- what is there, else the default
@@ -168,38 +90,38 @@ then_is_some f None y h = absurd cc
 then_is_some f (Some x) y h = (x, refl, h)
 
 -- a value was true
-was_true : (v : Option Value) (r : Left) (y : End × List ℕ) → where_true v r ≡ Some y → (v ≡ Some (truth true)) × (r ≡ Some y)
+was_true : (v : Option Value) (r : Ended) (y : End × List ℕ) → where_true v r ≡ Some y → (v ≡ Some (truth true)) × (r ≡ Some y)
 was_true None r y h = absurd cc
 was_true (Some (truth true)) r y h = (refl, h)
 was_true (Some (truth false)) r y h = absurd cc
 was_true (Some (number w n)) r y h = absurd cc
 
 -- a value was true or false
-was_either : (v : Option Value) (r s : Left) (y : End × List ℕ) → by_truth v r s ≡ Some y → ((v ≡ Some (truth true)) × (r ≡ Some y)) ⊎ ((v ≡ Some (truth false)) × (s ≡ Some y))
+was_either : (v : Option Value) (r s : Ended) (y : End × List ℕ) → by_truth v r s ≡ Some y → ((v ≡ Some (truth true)) × (r ≡ Some y)) ⊎ ((v ≡ Some (truth false)) × (s ≡ Some y))
 was_either None r s y h = absurd cc
 was_either (Some (truth true)) r s y h = inl (refl, h)
 was_either (Some (truth false)) r s y h = inr (refl, h)
 was_either (Some (number w n)) r s y h = absurd cc
 
 -- a choice fitted
-fitted : (b : Bool) (x : Left) (y : End × List ℕ) → cond b x None ≡ Some y → (b ≡ true) × (x ≡ Some y)
+fitted : (b : Bool) (x : Ended) (y : End × List ℕ) → cond b x None ≡ Some y → (b ≡ true) × (x ≡ Some y)
 fitted true x y h = (refl, h)
 fitted false x y h = absurd cc
 
 -- a choice was taken
-was_taken : (width : ℕ) (cs : List ℕ) (f : ℕ → List ℕ → Left) (y : End × List ℕ) → take_one width cs f ≡ Some y → (c : ℕ) × (rest : List ℕ) × (cs ≡ c ∷ rest) × FitsWidth width c × (f c rest ≡ Some y)
+was_taken : (width : ℕ) (cs : List ℕ) (f : ℕ → List ℕ → Ended) (y : End × List ℕ) → take_one width cs f ≡ Some y → (c : ℕ) × (rest : List ℕ) × (cs ≡ c ∷ rest) × FitsWidth width c × (f c rest ≡ Some y)
 was_taken width [] f y h = absurd cc
 was_taken width (c ∷ cs) f y h =
     let g : (fits_width width c ≡ true) × (f c cs ≡ Some y) = fitted (fits_width width c) (f c cs) y h in
     (c, cs, refl, ltb-true c (2 ^ width) g.0, g.1)
 
 -- the end of a branch
-was_back : (env : Env) (r : Left) (end : End) (rest : List ℕ) → back env r ≡ Some (end, rest) → (inner : End) × (r ≡ Some (inner, rest)) × (end ≡ back_to env inner)
+was_back : (env : Env) (r : Ended) (end : End) (rest : List ℕ) → back env r ≡ Some (end, rest) → (inner : End) × (r ≡ Some (inner, rest)) × (end ≡ back_to env inner)
 was_back env None end rest h = absurd cc
 was_back env (Some r) end rest h = (r.0, ap (λ cs. some_of r.0 cs) (pair_of h).1, sym (pair_of h).0)
 
 -- a run sent
-was_sent : (r : Left) (end : End) (rest : List ℕ) → only_sends r ≡ Some (end, rest) → (to : Loc) × (sent : Packet) × (r ≡ Some (sends to sent, rest)) × (end ≡ sends to sent)
+was_sent : (r : Ended) (end : End) (rest : List ℕ) → only_sends r ≡ Some (end, rest) → (to : Loc) × (sent : Packet) × (r ≡ Some (sends to sent, rest)) × (end ≡ sends to sent)
 was_sent None end rest h = absurd cc
 was_sent (Some r) end rest h = by_end r.0 r.1 h
   where
@@ -208,7 +130,7 @@ was_sent (Some r) end rest h = by_end r.0 r.1 h
     by_end (sends to packet) cs h = (to, packet, ap (some_of (sends to packet)) (pair_of h).1, sym (pair_of h).0)
 
 -- a run fell, or sent
-went_on : (r : Left) (f : Env → Packet → List ℕ → Left) (end : End) (rest : List ℕ) → go_on r f ≡ Some (end, rest)
+went_on : (r : Ended) (f : Env → Packet → List ℕ → Ended) (end : End) (rest : List ℕ) → go_on r f ≡ Some (end, rest)
     → ((env : Env) × (packet : Packet) × (more : List ℕ) × (r ≡ Some (falls env packet, more)) × (f env packet more ≡ Some (end, rest)))
     ⊎ ((to : Loc) × (sent : Packet) × (r ≡ Some (sends to sent, rest)) × (end ≡ sends to sent))
 went_on None f end rest h = absurd cc
@@ -226,10 +148,6 @@ guard_true w at h =
     let r : (r : Role) × (w.role at.role ≡ Some r) × (option_and_then (λ env. value w.scope env [] r.guard) (bind r.params at.values) ≡ Some (truth true)) = then_is_some _ (w.role at.role) (truth true) h in
     let e : (env : Env) × (bind r.0.params at.values ≡ Some env) × (value w.scope env [] r.0.guard ≡ Some (truth true)) = then_is_some _ (bind r.0.params at.values) (truth true) r.2 in
     (r.0, e.0, r.1, e.1, e.2)
-
--- some choices were used, and the rest is left
-abbrev pub Used : List ℕ → List ℕ → (List ℕ → Type 0) → Type 0
-Used cs rest P = (used : List ℕ) × (cs ≡ used ++ rest) × P used
 
 mutual
   -- a statement that is run so ends so
@@ -287,55 +205,10 @@ mutual
 
 -- ---- bodies and chains of them
 
--- where bodies lead, and the choices that are left
-abbrev pub Reached : Type 0
-Reached = Option (Loc × Packet × List ℕ)
-
--- where an end leads
-abbrev pub reached : End → List ℕ → Reached
-reached (falls env packet) cs = None
-reached (sends to packet) cs = Some (to, packet, cs)
-
--- where a run leads
-abbrev pub if_reached : Left → Reached
-if_reached None = None
-if_reached (Some r) = reached r.0 r.1
-
--- goes on where a guard is true
-abbrev pub if_true : Option Value → Reached → Reached
-if_true None r = None
-if_true (Some (truth true)) r = r
-if_true (Some (truth false)) r = None
-if_true (Some (number w n)) r = None
-
--- the run of a role's body
-abbrev pub body_go : World → Role → Option Block → Loc → Packet → List ℕ → Reached
-body_go w r None from packet cs = None
-body_go w r (Some b) from packet cs = option_and_then (λ env. if_reached (run_all w b env packet cs)) (bind r.params from.values)
-
--- one body's run, and what is left of the choices
-abbrev pub go : World → Loc → Packet → List ℕ → Reached
-go w from packet cs = if_true (guard_at w from) (option_and_then (λ (r : Role). body_go w r r.body from packet cs) (w.role from.role))
-
 -- a body that runs so is run so
 pub go_takes : (w : World) (from : Loc) (packet : Packet) (cs : List ℕ) (to : Loc) (sent : Packet) → Go w from packet cs to sent → (rest : List ℕ) → go w from packet (cs ++ rest) ≡ Some (to, sent, rest)
 go_takes w from packet cs to sent g rest =
     rw (at_guard w from g.stands, g.role_is, g.body_is, g.env_is, takes_all w g.body g.env packet cs _ g.does rest) refl
-
--- stops at a role without a body
-abbrev pub or_stop : Option Role → Reached → Reached → Reached
-or_stop None stop more = more
-or_stop (Some r) stop more = elim r.body [ None ↦ stop | Some b ↦ more ]
-
--- what follows a body's run
-abbrev pub then_walk : Reached → (Loc → Packet → List ℕ → Reached) → Reached
-then_walk None f = None
-then_walk (Some r) f = f r.0 r.1 r.2
-
--- a chain of at most n bodies
-abbrev pub walk : World → ℕ → Loc → Packet → List ℕ → Reached
-walk w zero from packet cs = or_stop (w.role from.role) (Some (from, packet, cs)) None
-walk w (suc n) from packet cs = or_stop (w.role from.role) (Some (from, packet, cs)) (then_walk (go w from packet cs) (walk w n))
 
 -- the sink stops
 stops : (w : World) (from : Loc) (r s : Reached) → IsSink w from → or_stop (w.role from.role) r s ≡ r
@@ -377,16 +250,16 @@ abbrev triple : Loc → Packet → List ℕ → Reached
 triple to sent cs = Some (to, sent, cs)
 
 -- a run that leads on sent
-was_reached : (r : Left) (to : Loc) (sent : Packet) (rest : List ℕ) → if_reached r ≡ Some (to, sent, rest) → r ≡ Some (sends to sent, rest)
+was_reached : (r : Ended) (to : Loc) (sent : Packet) (rest : List ℕ) → if_reached r ≡ Some (to, sent, rest) → r ≡ Some (sends to sent, rest)
 was_reached None to sent rest h = absurd cc
 was_reached (Some r) to sent rest h = by_end r.0 r.1 h
   where
     by_end : (e : End) (cs : List ℕ) → reached e cs ≡ Some (to, sent, rest) → some_of e cs ≡ Some (sends to sent, rest)
     by_end (falls env packet) cs h = absurd cc
     by_end (sends to' packet) cs h =
-        let f : List ℕ → Left = λ x. Some (sends to' packet, x) in
-        let g : Packet → Left = λ x. Some (sends to' x, rest) in
-        let k : Loc → Left = λ x. Some (sends x sent, rest) in
+        let f : List ℕ → Ended = λ x. Some (sends to' packet, x) in
+        let g : Packet → Ended = λ x. Some (sends to' x, rest) in
+        let k : Loc → Ended = λ x. Some (sends x sent, rest) in
         ap f (ap (left_or cs) h) ∙ ap g (ap (sent_or packet) h) ∙ ap k (ap (to_or to') h)
 
 -- a guard was true
@@ -442,3 +315,7 @@ walk_gives w (suc n) from packet cs to sent rest h =
           let k : Used m.2 rest (λ used. Walk w n m.0 m.1 used to sent) = walk_gives w n m.0 m.1 m.2 to sent rest m.4 in
           (g.0 ++ k.0, g.1 ∙ ap (λ r. g.0 ++ r) k.1 ∙ sym (append_assoc g.0 k.0 rest), inr (m.0, m.1, g.0, k.0, g.2, k.2, refl))
     ]
+
+-- all four
+pub runs_are_taken : RunsAreTaken
+runs_are_taken = record { takes = go_takes; gives = go_gives; walk_takes = walk_takes; walk_gives = walk_gives }

@@ -2,6 +2,7 @@ pub mod Design
 pub mod Tables
 pub mod Val
 pub mod Runs
+pub mod Taken
 pub mod Typing
 pub mod ReadBack
 pub mod Rules

@@ -5,6 +5,7 @@ ghost use Rattle.cocoon_num.specs.Tree.{Block, Design};
 ghost use Rattle.cocoon_types.specs.Design.{last_level};
 ghost use Rattle.cocoon_types.specs.Runs.{DoesAll, End, LastGo, MayMake, World};
 ghost use Rattle.cocoon_types.specs.Tables.{Defs};
+ghost use Rattle.cocoon_types.specs.Taken.{RunsAreTaken};
 ghost use Rattle.cocoon_types.specs.Val.{Env};
 
 /// A block's run has one end, and at most one front of a list of choices gives any.
@@ -15,4 +16,9 @@ pub fn one_end()
 /// What a design of one level delivers, its topmost specification may make.
 pub fn one_level()
     ensures { (design : Design) (defs : Defs) (a : ℕ) (bytes choices : List ℕ) (visits b : ℕ) (out : List ℕ) → last_level design ≡ 0 → LastGo design defs a bytes choices visits b out → MayMake design defs a bytes b out }
+{}
+
+/// The program that takes choices from the front of a list computes the runs, of one body and of several.
+pub fn runs_are_taken()
+    ensures { RunsAreTaken }
 {}

@@ -3,19 +3,14 @@ use Rattle.std.proofs.Common.{◌≡◌, ℕ, ◌≤◌, ◌==◌, Bool, true, f
 use Rattle.std.proofs.lemmas.Bool.{and_parts}
 use Rattle.std.proofs.lemmas.Bool.Decides.{nat_tests}
 use Rattle.cocoon_num.specs.Lists.{ascend, has_number}
-use Rattle.cocoon_thin.specs.Read.{OneThinDesign, bare, entries_from}
-use Rattle.cocoon_thin.specs.Thin.{AreThin, AreTrueAt, IsThinDefs, ThinEntry, ThinNames, defs_tokens, is_true_at, its_default, its_row}
+use Rattle.cocoon_thin.specs.Read.{OneThinReading, bare, entries_from}
+use Rattle.cocoon_thin.specs.Thin.{AreTrueAt, IsThinDefs, ThinEntry, ThinNames, is_true_at}
 use Rattle.cocoon_thin.specs.declared.parts.Thin.{Thin}
+use Rattle.cocoon_thin.proofs.Designs as designs
 use Rattle.cocoon_thin.proofs.Designs.{one_kinds}
+use Rattle.cocoon_thin.proofs.Entries.{entries_back}
 
 -- ---- entries
-
--- the entries that are read from the tokens of entries
-entries_back : (entries : List ThinEntry) → entries_from 0 (defs_tokens entries) ≡ entries
-entries_back [] = refl
-entries_back (its_default f ∷ entries) = ap (λ es. its_default f ∷ es) (entries_back entries)
-entries_back (its_row f n true ∷ entries) = ap (λ es. its_row f n true ∷ es) (entries_back entries)
-entries_back (its_row f n false ∷ entries) = ap (λ es. its_row f n false ∷ es) (entries_back entries)
 
 -- definitions have one list of entries
 one_entries : (text : List ℕ) (n m : ThinNames) (es fs : List ThinEntry) → IsThinDefs text n es → IsThinDefs text m fs → es ≡ fs
@@ -80,9 +75,9 @@ of_bare : (t : Thin) → with_numbers (bare t) t.hosts t.switches ≡ t
 of_bare t = refl
 
 -- two readings of a design and its definitions are one
-pub one_reading : OneThinDesign → (design defs : List ℕ) (t u : Thin) → AreThin design defs t → AreThin design defs u → t ≡ u
-one_reading one design defs t u a b =
-    let same = one design a.names b.names t u a.design_is b.design_is in
+pub one_reading : OneThinReading
+one_reading design defs t u a b =
+    let same = designs.one_reading design a.names b.names t u a.design_is b.design_is in
     let entries : a.entries ≡ b.entries = one_entries defs a.names b.names a.entries b.entries a.defs_are b.defs_are in
     let hosts : t.hosts ≡ u.hosts = one_guard a.entries b.entries a.names.host_guard b.names.host_guard t.hosts u.hosts entries (ap (λ (n : ThinNames). n.host_guard) same.0) a.hosts b.hosts in
     let switches : t.switches ≡ u.switches = one_guard a.entries b.entries a.names.switch_guard b.names.switch_guard t.switches u.switches entries (ap (λ (n : ThinNames). n.switch_guard) same.0) a.switches b.switches in
