@@ -4,8 +4,8 @@ use Rattle.cocoon_io.specs.Files.{Files}
 use Rattle.cocoon_io.specs.Told.{ReadAnswers}
 use Rattle.cocoon_io.specs.declared.folder.FolderFault.{FolderFault}
 use Rattle.cocoon_io.specs.declared.folder.FolderFault.TheVariants.{Failed, TooLong as TooLongFile}
-use Rattle.cocoon_parse.specs.declared.parts.Thin.{Thin}
-use Rattle.cocoon_parse.specs.Thin.{AreThin}
+use Rattle.cocoon_thin.specs.declared.parts.Thin.{Thin}
+use Rattle.cocoon_thin.specs.Thin.{AreThin}
 use Rattle.cocoon_cli.specs.declared.refusal.Refusal.{Refusal}
 use Rattle.cocoon_cli.specs.declared.refusal.Refusal.TheVariants.{Design, Definitions, ReadFault, TooLong, NoMemory}
 use Rattle.cocoon_cli.specs.declared.refusal.Totals.{Totals}

@@ -15,10 +15,11 @@ use Rattle.hex.specs.Hex.{encode_with}
 use Rattle.cocoon_cli.specs.Network.{Network, SwitchReads, rows_data}
 use Rattle.cocoon_cli.specs.NetJson.{NetFile, net_data}
 use Rattle.cocoon_cli.specs.Bundle.{digest_of, program_name, rows_name, file_name}
-use Rattle.cocoon_parse.specs.ExampleThin.{example_design}
+use Rattle.cocoon_thin.specs.ExampleThin.{example_design}
 use Rattle.p4_emit.specs.NetRuns.{NetGo}
 use Rattle.p4_emit.specs.P4Reads.{P4Reads}
-use Rattle.p4_emit.specs.ExampleP4.{c_p4, c_program, no_rows}
+use Rattle.p4_emit.specs.P4Tree.{no_rows}
+use Rattle.p4_emit.specs.ExampleP4.{c_p4, c_program}
 use Rattle.cocoon_cli.specs.ExampleNet.{c_net_text, c_rows_text, c_entries, c_files, c_hosts, c_links, c_net}
 
 abbrev p4_digest : List ℕ

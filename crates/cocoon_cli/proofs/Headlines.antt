@@ -1,8 +1,8 @@
 -- The main promise, from what was written and what that means.
 use Rattle.std.proofs.Common.{◌≡◌, ℕ, ◌<◌, ◌^◌, List, [], ◌∷◌, Option, Some, None, sym, subst}
 use Rattle.cocoon_io.specs.Files.{Files}
-use Rattle.cocoon_parse.specs.declared.parts.Thin.{Thin}
-use Rattle.cocoon_parse.specs.Thin.{AreThin}
+use Rattle.cocoon_thin.specs.declared.parts.Thin.{Thin}
+use Rattle.cocoon_thin.specs.Thin.{AreThin}
 use Rattle.cocoon_cli.specs.declared.refusal.Totals.{Totals}
 use Rattle.cocoon_cli.specs.Bundle.{NamedFile, bundle, with_files}
 use Rattle.cocoon_cli.specs.Causes.{Makes}

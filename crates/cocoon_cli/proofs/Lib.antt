@@ -11,7 +11,6 @@ pub mod ThinNetwork
 pub mod ThinRoles
 pub mod Wired
 pub mod NetMeans
-pub mod OneReading
 pub mod Running
 pub mod ExampleNetwork
 pub mod ReadingLists

@@ -6,9 +6,9 @@ use Rattle.std.proofs.lemmas.Bool.Decides.{nat_tests}
 use Rattle.cocoon_num.specs.Lists.{each, is_one_of}
 use Rattle.cocoon_num.specs.Packets.{total}
 use Rattle.cocoon_num.specs.Tokens.{is_run}
-use Rattle.cocoon_parse.specs.declared.parts.ThinField.{ThinField}
-use Rattle.cocoon_parse.specs.declared.parts.Thin.{Thin}
-use Rattle.cocoon_parse.specs.Thin.{fields_fit, numbers_fit, field_width, all_distinct}
+use Rattle.cocoon_thin.specs.declared.parts.ThinField.{ThinField}
+use Rattle.cocoon_thin.specs.declared.parts.Thin.{Thin}
+use Rattle.cocoon_thin.specs.Thin.{fields_fit, numbers_fit, field_width, all_distinct}
 use Rattle.p4_emit.specs.P4Tree.{P4Field, field_widths}
 use Rattle.p4_emit.specs.P4Kinds.{are_distinct, is_width, is_well_kinded}
 use Rattle.p4_emit.specs.P4Text.{p4_bounds, program_tokens}

@@ -1,11 +1,11 @@
 -- The network of two thin texts delivers what the last level of the design delivers.
 use Rattle.std.proofs.Common.{◌≡◌, ℕ, List}
 use Rattle.cocoon_num.specs.Tree.{Design}
-use Rattle.cocoon_parse.specs.declared.parts.Thin.{Thin}
-use Rattle.cocoon_parse.specs.Design.{last_level}
-use Rattle.cocoon_parse.specs.Tables.{Defs, defs_of}
-use Rattle.cocoon_parse.specs.Runs.{LastGo, MayMake}
-use Rattle.cocoon_parse.specs.ThinRuns.{ThinMeaning}
+use Rattle.cocoon_thin.specs.declared.parts.Thin.{Thin}
+use Rattle.cocoon_types.specs.Design.{last_level}
+use Rattle.cocoon_types.specs.Tables.{Defs, defs_of}
+use Rattle.cocoon_types.specs.Runs.{LastGo, MayMake}
+use Rattle.cocoon_thin.specs.ThinRuns.{ThinMeaning}
 use Rattle.cocoon_cli.specs.Visits.{NetDelivers, NetMeaning}
 
 -- both deliver what the parts say

@@ -11,7 +11,7 @@ use Rattle.cocoon_cli.specs.declared.refusal.Refusal.{Refusal}
 use Rattle.cocoon_cli.specs.declared.refusal.Refusal.TheVariants.{WriteFault, NoMemory}
 use Rattle.cocoon_io.specs.declared.folder.FolderFault.{FolderFault}
 use Rattle.cocoon_io.specs.declared.folder.FolderFault.TheVariants.{Failed, TooLong as TooLongFile, NoMemory as NoMemoryFault}
-use Rattle.cocoon_parse.specs.declared.parts.Thin.{Thin}
+use Rattle.cocoon_thin.specs.declared.parts.Thin.{Thin}
 
 with_one_more : (fs : List NamedFile) (f : NamedFile) (told : Option Files) → with_files (fs ++ f ∷ []) told ≡ with_file (with_files fs told) f.name f.bytes
 with_one_more [] f told = refl

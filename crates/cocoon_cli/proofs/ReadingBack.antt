@@ -9,13 +9,14 @@ use Rattle.serde_json.proofs.OnLiterals.{serde_json_on_literals}
 use Rattle.serde_json.specs.Read.{read}
 use Rattle.cocoon_num.specs.Lists.{has_number}
 use Rattle.cocoon_io.specs.Files.{Files}
-use Rattle.cocoon_parse.specs.declared.parts.Thin.{Thin}
-use Rattle.cocoon_parse.specs.Thin.{AreThin}
+use Rattle.cocoon_thin.specs.declared.parts.Thin.{Thin}
+use Rattle.cocoon_thin.specs.Thin.{AreThin}
 use Rattle.p4_emit.specs.P4Reads.{P4Reads}
 use Rattle.p4_emit.specs.Printed.{printed}
 use Rattle.cocoon_cli.specs.Bundle.{NamedFile, digest_of, program_name, rows_name, empty_rows, switch_files, all_switch_files, kept, net_file, net_text, file_name, in_bundle, bundle, with_files, HasFile}
 use Rattle.cocoon_cli.specs.Lowered.{thin_program}
-use Rattle.cocoon_cli.specs.ThinNet.{no_rows, thin_switch, thin_net}
+use Rattle.p4_emit.specs.P4Tree.{no_rows}
+use Rattle.cocoon_cli.specs.ThinNet.{thin_switch, thin_net}
 use Rattle.cocoon_cli.specs.Network.{IsJson, rows_data, SwitchesRead, net_file_fits, Network, InBundle}
 use Rattle.cocoon_cli.specs.Readable.{Readable}
 use Rattle.cocoon_cli.proofs.ReadingDigests.{digest_fits}

@@ -5,8 +5,8 @@ use Rattle.std.proofs.lemmas.Bool.{and_from, and_parts, lt-ltb}
 use Rattle.std.proofs.lemmas.Bool.Decides.{nat_tests}
 use Rattle.std.proofs.lemmas.List.{map-append}
 use Rattle.cocoon_num.specs.Lists.{each, ascend, has_number}
-use Rattle.cocoon_parse.specs.declared.parts.Thin.{Thin}
-use Rattle.cocoon_parse.specs.Thin.{numbers_fit}
+use Rattle.cocoon_thin.specs.declared.parts.Thin.{Thin}
+use Rattle.cocoon_thin.specs.Thin.{numbers_fit}
 use Rattle.p4_emit.specs.NetTree.{to_host, Link}
 use Rattle.cocoon_cli.specs.Lowered.{host_port, host_ports, port_hosts, links_of, links}
 use Rattle.cocoon_cli.specs.NetJson.{KeptDigest, NetFile}

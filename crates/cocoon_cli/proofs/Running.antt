@@ -4,16 +4,15 @@ use Rattle.std.specs.FinMap.{get}
 use Rattle.std.proofs.lemmas.Bool.Decides.{nat_tests}
 use Rattle.cocoon_io.specs.Files.{Files}
 use Rattle.cocoon_io.specs.Told.{appended, Rose}
-use Rattle.cocoon_parse.specs.declared.parts.Thin.{Thin}
-use Rattle.cocoon_parse.specs.Thin.{AreThin, ThinDesign, ThinDefs}
+use Rattle.cocoon_thin.specs.declared.parts.Thin.{Thin}
+use Rattle.cocoon_thin.specs.Thin.{AreThin, ThinDesign, ThinDefs}
 use Rattle.cocoon_cli.specs.declared.refusal.Refusal.{Refusal}
 use Rattle.cocoon_cli.specs.declared.refusal.Refusal.TheVariants as refusal
 use Rattle.cocoon_cli.specs.declared.refusal.Totals.{Totals}
 use Rattle.cocoon_cli.specs.declared.status.Status.{Status}
 use Rattle.cocoon_cli.specs.declared.status.Status.TheVariants.{Done, Usage, Language, Broken, ReadFault, WriteFault, Limit, NoMemory, NoFile}
 use Rattle.cocoon_cli.specs.Command.{Command, compile}
-use Rattle.cocoon_parse.specs.Read.{OneThinDesign}
-use Rattle.cocoon_cli.proofs.OneReading.{one_reading}
+use Rattle.cocoon_thin.specs.Read.{OneThinReading}
 use Rattle.cocoon_cli.specs.Bundle.{NamedFile, bundle, with_files, AllFit, SomeExceeds, made_most}
 use Rattle.cocoon_cli.specs.Causes.{Gives, Lacks, Exceeds, NotRead, Inputs, NotMade, NotWritten, Makes, Refuses, no_design, no_defs, not_made, not_written, Compiles, FindsOf, design_most, defs_most}
 use Rattle.cocoon_cli.specs.NetOf.{FaultRose, ReadFaultRose}
@@ -129,10 +128,10 @@ never_both [] name a h = h
 never_both (f ∷ fs) name a (inl h) = let l : length f.bytes ≤ made_most = a.0 in let m : made_most < length f.bytes = h.1 in omega arith
 never_both (f ∷ fs) name a (inr h) = never_both fs name a.1 h
 
-never_made : OneThinDesign → (o x y : List ℕ) (t u : Thin) (name : List ℕ) → AreThin x y t → AreThin x y u → AllFit (bundle o x t) → SomeExceeds (bundle o x u) name → ⊥
-never_made one o x y t u name a b fit h = never_both (bundle o x u) name (subst (λ (w : Thin). AllFit (bundle o x w)) (one_reading one x y t u a b) fit) h
+never_made : OneThinReading → (o x y : List ℕ) (t u : Thin) (name : List ℕ) → AreThin x y t → AreThin x y u → AllFit (bundle o x t) → SomeExceeds (bundle o x u) name → ⊥
+never_made one o x y t u name a b fit h = never_both (bundle o x u) name (subst (λ (w : Thin). AllFit (bundle o x w)) (one x y t u a b) fit) h
 
-texts_agree : OneThinDesign → (o x y : List ℕ) (v w : Verdict) → JudgesTexts o x y v → JudgesTexts o x y w → v ≡ w
+texts_agree : OneThinReading → (o x y : List ℕ) (v w : Verdict) → JudgesTexts o x y v → JudgesTexts o x y w → v ≡ w
 texts_agree one o x y a_file_missing w h k = absurd h
 texts_agree one o x y a_file_too_long a_file_missing h k = absurd k
 texts_agree one o x y a_file_too_long a_file_too_long h k = refl
@@ -155,7 +154,7 @@ texts_agree one o x y all_good not_thin h k = absurd (k (thin_design x y h.0 h.1
 texts_agree one o x y all_good not_thin_defs h k = absurd (k.1 (thin_defs x y h.0 h.1))
 texts_agree one o x y all_good all_good h k = refl
 
-stages_agree : OneThinDesign → (o : List ℕ) (s t : Stage) (v w : Verdict) → JudgesStages o s t v → JudgesStages o s t w → v ≡ w
+stages_agree : OneThinReading → (o : List ℕ) (s t : Stage) (v w : Verdict) → JudgesStages o s t v → JudgesStages o s t w → v ≡ w
 stages_agree one o missing t v w h k = h ∙ sym k
 stages_agree one o long t v w h k = h ∙ sym k
 stages_agree one o (there x) missing v w h k = h ∙ sym k
@@ -204,7 +203,7 @@ yields_other s (to_read_fault e) = ap judging e
 yields_other s (to_write_fault e) = ap judging e
 yields_other s (to_no_memory e) = ap judging e
 
-exact_by : OneThinDesign → (files : Files) (d e o : List ℕ) (v : Verdict) (s : Status) → Judged files d e o s → ((s ≡ verdict_status v) → Judges files d e o v) × (Judges files d e o v → (s ≡ verdict_status v) ⊎ Yields s)
+exact_by : OneThinReading → (files : Files) (d e o : List ℕ) (v : Verdict) (s : Status) → Judged files d e o s → ((s ≡ verdict_status v) → Judges files d e o v) × (Judges files d e o v → (s ≡ verdict_status v) ⊎ Yields s)
 exact_by one files d e o v s (inl y) = (λ h. absurd (other v s (yields_other s y) h), λ j. inr y)
 exact_by one files d e o v s (inr (w, j, p)) = (
   λ h. subst (λ (x : Verdict). Judges files d e o x) (sym (back_again w) ∙ ap back (sym p ∙ h) ∙ back_again v) j,
@@ -222,7 +221,7 @@ not_judging s (inl e) = ap judging e
 not_judging s (inr (inl e)) = ap judging e
 not_judging s (inr (inr e)) = ap judging e
 
-pub exact_of : {sink_failed : Type 0} → OneThinDesign → (c : Option Command) (told : Option Files) (found : Result Totals Refusal) (now : Option Files) (old new : Option (List ℕ)) (v : Verdict) (s : Status) → FindsOf c told found now → Says sink_failed found old new s → ExactOf c told v s
+pub exact_of : {sink_failed : Type 0} → OneThinReading → (c : Option Command) (told : Option Files) (found : Result Totals Refusal) (now : Option Files) (old new : Option (List ℕ)) (v : Verdict) (s : Status) → FindsOf c told found now → Says sink_failed found old new s → ExactOf c told v s
 exact_of one None told found now old new v s h k = λ e. other v s (not_judging s (no_command found old new s h.0 k)) e
 exact_of one (Some (compile d e o)) None found now old new v s h k = tt
 exact_of one (Some (compile d e o)) (Some files) found now old new v s h k = exact_by one files d e o v s (said_judged files d e o found old new s (found_judged files d e o found now h) k)

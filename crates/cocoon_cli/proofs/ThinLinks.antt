@@ -3,7 +3,7 @@ use Rattle.std.proofs.Common.{◌≡◌, ℕ, List, [], ◌∷◌, ◌++◌, Boo
 use Rattle.std.specs.Prelude.{◌==◌}
 use Rattle.std.proofs.lemmas.Bool.{eq-eqb, eqb-true, eqb-false, ne_eqb}
 use Rattle.cocoon_num.specs.Lists.{has_number}
-use Rattle.cocoon_parse.specs.declared.parts.Thin.{Thin}
+use Rattle.cocoon_thin.specs.declared.parts.Thin.{Thin}
 use Rattle.p4_emit.specs.NetTree.{LinkEnd, to_host, Link}
 use Rattle.p4_emit.specs.NetRuns.{switch_at, link_at, attach_at}
 use Rattle.cocoon_cli.specs.Lowered.{host_port, links_of, port_hosts, links}

@@ -2,8 +2,8 @@
 use Rattle.std.proofs.Common.{◌≡◌, ℕ, zero, suc, ◌^◌, ◌<◌, List, [], ◌++◌, Bool, true, false, ◌&&◌, Option, Some, None, length, nat_lt, if◌then◌else◌, refl, ap, ap₂, sym, subst, ◌∙◌, arith}
 use Rattle.std.proofs.lemmas.Bool.{and_parts, and_from, lt-ltb}
 use Rattle.cocoon_num.specs.Lists.{has_number}
-use Rattle.cocoon_parse.specs.declared.parts.Thin.{Thin}
-use Rattle.cocoon_parse.specs.ThinRuns.{has_port, ThinDelivers}
+use Rattle.cocoon_thin.specs.declared.parts.Thin.{Thin}
+use Rattle.cocoon_thin.specs.ThinRuns.{has_port, ThinDelivers}
 use Rattle.p4_emit.specs.NetTree.{to_host, SwitchFiles}
 use Rattle.p4_emit.specs.Switch.{switch_go}
 use Rattle.p4_emit.specs.NetRuns.{link_at, Onward, Visits, NetGo}

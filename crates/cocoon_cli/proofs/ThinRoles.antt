@@ -4,10 +4,10 @@ use Rattle.std.proofs.lemmas.Bool.{and_parts, and_from, lt-ltb, ltb-true}
 use Rattle.cocoon_num.specs.Values.{fits_width}
 use Rattle.cocoon_num.specs.Lists.{has_number}
 use Rattle.cocoon_num.specs.Tree.{Design}
-use Rattle.cocoon_parse.specs.declared.parts.Thin.{Thin}
-use Rattle.cocoon_parse.specs.Tables.{Defs}
-use Rattle.cocoon_parse.specs.Thin.{ThinNames}
-use Rattle.cocoon_parse.specs.ThinVisits.{is_port, ThinVisit, VisitRun}
+use Rattle.cocoon_thin.specs.declared.parts.Thin.{Thin}
+use Rattle.cocoon_types.specs.Tables.{Defs}
+use Rattle.cocoon_thin.specs.Thin.{ThinNames}
+use Rattle.cocoon_thin.specs.ThinVisits.{is_port, ThinVisit, VisitRun}
 use Rattle.cocoon_cli.specs.Lowered.{thin_program}
 use Rattle.cocoon_cli.specs.Visits.{SendsAt, VisitsAreRuns}
 use Rattle.cocoon_cli.proofs.ThinVisit.{visits, left, leaves}

@@ -4,14 +4,14 @@ use Rattle.std.specs.Prelude.{◌==◌, slice_get, option_map, option_and_then}
 use Rattle.std.proofs.lemmas.Bool.{eq-eqb}
 use Rattle.cocoon_num.specs.Values.{Value, number, truth, of_binary, equal, with_both}
 use Rattle.cocoon_num.specs.Packets.{Packet, enter, leave}
-use Rattle.cocoon_parse.specs.declared.parts.ThinField.{ThinField}
-use Rattle.cocoon_parse.specs.declared.parts.Thin.{Thin}
-use Rattle.cocoon_parse.specs.Thin.{field_width}
-use Rattle.cocoon_parse.specs.ThinRuns.{thin_layout, port_of, leaves_at}
-use Rattle.p4_emit.specs.P4Tree.{p_done, field_widths, program_layout}
+use Rattle.cocoon_thin.specs.declared.parts.ThinField.{ThinField}
+use Rattle.cocoon_thin.specs.declared.parts.Thin.{Thin}
+use Rattle.cocoon_thin.specs.Thin.{field_width}
+use Rattle.cocoon_thin.specs.ThinRuns.{thin_layout, port_of, leaves_at}
+use Rattle.p4_emit.specs.P4Tree.{no_rows, p_done, field_widths, program_layout}
 use Rattle.p4_emit.specs.Switch.{State, Place, both, choose, then_run, state_of, p4_run_all, ingress_of, after_ingress}
 use Rattle.cocoon_cli.specs.Lowered.{fields_of, sends, thin_program}
-use Rattle.cocoon_cli.specs.ThinNet.{no_rows, thin_leaves, thin_visit}
+use Rattle.cocoon_cli.specs.ThinNet.{thin_leaves, thin_visit}
 use Rattle.cocoon_cli.specs.Visits.{VisitsAreThin}
 
 -- the program has the fields of the design

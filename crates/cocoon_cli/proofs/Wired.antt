@@ -6,12 +6,12 @@ use Rattle.cocoon_num.specs.Values.{fits_width}
 use Rattle.cocoon_num.specs.Lists.{has_number}
 use Rattle.cocoon_num.specs.Packets.{Packet}
 use Rattle.cocoon_num.specs.Tree.{Design}
-use Rattle.cocoon_parse.specs.declared.parts.Thin.{Thin}
-use Rattle.cocoon_parse.specs.Runs.{Loc, Go, world}
-use Rattle.cocoon_parse.specs.Tables.{Defs}
-use Rattle.cocoon_parse.specs.Thin.{ThinNames}
-use Rattle.cocoon_parse.specs.ThinVisits.{enters_at, goes_out_at, is_port}
-use Rattle.cocoon_parse.specs.ThinWires.{begins_at, ends_at, ThinEnters, ThinExits}
+use Rattle.cocoon_thin.specs.declared.parts.Thin.{Thin}
+use Rattle.cocoon_types.specs.Runs.{Loc, Go, world}
+use Rattle.cocoon_types.specs.Tables.{Defs}
+use Rattle.cocoon_thin.specs.Thin.{ThinNames}
+use Rattle.cocoon_thin.specs.ThinVisits.{enters_at, goes_out_at, is_port}
+use Rattle.cocoon_thin.specs.ThinWires.{begins_at, ends_at, ThinEnters, ThinExits}
 use Rattle.p4_emit.specs.NetTree.{LinkEnd, to_switch, to_host}
 use Rattle.p4_emit.specs.NetRuns.{attach_at, link_at}
 use Rattle.cocoon_cli.specs.Lowered.{host_ports, links}

@@ -5,7 +5,7 @@ use Rattle.sha2.specs.Sha256.{sha256}
 use Rattle.hex.specs.Hex.{encode_lower}
 use Rattle.cocoon_io.specs.Files.{Files}
 use Rattle.cocoon_io.specs.Told.{with_file}
-use Rattle.cocoon_parse.specs.declared.parts.Thin.{Thin}
+use Rattle.cocoon_thin.specs.declared.parts.Thin.{Thin}
 use Rattle.p4_emit.specs.Printed.{printed}
 use Rattle.cocoon_cli.specs.NetJson.{KeptDigest, NetFile, net_data}
 use Rattle.cocoon_cli.specs.Lowered.{thin_program, host_ports, links}

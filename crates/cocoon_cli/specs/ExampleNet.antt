@@ -3,7 +3,8 @@
 use Rattle.std.specs.Prelude.{ℕ, List, [], ◌∷◌, Some, codes}
 use Rattle.std.specs.FinMap.{from_entries}
 use Rattle.cocoon_io.specs.Files.{Files}
-use Rattle.p4_emit.specs.ExampleP4.{c_p4, c_program, no_rows}
+use Rattle.p4_emit.specs.P4Tree.{no_rows}
+use Rattle.p4_emit.specs.ExampleP4.{c_p4, c_program}
 use Rattle.p4_emit.specs.NetTree.{HostPort, Link, to_host, NetData}
 
 abbrev pub c_net_text : List ℕ

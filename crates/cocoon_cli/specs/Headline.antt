@@ -7,10 +7,10 @@ use Rattle.std.specs.FinMap.{get}
 use Rattle.cocoon_num.specs.Tree.{Design, DefsText}
 use Rattle.cocoon_num.specs.Reads.{Reads, ReadsDefs}
 use Rattle.cocoon_io.specs.Files.{Files}
-use Rattle.cocoon_parse.specs.Tables.{Defs, defs_of}
-use Rattle.cocoon_parse.specs.Rules.{WellFormed}
-use Rattle.cocoon_parse.specs.DefsRules.{DefsFit}
-use Rattle.cocoon_parse.specs.Runs.{LastGo, MayMake}
+use Rattle.cocoon_types.specs.Tables.{Defs, defs_of}
+use Rattle.cocoon_types.specs.Rules.{WellFormed}
+use Rattle.cocoon_types.specs.DefsRules.{DefsFit}
+use Rattle.cocoon_types.specs.Runs.{LastGo, MayMake}
 use Rattle.p4_emit.specs.NetTree.{NetData}
 use Rattle.p4_emit.specs.NetRuns.{NetGo}
 use Rattle.cocoon_cli.specs.Bundle.{digest_of}

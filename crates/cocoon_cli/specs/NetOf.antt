@@ -1,8 +1,8 @@
 -- The parts of networks and bundles that values of the code stand for.
 use Rattle.std.specs.Prelude.{◌≡◌, ℕ, IsTrue, List, map, Option}
 use Rattle.std.specs.String.{string_bytes}
-use Rattle.cocoon_parse.specs.declared.parts.Thin.{Thin}
-use Rattle.cocoon_parse.specs.Thin.{fields_fit, numbers_fit, HasWords, ThinDesign, ThinDefs}
+use Rattle.cocoon_thin.specs.declared.parts.Thin.{Thin}
+use Rattle.cocoon_thin.specs.Thin.{fields_fit, numbers_fit, HasWords, ThinDesign, ThinDefs}
 use Rattle.p4_emit.specs.NetTree as tree
 use Rattle.cocoon_cli.specs.NetJson as json
 use Rattle.cocoon_cli.specs.Bundle as files
@@ -16,7 +16,7 @@ use Rattle.cocoon_io.specs.Told.{Rose}
 use Rattle.cocoon_io.specs.declared.folder.FolderFault.{FolderFault}
 use Rattle.cocoon_io.specs.declared.folder.FolderFault.TheVariants.{Failed, TooLong as TooLongFile}
 use Rattle.cocoon_cli.specs.declared.refusal.Refusal.{Refusal}
-use Rattle.cocoon_cli.specs.declared.refusal.Refusal.TheVariants.{Usage, Design, Definitions, ReadFault, TooLong, WriteFault, NoMemory}
+use Rattle.cocoon_cli.specs.declared.refusal.Refusal.TheVariants.{Design, Definitions, ReadFault, TooLong, WriteFault, NoMemory}
 use Rattle.cocoon_cli.specs.declared.bundle.BundleFile.{BundleFile}
 
 -- what the program of a thin design needs of its parts
@@ -85,8 +85,3 @@ IsThinRefusal design_name defs_name design defs (Design file) = (string_bytes fi
 IsThinRefusal design_name defs_name design defs (Definitions file) = (string_bytes file ≡ defs_name) × ThinDesign design × (¬ ThinDefs design defs)
 IsThinRefusal design_name defs_name design defs NoMemory = Unit {0}
 IsThinRefusal design_name defs_name design defs _ = ⊥
-
--- `compile` never says that there is no command
-abbrev pub IsOfCompile : Refusal → Type 0
-IsOfCompile Usage = ⊥
-IsOfCompile _ = Unit {0}

@@ -1,7 +1,7 @@
 -- What the made files of a thin design read as.
 use Rattle.std.specs.Prelude.{ℕ, ◌<◌, ◌^◌, List, nat_lt, IsTrue}
 use Rattle.cocoon_num.specs.Lists.{each}
-use Rattle.cocoon_parse.specs.declared.parts.Thin.{Thin}
+use Rattle.cocoon_thin.specs.declared.parts.Thin.{Thin}
 use Rattle.p4_emit.specs.P4Reads.{P4Reads}
 use Rattle.p4_emit.specs.Printed.{printed}
 use Rattle.cocoon_cli.specs.NetJson.{net_data}

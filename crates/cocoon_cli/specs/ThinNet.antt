@@ -1,16 +1,12 @@
 -- The whole network of a thin design, and what one visit of its switches does.
 use Rattle.std.specs.Prelude.{ℕ, List, [], ◌∷◌, map, None, option_map, option_and_then}
 use Rattle.cocoon_num.specs.Packets.{Packet, enter, leave}
-use Rattle.cocoon_parse.specs.declared.parts.Thin.{Thin}
-use Rattle.cocoon_parse.specs.ThinRuns.{thin_layout, leaves_at}
-use Rattle.p4_emit.specs.P4Tree.{RowsFile}
+use Rattle.cocoon_thin.specs.declared.parts.Thin.{Thin}
+use Rattle.cocoon_thin.specs.ThinRuns.{thin_layout, leaves_at}
+use Rattle.p4_emit.specs.P4Tree.{no_rows}
 use Rattle.p4_emit.specs.NetTree.{SwitchFiles, NetData}
 use Rattle.p4_emit.specs.Switch.{Left}
 use Rattle.cocoon_cli.specs.Lowered.{thin_program, host_ports, links}
-
--- no table and no group
-abbrev pub no_rows : RowsFile
-no_rows = record { tables = []; groups = [] }
 
 -- a switch with the program that all have
 abbrev pub thin_switch : Thin → ℕ → SwitchFiles

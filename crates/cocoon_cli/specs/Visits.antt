@@ -1,17 +1,17 @@
 -- What the network of a thin design does, against what the design says.
 use Rattle.std.specs.Prelude.{◌≡◌, ◌↔◌, ℕ, ◌<◌, List, Some, IsTrue}
 use Rattle.cocoon_num.specs.Tree.{Design}
-use Rattle.cocoon_parse.specs.declared.parts.Thin.{Thin}
-use Rattle.cocoon_parse.specs.Tables.{Defs, defs_of}
-use Rattle.cocoon_parse.specs.Runs.{LastGo, MayMake}
-use Rattle.cocoon_parse.specs.Thin.{ThinNames}
-use Rattle.cocoon_parse.specs.ThinRuns.{ThinDelivers, ThinMeaning}
-use Rattle.cocoon_parse.specs.ThinVisits.{is_port, VisitRun}
-use Rattle.p4_emit.specs.P4Tree.{Program}
+use Rattle.cocoon_thin.specs.declared.parts.Thin.{Thin}
+use Rattle.cocoon_types.specs.Tables.{Defs, defs_of}
+use Rattle.cocoon_types.specs.Runs.{LastGo, MayMake}
+use Rattle.cocoon_thin.specs.Thin.{ThinNames}
+use Rattle.cocoon_thin.specs.ThinRuns.{ThinDelivers, ThinMeaning}
+use Rattle.cocoon_thin.specs.ThinVisits.{is_port, VisitRun}
+use Rattle.p4_emit.specs.P4Tree.{Program, no_rows}
 use Rattle.p4_emit.specs.Switch.{switch_go}
 use Rattle.p4_emit.specs.NetRuns.{NetGo}
 use Rattle.cocoon_cli.specs.Lowered.{thin_program}
-use Rattle.cocoon_cli.specs.ThinNet.{no_rows, thin_net, thin_visit}
+use Rattle.cocoon_cli.specs.ThinNet.{thin_net, thin_visit}
 
 -- a visit of a switch gives what the parts of the design say, at every port
 abbrev pub VisitsAreThin : Thin → Type 0

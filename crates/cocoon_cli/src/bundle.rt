@@ -15,7 +15,7 @@ use crate::lower::{host_ports, links, program_text};
 use crate::refusal::{Refusal, Totals};
 use cocoon_io::{Folder, FolderFault};
 use cocoon_num::NoMemory;
-use cocoon_parse::Thin;
+use cocoon_thin::Thin;
 use serde_json::json;
 use sha2::{Digest, Sha256};
 use std::alloc::Global;

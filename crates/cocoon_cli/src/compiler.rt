@@ -2,15 +2,15 @@
 ghost use Rattle.std.specs.Prelude.{◌≡◌, ◌≤◌, IfErr, IfOk, map};
 ghost use Rattle.cocoon_cli.specs.Bundle.{AllFit, bundle};
 ghost use Rattle.cocoon_cli.specs.Causes.{Compiles, Gives, NotRead};
-ghost use Rattle.cocoon_cli.specs.NetOf.{FaultRose, IsLowerable, IsOfCompile, IsReadRefusal, IsThinRefusal, MadeTooLong, ReadFaultRose, named_of};
+ghost use Rattle.cocoon_cli.specs.NetOf.{FaultRose, IsLowerable, IsReadRefusal, IsThinRefusal, MadeTooLong, ReadFaultRose, named_of};
 ghost use Rattle.cocoon_cli.specs.Readable.{Readable};
-ghost use Rattle.cocoon_parse.specs.Thin.{AreThin};
+ghost use Rattle.cocoon_thin.specs.Thin.{AreThin};
 
 use crate::bundle::{self, BundleFile};
 use crate::refusal::{Refusal, Totals};
 use crate::words::Compile;
 use cocoon_io::{Folder, FolderFault};
-use cocoon_parse::{Thin, ThinFault, thin};
+use cocoon_thin::{Thin, ThinFault, thin};
 use std::alloc::Global;
 
 /// The numbers of bytes that the design and the definitions may have.
@@ -71,7 +71,6 @@ pub fn compile<F: Folder>(
     ensures found { Compiles (F.told folder.old) names.now.design.now names.now.defs.now names.now.out.now result (F.told folder.new) }
     ensures read_failed { IfErr result (ReadFaultRose F.last_read_fault (F.read_faults folder.old) (F.read_faults folder.new)) }
     ensures write_failed { IfErr result (FaultRose F.last_write_fault (F.write_faults folder.old) (F.write_faults folder.new)) }
-    ensures named { IfErr result IsOfCompile }
 {
     let design = read(alloc, folder, names.design, DESIGN_MOST)?;
     let defs = read(alloc, folder, names.defs, DEFS_MOST)?;

@@ -15,7 +15,7 @@ use crate::visits::thin_networks_mean;
 use crate::words::command;
 use cocoon_io::{Folder, Sink, SinkFault};
 use cocoon_num::NoMemory;
-use cocoon_parse::texts::one_thin_design;
+use cocoon_thin::texts::one_thin_reading;
 use std::alloc::Global;
 
 /// Tells the bytes; where that fails, the status says so.
@@ -86,7 +86,7 @@ pub fn run<F: Folder, S: Sink>(
     ensures unchanged { MayWrite result ⊎ (F.told folder.new ≡ F.told folder.old) }
     ensures leaves { Leaves (map string_bytes words.now) (F.told folder.old) (F.told folder.new) }
 {
-    one_thin_design();
+    one_thin_reading();
     thin_networks_mean();
     let found = find(alloc, words, folder);
     tell(alloc, out, &found)

@@ -2,14 +2,14 @@
 ghost use Rattle.std.specs.Prelude.{[], ◌∷◌, List, codes, ℕ};
 ghost use Rattle.cocoon_cli.specs.ExampleNet.{c_files, c_net};
 ghost use Rattle.cocoon_cli.specs.Network.{Network};
-ghost use Rattle.cocoon_parse.specs.ExampleThin.{example_defs, example_design, example_thin};
-ghost use Rattle.cocoon_parse.specs.Runs.{LastGo};
-ghost use Rattle.cocoon_parse.specs.Tables.{defs_of};
-ghost use Rattle.cocoon_parse.specs.ThinRuns.{ThinMeaning};
+ghost use Rattle.cocoon_thin.specs.ExampleThin.{example_defs, example_design, example_thin};
+ghost use Rattle.cocoon_types.specs.Runs.{LastGo};
+ghost use Rattle.cocoon_types.specs.Tables.{defs_of};
+ghost use Rattle.cocoon_thin.specs.ThinRuns.{ThinMeaning};
 ghost use Rattle.p4_emit.specs.NetRuns.{NetGo};
 
 use crate::visits::thin_networks_deliver;
-use cocoon_parse::meaning::{thin_example, thin_texts_mean};
+use cocoon_thin::meaning::{thin_example, thin_texts_mean};
 
 /// The files that `compile` writes for the example are a network. It delivers at host 1 what has the tag and at host 2
 /// what has not, and nothing of no bytes.

@@ -2,13 +2,13 @@
 ghost use Rattle.std.specs.Prelude.{◌<◌, ◌^◌, List, length, ℕ};
 ghost use Rattle.cocoon_cli.specs.Lowered.{thin_program};
 ghost use Rattle.cocoon_cli.specs.Visits.{NetDelivers, NetMeaning, VisitsAreRuns, VisitsAreThin};
-ghost use Rattle.cocoon_parse.specs.Thin.{AreThin};
-ghost use Rattle.cocoon_parse.specs.ThinTree.{thin_defs, thin_tree};
-ghost use Rattle.cocoon_parse.specs.declared.parts.Thin.{Thin};
+ghost use Rattle.cocoon_thin.specs.Thin.{AreThin};
+ghost use Rattle.cocoon_thin.specs.ThinTree.{thin_defs, thin_tree};
+ghost use Rattle.cocoon_thin.specs.declared.parts.Thin.{Thin};
 
-use cocoon_parse::meaning::thin_texts_mean;
-use cocoon_parse::runs::one_level;
-use cocoon_parse::visits::thin_roles_send;
+use cocoon_thin::meaning::thin_texts_mean;
+use cocoon_types::runs::one_level;
+use cocoon_thin::visits::thin_roles_send;
 
 /// A visit of a switch sends the packet as it came, to the port that the tested field chooses.
 pub fn thin_switches_visit()

@@ -1,6 +1,6 @@
 -- Programs of the P4-16 subset, and the rows that tables are filled with. Meta fields, headers and fields are named
 -- by their numbers, from 0. It follows "Lowering and the P4 text" in docs/FORMATS.md.
-use Rattle.std.specs.Prelude.{ℕ, Bool, List, map}
+use Rattle.std.specs.Prelude.{ℕ, Bool, List, [], map}
 use Rattle.cocoon_num.specs.Values.{UnaryOp, BinaryOp}
 use Rattle.cocoon_num.specs.Packets.{Layout}
 
@@ -77,6 +77,10 @@ pub record Group : Type 0 where
 pub record RowsFile : Type 0 where
   pub tables : List TableRows
   pub groups : List Group
+
+-- no table and no group
+abbrev pub no_rows : RowsFile
+no_rows = record { tables = []; groups = [] }
 
 -- ---- widths
 

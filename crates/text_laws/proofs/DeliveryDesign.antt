@@ -3,10 +3,10 @@ use Rattle.std.specs.Prelude.{◌≡◌, ℕ, zero, suc, ◌+◌, ◌*◌, List,
 use Rattle.std.proofs.Common.{sym, ◌∙◌, ap, subst, inl, inr}
 use Rattle.cocoon_num.specs.Packets.{Packet, enter, leave}
 use Rattle.cocoon_num.specs.Tree.{Block, Role, HostDecl, Design}
-use Rattle.cocoon_parse.specs.Design.{host_decl, layout, last_level}
-use Rattle.cocoon_parse.specs.Tables.{Defs}
-use Rattle.cocoon_parse.specs.Val.{Env, bind}
-use Rattle.cocoon_parse.specs.Runs.{Loc, World, world, End, sends, DoesAll, Go, IsSink, Walk, LastGo, entry_at, sink_at}
+use Rattle.cocoon_types.specs.Design.{host_decl, layout, last_level}
+use Rattle.cocoon_types.specs.Tables.{Defs}
+use Rattle.cocoon_types.specs.Val.{Env, bind}
+use Rattle.cocoon_types.specs.Runs.{Loc, World, world, End, sends, DoesAll, Go, IsSink, Walk, LastGo, entry_at, sink_at}
 use Rattle.text_laws.proofs.NetworkFound.{some_same}
 
 -- a block's run has one end, and at most one front of a list of choices gives any

@@ -1,12 +1,12 @@
 //! What designs and networks deliver.
 ghost use Rattle.std.specs.Prelude.{◌≡◌, List, ℕ};
 ghost use Rattle.cocoon_num.specs.Tree.{Design};
-ghost use Rattle.cocoon_parse.specs.Runs.{LastGo};
-ghost use Rattle.cocoon_parse.specs.Tables.{Defs};
+ghost use Rattle.cocoon_types.specs.Runs.{LastGo};
+ghost use Rattle.cocoon_types.specs.Tables.{Defs};
 ghost use Rattle.p4_emit.specs.NetRuns.{NetGo};
 ghost use Rattle.p4_emit.specs.NetTree.{NetData};
 
-use cocoon_parse::runs::one_end;
+use cocoon_types::runs::one_end;
 
 /// With the same choices and number of visits the last level delivers one thing at most.
 pub fn one_delivery_of_a_design()

@@ -6,19 +6,19 @@ pub returns-clause-usage : goal.returns-clause-usage
 returns-clause-usage g c = usage_of _ _ c.find-found.result _ _ _ c.tell.result c.find-found.ensures.found c.tell.ensures
 
 pub returns-clause-no_file : goal.returns-clause-no_file
-returns-clause-no_file g c = exact_of c.one_thin_design.ensures _ _ c.find-found.result _ _ _ _ c.tell.result c.find-found.ensures.found c.tell.ensures
+returns-clause-no_file g c = exact_of c.one_thin_reading.ensures _ _ c.find-found.result _ _ _ _ c.tell.result c.find-found.ensures.found c.tell.ensures
 
 pub returns-clause-limit : goal.returns-clause-limit
-returns-clause-limit g c = exact_of c.one_thin_design.ensures _ _ c.find-found.result _ _ _ _ c.tell.result c.find-found.ensures.found c.tell.ensures
+returns-clause-limit g c = exact_of c.one_thin_reading.ensures _ _ c.find-found.result _ _ _ _ c.tell.result c.find-found.ensures.found c.tell.ensures
 
 pub returns-clause-language : goal.returns-clause-language
-returns-clause-language g c = exact_of c.one_thin_design.ensures _ _ c.find-found.result _ _ _ _ c.tell.result c.find-found.ensures.found c.tell.ensures
+returns-clause-language g c = exact_of c.one_thin_reading.ensures _ _ c.find-found.result _ _ _ _ c.tell.result c.find-found.ensures.found c.tell.ensures
 
 pub returns-clause-broken : goal.returns-clause-broken
-returns-clause-broken g c = exact_of c.one_thin_design.ensures _ _ c.find-found.result _ _ _ _ c.tell.result c.find-found.ensures.found c.tell.ensures
+returns-clause-broken g c = exact_of c.one_thin_reading.ensures _ _ c.find-found.result _ _ _ _ c.tell.result c.find-found.ensures.found c.tell.ensures
 
 pub returns-clause-done : goal.returns-clause-done
-returns-clause-done g c = exact_of c.one_thin_design.ensures _ _ c.find-found.result _ _ _ _ c.tell.result c.find-found.ensures.found c.tell.ensures
+returns-clause-done g c = exact_of c.one_thin_reading.ensures _ _ c.find-found.result _ _ _ _ c.tell.result c.find-found.ensures.found c.tell.ensures
 
 pub returns-clause-read_fault : goal.returns-clause-read_fault
 returns-clause-read_fault g c = read_fault_of _ _ _ c.find-found.result _ _ c.tell.result c.find-found.ensures.read_failed c.tell.ensures

@@ -1,4 +1,4 @@
-use Rattle.cocoon_parse.specs.ExampleThin.{example_defs, example_design, example_thin}
+use Rattle.cocoon_thin.specs.ExampleThin.{example_defs, example_design, example_thin}
 use Rattle.cocoon_cli.proofs.example.example_delivers.Goals as goal
 
 pub returns-clause-means : goal.returns-clause-means

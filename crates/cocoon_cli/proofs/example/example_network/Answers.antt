@@ -1,5 +1,5 @@
 use Rattle.std.proofs.Common.{arith}
-use Rattle.cocoon_parse.specs.ExampleThin.{example_thin}
+use Rattle.cocoon_thin.specs.ExampleThin.{example_thin}
 use Rattle.cocoon_cli.proofs.ExampleNetwork.{c_network, c_goes, c_goes_otherwise}
 use Rattle.cocoon_cli.proofs.example.example_network.Goals as goal
 

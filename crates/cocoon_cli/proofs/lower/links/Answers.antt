@@ -1,6 +1,6 @@
 use Rattle.std.proofs.Common.{◌≡◌, ◌^◌, List, map, arith, subst, sym}
 use Rattle.std.proofs.lemmas.Grind.{common_steps}
-use Rattle.cocoon_parse.specs.ThinTree.{thin_defs, thin_tree}
+use Rattle.cocoon_thin.specs.ThinTree.{thin_defs, thin_tree}
 use Rattle.p4_emit.specs.NetTree.{Link}
 use Rattle.cocoon_cli.specs.Lowered.{links}
 use Rattle.cocoon_cli.specs.NetOf.{link_of}

@@ -1,5 +1,5 @@
 use Rattle.std.proofs.Common.{◌≡◌, rules, subst, sym}
-use Rattle.cocoon_parse.specs.ThinTree.{thin_defs, thin_tree}
+use Rattle.cocoon_thin.specs.ThinTree.{thin_defs, thin_tree}
 use Rattle.p4_emit.specs.P4Tree.{Program}
 use Rattle.p4_emit.specs.Program.{program_of}
 use Rattle.cocoon_cli.specs.Lowered.{thin_program}

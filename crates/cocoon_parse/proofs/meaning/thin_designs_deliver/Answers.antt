@@ -1,5 +1,0 @@
-use Rattle.cocoon_parse.proofs.ThinDelivered as thin
-use Rattle.cocoon_parse.proofs.meaning.thin_designs_deliver.Goals as goal
-
-pub returns : goal.returns
-returns c = thin.thin_delivers

@@ -1,0 +1,84 @@
+-- A thin design and its definitions have one reading.
+use Rattle.std.proofs.Common.{◌≡◌, ℕ, ◌≤◌, ◌==◌, Bool, true, false, ◌||◌, List, [], ◌∷◌, ap, ap₂, refl, sym, ◌∙◌, arith}
+use Rattle.std.proofs.lemmas.Bool.{and_parts}
+use Rattle.std.proofs.lemmas.Bool.Decides.{nat_tests}
+use Rattle.cocoon_num.specs.Lists.{ascend, has_number}
+use Rattle.cocoon_thin.specs.Read.{OneThinReading, bare, entries_from}
+use Rattle.cocoon_thin.specs.Thin.{AreTrueAt, IsThinDefs, ThinEntry, ThinNames, is_true_at}
+use Rattle.cocoon_thin.specs.declared.parts.Thin.{Thin}
+use Rattle.cocoon_thin.proofs.Designs as designs
+use Rattle.cocoon_thin.proofs.Designs.{one_kinds}
+use Rattle.cocoon_thin.proofs.Entries.{entries_back}
+
+-- ---- entries
+
+-- definitions have one list of entries
+one_entries : (text : List ℕ) (n m : ThinNames) (es fs : List ThinEntry) → IsThinDefs text n es → IsThinDefs text m fs → es ≡ fs
+one_entries text n m es fs d e = sym (entries_back es) ∙ ap (entries_from 0) (one_kinds d.tokens e.tokens) ∙ entries_back fs
+
+-- ---- ascending numbers
+
+-- all numbers after the first ascend too
+later : (m : ℕ) (ks : List ℕ) → ascend (m ∷ ks) ≡ true → ascend ks ≡ true
+later m [] a = refl
+later m (k ∷ ks) a = (and_parts _ _ a).1
+
+-- a number that is not above the first is none of the others
+has_none : (x m : ℕ) (ks : List ℕ) → ascend (m ∷ ks) ≡ true → x ≤ m → has_number x ks ≡ false
+has_none x m [] a h = refl
+has_none x m (k ∷ ks) a h = grind (arith, nat_tests, has_none x k ks)
+
+-- a number is one of those that it begins
+has_first : (x : ℕ) (xs : List ℕ) → has_number x (x ∷ xs) ≡ true
+has_first x xs = grind (arith, nat_tests)
+
+-- two first numbers that are among each other's numbers are one
+one_first : (x y : ℕ) (xs ys : List ℕ) → ascend (x ∷ xs) ≡ true → ascend (y ∷ ys) ≡ true → has_number x (y ∷ ys) ≡ true → has_number y (x ∷ xs) ≡ true → x ≡ y
+one_first x y xs ys a b h i = grind (arith, nat_tests, has_none x y ys b, has_none y x xs a)
+
+-- one step of `same_later`
+same_later_by : (z x : ℕ) (xs ys : List ℕ) (is : Bool) → (z == x) ≡ is → ascend (x ∷ xs) ≡ true → ascend (x ∷ ys) ≡ true →
+    ((z == x) || has_number z xs) ≡ ((z == x) || has_number z ys) → has_number z xs ≡ has_number z ys
+same_later_by z x xs ys true e a b h =
+    let at : z ≤ x = grind (arith, nat_tests) in
+    has_none z x xs a at ∙ sym (has_none z x ys b at)
+same_later_by z x xs ys false e a b h = sym (ap (λ c. c || has_number z xs) e) ∙ h ∙ ap (λ c. c || has_number z ys) e
+
+-- after one first number the same numbers follow
+same_later : (x y : ℕ) (xs ys : List ℕ) → x ≡ y → ascend (x ∷ xs) ≡ true → ascend (y ∷ ys) ≡ true →
+    ((z : ℕ) → has_number z (x ∷ xs) ≡ has_number z (y ∷ ys)) → (z : ℕ) → has_number z xs ≡ has_number z ys
+same_later x y xs ys e a b h z =
+    same_later_by z x xs ys (z == x) refl a (ap (λ k. ascend (k ∷ ys)) e ∙ b) (h z ∙ sym (ap (λ k. has_number z (k ∷ ys)) e))
+
+-- numbers ascend in one way
+one_order : (xs ys : List ℕ) → ascend xs ≡ true → ascend ys ≡ true → ((z : ℕ) → has_number z xs ≡ has_number z ys) → xs ≡ ys
+one_order [] [] a b h = refl
+one_order [] (y ∷ ys) a b h = let none : false ≡ true = h y ∙ has_first y ys in cc
+one_order (x ∷ xs) [] a b h = let none : false ≡ true = sym (h x) ∙ has_first x xs in cc
+one_order (x ∷ xs) (y ∷ ys) a b h =
+    let e : x ≡ y = one_first x y xs ys a b (sym (h x) ∙ has_first x xs) (h y ∙ has_first y ys) in
+    ap₂ (λ k ks. k ∷ ks) e (one_order xs ys (later x xs a) (later y ys b) (same_later x y xs ys e a b h))
+
+-- the numbers at which a function is true are one list
+one_guard : (es fs : List ThinEntry) (f g : List ℕ) (xs ys : List ℕ) → es ≡ fs → f ≡ g → AreTrueAt es f xs → AreTrueAt fs g ys → xs ≡ ys
+one_guard es fs f g xs ys ee ef a b =
+    one_order xs ys a.ascending b.ascending (λ z. a.exactly z ∙ ap₂ (λ l k. is_true_at l k z) ee ef ∙ sym (b.exactly z))
+
+-- ---- whole readings
+
+-- a design with these hosts and switches
+abbrev with_numbers : Thin → List ℕ → List ℕ → Thin
+with_numbers t hosts switches = record t { hosts = hosts; switches = switches }
+
+-- a reading is its design with its hosts and switches
+of_bare : (t : Thin) → with_numbers (bare t) t.hosts t.switches ≡ t
+of_bare t = refl
+
+-- two readings of a design and its definitions are one
+pub one_reading : OneThinReading
+one_reading design defs t u a b =
+    let same = designs.one_reading design a.names b.names t u a.design_is b.design_is in
+    let entries : a.entries ≡ b.entries = one_entries defs a.names b.names a.entries b.entries a.defs_are b.defs_are in
+    let hosts : t.hosts ≡ u.hosts = one_guard a.entries b.entries a.names.host_guard b.names.host_guard t.hosts u.hosts entries (ap (λ (n : ThinNames). n.host_guard) same.0) a.hosts b.hosts in
+    let switches : t.switches ≡ u.switches = one_guard a.entries b.entries a.names.switch_guard b.names.switch_guard t.switches u.switches entries (ap (λ (n : ThinNames). n.switch_guard) same.0) a.switches b.switches in
+    sym (of_bare t) ∙ ap (λ d. with_numbers d t.hosts t.switches) same.1 ∙ ap₂ (λ hs ss. with_numbers (bare u) hs ss) hosts switches ∙ of_bare u

@@ -1,0 +1,9 @@
+pub mod Design
+pub mod Tables
+pub mod Val
+pub mod Runs
+pub mod Taken
+pub mod Typing
+pub mod ReadBack
+pub mod Rules
+pub mod DefsRules
