@@ -1,0 +1,9 @@
+//! The plain and slow program beside the definitions: packets bit by bit, one visit of a switch, and one run of the
+//! ingress role of a thin design. Each call computes what its definition says on small inputs, so that a table of cases
+//! speaks of the definitions themselves.
+#![tactic(auto)]
+
+mod bits;
+pub mod packet;
+
+pub use packet::{Entered, Packet};
