@@ -223,3 +223,21 @@ pub front_fit : (w : ℕ) (bits front : List ℕ) → w ≤ length bits → Fiel
 front_fit w bits front h f e =
     let long : length (take w bits) ≡ w = length-take-le w bits h in
     rw (e, long) (fit_front w bits h f)
+
+-- ---- the bits of fields as a whole
+
+length-cut : (ws : List ℕ) (n : ℕ) → length (cut ws n) ≡ length ws
+length-cut [] n = refl
+length-cut (w ∷ ws) n = ap suc (length-cut ws n)
+
+-- as many bits as the widths say
+pub bits_length : (ws ns bits : List ℕ) → bits ≡ bits_of ws ns → length bits ≡ total ws
+bits_length ws ns bits e = ap length e ∙ length-cut (ones (total ws)) (packed ws ns) ∙ length-replicate (total ws) 1
+
+-- each is a bit
+pub bits_fit : (ws ns bits : List ℕ) → bits ≡ bits_of ws ns → FieldsFit (ones (length bits)) bits
+bits_fit ws ns bits e = rw (bits_length ws ns bits e, e) (cut_fits (ones (total ws)) (packed ws ns))
+
+-- and they make the same number
+pub bits_number : (ws ns bits : List ℕ) → FieldsFit ws ns → bits ≡ bits_of ws ns → packed (ones (length bits)) bits ≡ packed ws ns
+bits_number ws ns bits f e = rw (bits_length ws ns bits e, e, packed-cut (ones (total ws)) (packed ws ns), total-ones (total ws)) (mod-eq_of_lt (packed_below ws ns f))

@@ -6,4 +6,4 @@
 mod bits;
 pub mod packet;
 
-pub use packet::{Entered, Packet};
+pub use packet::{Entered, Packet, enter, leave};

@@ -1,8 +1,13 @@
-//! Packets from bytes and back.
-ghost use Rattle.std.specs.Prelude.{◌≡◌, IfOk, IsTrue, option_map};
+//! Packets from bytes and back, bit by bit.
+ghost use Rattle.std.specs.Prelude.{◌≡◌, IfOk, IsTrue, length, option_map};
 ghost use Rattle.cocoon_num.specs.Packets as spec;
+ghost use Rattle.cocoon_num.specs.Packets.{bytes_of, FieldsFit, fields_of, PacketFits};
+ghost use Rattle.plain_runs.specs.Seen.{entered_of};
+ghost use Rattle.plain_runs.specs.Widths.{is_header, is_layout};
 
-use cocoon_num::List;
+use crate::bits::{bits_of_bytes, bits_of_fields, bytes_of_bits, fields_of_bits};
+use cocoon_num::{List, NoMemory};
+use std::alloc::Global;
 
 /// The numbers of the fields, header by header.
 pub type Packet = List<List<u64>>;
@@ -12,4 +17,87 @@ pub type Packet = List<List<u64>>;
 pub struct Entered {
     pub packet: Packet,
     pub payload: Vec<u8>,
+}
+
+/// How many bytes the fields of a header fill.
+fn byte_count(widths: &[u8]) -> u128
+    ensures { result ≡ spec.byte_count widths.now }
+{
+    let mut bits: u128 = 0;
+    for width in widths {
+        bits += u128::from(*width);
+    }
+    bits / 8
+}
+
+/// The fields of a header, of its bytes.
+fn header_fields(alloc: Global, widths: &[u8], bytes: &[u8]) -> Result<List<u64>, NoMemory>
+    requires header { IsTrue (is_header widths.now) }
+    requires long { spec.byte_count widths.now ≡ length bytes.now }
+    ensures { IfOk result (λ fields. fields ≡ fields_of widths.now bytes.now) }
+{
+    let bits = bits_of_bytes(alloc, bytes)?;
+    let fields = fields_of_bits(alloc, widths, &bits)?;
+    Ok(List::from(fields))
+}
+
+/// The bytes of a header, of its fields.
+fn header_bytes(alloc: Global, widths: &[u8], fields: &[u64]) -> Result<Vec<u8>, NoMemory>
+    requires header { IsTrue (is_header widths.now) }
+    requires fit { FieldsFit widths.now fields.now }
+    ensures { IfOk result (λ bytes. bytes.items ≡ bytes_of widths.now fields.now) }
+{
+    let bits = bits_of_fields(alloc, widths, fields)?;
+    let count = bits.len() / 8;
+    bytes_of_bits(alloc, &bits, count)
+}
+
+/// The packet of these headers that the bytes begin with, and the bytes behind it. `None` where the bytes are shorter
+/// than the headers. A field has 1 to 64 bits, and a header whole bytes.
+pub fn enter(
+    alloc: Global,
+    layout: &[List<u8>],
+    bytes: &[u8],
+) -> Result<Option<Entered>, NoMemory>
+    requires { IsTrue (is_layout layout.now) }
+    ensures { IfOk result (λ entered. option_map entered_of entered ≡ spec.enter layout.now bytes.now) }
+{
+    let mut packet = Vec::new(alloc);
+    let mut rest = bytes;
+    for widths in layout {
+        let count = byte_count(widths.items());
+        if (rest.len() as u128) < count {
+            return Ok(None);
+        }
+        let (header, behind) = rest.split_at(count as usize);
+        packet.push(header_fields(alloc, widths.items(), header)?)?;
+        rest = behind;
+    }
+    let payload = rest.to_vec(alloc)?;
+    Ok(Some(Entered {
+        packet: List::from(packet),
+        payload,
+    }))
+}
+
+/// The bytes of a packet of these headers, and of the payload behind it. A field has 1 to 64 bits, and a header whole
+/// bytes.
+pub fn leave(
+    alloc: Global,
+    layout: &[List<u8>],
+    packet: &Packet,
+    payload: &[u8],
+) -> Result<Vec<u8>, NoMemory>
+    requires layout { IsTrue (is_layout layout.now) }
+    requires fits { PacketFits layout.now packet.now }
+    ensures { IfOk result (λ bytes. bytes.items ≡ spec.leave layout.now packet.now payload.now) }
+{
+    let mut bytes = Vec::new(alloc);
+    let headers = packet.items();
+    for (place, widths) in layout.iter().enumerate() {
+        let header = header_bytes(alloc, widths.items(), headers[place].items())?;
+        bytes.extend_from_slice(&header)?;
+    }
+    bytes.extend_from_slice(payload)?;
+    Ok(bytes)
 }

@@ -1,0 +1,31 @@
+-- Headers that enter and leave one after another.
+use Rattle.std.specs.Prelude.{◌≡◌, ℕ, zero, suc, ◌+◌, ◌*◌, ◌/◌, ◌%◌, ◌^◌, ◌<◌, ◌≤◌, ◌==◌, ◌&&◌, nat_lt, Bool, true, false, List, [], ◌∷◌, ◌++◌, length, take, drop, Option, Some, None, option_map, cond, IsTrue, refl}
+use Rattle.std.proofs.Common.{eqb-true, sym, ◌∙◌, ap, subst, arith, get_or}
+use Rattle.std.proofs.lemmas.List.{drop_more, append_assoc}
+use Rattle.cocoon_num.specs.Packets.{Packet, Layout, total, packed, cut, eights, byte_count, fields_of, bytes_of, with_header, enter, leave, FieldsFit, PacketFits}
+use Rattle.cocoon_num.specs.Lists.{each}
+use Rattle.plain_runs.specs.Widths.{ones, bits_of, is_header, is_width}
+use Rattle.plain_runs.proofs.Packing.{packed-cut, packed_below, cut_fits, total-ones, total-eights, are_bytes}
+
+-- these headers stand before those that entered
+abbrev pub behind : Packet → Option (Packet × List ℕ) → Option (Packet × List ℕ)
+behind front entered = option_map (λ e. (front ++ e.0, e.1)) entered
+
+-- one header more has entered
+pub behind_push : (front : Packet) (fields : List ℕ) (o : Option (Packet × List ℕ)) → behind (front ++ fields ∷ []) o ≡ behind front (with_header fields o)
+behind_push front fields None = refl
+behind_push front fields (Some e) = ap (λ x. Some (x, e.1)) (append_assoc front (fields ∷ []) e.0)
+
+pub both_true : (a b : Bool) → IsTrue (a && b) → IsTrue a × IsTrue b
+both_true true b h = (refl, h)
+both_true false b h = cc h
+
+-- a header of so many bytes has eight times as many bits
+pub whole : (ws : List ℕ) (n : ℕ) → IsTrue (is_header ws) → byte_count ws ≡ n → total ws ≡ 8 * n
+whole ws n h e =
+    let none_left : total ws % 8 ≡ 0 = eqb-true (total ws % 8) 0 (both_true (each is_width ws) (total ws % 8 == 0) h).1 in
+    omega arith
+
+-- and of so many bits as many bytes are made
+pub whole_bits : (ws : List ℕ) (n : ℕ) → IsTrue (is_header ws) → n ≡ total ws → 8 * (n / 8) ≡ n
+whole_bits ws n h e = omega (arith, whole ws (byte_count ws) h refl)
