@@ -5,5 +5,8 @@
 
 mod bits;
 pub mod packet;
+pub mod role;
+pub mod visit;
 
 pub use packet::{Entered, Packet, enter, leave};
+pub use role::go;
