@@ -1,25 +1,32 @@
 -- Plain programs, and what the plain program computes of their ingress.
 use Rattle.std.specs.Prelude.{◌≡◌, ℕ, ◌==◌, ◌&&◌, Bool, true, false, List, [], ◌∷◌, slice_get, if◌then◌else◌, Option, Some, None, option_map, option_and_then, IsTrue, ◌<◌, ◌^◌}
 use Rattle.cocoon_num.specs.Packets.{Packet, Layout}
-use Rattle.cocoon_num.specs.Values.{Value, number, truth, equal}
+use Rattle.cocoon_num.specs.Values.{BinaryOp, equal}
 use Rattle.p4_emit.specs.P4Tree.{P4Expr, p_lit, p_truth, p_meta, p_field, p_port, p_rid, p_unary, p_binary, p_slice, p_pick, P4Stmt, set_meta, set_header, apply_table, p_if, p_if_else, verdict, egress_port, group, p_return, P4Block, p_done, p_then, Program, RowsFile, program_layout}
 use Rattle.plain_runs.specs.Widths.{is_layout}
 
--- literals, fields, and whether two such are equal
+abbrev pub is_equality : BinaryOp → Bool
+is_equality equal = true
+is_equality _ = false
+
+-- literals, truth values, fields, the port, and whether two such are equal
 abbrev pub is_plain_expr : P4Expr → Bool
 is_plain_expr (p_lit w n) = true
+is_plain_expr (p_truth b) = true
+is_plain_expr p_port = true
 is_plain_expr (p_field h f) = true
-is_plain_expr (p_binary equal a b) = is_plain_expr a && is_plain_expr b
+is_plain_expr (p_binary op a b) = is_equality op && (is_plain_expr a && is_plain_expr b)
 is_plain_expr _ = false
 
 abbrev pub is_width_of : ℕ → Option ℕ → Bool
 is_width_of width None = false
 is_width_of width (Some w) = w == width
 
--- a literal or a field of this width
+-- a literal, a field or a port of this width
 abbrev pub has_width : ℕ → Layout → P4Expr → Bool
 has_width width layout (p_lit w n) = w == width
 has_width width layout (p_field h f) = is_width_of width (option_and_then (λ ws. slice_get ws f) (slice_get layout h))
+has_width width layout p_port = 16 == width
 has_width width layout _ = false
 
 abbrev mutual

@@ -2,7 +2,8 @@
 ghost use Rattle.std.specs.Prelude.{◌≡◌, IfOk, IfSome, IsTrue, map, option_map};
 ghost use Rattle.cocoon_num.specs.Packets.{PacketFits};
 ghost use Rattle.p4_emit.specs.P4Tree.{field_widths, program_layout};
-ghost use Rattle.p4_emit.specs.Program.{block_of, expr_of, field_of, program_of, stmt_of};
+ghost use Rattle.p4_emit.specs.Program.{binary_of, block_of, expr_of, field_of, program_of, stmt_of};
+ghost use Rattle.plain_runs.specs.Plain as plain;
 ghost use Rattle.plain_runs.specs.Ingress as spec;
 ghost use Rattle.plain_runs.specs.Ingress.{IsNarrow};
 
@@ -84,18 +85,118 @@ fn equal(one: Option<Found>, other: Option<Found>) -> Option<Found>
     }
 }
 
-/// The value of an expression.
-fn value(layout: &[List<u8>], packet: &Packet, expr: &P4Expr) -> Option<Found>
+fn is_equality(op: &P4Binary) -> bool
+    ensures { result ≡ plain.is_equality (binary_of op.now) }
+{
+    matches!(op, P4Binary::Equal)
+}
+
+/// The value of an expression at a port, of a packet of these headers.
+fn value(layout: &[List<u8>], port: u16, packet: &Packet, expr: &P4Expr) -> Option<Found>
     requires { PacketFits layout.now packet.now }
-    ensures value { result ≡ spec.found layout.now packet.now (expr_of expr.now) }
+    ensures value { result ≡ spec.found layout.now port packet.now (expr_of expr.now) }
     ensures narrow { IfSome result IsNarrow }
 {
     match expr {
         P4Expr::Lit(bits) => Some(Found::Number(bits.width, bits.value)),
+        P4Expr::Truth(truth) => Some(Found::Truth(*truth)),
         P4Expr::Field(header, place) => field(layout, packet, *header, *place),
-        P4Expr::Binary(P4Binary::Equal, a, b) => {
-            equal(value(layout, packet, a), value(layout, packet, b))
+        P4Expr::Port => Some(Found::Number(16, u128::from(port))),
+        P4Expr::Binary(op, a, b) => {
+            if is_equality(op) {
+                equal(value(layout, port, packet, a), value(layout, port, packet, b))
+            } else {
+                None
+            }
         }
-        _ => None,
+        P4Expr::Meta(_) | P4Expr::Rid => None,
+        P4Expr::Unary(_, _) | P4Expr::Slice(_, _, _) | P4Expr::Pick(_, _, _) => None,
     }
+}
+
+fn truth_in(found: Option<Found>) -> Option<bool>
+    ensures { result ≡ spec.truth_in found }
+{
+    match found {
+        Some(Found::Truth(truth)) => Some(truth),
+        Some(Found::Number(_, _)) => None,
+        None => None,
+    }
+}
+
+/// The port that a number of 16 bits is.
+fn port_in(found: Option<Found>) -> Option<u16>
+    requires { IfSome found IsNarrow }
+    ensures { result ≡ spec.port_in found }
+{
+    match found {
+        Some(Found::Number(width, number)) => {
+            if width == 16 {
+                Some(number as u16)
+            } else {
+                None
+            }
+        }
+        Some(Found::Truth(_)) => None,
+        None => None,
+    }
+}
+
+/// How a statement ends that is run from this decision.
+#[cycle(run)]
+fn run(
+    layout: &[List<u8>],
+    port: u16,
+    packet: &Packet,
+    stmt: &P4Stmt,
+    decision: Decision,
+) -> Option<Ran>
+    requires { PacketFits layout.now packet.now }
+    ensures { result ≡ spec.ran layout.now port packet.now (stmt_of stmt.now) decision }
+{
+    match stmt {
+        P4Stmt::IfElse(condition, first, second) => {
+            if truth_in(value(layout, port, packet, condition))? {
+                run_block(layout, port, packet, first, decision)
+            } else {
+                run_block(layout, port, packet, second, decision)
+            }
+        }
+        P4Stmt::Verdict(verdict) => Some(Ran::GoesOn(Decision {
+            verdict: *verdict,
+            egress_port: decision.egress_port,
+        })),
+        P4Stmt::EgressPort(expr) => {
+            let egress_port = port_in(value(layout, port, packet, expr))?;
+            Some(Ran::GoesOn(Decision {
+                verdict: decision.verdict,
+                egress_port,
+            }))
+        }
+        P4Stmt::Return => Some(Ran::Returned(decision)),
+        P4Stmt::SetMeta(_, _) | P4Stmt::SetField(_, _, _) | P4Stmt::Apply(_) => None,
+        P4Stmt::If(_, _) | P4Stmt::Group(_) => None,
+    }
+}
+
+/// The same of statements, one after another.
+#[cycle(run)]
+fn run_block(
+    layout: &[List<u8>],
+    port: u16,
+    packet: &Packet,
+    stmts: &[P4Stmt],
+    start: Decision,
+) -> Option<Ran>
+    requires { PacketFits layout.now packet.now }
+    ensures { result ≡ spec.ran_all layout.now port packet.now (block_of (map stmt_of stmts.now)) start }
+{
+    let mut decision = start;
+    for stmt in stmts {
+        match run(layout, port, packet, stmt, decision)? {
+            Ran::GoesOn(next) => decision = next,
+            Ran::Returned(last) => return Some(Ran::Returned(last)),
+        }
+    }
+    Some(Ran::GoesOn(decision))
 }
