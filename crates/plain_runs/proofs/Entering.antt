@@ -1,5 +1,5 @@
 -- Headers that enter and leave one after another.
-use Rattle.std.specs.Prelude.{◌≡◌, ℕ, zero, suc, ◌+◌, ◌*◌, ◌/◌, ◌%◌, ◌^◌, ◌<◌, ◌≤◌, ◌==◌, ◌&&◌, nat_lt, Bool, true, false, List, [], ◌∷◌, ◌++◌, length, take, drop, Option, Some, None, option_map, cond, IsTrue, refl}
+use Rattle.std.specs.Prelude.{◌≡◌, ℕ, zero, suc, ◌+◌, ◌*◌, ◌/◌, ◌%◌, ◌^◌, ◌<◌, ◌≤◌, ◌==◌, ◌&&◌, nat_lt, Bool, true, false, List, [], ◌∷◌, ◌++◌, length, take, drop, Option, Some, None, option_map, cond, IfSome, IsTrue, refl}
 use Rattle.std.proofs.Common.{eqb-true, sym, ◌∙◌, ap, subst, arith, get_or}
 use Rattle.std.proofs.lemmas.List.{drop_more, append_assoc}
 use Rattle.cocoon_num.specs.Packets.{Packet, Layout, total, packed, cut, eights, byte_count, fields_of, bytes_of, with_header, enter, leave, FieldsFit, PacketFits}
@@ -29,3 +29,24 @@ whole ws n h e =
 -- and of so many bits as many bytes are made
 pub whole_bits : (ws : List ℕ) (n : ℕ) → IsTrue (is_header ws) → n ≡ total ws → 8 * (n / 8) ≡ n
 whole_bits ws n h e = omega (arith, whole ws (byte_count ws) h refl)
+
+header_fits : (ws fields : List ℕ) (layout : Layout) (o : Option (Packet × List ℕ)) → FieldsFit ws fields → IfSome o (λ e. PacketFits layout e.0)
+    → IfSome (with_header fields o) (λ e. PacketFits (ws ∷ layout) e.0)
+header_fits ws fields layout None f h = tt
+header_fits ws fields layout (Some e) f h = (f, h)
+
+test_fits : (b : Bool) (layout : Layout) (o : Option (Packet × List ℕ)) → IfSome o (λ e. PacketFits layout e.0) → IfSome (cond b None o) (λ e. PacketFits layout e.0)
+test_fits true layout o h = tt
+test_fits false layout o h = h
+
+-- the packet that enters has its layout
+pub enter_fits : (layout : Layout) (bytes : List ℕ) → IfSome (enter layout bytes) (λ e. PacketFits layout e.0)
+enter_fits [] bytes = tt
+enter_fits (ws ∷ layout) bytes =
+    test_fits (nat_lt (length bytes) (byte_count ws)) (ws ∷ layout) _
+        (header_fits ws _ layout (enter layout (drop (byte_count ws) bytes)) (cut_fits ws _) (enter_fits layout (drop (byte_count ws) bytes)))
+
+pub entered_fits : (layout : Layout) (bytes : List ℕ) (packet : Packet) (payload : List ℕ) → Some (packet, payload) ≡ enter layout bytes → PacketFits layout packet
+entered_fits layout bytes packet payload e =
+    let P : Option (Packet × List ℕ) → Type 0 = λ o. IfSome o (λ e. PacketFits layout e.0) in
+    subst P (sym e) (enter_fits layout bytes)

@@ -4,11 +4,11 @@ use Rattle.std.specs.Prelude.{ℕ, ◌==◌, ◌<◌, ◌^◌, Bool, true, false
 use Rattle.cocoon_num.specs.Packets.{Packet, Layout, enter, leave}
 use Rattle.p4_emit.specs.P4Tree.{P4Expr, p_lit, p_truth, p_field, p_port, p_binary, P4Stmt, p_if_else, verdict, egress_port, p_return, P4Block, p_done, p_then}
 use Rattle.plain_runs.specs.Plain.{is_equality}
-use Rattle.plain_runs.specs.declared.visit.Found.{Found}
-use Rattle.plain_runs.specs.declared.visit.Found.TheVariants.{Number, Truth}
-use Rattle.plain_runs.specs.declared.visit.Decision.{Decision}
-use Rattle.plain_runs.specs.declared.visit.Ran.{Ran}
-use Rattle.plain_runs.specs.declared.visit.Ran.TheVariants.{GoesOn, Returned}
+use Rattle.plain_runs.specs.declared.switch.Found.{Found}
+use Rattle.plain_runs.specs.declared.switch.Found.TheVariants.{Number, Truth}
+use Rattle.plain_runs.specs.declared.switch.Decision.{Decision}
+use Rattle.plain_runs.specs.declared.switch.Ran.{Ran}
+use Rattle.plain_runs.specs.declared.switch.Ran.TheVariants.{GoesOn, Returned}
 
 -- ---- expressions
 

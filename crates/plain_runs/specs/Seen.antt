@@ -1,5 +1,6 @@
 -- What the values of the code stand for.
-use Rattle.std.specs.Prelude.{ℕ, List, Vec, Global}
+use Rattle.std.specs.Prelude.{ℕ, List, Vec}
+use Rattle.std.specs.declared.alloc.Global.{Global}
 use Rattle.cocoon_num.specs.Packets.{Packet}
 use Rattle.plain_runs.specs.declared.packet.Entered.{Entered}
 

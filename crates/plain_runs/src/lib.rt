@@ -6,7 +6,8 @@
 mod bits;
 pub mod packet;
 pub mod role;
-pub mod visit;
+pub mod switch;
 
 pub use packet::{Entered, Packet, enter, leave};
 pub use role::go;
+pub use switch::visit;

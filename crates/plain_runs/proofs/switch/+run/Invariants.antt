@@ -1,7 +1,7 @@
 use Rattle.std.proofs.Common.{◌≡◌, drop, map}
 use Rattle.p4_emit.specs.Program.{stmt_of, block_of}
 use Rattle.plain_runs.specs.Ingress.{ran_all}
-use Rattle.plain_runs.proofs.visit.+run.Given as goal
+use Rattle.plain_runs.proofs.switch.+run.Given as goal
 
 -- from the decision so far the statements that are left end as all do
 abbrev pub invariant-run_block-loop-stmt : goal.invariant-run_block-loop-stmt

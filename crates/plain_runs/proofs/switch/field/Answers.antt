@@ -1,6 +1,6 @@
 use Rattle.std.proofs.Common.{◌≡◌, ℕ, ◌<◌, ◌^◌, length, ltb-true, sym}
 use Rattle.plain_runs.proofs.Narrow.{field_below}
-use Rattle.plain_runs.proofs.visit.field.Goals as goal
+use Rattle.plain_runs.proofs.switch.field.Goals as goal
 
 pub returns-clause-narrow : goal.returns-clause-narrow
 returns-clause-narrow c = λ fits.

@@ -1,4 +1,4 @@
-//! One visit of a switch that runs a plain program.
+//! One visit of a switch that runs a plain program over empty rows.
 ghost use Rattle.std.specs.Prelude.{◌≡◌, IfOk, IfSome, IsTrue, map, option_map};
 ghost use Rattle.cocoon_num.specs.Packets.{PacketFits};
 ghost use Rattle.p4_emit.specs.P4Tree.{field_widths, program_layout};
@@ -6,8 +6,12 @@ ghost use Rattle.p4_emit.specs.Program.{binary_of, block_of, expr_of, field_of, 
 ghost use Rattle.plain_runs.specs.Plain as plain;
 ghost use Rattle.plain_runs.specs.Ingress as spec;
 ghost use Rattle.plain_runs.specs.Ingress.{IsNarrow};
+ghost use Rattle.plain_runs.specs.Plain.{IsPlain, empty_rows};
+ghost use Rattle.plain_runs.specs.Seen.{entered_of, left_of};
+ghost use Rattle.plain_runs.specs.Widths.{is_layout};
+ghost use Rattle.p4_emit.specs.Switch.{switch_go};
 
-use crate::packet::Packet;
+use crate::packet::{Entered, Packet, enter, leave};
 use cocoon_num::{List, NoMemory};
 use p4_emit::{P4Binary, P4Expr, P4Field, P4Stmt, Program};
 use std::alloc::Global;
@@ -199,4 +203,83 @@ fn run_block(
         }
     }
     Some(Ran::GoesOn(decision))
+}
+
+/// What ingress decides of a packet that enters at a port.
+fn ingress(layout: &[List<u8>], port: u16, packet: &Packet, stmts: &[P4Stmt]) -> Option<Decision>
+    requires { PacketFits layout.now packet.now }
+    ensures { result ≡ spec.decided (spec.ran_all layout.now port packet.now (block_of (map stmt_of stmts.now)) spec.start) }
+{
+    let start = Decision {
+        verdict: 0,
+        egress_port: 0,
+    };
+    match run_block(layout, port, packet, stmts, start)? {
+        Ran::GoesOn(decision) => Some(decision),
+        Ran::Returned(decision) => Some(decision),
+    }
+}
+
+/// The port and the bytes of a packet by a decision.
+fn left(
+    alloc: Global,
+    layout: &[List<u8>],
+    entered: &Entered,
+    choices: &[u64],
+    decision: Decision,
+) -> Result<Option<(u16, Vec<u8>)>, NoMemory>
+    requires layout { IsTrue (is_layout layout.now) }
+    requires fits { PacketFits layout.now entered.now.packet }
+    ensures { IfOk result (λ left. option_map left_of left ≡ spec.left_by layout.now entered.now.packet entered.now.payload.items choices.now decision) }
+{
+    if !choices.is_empty() || decision.verdict != 1 {
+        return Ok(None);
+    }
+    let bytes = leave(alloc, layout, &entered.packet, &entered.payload)?;
+    Ok(Some((decision.egress_port, bytes)))
+}
+
+/// What leaves of a packet that has entered.
+fn passed(
+    alloc: Global,
+    layout: &[List<u8>],
+    port: u16,
+    stmts: &[P4Stmt],
+    choices: &[u64],
+    entered: &Entered,
+) -> Result<Option<(u16, Vec<u8>)>, NoMemory>
+    requires layout { IsTrue (is_layout layout.now) }
+    requires fits { PacketFits layout.now entered.now.packet }
+    ensures { IfOk result (λ left. option_map left_of left ≡ spec.passed layout.now port (block_of (map stmt_of stmts.now)) choices.now (entered_of entered.now)) }
+{
+    match ingress(layout, port, &entered.packet, stmts) {
+        Some(decision) => left(alloc, layout, entered, choices, decision),
+        None => Ok(None),
+    }
+}
+
+/// The port and the bytes that a switch sends of bytes that enter at a port, with these choices. The program is plain,
+/// and its rows have no table and no group. `None` where nothing leaves.
+pub fn visit(
+    alloc: Global,
+    program: &Program,
+    port: u16,
+    bytes: &[u8],
+    choices: &[u64],
+) -> Result<Option<(u16, Vec<u8>)>, NoMemory>
+    requires { IsPlain (program_of program.now) }
+    ensures { IfOk result (λ left. option_map left_of left ≡ switch_go (program_of program.now) empty_rows 0 port bytes.now choices.now) }
+{
+    let layout = layout(alloc, program)?;
+    match enter(alloc, &layout, bytes)? {
+        Some(entered) => passed(
+            alloc,
+            &layout,
+            port,
+            program.ingress.body.items(),
+            choices,
+            &entered,
+        ),
+        None => Ok(None),
+    }
 }
