@@ -1,7 +1,7 @@
 -- Headers that enter and leave one after another.
 use Rattle.std.specs.Prelude.{◌≡◌, ℕ, zero, suc, ◌+◌, ◌*◌, ◌/◌, ◌%◌, ◌^◌, ◌<◌, ◌≤◌, ◌==◌, ◌&&◌, nat_lt, Bool, true, false, List, [], ◌∷◌, ◌++◌, length, take, drop, Option, Some, None, option_map, cond, IfSome, IsTrue, refl}
 use Rattle.std.proofs.Common.{eqb-true, sym, ◌∙◌, ap, subst, arith, get_or}
-use Rattle.std.proofs.lemmas.List.{drop_more, append_assoc}
+use Rattle.std.proofs.lemmas.List.{drop_more, drop_all, append_assoc, append-nil}
 use Rattle.cocoon_num.specs.Packets.{Packet, Layout, total, packed, cut, eights, byte_count, fields_of, bytes_of, with_header, enter, leave, FieldsFit, PacketFits}
 use Rattle.cocoon_num.specs.Lists.{each}
 use Rattle.plain_runs.specs.Widths.{ones, bits_of, is_header, is_width}
@@ -50,3 +50,11 @@ pub entered_fits : (layout : Layout) (bytes : List ℕ) (packet : Packet) (paylo
 entered_fits layout bytes packet payload e =
     let P : Option (Packet × List ℕ) → Type 0 = λ o. IfSome o (λ e. PacketFits layout e.0) in
     subst P (sym e) (enter_fits layout bytes)
+
+-- where no header is left, those so far are a packet of the layout
+pub all_entered : (layout : Layout) (front : Packet) (bytes rest : List ℕ) (i : ℕ) → length layout ≤ i → behind front (enter (drop i layout) rest) ≡ enter layout bytes
+    → PacketFits layout front
+all_entered layout front bytes rest i h e =
+    let none : drop i layout ≡ [] = drop_all i layout h in
+    let all : Some (front ++ [], rest) ≡ enter layout bytes = ap (λ l. behind front (enter l rest)) (sym none) ∙ e in
+    subst (PacketFits layout) (append-nil front) (entered_fits layout bytes (front ++ []) rest all)

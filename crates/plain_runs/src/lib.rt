@@ -4,10 +4,14 @@
 #![tactic(auto)]
 
 mod bits;
+pub mod layouts;
 pub mod packet;
+pub mod plain;
 pub mod role;
 pub mod switch;
 
+pub use layouts::is_layout;
 pub use packet::{Entered, Packet, enter, leave};
+pub use plain::is_plain;
 pub use role::go;
 pub use switch::visit;

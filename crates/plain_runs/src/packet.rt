@@ -1,11 +1,12 @@
 //! Packets from bytes and back, bit by bit.
-ghost use Rattle.std.specs.Prelude.{◌≡◌, IfOk, IsTrue, length, option_map};
+ghost use Rattle.std.specs.Prelude.{◌≡◌, IfOk, IfSome, IsTrue, length, option_map};
 ghost use Rattle.cocoon_num.specs.Packets as spec;
 ghost use Rattle.cocoon_num.specs.Packets.{bytes_of, FieldsFit, fields_of, PacketFits};
 ghost use Rattle.plain_runs.specs.Seen.{entered_of};
 ghost use Rattle.plain_runs.specs.Widths.{is_header, is_layout};
 
 use crate::bits::{bits_of_bytes, bits_of_fields, bytes_of_bits, fields_of_bits};
+use crate::layouts::total;
 use cocoon_num::{List, NoMemory};
 use std::alloc::Global;
 
@@ -17,17 +18,6 @@ pub type Packet = List<List<u64>>;
 pub struct Entered {
     pub packet: Packet,
     pub payload: Vec<u8>,
-}
-
-/// How many bytes the fields of a header fill.
-fn byte_count(widths: &[u8]) -> u128
-    ensures { result ≡ spec.byte_count widths.now }
-{
-    let mut bits: u128 = 0;
-    for width in widths {
-        bits += u128::from(*width);
-    }
-    bits / 8
 }
 
 /// The fields of a header, of its bytes.
@@ -60,12 +50,13 @@ pub fn enter(
     bytes: &[u8],
 ) -> Result<Option<Entered>, NoMemory>
     requires { IsTrue (is_layout layout.now) }
-    ensures { IfOk result (λ entered. option_map entered_of entered ≡ spec.enter layout.now bytes.now) }
+    ensures enters { IfOk result (λ entered. option_map entered_of entered ≡ spec.enter layout.now bytes.now) }
+    ensures fits { IfOk result (λ entered. IfSome entered (λ e. PacketFits layout.now e.packet)) }
 {
     let mut packet = Vec::new(alloc);
     let mut rest = bytes;
     for widths in layout {
-        let count = byte_count(widths.items());
+        let count = total(widths.items()) / 8;
         if (rest.len() as u128) < count {
             return Ok(None);
         }

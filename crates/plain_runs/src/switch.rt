@@ -11,6 +11,8 @@ ghost use Rattle.plain_runs.specs.Seen.{entered_of, left_of};
 ghost use Rattle.plain_runs.specs.Widths.{is_layout};
 ghost use Rattle.p4_emit.specs.Switch.{switch_go};
 
+use crate::layouts::layout;
+use crate::plain::is_equality;
 use crate::packet::{Entered, Packet, enter, leave};
 use cocoon_num::{List, NoMemory};
 use p4_emit::{P4Binary, P4Expr, P4Field, P4Stmt, Program};
@@ -36,28 +38,6 @@ struct Decision {
 enum Ran {
     GoesOn(Decision),
     Returned(Decision),
-}
-
-/// The widths of the fields of a header.
-fn widths(alloc: Global, fields: &[P4Field]) -> Result<List<u8>, NoMemory>
-    ensures { IfOk result (λ ws. ws ≡ field_widths (map field_of fields.now)) }
-{
-    let mut widths = Vec::new(alloc);
-    for field in fields {
-        widths.push(field.width)?;
-    }
-    Ok(List::from(widths))
-}
-
-/// The widths of the fields, header by header.
-fn layout(alloc: Global, program: &Program) -> Result<Vec<List<u8>>, NoMemory>
-    ensures { IfOk result (λ v. v.items ≡ program_layout (program_of program.now)) }
-{
-    let mut layout = Vec::new(alloc);
-    for header in program.headers.items() {
-        layout.push(widths(alloc, header.fields.items())?)?;
-    }
-    Ok(layout)
 }
 
 /// The number in a field.
@@ -87,12 +67,6 @@ fn equal(one: Option<Found>, other: Option<Found>) -> Option<Found>
         }
         _ => None,
     }
-}
-
-fn is_equality(op: &P4Binary) -> bool
-    ensures { result ≡ plain.is_equality (binary_of op.now) }
-{
-    matches!(op, P4Binary::Equal)
 }
 
 /// The value of an expression at a port, of a packet of these headers.

@@ -15,14 +15,6 @@ entered_is : (layout held : Layout) (bytes : List ℕ) (entered : Entered) (foun
     → option_map entered_of found ≡ enter held bytes → held ≡ layout → Some (entered_of entered) ≡ enter layout bytes
 entered_is layout held bytes entered found e f h = ap (option_map entered_of) (sym e) ∙ f ∙ ap (λ l. enter l bytes) h
 
-pub passed-requires-clause-fits : goal.passed-requires-clause-fits
-passed-requires-clause-fits c =
-    let layout = program_layout (program_of c.args.program.now) in
-    let entered = c.in-Some.entered in
-    let e = entered_is layout _ c.args.bytes.now entered _ c.in-Some.is c.in_ok-entered.ensures (c.deref.ensures.value ∙ c.in_ok-layout.ensures) in
-    let held : c.deref-in-Some.result.now ≡ layout = c.deref-in-Some.ensures.value ∙ c.in_ok-layout.ensures in
-    rw held (entered_fits layout c.args.bytes.now entered.packet entered.payload.items e)
-
 pub returns-in-Some : goal.returns-in-Some
 returns-in-Some c =
     let p = program_of c.args.program.now in
@@ -31,7 +23,7 @@ returns-in-Some c =
     let choices = c.args.choices.now in
     let bytes = c.args.bytes.now in
     let entered = entered_of c.in-Some.entered in
-    let e = entered_is layout _ bytes c.in-Some.entered _ c.in-Some.is c.in_ok-entered.ensures (c.deref.ensures.value ∙ c.in_ok-layout.ensures) in
+    let e = entered_is layout _ bytes c.in-Some.entered _ c.in-Some.is c.in_ok-entered.ensures.enters (c.deref.ensures.value ∙ c.in_ok-layout.ensures) in
     let held : c.deref-in-Some.result.now ≡ layout = c.deref-in-Some.ensures.value ∙ c.in_ok-layout.ensures in
     IfOk-weaker c.passed.result _ _ (λ left h. h
         ∙ ap (λ l. passed l port (block_of (map stmt_of c.items.result.now)) choices entered) held

@@ -1,6 +1,6 @@
 use Rattle.std.proofs.Common.{◌≡◌, ◌≤◌, ◌+◌, ◌*◌, drop}
 use Rattle.cocoon_num.specs.Packets.{total}
-use Rattle.plain_runs.proofs.packet.byte_count.Given as goal
+use Rattle.plain_runs.proofs.layouts.total.Given as goal
 
 abbrev pub invariant-loop-width : goal.invariant-loop-width
 invariant-loop-width l = record {
