@@ -44,7 +44,7 @@ pub enter_fits : (layout : Layout) (bytes : List ℕ) → IfSome (enter layout b
 enter_fits [] bytes = tt
 enter_fits (ws ∷ layout) bytes =
     test_fits (nat_lt (length bytes) (byte_count ws)) (ws ∷ layout) _
-        (header_fits ws _ layout (enter layout (drop (byte_count ws) bytes)) (cut_fits ws _) (enter_fits layout (drop (byte_count ws) bytes)))
+    (header_fits ws _ layout (enter layout (drop (byte_count ws) bytes)) (cut_fits ws _) (enter_fits layout (drop (byte_count ws) bytes)))
 
 pub entered_fits : (layout : Layout) (bytes : List ℕ) (packet : Packet) (payload : List ℕ) → Some (packet, payload) ≡ enter layout bytes → PacketFits layout packet
 entered_fits layout bytes packet payload e =

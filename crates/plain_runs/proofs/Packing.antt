@@ -140,7 +140,7 @@ fields_next o s all ws ns i h f e l =
     let more : drop i ws ≡ get_or ws i 0 ∷ drop (i + 1) ws = drop_more ws i 0 h in
     let more' : drop i ns ≡ get_or ns i 0 ∷ drop (i + 1) ns = drop_more ns i 0 (omega arith) in
     rw e (fields_step o (get_or ws i 0) (get_or ns i 0) (drop (i + 1) ws) (drop (i + 1) ns) (fit-drop ws ns (i + 1) f)
-        ∙ ap (λ x. o ++ bits_of x (get_or ns i 0 ∷ drop (i + 1) ns)) (sym more) ∙ ap (λ x. o ++ bits_of (drop i ws) x) (sym more') ∙ l)
+    ∙ ap (λ x. o ++ bits_of x (get_or ns i 0 ∷ drop (i + 1) ns)) (sym more) ∙ ap (λ x. o ++ bits_of (drop i ws) x) (sym more') ∙ l)
 
 -- bytes are fields of eight bits
 pub are_bytes : (bs : List ℕ) → ((k : ℕ) → get_or bs k 0 < 256) → FieldsFit (eights (length bs)) bs
@@ -184,14 +184,14 @@ cut_step : (o ws : List ℕ) (w : ℕ) (bits : List ℕ) → w + total ws ≡ le
 cut_step o ws w bits h f =
     let back : length (drop w bits) ≡ total ws = length-drop w bits ∙ omega arith in
     let pair : packed (ones (length bits)) bits ≡ packed (ones w) (take w bits) * 2 ^ total ws + packed (ones (total ws)) (drop w bits)
-            = ap (λ m. packed (ones m) bits) (sym h) ∙ number_of_pair w (total ws) bits h in
+    = ap (λ m. packed (ones m) bits) (sym h) ∙ number_of_pair w (total ws) bits h in
     let low_fit : FieldsFit (ones (total ws)) (drop w bits) = subst (λ ms. FieldsFit ms (drop w bits)) (drop-replicate w (length bits) 1 ∙ ap ones (omega arith)) (fit-drop (ones (length bits)) bits w f) in
     let high_fit : FieldsFit (ones w) (take w bits) = subst (λ ms. FieldsFit ms (take w bits)) (take-replicate w (length bits) 1 (omega arith)) (fit-take (ones (length bits)) bits w f) in
     let low : packed (ones (total ws)) (drop w bits) < 2 ^ total ws = rw (total-ones (total ws)) at (packed_below (ones (total ws)) (drop w bits) low_fit) in
     let high : packed (ones w) (take w bits) < 2 ^ w = rw (total-ones w) at (packed_below (ones w) (take w bits) high_fit) in
     let head : packed (ones (length bits)) bits / 2 ^ total ws % 2 ^ w ≡ packed (ones w) (take w bits) = rw (pair, shr_high _ _ _ low) (mod-eq_of_lt high) in
     let tail : cut ws (packed (ones (length bits)) bits) ≡ cut ws (packed (ones (length (drop w bits))) (drop w bits))
-            = cut_same ws _ _ (ap (λ m. m % 2 ^ total ws) pair ∙ mod_low _ _ _ low ∙ sym (mod-eq_of_lt low) ∙ ap (λ m. packed (ones m) (drop w bits) % 2 ^ total ws) (sym back)) in
+    = cut_same ws _ _ (ap (λ m. m % 2 ^ total ws) pair ∙ mod_low _ _ _ low ∙ sym (mod-eq_of_lt low) ∙ ap (λ m. packed (ones m) (drop w bits) % 2 ^ total ws) (sym back)) in
     rw (head, tail) (append_assoc o (packed (ones w) (take w bits) ∷ []) (cut ws (packed (ones (length (drop w bits))) (drop w bits))))
 
 pub fit_front : (w : ℕ) (bits : List ℕ) → w ≤ length bits → FieldsFit (ones (length bits)) bits → FieldsFit (ones w) (take w bits)

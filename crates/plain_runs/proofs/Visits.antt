@@ -120,7 +120,7 @@ mutual
       let parts = both_true (is_plain_expr e) (is_plain_block (program_layout at.program) first && is_plain_block (program_layout at.program) second) h in
       let branches = both_true (is_plain_block (program_layout at.program) first) (is_plain_block (program_layout at.program) second) parts.1 in
       rw (value_is at (state_at s d) port e q parts.0)
-          (choose_is s (plain.found (program_layout at.program) port s.packet e) _ _ _ _ (run_all_is at s port first d q branches.0) (run_all_is at s port second d q branches.1))
+      (choose_is s (plain.found (program_layout at.program) port s.packet e) _ _ _ _ (run_all_is at s port first d q branches.0) (run_all_is at s port second d q branches.1))
   run_is at s port (verdict n) d q h = refl
   run_is at s port (egress_port e) d q h =
       rw (port_is at (state_at s d) port e q h) (set_port s d (plain.port_in (plain.found (program_layout at.program) port s.packet e)))
@@ -170,8 +170,8 @@ passed_is p port choices h (Some entered) =
     let s = first_state p entered.0 in
     let ran = run_all_is (ingress_place p port) s port p.ingress.body plain.start refl h in
     ap (λ x. option_and_then (after_ingress p empty_rows entered.1 choices) (option_map state_of x)) ran
-        ∙ ap (option_and_then (after_ingress p empty_rows entered.1 choices)) (decided_is s (plain.ran_all (program_layout p) port entered.0 p.ingress.body plain.start))
-        ∙ after_is p s entered.1 choices (plain.decided (plain.ran_all (program_layout p) port entered.0 p.ingress.body plain.start))
+    ∙ ap (option_and_then (after_ingress p empty_rows entered.1 choices)) (decided_is s (plain.ran_all (program_layout p) port entered.0 p.ingress.body plain.start))
+    ∙ after_is p s entered.1 choices (plain.decided (plain.ran_all (program_layout p) port entered.0 p.ingress.body plain.start))
 
 -- a visit is what passes of the packet that enters
 pub visit_is : (p : Program) (port : ℕ) (bytes choices : List ℕ) → IsTrue (is_plain p)

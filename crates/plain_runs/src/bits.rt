@@ -31,11 +31,7 @@ pub fn bits_of_bytes(alloc: Global, bytes: &[u8]) -> Result<Vec<u8>, NoMemory>
 }
 
 /// The bits of fields of these widths.
-pub fn bits_of_fields(
-    alloc: Global,
-    widths: &[u8],
-    fields: &[u64],
-) -> Result<Vec<u8>, NoMemory>
+pub fn bits_of_fields(alloc: Global, widths: &[u8], fields: &[u64]) -> Result<Vec<u8>, NoMemory>
     requires narrow { IsTrue (each is_width widths.now) }
     requires fit { FieldsFit widths.now fields.now }
     ensures { IfOk result (λ v. v.items ≡ bits_of widths.now fields.now) }
@@ -62,11 +58,7 @@ fn number(bits: &[u8]) -> u64
 }
 
 /// The fields of these widths that bits make, which are as many as the widths say.
-pub fn fields_of_bits(
-    alloc: Global,
-    widths: &[u8],
-    bits: &[u8],
-) -> Result<Vec<u64>, NoMemory>
+pub fn fields_of_bits(alloc: Global, widths: &[u8], bits: &[u8]) -> Result<Vec<u64>, NoMemory>
     requires narrow { IsTrue (each is_width widths.now) }
     requires long { total widths.now ≡ length bits.now }
     requires fit { FieldsFit (ones (length bits.now)) bits.now }

@@ -71,4 +71,3 @@ pub fn layout(alloc: Global, program: &Program) -> Result<Vec<List<u8>>, NoMemor
     }
     Ok(layout)
 }
-

@@ -9,6 +9,8 @@ pub mod packet;
 pub mod plain;
 pub mod role;
 pub mod switch;
+#[cfg(test)]
+mod tests;
 
 pub use layouts::is_layout;
 pub use packet::{Entered, Packet, enter, leave};

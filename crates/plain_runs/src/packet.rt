@@ -44,11 +44,7 @@ fn header_bytes(alloc: Global, widths: &[u8], fields: &[u64]) -> Result<Vec<u8>,
 
 /// The packet of these headers that the bytes begin with, and the bytes behind it. `None` where the bytes are shorter
 /// than the headers. A field has 1 to 64 bits, and a header whole bytes.
-pub fn enter(
-    alloc: Global,
-    layout: &[List<u8>],
-    bytes: &[u8],
-) -> Result<Option<Entered>, NoMemory>
+pub fn enter(alloc: Global, layout: &[List<u8>], bytes: &[u8]) -> Result<Option<Entered>, NoMemory>
     requires { IsTrue (is_layout layout.now) }
     ensures enters { IfOk result (λ entered. option_map entered_of entered ≡ spec.enter layout.now bytes.now) }
     ensures fits { IfOk result (λ entered. IfSome entered (λ e. PacketFits layout.now e.packet)) }

@@ -16,13 +16,7 @@ use cocoon_parse::visits::thin_roles_run;
 
 /// The port at which a packet leaves a switch that it enters at a port, with these choices. `None` where the ingress role
 /// has no such run.
-pub fn go(
-    thin: &Thin,
-    switch: u16,
-    port: u16,
-    packet: &Packet,
-    choices: &[u64],
-) -> Option<u16>
+pub fn go(thin: &Thin, switch: u16, port: u16, packet: &Packet, choices: &[u64]) -> Option<u16>
     ensures { (design defs : Items ℕ) (h : AreThin design defs thin.now) (to : Loc) (sent : packets.Packet) → Go (world 0 (thin_tree h.names thin.now) (thin_defs h.names thin.now h.entries)) (enters_at h.names switch port) packet.now choices.now to sent ↔ GoesTo h.names switch packet.now result to sent }
 {
     thin_roles_run();
@@ -30,13 +24,7 @@ pub fn go(
 }
 
 /// The same by the parts of the design.
-fn step(
-    thin: &Thin,
-    switch: u16,
-    port: u16,
-    packet: &Packet,
-    choices: &[u64],
-) -> Option<u16>
+fn step(thin: &Thin, switch: u16, port: u16, packet: &Packet, choices: &[u64]) -> Option<u16>
     ensures { result ≡ step_of thin.now switch port packet.now choices.now }
 {
     if !choices.is_empty() || !is_port(thin, switch, port) {

@@ -12,8 +12,8 @@ ghost use Rattle.plain_runs.specs.Widths.{is_layout};
 ghost use Rattle.p4_emit.specs.Switch.{switch_go};
 
 use crate::layouts::layout;
-use crate::plain::is_equality;
 use crate::packet::{Entered, Packet, enter, leave};
+use crate::plain::is_equality;
 use cocoon_num::{List, NoMemory};
 use p4_emit::{P4Binary, P4Expr, P4Field, P4Stmt, Program};
 use std::alloc::Global;
@@ -82,7 +82,10 @@ fn value(layout: &[List<u8>], port: u16, packet: &Packet, expr: &P4Expr) -> Opti
         P4Expr::Port => Some(Found::Number(16, u128::from(port))),
         P4Expr::Binary(op, a, b) => {
             if is_equality(op) {
-                equal(value(layout, port, packet, a), value(layout, port, packet, b))
+                equal(
+                    value(layout, port, packet, a),
+                    value(layout, port, packet, b),
+                )
             } else {
                 None
             }

@@ -26,7 +26,7 @@ returns-in-Some c =
     let e = entered_is layout _ bytes c.in-Some.entered _ c.in-Some.is c.in_ok-entered.ensures.enters (c.deref.ensures.value ∙ c.in_ok-layout.ensures) in
     let held : c.deref-in-Some.result.now ≡ layout = c.deref-in-Some.ensures.value ∙ c.in_ok-layout.ensures in
     IfOk-weaker c.passed.result _ _ (λ left h. h
-        ∙ ap (λ l. passed l port (block_of (map stmt_of c.items.result.now)) choices entered) held
-        ∙ ap (λ body. passed layout port (block_of (map stmt_of body)) choices entered) c.items.ensures
-        ∙ ap (option_and_then (passed layout port p.ingress.body choices)) e
-        ∙ sym (visit_is p port bytes choices c.requires)) c.passed.ensures
+    ∙ ap (λ l. passed l port (block_of (map stmt_of c.items.result.now)) choices entered) held
+    ∙ ap (λ body. passed layout port (block_of (map stmt_of body)) choices entered) c.items.ensures
+    ∙ ap (option_and_then (passed layout port p.ingress.body choices)) e
+    ∙ sym (visit_is p port bytes choices c.requires)) c.passed.ensures
