@@ -1,11 +1,11 @@
 -- Headers that enter and leave one after another.
-use Rattle.std.specs.Prelude.{◌≡◌, ℕ, zero, suc, ◌+◌, ◌*◌, ◌/◌, ◌%◌, ◌^◌, ◌<◌, ◌≤◌, ◌==◌, ◌&&◌, nat_lt, Bool, true, false, List, [], ◌∷◌, ◌++◌, length, take, drop, Option, Some, None, option_map, cond, IfSome, IsTrue, refl}
-use Rattle.std.proofs.Common.{eqb-true, sym, ◌∙◌, ap, subst, arith, get_or}
-use Rattle.std.proofs.lemmas.List.{drop_more, drop_all, append_assoc, append-nil}
-use Rattle.cocoon_num.specs.Packets.{Packet, Layout, total, packed, cut, eights, byte_count, fields_of, bytes_of, with_header, enter, leave, FieldsFit, PacketFits}
+use Rattle.std.specs.Prelude.{◌≡◌, ℕ, ◌*◌, ◌/◌, ◌%◌, ◌≤◌, ◌==◌, ◌&&◌, nat_lt, Bool, true, false, List, [], ◌∷◌, ◌++◌, length, drop, Option, Some, None, option_map, cond, IfSome, IsTrue, refl}
+use Rattle.std.proofs.Common.{eqb-true, sym, ◌∙◌, ap, subst, arith}
+use Rattle.std.proofs.lemmas.List.{drop_all, append_assoc, append-nil}
+use Rattle.cocoon_num.specs.Packets.{Packet, Layout, total, byte_count, with_header, enter, FieldsFit, PacketFits}
 use Rattle.cocoon_num.specs.Lists.{each}
-use Rattle.plain_runs.specs.Widths.{ones, bits_of, is_header, is_width}
-use Rattle.plain_runs.proofs.Packing.{packed-cut, packed_below, cut_fits, total-ones, total-eights, are_bytes}
+use Rattle.plain_runs.specs.Widths.{is_header, is_width}
+use Rattle.plain_runs.proofs.Packing.{cut_fits}
 
 -- these headers stand before those that entered
 abbrev pub behind : Packet → Option (Packet × List ℕ) → Option (Packet × List ℕ)

@@ -1,6 +1,6 @@
 -- Numbers of a packet fit their widths.
 use Rattle.std.specs.Prelude.{◌≡◌, ℕ, zero, suc, ◌<◌, ◌^◌, List, [], ◌∷◌, length}
-use Rattle.std.proofs.Common.{arith, get_or, subst, sym}
+use Rattle.std.proofs.Common.{arith, get_or}
 use Rattle.cocoon_num.specs.Packets.{Packet, Layout, FieldsFit, PacketFits}
 
 field_at : (ws ns : List ℕ) (f d e : ℕ) → FieldsFit ws ns → f < length ws → get_or ns f e < 2 ^ get_or ws f d

@@ -1,11 +1,11 @@
 -- Numbers packed by their widths, cut again, and cut into bits.
-use Rattle.std.specs.Prelude.{◌≡◌, ℕ, zero, suc, ◌+◌, ◌-◌, ◌*◌, ◌/◌, ◌%◌, ◌^◌, ◌<◌, ◌≤◌, Bool, true, false, List, [], ◌∷◌, ◌++◌, length, take, drop, replicate, refl}
+use Rattle.std.specs.Prelude.{◌≡◌, ℕ, zero, suc, ◌+◌, ◌-◌, ◌*◌, ◌/◌, ◌%◌, ◌^◌, ◌<◌, ◌≤◌, List, [], ◌∷◌, ◌++◌, length, take, drop, refl}
 use Rattle.std.proofs.Common.{sym, ◌∙◌, ap, subst, arith, get_or, add-one}
 use Rattle.std.proofs.lemmas.List.{take-append-drop, replicate-append-replicate, length-replicate, length-drop, get_or-drop, drop-replicate, take-replicate, drop_more, length-take-le, append_assoc}
 use Rattle.std.proofs.lemmas.Nat.{pow-add, mod-pow-add, field_of, mod_low, shr_high, shr-shr}
 use Rattle.std.proofs.Math.Pow.{pow_pos}
 use Rattle.std.proofs.Math.Nat.{mod-eq_of_lt, mod-lt, pow-le-pow_right, pow-suc}
-use Rattle.cocoon_num.specs.Packets.{total, packed, cut, eights, FieldsFit, byte_count, fields_of, bytes_of}
+use Rattle.cocoon_num.specs.Packets.{total, packed, cut, eights, FieldsFit}
 use Rattle.plain_runs.specs.Widths.{ones, bits_of}
 
 low_of : (w k n : ℕ) → n % 2 ^ (w + k) % 2 ^ k ≡ n % 2 ^ k

@@ -1,6 +1,6 @@
 -- The step by the parts is the answer of the plain program.
 use Rattle.std.specs.Prelude.{◌≡◌, ◌↔◌, ℕ, Bool, true, false, List, [], ◌∷◌, Option, Some, None, cond, IsTrue, refl}
-use Rattle.std.proofs.Common.{sym, ◌∙◌, ap, subst}
+use Rattle.std.proofs.Common.{sym, ◌∙◌, subst}
 use Rattle.cocoon_num.specs.Packets.{Packet}
 use Rattle.cocoon_parse.specs.declared.parts.Thin.{Thin}
 use Rattle.cocoon_parse.specs.Runs.{Loc}

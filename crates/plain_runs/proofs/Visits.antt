@@ -1,12 +1,12 @@
 -- The visit of a switch by the definition, and by the plain program.
-use Rattle.std.specs.Prelude.{◌≡◌, ℕ, zero, suc, ◌==◌, ◌&&◌, Bool, true, false, List, [], ◌∷◌, replicate, length, slice_get, cond, Option, Some, None, option_map, option_and_then, IsTrue, refl}
-use Rattle.std.proofs.Common.{sym, ◌∙◌, ap, subst, eqb-true}
-use Rattle.cocoon_num.specs.Values.{Value, number, truth, number_of, of_unary, of_binary, of_one_width, with_both, flip, not_, BinaryOp, add, sub, bits_and, bits_or, bits_xor, concat, equal, unequal, less, less_equal, greater, greater_equal, and_, or_, implies}
-use Rattle.cocoon_num.specs.Packets.{Packet, Layout, enter, leave, PacketFits}
-use Rattle.p4_emit.specs.P4Tree.{P4Expr, p_lit, p_truth, p_meta, p_field, p_port, p_rid, p_unary, p_binary, p_slice, p_pick, P4Stmt, set_meta, set_header, apply_table, p_if, p_if_else, verdict, egress_port, group, p_return, P4Block, p_done, p_then, Program, program_layout, RowsFile}
-use Rattle.p4_emit.specs.Switch.{Left, State, Place, Ran, goes_on, returned, p4_value, header_field, numbered, both, p4_run, p4_run_all, setting, choose, then_run, state_of, ingress_of, after_ingress, switch_go, sent_by, copied}
+use Rattle.std.specs.Prelude.{◌≡◌, ℕ, ◌==◌, ◌&&◌, Bool, true, false, List, [], ◌∷◌, replicate, length, slice_get, cond, Option, Some, None, option_map, option_and_then, IsTrue, refl}
+use Rattle.std.proofs.Common.{◌∙◌, ap}
+use Rattle.cocoon_num.specs.Values.{Value, number, truth, number_of, of_binary, with_both, equal}
+use Rattle.cocoon_num.specs.Packets.{Packet, Layout, enter}
+use Rattle.p4_emit.specs.P4Tree.{P4Expr, p_lit, p_truth, p_field, p_port, p_binary, P4Stmt, p_if_else, verdict, egress_port, p_return, P4Block, p_done, p_then, Program, program_layout}
+use Rattle.p4_emit.specs.Switch.{Left, State, Place, Ran, goes_on, returned, p4_value, header_field, numbered, both, p4_run, p4_run_all, choose, then_run, state_of, ingress_of, after_ingress, switch_go}
 use Rattle.plain_runs.specs.Ingress as plain
-use Rattle.plain_runs.specs.Plain.{is_equality, is_plain_expr, is_width_of, has_width, is_plain_stmt, is_plain_block, is_plain, empty_rows}
+use Rattle.plain_runs.specs.Plain.{is_plain_expr, is_width_of, has_width, is_plain_stmt, is_plain_block, is_plain, empty_rows}
 use Rattle.plain_runs.specs.declared.switch.Found.{Found}
 use Rattle.plain_runs.specs.declared.switch.Found.TheVariants.{Number, Truth}
 use Rattle.plain_runs.specs.declared.switch.Decision.{Decision}

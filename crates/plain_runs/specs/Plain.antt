@@ -1,8 +1,8 @@
 -- Plain programs, and what the plain program computes of their ingress.
-use Rattle.std.specs.Prelude.{◌≡◌, ℕ, ◌==◌, ◌&&◌, Bool, true, false, List, [], ◌∷◌, slice_get, if◌then◌else◌, Option, Some, None, option_map, option_and_then, IsTrue, ◌<◌, ◌^◌}
-use Rattle.cocoon_num.specs.Packets.{Packet, Layout}
+use Rattle.std.specs.Prelude.{ℕ, ◌==◌, ◌&&◌, Bool, true, false, [], slice_get, Option, Some, None, option_and_then, IsTrue}
+use Rattle.cocoon_num.specs.Packets.{Layout}
 use Rattle.cocoon_num.specs.Values.{BinaryOp, equal}
-use Rattle.p4_emit.specs.P4Tree.{P4Expr, p_lit, p_truth, p_meta, p_field, p_port, p_rid, p_unary, p_binary, p_slice, p_pick, P4Stmt, set_meta, set_header, apply_table, p_if, p_if_else, verdict, egress_port, group, p_return, P4Block, p_done, p_then, Program, RowsFile, program_layout}
+use Rattle.p4_emit.specs.P4Tree.{P4Expr, p_lit, p_truth, p_field, p_port, p_binary, P4Stmt, p_if_else, verdict, egress_port, p_return, P4Block, p_done, p_then, Program, RowsFile, program_layout}
 use Rattle.plain_runs.specs.Widths.{is_layout}
 
 abbrev pub is_equality : BinaryOp → Bool

@@ -43,7 +43,7 @@ fn header_bytes(alloc: Global, widths: &[u8], fields: &[u64]) -> Result<Vec<u8>,
 }
 
 /// The packet of these headers that the bytes begin with, and the bytes behind it. `None` where the bytes are shorter
-/// than the headers. A field has 1 to 64 bits, and a header whole bytes.
+/// than the headers. The layout has a list of widths for each header, as `is_layout` tests it.
 pub fn enter(alloc: Global, layout: &[List<u8>], bytes: &[u8]) -> Result<Option<Entered>, NoMemory>
     requires { IsTrue (is_layout layout.now) }
     ensures enters { IfOk result (λ entered. option_map entered_of entered ≡ spec.enter layout.now bytes.now) }
@@ -67,8 +67,7 @@ pub fn enter(alloc: Global, layout: &[List<u8>], bytes: &[u8]) -> Result<Option<
     }))
 }
 
-/// The bytes of a packet of these headers, and of the payload behind it. A field has 1 to 64 bits, and a header whole
-/// bytes.
+/// The bytes of a packet of these headers, and then the payload. The layout is as `is_layout` tests it.
 pub fn leave(
     alloc: Global,
     layout: &[List<u8>],

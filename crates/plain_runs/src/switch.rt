@@ -235,8 +235,8 @@ fn passed(
     }
 }
 
-/// The port and the bytes that a switch sends of bytes that enter at a port, with these choices. The program is plain,
-/// and its rows have no table and no group. `None` where nothing leaves.
+/// The port and the bytes that a switch sends of bytes that enter at a port, with these choices. `None` where nothing
+/// leaves. The program is plain, as `is_plain` tests it, and its rows have no table and no group.
 pub fn visit(
     alloc: Global,
     program: &Program,

@@ -1,4 +1,4 @@
-use Rattle.std.proofs.Common.{◌≡◌, ◌-◌, ◌++◌, length, drop}
+use Rattle.std.proofs.Common.{◌≡◌, ◌++◌, length, drop}
 use Rattle.cocoon_num.specs.Packets.{eights}
 use Rattle.plain_runs.specs.Widths.{bits_of}
 use Rattle.plain_runs.proofs.bits.bits_of_bytes.Given as goal

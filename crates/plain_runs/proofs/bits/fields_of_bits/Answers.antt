@@ -1,7 +1,7 @@
-use Rattle.std.proofs.Common.{suc, rules, ◌≡◌, ◌+◌, ◌*◌, ◌<◌, ◌≤◌, ◌++◌, ◌^◌, IfOk, IsTrue, OnOk, length, ℕ, ◌-◌, ◌/◌, ◌%◌, drop, take, get_or, arith, ap, sym, ◌∙◌, subst, List, [], ◌∷◌}
+use Rattle.std.proofs.Common.{◌≡◌, ◌+◌, length, drop, get_or, arith, ◌∷◌}
 use Rattle.std.proofs.lemmas.List.{drop_more}
-use Rattle.cocoon_num.specs.Packets.{cut, eights, FieldsFit, packed, total}
-use Rattle.plain_runs.specs.Widths.{bits_of, is_width, ones}
+use Rattle.cocoon_num.specs.Packets.{cut, packed}
+use Rattle.plain_runs.specs.Widths.{ones}
 use Rattle.plain_runs.proofs.Packing as packing
 use Rattle.plain_runs.proofs.bits.fields_of_bits.Goals as goal
 

@@ -1,6 +1,4 @@
-use Rattle.std.proofs.Common.{rules, ◌≡◌, ◌+◌, ◌*◌, ◌<◌, ◌≤◌, ◌++◌, ◌^◌, IfOk, IsTrue, OnOk, length, ℕ, ◌-◌, ◌/◌, ◌%◌, drop, take, get_or, arith, ap, sym, ◌∙◌, subst, List, [], ◌∷◌}
-use Rattle.cocoon_num.specs.Packets.{cut, eights, FieldsFit, packed, total}
-use Rattle.plain_runs.specs.Widths.{bits_of, is_width, ones}
+use Rattle.std.proofs.Common.{◌+◌, ◌*◌, ◌<◌, ◌^◌, arith}
 use Rattle.plain_runs.proofs.Packing as packing
 use Rattle.plain_runs.proofs.bits.number.Goals as goal
 

@@ -1,5 +1,3 @@
-use Rattle.std.proofs.Common.{sym}
-use Rattle.cocoon_num.specs.Packets.{PacketFits}
 use Rattle.plain_runs.proofs.Entering.{all_entered}
 use Rattle.plain_runs.proofs.packet.enter.Goals as goal
 

@@ -1,6 +1,6 @@
-use Rattle.std.proofs.Common.{rules, ◌≡◌, ◌+◌, ◌*◌, ◌<◌, ◌≤◌, ◌++◌, IfOk, IsTrue, length, ℕ, ◌/◌, drop, take, get_or, arith, ap, sym, ◌∙◌, List, [], ◌∷◌}
-use Rattle.cocoon_num.specs.Packets.{cut, eights, FieldsFit, packed, total, byte_count}
-use Rattle.plain_runs.specs.Widths.{bits_of, ones}
+use Rattle.std.proofs.Common.{◌≡◌, length, ◌/◌, ap, sym, ◌∙◌}
+use Rattle.cocoon_num.specs.Packets.{cut, eights, packed, total, byte_count}
+use Rattle.plain_runs.specs.Widths.{ones}
 use Rattle.plain_runs.proofs.Packing as packing
 use Rattle.plain_runs.proofs.Entering as entering
 use Rattle.std.proofs.lemmas.Result.{IfOk-weaker}

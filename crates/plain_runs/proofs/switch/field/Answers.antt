@@ -1,4 +1,4 @@
-use Rattle.std.proofs.Common.{◌≡◌, ℕ, ◌<◌, ◌^◌, length, ltb-true, sym}
+use Rattle.std.proofs.Common.{ltb-true, sym}
 use Rattle.plain_runs.proofs.Narrow.{field_below}
 use Rattle.plain_runs.proofs.switch.field.Goals as goal
 

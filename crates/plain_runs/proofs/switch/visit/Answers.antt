@@ -1,12 +1,11 @@
-use Rattle.std.proofs.Common.{◌≡◌, ℕ, List, map, Option, Some, None, option_map, option_and_then, IfOk, IfSome, sym, ◌∙◌, ap, subst, rules}
+use Rattle.std.proofs.Common.{◌≡◌, ℕ, List, map, Option, Some, option_map, option_and_then, sym, ◌∙◌, ap}
 use Rattle.std.proofs.lemmas.Result.{IfOk-weaker}
-use Rattle.cocoon_num.specs.Packets.{Packet, Layout, enter, PacketFits}
+use Rattle.cocoon_num.specs.Packets.{Layout, enter}
 use Rattle.p4_emit.specs.P4Tree.{program_layout}
 use Rattle.p4_emit.specs.Program.{block_of, program_of, stmt_of}
 use Rattle.plain_runs.specs.Ingress.{passed}
 use Rattle.plain_runs.specs.Seen.{entered_of}
 use Rattle.plain_runs.specs.declared.packet.Entered.{Entered}
-use Rattle.plain_runs.proofs.Entering.{entered_fits}
 use Rattle.plain_runs.proofs.Visits.{visit_is}
 use Rattle.plain_runs.proofs.switch.visit.Goals as goal
 
