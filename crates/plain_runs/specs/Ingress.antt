@@ -17,6 +17,7 @@ abbrev pub IsNarrow : Found → Type 0
 IsNarrow (Number w n) = n < 2 ^ w
 IsNarrow (Truth b) = Unit {0}
 
+-- a number with its width, where both are there
 abbrev pub found_both : Option ℕ → Option ℕ → Option Found
 found_both None n = None
 found_both (Some w) None = None
@@ -32,6 +33,7 @@ abbrev pub found_equal : Option Found → Option Found → Option Found
 found_equal (Some (Number v a)) (Some (Number w b)) = if v == w then Some (Truth (a == b)) else None
 found_equal _ _ = None
 
+-- the value of an expression at a port, of a packet
 abbrev pub found : Layout → (port : ℕ) → Packet → P4Expr → Option Found
 found layout port packet (p_lit w n) = Some (Number w n)
 found layout port packet (p_truth b) = Some (Truth b)
@@ -40,6 +42,7 @@ found layout port packet p_port = Some (Number 16 port)
 found layout port packet (p_binary op a b) = if is_equality op then found_equal (found layout port packet a) (found layout port packet b) else None
 found layout port packet _ = None
 
+-- a truth value that was found
 abbrev pub truth_in : Option Found → Option Bool
 truth_in (Some (Truth b)) = Some b
 truth_in _ = None
@@ -51,17 +54,20 @@ port_in _ = None
 
 -- ---- statements
 
+-- the first way where the truth is there and true, the second where it is false
 abbrev pub chosen : Option Bool → Option Ran → Option Ran → Option Ran
 chosen (Some true) a b = a
 chosen (Some false) a b = b
 chosen None a b = None
 
+-- goes on with the decision of a way that did not return
 abbrev pub and_then : Option Ran → (Decision → Option Ran) → Option Ran
 and_then None f = None
 and_then (Some (GoesOn d)) f = f d
 and_then (Some (Returned d)) f = Some (Returned d)
 
 abbrev mutual
+  -- how a statement ends that is run from a decision
   pub ran : Layout → (port : ℕ) → Packet → P4Stmt → Decision → Option Ran
   ran layout port packet (p_if_else e first second) d = chosen (truth_in (found layout port packet e)) (ran_all layout port packet first d) (ran_all layout port packet second d)
   ran layout port packet (verdict n) d = Some (GoesOn (record d { verdict = n }))
@@ -69,17 +75,20 @@ abbrev mutual
   ran layout port packet p_return d = Some (Returned d)
   ran layout port packet _ d = None
 
+  -- the same of statements, one after another
   pub ran_all : Layout → (port : ℕ) → Packet → P4Block → Decision → Option Ran
   ran_all layout port packet p_done d = Some (GoesOn d)
   ran_all layout port packet (p_then first rest) d = and_then (ran layout port packet first d) (ran_all layout port packet rest)
 
 -- ---- a visit
 
+-- the decision of a way, however it ended
 abbrev pub decided : Option Ran → Option Decision
 decided None = None
 decided (Some (GoesOn d)) = Some d
 decided (Some (Returned d)) = Some d
 
+-- before ingress nothing is decided
 abbrev pub start : Decision
 start = record { verdict = 0; egress_port = 0 }
 

@@ -5,6 +5,7 @@ use Rattle.cocoon_num.specs.Values.{BinaryOp, equal}
 use Rattle.p4_emit.specs.P4Tree.{P4Expr, p_lit, p_truth, p_field, p_port, p_binary, P4Stmt, p_if_else, verdict, egress_port, p_return, P4Block, p_done, p_then, Program, RowsFile, program_layout}
 use Rattle.plain_runs.specs.Widths.{is_layout}
 
+-- the operator tests whether two values are equal
 abbrev pub is_equality : BinaryOp → Bool
 is_equality equal = true
 is_equality _ = false
@@ -18,6 +19,7 @@ is_plain_expr (p_field h f) = true
 is_plain_expr (p_binary op a b) = is_equality op && (is_plain_expr a && is_plain_expr b)
 is_plain_expr _ = false
 
+-- there is a width, and it is this one
 abbrev pub is_width_of : ℕ → Option ℕ → Bool
 is_width_of width None = false
 is_width_of width (Some w) = w == width
@@ -38,6 +40,7 @@ abbrev mutual
   is_plain_stmt layout p_return = true
   is_plain_stmt layout _ = false
 
+  -- all of them
   pub is_plain_block : Layout → P4Block → Bool
   is_plain_block layout p_done = true
   is_plain_block layout (p_then first rest) = is_plain_stmt layout first && is_plain_block layout rest
@@ -47,6 +50,7 @@ abbrev mutual
 abbrev pub is_plain : Program → Bool
 is_plain p = is_layout (program_layout p) && is_plain_block (program_layout p) p.ingress.body
 
+-- the program is plain
 abbrev pub IsPlain : Program → Type 0
 IsPlain p = IsTrue (is_plain p)
 
