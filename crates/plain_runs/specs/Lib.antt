@@ -1,0 +1,5 @@
+pub mod Ingress
+pub mod Plain
+pub mod Role
+pub mod Seen
+pub mod Widths

@@ -1,0 +1,262 @@
+//! One visit of a switch that runs a plain program over empty rows.
+ghost use Rattle.std.specs.Prelude.{◌≡◌, IfOk, IfSome, IsTrue, map, option_map};
+ghost use Rattle.cocoon_num.specs.Packets.{PacketFits};
+ghost use Rattle.p4_emit.specs.P4Tree.{field_widths, no_rows, program_layout};
+ghost use Rattle.p4_emit.specs.Program.{binary_of, block_of, expr_of, field_of, program_of, stmt_of};
+ghost use Rattle.plain_runs.specs.Plain as plain;
+ghost use Rattle.plain_runs.specs.Ingress as spec;
+ghost use Rattle.plain_runs.specs.Ingress.{IsNarrow};
+ghost use Rattle.plain_runs.specs.Plain.{IsPlain};
+ghost use Rattle.plain_runs.specs.Seen.{entered_of, left_of};
+ghost use Rattle.plain_runs.specs.Widths.{is_layout};
+ghost use Rattle.p4_emit.specs.Switch.{switch_go};
+
+use crate::layouts::layout;
+use crate::packet::{Entered, Packet, enter, leave};
+use crate::plain::is_equality;
+use cocoon_num::{List, NoMemory};
+use p4_emit::{P4Binary, P4Expr, P4Field, P4Stmt, Program};
+use std::alloc::Global;
+
+/// The value of an expression.
+#[derive(Clone, Copy, Drop)]
+enum Found {
+    /// A number of a width in bits.
+    Number(u8, u128),
+    Truth(bool),
+}
+
+/// What a control has decided so far.
+#[derive(Clone, Copy, Drop)]
+struct Decision {
+    verdict: u8,
+    egress_port: u16,
+}
+
+/// How statements end.
+#[derive(Clone, Copy, Drop)]
+enum Ran {
+    GoesOn(Decision),
+    Returned(Decision),
+}
+
+/// The number in a field.
+fn field(layout: &[List<u8>], packet: &Packet, header: u32, field: u32) -> Option<Found>
+    ensures value { result ≡ spec.found_field layout.now packet.now header field }
+    ensures narrow { PacketFits layout.now packet.now → IfSome result IsNarrow }
+{
+    let widths = layout.get(header as usize)?;
+    let numbers = packet.items().get(header as usize)?;
+    let width = widths.items().get(field as usize)?;
+    let number = numbers.items().get(field as usize)?;
+    Some(Found::Number(*width, u128::from(*number)))
+}
+
+/// Whether two numbers of one width are equal.
+fn equal(one: Option<Found>, other: Option<Found>) -> Option<Found>
+    ensures value { result ≡ spec.found_equal one other }
+    ensures narrow { IfSome result IsNarrow }
+{
+    match (one, other) {
+        (Some(Found::Number(v, a)), Some(Found::Number(w, b))) => {
+            if v == w {
+                Some(Found::Truth(a == b))
+            } else {
+                None
+            }
+        }
+        _ => None,
+    }
+}
+
+/// The value of an expression at a port, of a packet of these headers.
+fn value(layout: &[List<u8>], port: u16, packet: &Packet, expr: &P4Expr) -> Option<Found>
+    requires { PacketFits layout.now packet.now }
+    ensures value { result ≡ spec.found layout.now port packet.now (expr_of expr.now) }
+    ensures narrow { IfSome result IsNarrow }
+{
+    match expr {
+        P4Expr::Lit(bits) => Some(Found::Number(bits.width, bits.value)),
+        P4Expr::Truth(truth) => Some(Found::Truth(*truth)),
+        P4Expr::Field(header, place) => field(layout, packet, *header, *place),
+        P4Expr::Port => Some(Found::Number(16, u128::from(port))),
+        P4Expr::Binary(op, a, b) => {
+            if is_equality(op) {
+                equal(
+                    value(layout, port, packet, a),
+                    value(layout, port, packet, b),
+                )
+            } else {
+                None
+            }
+        }
+        P4Expr::Meta(_) | P4Expr::Rid => None,
+        P4Expr::Unary(_, _) | P4Expr::Slice(_, _, _) | P4Expr::Pick(_, _, _) => None,
+    }
+}
+
+fn truth_in(found: Option<Found>) -> Option<bool>
+    ensures { result ≡ spec.truth_in found }
+{
+    match found {
+        Some(Found::Truth(truth)) => Some(truth),
+        Some(Found::Number(_, _)) => None,
+        None => None,
+    }
+}
+
+/// The port that a number of 16 bits is.
+fn port_in(found: Option<Found>) -> Option<u16>
+    requires { IfSome found IsNarrow }
+    ensures { result ≡ spec.port_in found }
+{
+    match found {
+        Some(Found::Number(width, number)) => {
+            if width == 16 {
+                Some(number as u16)
+            } else {
+                None
+            }
+        }
+        Some(Found::Truth(_)) => None,
+        None => None,
+    }
+}
+
+/// How a statement ends that is run from this decision.
+#[cycle(run)]
+fn run(
+    layout: &[List<u8>],
+    port: u16,
+    packet: &Packet,
+    stmt: &P4Stmt,
+    decision: Decision,
+) -> Option<Ran>
+    requires { PacketFits layout.now packet.now }
+    ensures { result ≡ spec.ran layout.now port packet.now (stmt_of stmt.now) decision }
+{
+    match stmt {
+        P4Stmt::IfElse(condition, first, second) => {
+            if truth_in(value(layout, port, packet, condition))? {
+                run_block(layout, port, packet, first, decision)
+            } else {
+                run_block(layout, port, packet, second, decision)
+            }
+        }
+        P4Stmt::Verdict(verdict) => Some(Ran::GoesOn(Decision {
+            verdict: *verdict,
+            egress_port: decision.egress_port,
+        })),
+        P4Stmt::EgressPort(expr) => {
+            let egress_port = port_in(value(layout, port, packet, expr))?;
+            Some(Ran::GoesOn(Decision {
+                verdict: decision.verdict,
+                egress_port,
+            }))
+        }
+        P4Stmt::Return => Some(Ran::Returned(decision)),
+        P4Stmt::SetMeta(_, _) | P4Stmt::SetField(_, _, _) | P4Stmt::Apply(_) => None,
+        P4Stmt::If(_, _) | P4Stmt::Group(_) => None,
+    }
+}
+
+/// The same of statements, one after another.
+#[cycle(run)]
+fn run_block(
+    layout: &[List<u8>],
+    port: u16,
+    packet: &Packet,
+    stmts: &[P4Stmt],
+    start: Decision,
+) -> Option<Ran>
+    requires { PacketFits layout.now packet.now }
+    ensures { result ≡ spec.ran_all layout.now port packet.now (block_of (map stmt_of stmts.now)) start }
+{
+    let mut decision = start;
+    for stmt in stmts {
+        match run(layout, port, packet, stmt, decision)? {
+            Ran::GoesOn(next) => decision = next,
+            Ran::Returned(last) => return Some(Ran::Returned(last)),
+        }
+    }
+    Some(Ran::GoesOn(decision))
+}
+
+/// What ingress decides of a packet that enters at a port.
+fn ingress(layout: &[List<u8>], port: u16, packet: &Packet, stmts: &[P4Stmt]) -> Option<Decision>
+    requires { PacketFits layout.now packet.now }
+    ensures { result ≡ spec.decided (spec.ran_all layout.now port packet.now (block_of (map stmt_of stmts.now)) spec.start) }
+{
+    let start = Decision {
+        verdict: 0,
+        egress_port: 0,
+    };
+    match run_block(layout, port, packet, stmts, start)? {
+        Ran::GoesOn(decision) => Some(decision),
+        Ran::Returned(decision) => Some(decision),
+    }
+}
+
+/// The port and the bytes of a packet by a decision.
+fn left(
+    alloc: Global,
+    layout: &[List<u8>],
+    entered: &Entered,
+    choices: &[u64],
+    decision: Decision,
+) -> Result<Option<(u16, Vec<u8>)>, NoMemory>
+    requires layout { IsTrue (is_layout layout.now) }
+    requires fits { PacketFits layout.now entered.now.packet }
+    ensures { IfOk result (λ left. option_map left_of left ≡ spec.left_by layout.now entered.now.packet entered.now.payload.items choices.now decision) }
+{
+    if !choices.is_empty() || decision.verdict != 1 {
+        return Ok(None);
+    }
+    let bytes = leave(alloc, layout, &entered.packet, &entered.payload)?;
+    Ok(Some((decision.egress_port, bytes)))
+}
+
+/// What leaves of a packet that has entered.
+fn passed(
+    alloc: Global,
+    layout: &[List<u8>],
+    port: u16,
+    stmts: &[P4Stmt],
+    choices: &[u64],
+    entered: &Entered,
+) -> Result<Option<(u16, Vec<u8>)>, NoMemory>
+    requires layout { IsTrue (is_layout layout.now) }
+    requires fits { PacketFits layout.now entered.now.packet }
+    ensures { IfOk result (λ left. option_map left_of left ≡ spec.passed layout.now port (block_of (map stmt_of stmts.now)) choices.now (entered_of entered.now)) }
+{
+    match ingress(layout, port, &entered.packet, stmts) {
+        Some(decision) => left(alloc, layout, entered, choices, decision),
+        None => Ok(None),
+    }
+}
+
+/// The port and the bytes that a switch sends of bytes that enter at a port, with these choices. `None` where nothing
+/// leaves. The program is plain, as `is_plain` tests it, and its rows have no table and no group.
+pub fn visit(
+    alloc: Global,
+    program: &Program,
+    port: u16,
+    bytes: &[u8],
+    choices: &[u64],
+) -> Result<Option<(u16, Vec<u8>)>, NoMemory>
+    requires { IsPlain (program_of program.now) }
+    ensures { IfOk result (λ left. option_map left_of left ≡ switch_go (program_of program.now) no_rows 0 port bytes.now choices.now) }
+{
+    let layout = layout(alloc, program)?;
+    match enter(alloc, &layout, bytes)? {
+        Some(entered) => passed(
+            alloc,
+            &layout,
+            port,
+            program.ingress.body.items(),
+            choices,
+            &entered,
+        ),
+        None => Ok(None),
+    }
+}
