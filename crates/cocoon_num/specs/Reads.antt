@@ -1,7 +1,7 @@
 -- Which tree a text of a design or of definitions has: the grammar, one case for each production. A phrase is said
 -- to go from the token at place i up to, but not with, the token at place j. A chain is a part and what follows
 -- it, and groups to the left; brackets leave no node. It follows the section "Texts" of docs/LANGUAGE.md; every
--- production has its case.
+-- production there has its case. Those of optional headers are absent.
 use Rattle.std.specs.Prelude.{◌<◌, ◌++◌, length, take, ◌≡◌, ℕ, suc, ◌+◌, true, false, List, [], ◌∷◌, Option, Some, None, Ok, IsTrue, slice_get, codes}
 use Rattle.cocoon_num.specs.Values.{Value, number, truth, flip, not_, BinaryOp, add, sub, bits_and, bits_or, bits_xor, concat, equal, unequal, less, less_equal, greater, greater_equal, and_, or_, implies}
 use Rattle.cocoon_num.specs.Tree.{Name, Expr, name, field, lit, true_or_false, call, unary, binary, slice, pick, Exprs, no_exprs, expr, Stmt, let_, set_field, if_, filter, havoc_var, havoc_field, assume, fork, send, Block, no_stmts, stmt, Param, ResultKind, of_width, of_truth, FunctionDecl, AssumeDecl, Role, HostDecl, SwitchDecl, Decl, a_function, an_assumption, a_role, a_host, a_switch, Refine, HeaderDecl, Design, Pattern, literal as pattern_literal, masked, any, Entry, a_default, a_row, DefsText, place}
