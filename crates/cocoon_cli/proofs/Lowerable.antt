@@ -1,18 +1,18 @@
 -- What the parts of a thin design give to its program.
-use Rattle.std.proofs.Common.{◌≡◌, ℕ, zero, suc, ◌^◌, ◌≤◌, ◌<◌, List, [], ◌∷◌, Bool, true, ◌&&◌, not, Some, length, map, nat_lt, refl, ap, sym, ◌∙◌, arith}
+use Rattle.std.proofs.Common.{◌≡◌, ℕ, zero, suc, ◌^◌, ◌≤◌, ◌<◌, List, [], ◌∷◌, Bool, true, ◌&&◌, Some, length, map, nat_lt, refl, ap, sym, ◌∙◌, arith}
 use Rattle.std.specs.Prelude.{◌==◌, ◌%◌, nat_le, slice_get}
 use Rattle.std.proofs.lemmas.Bool.{and_parts}
 use Rattle.std.proofs.lemmas.Bool.Decides.{nat_tests}
-use Rattle.cocoon_num.specs.Lists.{each, is_one_of}
+use Rattle.cocoon_num.specs.Lists.{each, all_distinct}
 use Rattle.cocoon_num.specs.Packets.{total}
-use Rattle.cocoon_num.specs.Tokens.{is_run}
+use Rattle.cocoon_num.specs.Tokens.{is_run, is_shallow}
 use Rattle.cocoon_thin.specs.declared.parts.ThinField.{ThinField}
 use Rattle.cocoon_thin.specs.declared.parts.Thin.{Thin}
-use Rattle.cocoon_thin.specs.Thin.{fields_fit, numbers_fit, field_width, all_distinct}
+use Rattle.cocoon_thin.specs.Thin.{fields_fit, numbers_fit, field_width}
 use Rattle.p4_emit.specs.P4Tree.{P4Field, field_widths}
-use Rattle.p4_emit.specs.P4Kinds.{are_distinct, is_width, is_well_kinded}
+use Rattle.p4_emit.specs.P4Kinds.{is_well_kinded}
+use Rattle.cocoon_num.specs.Sorts.{is_declared_width}
 use Rattle.p4_emit.specs.P4Text.{p4_bounds, program_tokens}
-use Rattle.cocoon_num.specs.Tokens.{is_shallow}
 use Rattle.cocoon_cli.specs.Lowered.{fields_of, p4_field, thin_program}
 use Rattle.cocoon_cli.specs.NetOf.{IsLowerable}
 use Rattle.cocoon_cli.proofs.TestProgram.{TestFits, test_kinds, test_shallow}
@@ -89,17 +89,13 @@ widths_same : (fields : List ThinField) → field_widths (fields_of fields) ≡ 
 widths_same [] = refl
 widths_same (x ∷ xs) = ap (λ ns. x.width ∷ ns) (widths_same xs)
 
-distinct_same : (names : List (List ℕ)) → are_distinct names ≡ all_distinct names
-distinct_same [] = refl
-distinct_same (x ∷ xs) = ap (λ b. not (is_one_of xs x) && b) (distinct_same xs)
-
 runs_same : (fields : List ThinField) → each (λ (f : P4Field). is_run f.name) (fields_of fields) ≡ each (λ (f : ThinField). is_run f.name) fields
 runs_same [] = refl
 runs_same (x ∷ xs) = ap (λ b. is_run x.name && b) (runs_same xs)
 
-fits_same : (fields : List ThinField) → each is_width (map (λ (f : ThinField). f.width) fields) ≡ each has_width fields
+fits_same : (fields : List ThinField) → each is_declared_width (map (λ (f : ThinField). f.width) fields) ≡ each has_width fields
 fits_same [] = refl
-fits_same (x ∷ xs) = ap (λ b. is_width x.width && b) (fits_same xs)
+fits_same (x ∷ xs) = ap (λ b. is_declared_width x.width && b) (fits_same xs)
 
 fits : (t : Thin) → IsLowerable t → t.first_port < 2 ^ 16 → t.other_port < 2 ^ 16 → TestFits t.header (fields_of t.fields) t.tested (field_width t.fields t.tested) t.literal t.first_port t.other_port
 fits t h first other =
@@ -114,8 +110,8 @@ fits t h first other =
       of_width = sym (width_of t.fields t.tested f.item f.there);
       name_rest = runs.0;
       rests = runs_same t.fields ∙ runs.1;
-      distinct = distinct_same (map (λ (f : P4Field). f.name) (fields_of t.fields)) ∙ ap all_distinct (names_same t.fields) ∙ parts.distinct;
-      widths = ap (each is_width) (widths_same t.fields) ∙ fits_same t.fields ∙ parts.widths;
+      distinct = ap all_distinct (names_same t.fields) ∙ parts.distinct;
+      widths = ap (each is_declared_width) (widths_same t.fields) ∙ fits_same t.fields ∙ parts.widths;
       bytes = ap (λ ws. total ws % 8 == 0) (widths_same t.fields) ∙ parts.bytes;
       wide = wide t h;
       narrow = omega arith;

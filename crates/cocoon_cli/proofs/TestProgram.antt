@@ -1,17 +1,16 @@
 -- The program of one header whose ingress tests a field against a literal is well kinded and not too deep.
 use Rattle.std.proofs.Common.{◌≡◌, ℕ, ◌^◌, ◌%◌, ◌≤◌, ◌<◌, List, [], ◌∷◌, ◌++◌, Bool, true, ◌&&◌, Option, Some, None, refl, ap, ap₂, sym, subst, ◌∙◌, map}
-use Rattle.std.specs.Prelude.{◌==◌, codes, slice_get, flat_map, nat_le, nat_lt}
+use Rattle.std.specs.Prelude.{◌==◌, codes, slice_get, flat_map, nat_le, nat_lt, option_map, if◌then◌else◌}
 use Rattle.std.proofs.lemmas.Bool.{and_from, and_parts, eq-eqb, le-leb, lt-ltb}
 use Rattle.cocoon_num.specs.Values.{equal}
-use Rattle.cocoon_num.specs.Lists.{each}
+use Rattle.cocoon_num.specs.Lists.{each, all_distinct}
 use Rattle.cocoon_num.specs.Packets.{total}
 use Rattle.cocoon_num.specs.Tokens.{is_run, Kind, word, mark, literal, finish, brackets_after, operators_after, none_deep, is_shallow}
 use Rattle.p4_emit.specs.P4Tree.{p_lit, p_field, p_binary, P4Field, field_widths}
 use Rattle.cocoon_cli.specs.Lowered.{sends, test_program}
 use Rattle.p4_emit.specs.P4Text.{p4_bounds, said, of_found, program_tokens, header_type, header_name, member_tokens, meta_member_tokens, control_tokens, block_tokens, in_braces, declared, field_name, architecture}
-use Rattle.p4_emit.specs.P4Kinds.{are_distinct, is_width, is_well_kinded, names_fit, widths_fit, Within, p4_sort, sort_if, block_fits}
-use Rattle.cocoon_num.specs.Sorts.{bits_sort, truth_sort, of_two, binary_sort, has_sort}
-use Rattle.std.specs.Prelude.{option_map, if◌then◌else◌}
+use Rattle.p4_emit.specs.P4Kinds.{is_well_kinded, names_fit, widths_fit, Within, p4_sort, sort_if, block_fits}
+use Rattle.cocoon_num.specs.Sorts.{is_declared_width, bits_sort, truth_sort, of_two, binary_sort, has_sort}
 
 -- ---- depth, piece by piece
 
@@ -99,8 +98,8 @@ pub record TestFits (name : List ℕ) (fields : List P4Field) (tested width n fi
   pub of_width : field.width ≡ width
   pub name_rest : is_run name ≡ true
   pub rests : each (λ (f : P4Field). is_run f.name) fields ≡ true
-  pub distinct : are_distinct (map (λ (f : P4Field). f.name) fields) ≡ true
-  pub widths : each is_width (field_widths fields) ≡ true
+  pub distinct : all_distinct (map (λ (f : P4Field). f.name) fields) ≡ true
+  pub widths : each is_declared_width (field_widths fields) ≡ true
   pub bytes : (total (field_widths fields) % 8 == 0) ≡ true
   pub wide : 1 ≤ width
   pub narrow : width ≤ 128

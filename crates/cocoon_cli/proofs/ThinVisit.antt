@@ -9,7 +9,7 @@ use Rattle.cocoon_thin.specs.declared.parts.Thin.{Thin}
 use Rattle.cocoon_thin.specs.Thin.{field_width}
 use Rattle.cocoon_thin.specs.ThinRuns.{thin_layout, port_of, leaves_at}
 use Rattle.p4_emit.specs.P4Tree.{no_rows, p_done, field_widths, program_layout}
-use Rattle.p4_emit.specs.Switch.{State, Place, both, choose, then_run, state_of, p4_run_all, ingress_of, after_ingress}
+use Rattle.p4_emit.specs.Switch.{State, Running, both, choose, then_run, state_of, p4_run_all, ingress_of, after_ingress}
 use Rattle.cocoon_cli.specs.Lowered.{fields_of, sends, thin_program}
 use Rattle.cocoon_cli.specs.ThinNet.{thin_leaves, thin_visit}
 use Rattle.cocoon_cli.specs.Visits.{VisitsAreThin}
@@ -38,7 +38,7 @@ abbrev arrived : Packet → State
 arrived packet = record { packet = packet; meta = 0 ∷ []; verdict = 0; egress_port = 0; group = 0 }
 
 -- what ingress runs in
-abbrev ingress_place : Thin → ℕ → Place
+abbrev ingress_place : Thin → ℕ → Running
 ingress_place t port = record { program = thin_program t; tables = []; rows = []; port = Some port; rid = None }
 
 -- the state after the test, by its value

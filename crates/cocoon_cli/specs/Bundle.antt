@@ -1,4 +1,5 @@
--- The files of a bundle. It follows "Bundle files" in docs/FORMATS.md.
+-- The files of a bundle. It follows "Bundle files" in docs/FORMATS.md; digests are SHA-256 (FIPS 180-4), as the crate
+-- sha2 states it. The tagged form, versions of rows and certificates are absent.
 use Rattle.std.specs.Prelude.{◌≡◌, ◌⊎◌, ℕ, ◌≤◌, ◌<◌, List, [], ◌∷◌, ◌++◌, map, flat_map, take, length, Option, codes, decimal}
 use Rattle.serde_json.specs.Written.{compact_text}
 use Rattle.sha2.specs.Sha256.{sha256}

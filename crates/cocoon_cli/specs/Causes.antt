@@ -70,7 +70,8 @@ NotWritten files _ = ⊥
 abbrev pub totals_of : Thin → Totals
 totals_of t = record { switches = length t.switches; hosts = length t.hosts; links = length (links t) }
 
--- the folder holds a thin design with its definitions, of which a bundle can be made
+-- The folder holds a thin design with its definitions, of which a bundle can be made. That the made texts read back is no
+-- condition: it is proved of every bundle, and kept here for what follows from it.
 pub record Makes (told : Option Files) (design_name defs_name out : List ℕ) (files : List NamedFile) (totals : Totals) : Type 0 where
   pub design : List ℕ
   pub defs : List ℕ

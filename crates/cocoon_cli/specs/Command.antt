@@ -1,4 +1,5 @@
--- Which command some words give. It follows the page "Commands" in README.md.
+-- Which command some words give. It follows the section "Commands" of README.md. Options are absent: a word that begins
+-- with `-` is a name.
 use Rattle.std.specs.Prelude.{◌==◌, ◌&&◌, ◌||◌, ℕ, Bool, not, List, [], ◌∷◌, length, if◌then◌else◌, Option, Some, None, codes}
 use Rattle.cocoon_num.specs.Names.{same_name}
 use Rattle.std.specs.List.{list_all}

@@ -1,7 +1,8 @@
 -- The main promise. Whenever `compile` ends with status 0, the files that it wrote read as a P4-16 network that, for
 -- every packet entering at any host port and any number of switch visits, delivers copy for copy exactly what the
 -- design's last level delivers under the given definitions; and each such delivery, its port, headers and payload, is
--- one that the design's topmost specification may make.
+-- one that the design's topmost specification may make. It is the sentence of the section "The headline" of
+-- docs/PROMISES.md.
 use Rattle.std.specs.Prelude.{◌≡◌, ◌↔◌, ℕ, List, Option, Some, None}
 use Rattle.std.specs.FinMap.{get}
 use Rattle.cocoon_num.specs.Tree.{Design, DefsText}

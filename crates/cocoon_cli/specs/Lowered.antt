@@ -1,5 +1,5 @@
 -- The network of a thin design: the program of its switches, where hosts are attached, and the links. It follows
--- "Lowering" in docs/FORMATS.md.
+-- "Lowering" in docs/FORMATS.md. The program of a thin design has no table, no group and no tagged form.
 use Rattle.std.specs.Prelude.{ℕ, ◌&&◌, nat_lt, List, [], ◌∷◌, map, filter, flat_map, if◌then◌else◌, Some, None, codes}
 use Rattle.cocoon_num.specs.Values.{equal}
 use Rattle.cocoon_num.specs.Lists.{has_number}

@@ -1,4 +1,5 @@
--- The values of the JSON files of a bundle. It follows "Bundle files" in docs/FORMATS.md.
+-- The values of the JSON files of a bundle, as the crate serde_json has them. It follows "Bundle files" in
+-- docs/FORMATS.md. The tagged form, versions of rows and certificates are absent.
 use Rattle.std.specs.Prelude.{ℕ, List, [], ◌∷◌, map, Some, None, codes}
 use Rattle.serde_json.specs.Data.{unsigned, Data, number, string, array, object, member, no_members}
 use Rattle.serde_json.specs.View.{items_of}

@@ -1,4 +1,5 @@
--- The parts of networks and bundles that values of the code stand for.
+-- The parts of networks and bundles that values of the code stand for, and which refusals tell of what. They follow the
+-- sections "Bundle files" and "Statuses" of docs/FORMATS.md.
 use Rattle.std.specs.Prelude.{◌≡◌, ℕ, IsTrue, List, map, Option}
 use Rattle.std.specs.String.{string_bytes}
 use Rattle.cocoon_thin.specs.declared.parts.Thin.{Thin}

@@ -1,7 +1,7 @@
 -- The network that the files of a bundle give. A JSON file is read as serde_json defines it, and its value is the one
--- that its content has; programs are read as P4 texts, and digests are SHA-256 in lower case. Files of which a name, a
--- shape, a digest or a loading test does not fit give no network. It follows "Bundle files" in docs/FORMATS.md. Rows
--- have one version.
+-- that its content has; programs are read as P4 texts, and digests are SHA-256 (FIPS 180-4) in lower case. Files of which a
+-- name, a shape, a digest or a loading test does not fit give no network; their sizes do not count. It follows "Bundle
+-- files" in docs/FORMATS.md. The tagged form, versions of rows and certificates are absent.
 use Rattle.std.specs.Prelude.{◌≡◌, ◌⊎◌, ℕ, ◌+◌, ◌^◌, ◌==◌, ◌&&◌, ◌||◌, Bool, true, false, not, nat_lt, nat_le, List, [], ◌∷◌, ◌++◌, map, length, slice_get, Option, Some, None, IsTrue, IsUtf8, Contains, codes}
 use Rattle.std.specs.FinMap.{get}
 use Rattle.serde_json.specs.Data.{Data, Items, no_items, item, array, object, member, no_members}

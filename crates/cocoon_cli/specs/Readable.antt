@@ -1,4 +1,4 @@
--- What the made files of a thin design read as.
+-- What the made files of a thin design read as, by "The text" and "Bundle files" in docs/FORMATS.md.
 use Rattle.std.specs.Prelude.{ℕ, ◌<◌, ◌^◌, List, nat_lt, IsTrue}
 use Rattle.cocoon_num.specs.Lists.{each}
 use Rattle.cocoon_thin.specs.declared.parts.Thin.{Thin}

@@ -1,4 +1,5 @@
--- What the network of a thin design does, against what the design says.
+-- What the network of a thin design does, against what the design says: "The network" in docs/FORMATS.md, against the
+-- sections "A body's run" and "Hosts" of docs/LANGUAGE.md.
 use Rattle.std.specs.Prelude.{◌≡◌, ◌↔◌, ℕ, ◌<◌, List, Some, IsTrue}
 use Rattle.cocoon_num.specs.Tree.{Design}
 use Rattle.cocoon_thin.specs.declared.parts.Thin.{Thin}

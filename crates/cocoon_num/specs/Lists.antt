@@ -1,4 +1,4 @@
--- Tests on lists.
+-- Tests on lists of names and of numbers, and the first of a list, for the rules of docs/LANGUAGE.md and docs/FORMATS.md.
 use Rattle.std.specs.Prelude.{ℕ, ◌==◌, ◌&&◌, ◌||◌, nat_lt, Bool, true, false, not, List, [], ◌∷◌, Option, Some, None}
 use Rattle.cocoon_num.specs.Names.{same_name}
 
@@ -13,6 +13,10 @@ first_of (x ∷ xs) = Some x
 abbrev pub is_one_of : List (List ℕ) → List ℕ → Bool
 is_one_of [] x = false
 is_one_of (y ∷ ys) x = same_name y x || is_one_of ys x
+
+abbrev pub all_distinct : List (List ℕ) → Bool
+all_distinct [] = true
+all_distinct (x ∷ xs) = not (is_one_of xs x) && all_distinct xs
 
 abbrev pub has_number : ℕ → List ℕ → Bool
 has_number n [] = false

@@ -1,4 +1,5 @@
--- Names are lists of bytes, and are compared as such.
+-- Names are lists of bytes, and are compared as such, byte by byte. They are the names of the section "Texts" of
+-- docs/LANGUAGE.md.
 use Rattle.std.specs.Prelude.{ℕ, ◌==◌, ◌&&◌, Bool, true, false, List, [], ◌∷◌, if◌then◌else◌, Option, Some, None}
 use Rattle.cocoon_num.specs.Tree.{Name}
 

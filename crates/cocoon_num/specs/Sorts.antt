@@ -1,10 +1,15 @@
--- The types of expressions: a width, or truth. It follows the section "Rules of a design" of docs/LANGUAGE.md.
+-- The types of expressions: a width, or truth. It follows the section "Rules of a design" of docs/LANGUAGE.md; operands
+-- of P4 programs have the same types.
 use Rattle.std.specs.Prelude.{ℕ, ◌+◌, ◌-◌, ◌==◌, ◌&&◌, nat_le, nat_lt, Bool, true, false, if◌then◌else◌, Option, Some, None}
 use Rattle.cocoon_num.specs.Values.{UnaryOp, flip, not_, BinaryOp, add, sub, bits_and, bits_or, bits_xor, concat, equal, unequal, less, less_equal, greater, greater_equal, and_, or_, implies}
 
 pub data Sort : Type 0 where
   bits_sort : (width : ℕ) → Sort
   truth_sort : Sort
+
+-- widths that may be declared
+abbrev pub is_declared_width : ℕ → Bool
+is_declared_width w = nat_le 1 w && nat_le w 64
 
 abbrev pub same_sort : Sort → Sort → Bool
 same_sort (bits_sort v) (bits_sort w) = v == w

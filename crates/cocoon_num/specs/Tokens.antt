@@ -1,6 +1,6 @@
 -- The tokens of a text, with the places of their bytes, or the first fault. At each place the longest token is
 -- taken. Two texts have such tokens, by a lexicon of their own each: designs with definitions, and P4 programs.
--- It follows the section "Texts" of docs/LANGUAGE.md, and for P4 programs the grammar of the printed text.
+-- It follows the section "Texts" of docs/LANGUAGE.md, and for P4 programs "The text" in docs/FORMATS.md.
 use Rattle.std.specs.Prelude.{ℕ, zero, suc, ◌+◌, ◌-◌, ◌*◌, ◌^◌, ◌==◌, ◌&&◌, ◌||◌, Bool, true, false, not, nat_le, nat_lt, List, [], ◌∷◌, length, map, drop, if◌then◌else◌, Option, Some, None, option_map, option_and_then, Result, Ok, Err, codes}
 use Rattle.cocoon_num.specs.Names.{same_name}
 use Rattle.cocoon_num.specs.Lists.{each, is_one_of}
@@ -195,6 +195,22 @@ lex lexicon text = lex_from lexicon 0 0 text
 
 abbrev pub kinds : List Token → List Kind
 kinds ts = map (λ (t : Token). t.kind) ts
+
+-- ---- fixed pieces of text
+
+-- the tokens before the end
+abbrev pub without_finish : List Kind → List Kind
+without_finish [] = []
+without_finish (finish ∷ ks) = []
+without_finish (k ∷ ks) = k ∷ without_finish ks
+
+abbrev pub kinds_or_none : Lexed → List Kind
+kinds_or_none (Ok ts) = without_finish (kinds ts)
+kinds_or_none (Err e) = []
+
+-- the tokens of a fixed piece of text, by a lexicon
+abbrev pub said_by : Lexicon → List ℕ → List Kind
+said_by lexicon text = kinds_or_none (lex lexicon text)
 
 -- ---- designs and definitions
 

@@ -1,6 +1,6 @@
 -- The trees of design texts and definitions texts, with lists in place of the vectors of the code.
 -- `at` is the index of a node's first token; of an expression it is the place that the grammar gives.
--- It follows the grammar in the section "Texts" of docs/LANGUAGE.md.
+-- It follows the grammar in the section "Texts" of docs/LANGUAGE.md. Optional headers are absent.
 use Rattle.std.specs.Prelude.{ℕ, Bool, List, Option}
 use Rattle.cocoon_num.specs.Values.{Value, UnaryOp, BinaryOp}
 

@@ -2,12 +2,12 @@
 use Rattle.std.proofs.Common.{◌≡◌, ℕ, zero, suc, ◌<◌, ◌≤◌, Bool, true, false, ◌&&◌, ◌||◌, List, [], ◌∷◌, ◌++◌, length, ap, refl, sym, ◌∙◌, arith}
 use Rattle.std.specs.Prelude.{flat_map, min, nat_le, nat_lt, not, if◌then◌else◌, Option, codes}
 use Rattle.std.proofs.lemmas.Bool.Decides.{nat_tests}
-use Rattle.cocoon_num.specs.Lists.{each, is_one_of}
+use Rattle.cocoon_num.specs.Lists.{each, is_one_of, all_distinct}
 use Rattle.cocoon_num.specs.Names.{same_name}
 use Rattle.cocoon_num.specs.Tokens.{Kind, finish, word}
 use Rattle.cocoon_thin.specs.Follow.{after_all}
 use Rattle.cocoon_thin.specs.Read.{after_fields, bare, begins_with_name, design_names, design_parts, field_names, field_in, fields_from, header_tokens, host_roles, names_in, parts_in, ports_are, position, switch_roles, tokens_after}
-use Rattle.cocoon_thin.specs.Thin.{ThinNames, all_distinct, design_tokens, field_name, field_tokens, field_width, fields_fit, function_tokens, into_body, numbers_fit, said, switch_role}
+use Rattle.cocoon_thin.specs.Thin.{ThinNames, design_tokens, field_name, field_tokens, field_width, fields_fit, function_tokens, into_body, numbers_fit, said, switch_role}
 use Rattle.cocoon_thin.specs.declared.parts.ThinField.{ThinField}
 use Rattle.cocoon_thin.specs.declared.parts.Thin.{Thin}
 use Rattle.cocoon_thin.proofs.Follows.{after_append, name_is_same}

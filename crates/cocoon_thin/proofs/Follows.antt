@@ -2,11 +2,11 @@
 use Rattle.std.proofs.Common.{◌≡◌, ℕ, zero, suc, Bool, true, false, drop, List, [], ◌∷◌, ◌++◌, map, Option, Some, None, Ok, ap, refl, ◌∙◌, arith}
 use Rattle.std.proofs.lemmas.Bool.Decides.{nat_tests}
 use Rattle.cocoon_num.specs.Names.{same_name}
-use Rattle.cocoon_num.specs.Tokens.{Kind, word, keyword, plain, literal, mark, finish, lex, kinds, language}
+use Rattle.cocoon_num.specs.Tokens.{Kind, word, keyword, plain, literal, mark, finish, lex, kinds, language, kinds_or_none, without_finish}
 use Rattle.cocoon_lex.specs.declared.token.Token.{Token}
 use Rattle.cocoon_lex.specs.Kinds.{token_of}
 use Rattle.cocoon_thin.specs.Follow.{after, after_all, alike, is_all, kind_at, kinds_at, left}
-use Rattle.cocoon_thin.specs.Thin.{kinds_or_none, said, without_finish}
+use Rattle.cocoon_thin.specs.Thin.{said}
 
 -- the kinds of what the tokens of the code stand for
 pub kinds_stand : (text : List ℕ) (ts : List Token) → kinds (map (token_of text) ts) ≡ kinds_at text ts

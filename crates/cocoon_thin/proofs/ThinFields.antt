@@ -4,11 +4,11 @@ use Rattle.std.proofs.Common.{◌∙◌, ap, ap₂, arith}
 use Rattle.std.proofs.lemmas.Bool.{and_parts, or_parts, not-true, ltb-true, leb-true}
 use Rattle.cocoon_num.specs.Tree.{Name, Param}
 use Rattle.cocoon_num.specs.Names.{same_name, named}
-use Rattle.cocoon_num.specs.Lists.{each, is_one_of}
+use Rattle.cocoon_num.specs.Lists.{each, is_one_of, all_distinct}
 use Rattle.cocoon_num.specs.Packets.{total}
 use Rattle.cocoon_thin.specs.declared.parts.ThinField.{ThinField}
 use Rattle.cocoon_thin.specs.declared.parts.Thin.{Thin}
-use Rattle.cocoon_thin.specs.Thin.{field_name, field_width, all_distinct, fields_fit, numbers_fit}
+use Rattle.cocoon_thin.specs.Thin.{field_name, field_width, fields_fit, numbers_fit}
 use Rattle.cocoon_types.specs.Design.{widths_of}
 use Rattle.cocoon_types.specs.Rules.{unless, has_name, repeated, param_names, wide_params}
 use Rattle.cocoon_thin.specs.ThinTree.{name_at, fields_from}

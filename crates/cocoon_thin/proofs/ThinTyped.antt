@@ -109,7 +109,7 @@ module _ (n : ThinNames) (t : Thin) (d : AllApart n) (f : FieldFacts t) where
   -- it has the width of its field
   field_wide : (k l i j m : ℕ) → sort_of (switch_scope n t k l true) (field i (name_at j t.header) (name_at m (field_name t.fields t.tested))) ≡ Some (bits_sort (field_width t.fields t.tested))
   field_wide k l i j m =
-      sort_field (switch_scope n t k l true) i (name_at j t.header) (name_at m (field_name t.fields t.tested)) (record { name = name_at 3 t.header; fields = fields_from 5 t.fields }) (field_width t.fields t.tested)
+      sort_field (switch_scope n t k l true) i (name_at j t.header) (name_at m (field_name t.fields t.tested)) (record { name = name_at 3 t.header; fields = fields_from 5 t.fields }) (field_width t.fields t.tested) refl
       (ap (λ o. option_and_then (λ (h : HeaderDecl). option_map (λ (p : Param). p.width) (named param_name (field_name t.fields t.tested) h.fields)) o) header_there
       ∙ field_found t.fields 5 t.tested f.tested f.distinct)
 

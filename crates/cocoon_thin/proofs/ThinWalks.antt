@@ -5,11 +5,11 @@ use Rattle.std.proofs.lemmas.Bool.{eq-eqb, and_parts, not-true}
 use Rattle.cocoon_num.specs.Values.{Value, number, truth, number_of, fits_width, of_binary, equal, less, and_, with_both}
 use Rattle.cocoon_num.specs.Tree.{Role, Block, name, lit, binary, if_, send}
 use Rattle.cocoon_num.specs.Names.{same_name}
-use Rattle.cocoon_num.specs.Lists.{is_one_of}
+use Rattle.cocoon_num.specs.Lists.{is_one_of, all_distinct}
 use Rattle.cocoon_num.specs.Packets.{Packet}
 use Rattle.cocoon_thin.specs.declared.parts.ThinField.{ThinField}
 use Rattle.cocoon_thin.specs.declared.parts.Thin.{Thin}
-use Rattle.cocoon_thin.specs.Thin.{ThinNames, field_name, field_width, all_distinct}
+use Rattle.cocoon_thin.specs.Thin.{ThinNames, field_name, field_width}
 use Rattle.cocoon_types.specs.Design.{read_in}
 use Rattle.cocoon_types.specs.Tables.{Defs}
 use Rattle.cocoon_types.specs.Val.{Env, variable, bind, bound, value, then_numbers, apply}

@@ -137,5 +137,7 @@ module _ (s : Scope) (at : ℕ) (h f : Name) (d : HeaderDecl) (w : ℕ) where
   }
 
   -- its type
-  pub sort_field : field_width s.design.headers h.text f.text ≡ Some w → sort_of s (field at h f) ≡ Some (bits_sort w)
-  sort_field e = ap (λ o. option_map bits_sort o) e
+  pub sort_field : s.packet ≡ true → field_width s.design.headers h.text f.text ≡ Some w → sort_of s (field at h f) ≡ Some (bits_sort w)
+  sort_field packet e =
+      ap (λ b. if b then option_map bits_sort (field_width s.design.headers h.text f.text) else None) packet
+      ∙ ap (λ o. option_map bits_sort o) e

@@ -1,11 +1,11 @@
 -- Thin designs and thin definitions: the texts that `compile` takes today. Their tokens are stated as a function of the
--- parts that are free in them, so that a text is thin where it has the tokens of some parts. It follows the page "Thin
--- designs" in docs/LANGUAGE.md.
-use Rattle.std.specs.Prelude.{◌≡◌, ℕ, ◌+◌, ◌%◌, ◌^◌, ◌==◌, ◌&&◌, nat_le, nat_lt, Bool, true, false, not, List, [], ◌∷◌, ◌++◌, length, map, flat_map, slice_get, slice_range, if◌then◌else◌, Some, None, IsTrue, Result, Ok, Err, codes}
+-- parts that are free in them, so that a text is thin where it has the tokens of some parts. It follows the section "Thin
+-- designs" of docs/LANGUAGE.md.
+use Rattle.std.specs.Prelude.{◌≡◌, ℕ, ◌+◌, ◌%◌, ◌^◌, ◌==◌, ◌&&◌, nat_le, nat_lt, Bool, true, false, not, List, [], ◌∷◌, ◌++◌, length, map, flat_map, slice_get, slice_range, if◌then◌else◌, Some, None, IsTrue, Ok, codes}
 use Rattle.cocoon_num.specs.Names.{same_name}
-use Rattle.cocoon_num.specs.Lists.{each, is_one_of, has_number, ascend}
+use Rattle.cocoon_num.specs.Lists.{all_distinct, each, is_one_of, has_number, ascend}
 use Rattle.cocoon_num.specs.Packets.{total}
-use Rattle.cocoon_num.specs.Tokens.{is_run, Kind, word, plain, literal, finish, Token, LexFault, lex, kinds, language}
+use Rattle.cocoon_num.specs.Tokens.{is_run, Kind, word, plain, literal, finish, Token, lex, kinds, language, said_by}
 use Rattle.cocoon_thin.specs.declared.parts.ThinField.{ThinField}
 use Rattle.cocoon_thin.specs.declared.parts.Thin.{Thin}
 
@@ -30,17 +30,8 @@ pub record HasTokens (text : List ℕ) (ks : List Kind) : Type 0 where
   pub plain : IsTrue (is_plain text tokens)
 
 -- the tokens of a fixed piece of text
-abbrev pub without_finish : List Kind → List Kind
-without_finish [] = []
-without_finish (finish ∷ ks) = []
-without_finish (k ∷ ks) = k ∷ without_finish ks
-
-abbrev pub kinds_or_none : Result (List Token) LexFault → List Kind
-kinds_or_none (Ok ts) = without_finish (kinds ts)
-kinds_or_none (Err e) = []
-
 abbrev pub said : List ℕ → List Kind
-said text = kinds_or_none (lex language text)
+said text = said_by language text
 
 -- ---- thin designs
 
@@ -112,10 +103,6 @@ design_tokens n t =
     ++ (said (codes "switch (") ++ (word n.into ∷ (said (codes ",") ++ (word n.out ∷ (said (codes ") ports") ++ (plain t.ports ∷ (said (codes ";") ++ (finish ∷ [])))))))))))))))))))))))))))))))
 
 -- names that stand in one scope are distinct
-abbrev pub all_distinct : List (List ℕ) → Bool
-all_distinct [] = true
-all_distinct (x ∷ xs) = not (is_one_of xs x) && all_distinct xs
-
 abbrev pub names_fit : ThinNames → Bool
 names_fit n =
     all_distinct (n.host_guard ∷ n.switch_guard ∷ []) && all_distinct (n.entry ∷ n.sink ∷ n.into ∷ n.out ∷ [])

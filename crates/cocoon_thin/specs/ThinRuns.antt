@@ -1,5 +1,6 @@
--- What the two texts of a thin design mean, and what a network of it delivers, in the terms of its parts alone. A packet visits one switch: it enters at
--- the port that is the host's number, and leaves at one of two ports, which is the number of the host that gets it.
+-- What the two texts of a thin design mean, and what a network of it delivers, in the terms of its parts alone. A packet
+-- visits one switch: it enters at the port that is the host's number, and leaves at one of two ports, which is the number
+-- of the host that gets it. It is the section "Hosts" of docs/LANGUAGE.md for the form of the section "Thin designs".
 use Rattle.std.specs.Prelude.{◌≡◌, ◌↔◌, ℕ, ◌≤◌, ◌==◌, ◌&&◌, nat_lt, Bool, List, [], ◌∷◌, map, slice_get, if◌then◌else◌, Option, Some, None, option_map, IsTrue}
 use Rattle.cocoon_num.specs.Values.{fits_width}
 use Rattle.cocoon_num.specs.Lists.{has_number}

@@ -1,5 +1,6 @@
--- The trees of thin designs and thin definitions, with the places that the grammar gives. It follows the page "Thin
--- designs" in docs/LANGUAGE.md. A thin design has one level, one header, and no tags of rows or optional headers.
+-- The trees of thin designs and thin definitions, with the places that the grammar gives. It follows the section
+-- "Thin designs" of docs/LANGUAGE.md. A thin design has one level and one header, which is not optional, and rows have one
+-- version.
 use Rattle.std.specs.Prelude.{ℕ, ◌+◌, ◌*◌, false, List, [], ◌∷◌, length, Some, None, Option}
 use Rattle.cocoon_num.specs.Values.{truth, less, equal, and_}
 use Rattle.cocoon_num.specs.Tree.{Name, Expr, name, field, lit, call, binary, Exprs, no_exprs, expr, Stmt, if_, send, Block, no_stmts, stmt, Param, of_truth, FunctionDecl, Role, Decl, a_function, a_role, a_host, a_switch, Design, literal, a_default, a_row, DefsText}

@@ -1,5 +1,5 @@
 -- One visit of a switch of a thin design: the run from its ingress role to its egress role, and the same in the terms of
--- the parts.
+-- the parts. It is the section "A body's run" of docs/LANGUAGE.md for that role.
 use Rattle.std.specs.Prelude.{◌≡◌, ℕ, ◌&&◌, nat_lt, Bool, List, [], ◌∷◌, Some, IsTrue}
 use Rattle.cocoon_num.specs.Values.{fits_width}
 use Rattle.cocoon_num.specs.Lists.{has_number}

@@ -1,8 +1,8 @@
 //! Comparing the tokens of a text with those that it should have.
 ghost use Rattle.std.specs.Prelude.{◌≡◌, ◌<◌, ◌^◌, ◌==◌, Some, OnOk, Option, length};
-ghost use Rattle.cocoon_num.specs.Tokens.{finish, literal, plain, word};
+ghost use Rattle.cocoon_num.specs.Tokens.{finish, literal, plain, word, without_finish};
 ghost use Rattle.cocoon_thin.specs.Follow.{after, after_all, is_all, kind_at, kinds_at, passed};
-ghost use Rattle.cocoon_thin.specs.Thin.{said, without_finish};
+ghost use Rattle.cocoon_thin.specs.Thin.{said};
 
 use crate::kinds::{is_alike, is_end, is_literal, is_name, is_plain};
 use cocoon_lex::{LexFault, Token, TokenKind, lex};

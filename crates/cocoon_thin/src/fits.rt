@@ -1,6 +1,6 @@
 //! What the parts of a thin design have to meet.
 ghost use Rattle.std.specs.Prelude.{◌≡◌, ◌≤◌, ◌∷◌, ◌&&◌, [], length, nat_le};
-ghost use Rattle.cocoon_num.specs.Lists.{each, is_one_of};
+ghost use Rattle.cocoon_num.specs.Lists.{all_distinct, each, is_one_of};
 ghost use Rattle.cocoon_num.specs.Packets.{total};
 ghost use Rattle.cocoon_thin.specs.Read.{field_names, field_widths, names_of};
 ghost use Rattle.cocoon_thin.specs.Thin as spec;
@@ -22,7 +22,7 @@ pub fn names_fit(names: &Names) -> bool
 }
 
 fn roles_fit(names: &Names) -> bool
-    ensures { result ≡ spec.all_distinct (names.now.entry ∷ names.now.sink ∷ names.now.into ∷ names.now.out ∷ []) }
+    ensures { result ≡ all_distinct (names.now.entry ∷ names.now.sink ∷ names.now.into ∷ names.now.out ∷ []) }
 {
     let entry = names.entry.bytes();
     let sink = names.sink.bytes();
@@ -70,7 +70,7 @@ fn total_width(fields: &[ThinField]) -> u32
 }
 
 fn are_distinct(fields: &[ThinField]) -> bool
-    ensures { result ≡ spec.all_distinct (field_names fields.now) }
+    ensures { result ≡ all_distinct (field_names fields.now) }
 {
     let mut rest = fields;
     while let Some((field, others)) = rest.split_first() {

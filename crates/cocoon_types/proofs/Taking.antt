@@ -1,7 +1,7 @@
 -- The run that takes its choices from the front of a list computes what `Does` relates: `takes` and `takes_all` say that
 -- a run so related is computed, whatever choices follow, and `gives` and `gives_all` that what is computed is so
 -- related. So a run has one end, and one front of a list of choices.
-use Rattle.std.specs.Prelude.{◌≡◌, ℕ, zero, suc, ◌^◌, ◌⊎◌, Bool, true, false, List, [], ◌∷◌, ◌++◌, cond, if◌then◌else◌, Option, Some, None, option_map, option_and_then, refl}
+use Rattle.std.specs.Prelude.{◌≡◌, ℕ, zero, suc, ◌^◌, ◌⊎◌, Bool, true, false, List, [], ◌∷◌, ◌++◌, cond, Option, Some, None, option_map, option_and_then, refl}
 use Rattle.std.proofs.Common.{sym, ◌∙◌, ap, inl, inr}
 use Rattle.std.proofs.lemmas.Bool.{lt-ltb, ltb-true}
 use Rattle.std.proofs.lemmas.List.{append_assoc}

@@ -1,13 +1,13 @@
 -- The rules that definitions keep, as the list of their faults in order; the first is the one that is reported.
--- It follows the section "Definitions" of docs/LANGUAGE.md; the limit on rows is not among them.
+-- It follows the section "Definitions" of docs/LANGUAGE.md; the limit on rows is not among them. Optional headers are absent.
 use Rattle.std.specs.Prelude.{◌≡◌, ℕ, ◌==◌, ◌&&◌, ◌||◌, Bool, true, false, not, List, [], ◌∷◌, ◌++◌, flat_map, if◌then◌else◌, Option, Some, None, is_some, IsTrue, option_and_then}
 use Rattle.cocoon_num.specs.Values.{Value, number, truth, fits_width}
 use Rattle.cocoon_num.specs.Tree.{Name, Expr, call, binary, fork, FunctionDecl, Role, Design, Pattern, literal, masked, any, Entry, a_default, a_row, DefsText}
 use Rattle.cocoon_num.specs.Names.{named}
 use Rattle.cocoon_types.specs.Design.{functions, switch_decl, widths_of}
 use Rattle.cocoon_num.specs.Sorts.{Sort, bits_sort, truth_sort, same_sort}
-use Rattle.cocoon_types.specs.Typing.{StmtSite}
-use Rattle.cocoon_types.specs.Rules.{result_of, called, of_host, switch_roles, last_stmts}
+use Rattle.cocoon_types.specs.Typing.{StmtSite, result_sort}
+use Rattle.cocoon_types.specs.Rules.{called, of_host, switch_roles, last_stmts}
 use Rattle.cocoon_num.specs.Lists.{each, is_one_of}
 use Rattle.cocoon_types.specs.Tables.{Row, Table, Defs}
 
@@ -39,7 +39,7 @@ sort_of_value (truth b) = truth_sort
 
 -- the value has the type of the function's result
 abbrev pub value_fits : FunctionDecl → Value → Bool
-value_fits f v = same_sort (result_of f.result) (sort_of_value v)
+value_fits f v = same_sort (result_sort f.result) (sort_of_value v)
 
 -- an entry's patterns and value are those of its function
 abbrev pub entry_fits : FunctionDecl → Entry → Bool
@@ -57,7 +57,7 @@ runtime_named d f = option_and_then (λ (x : FunctionDecl). elim x.body [ None �
 
 -- ---- the entries in order
 
--- the faults of an entry, where these functions have a default already
+-- a wrong row, if a test fails
 abbrev pub row_faults : ℕ → Bool → List DefsFault
 row_faults at true = []
 row_faults at false = wrong_row at ∷ []
@@ -98,7 +98,7 @@ missing_defaults d es =
 
 -- ---- literal rows
 
--- the functions of the guards of hosts and switches, and those under forks of the last level
+-- the function that a guard names
 abbrev pub guard_call : Expr → List (List ℕ)
 guard_call e = elim e [
   | call at f es ↦ f.text ∷ []

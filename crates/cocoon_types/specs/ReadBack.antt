@@ -1,7 +1,8 @@
 -- The read-back rule: on a path of a refined body that ends in a `send`, each choice that occurs in a condition or in
 -- what is sent also stands alone as an argument of the `send` or as a field's value there. A path is followed with
 -- each variable and each field replaced by its value. A choice is written as the variable without a name whose place
--- is that of the choice. It follows the section "Read-back rule" of docs/LANGUAGE.md.
+-- is that of the choice. It follows the section "Read-back rule" of docs/LANGUAGE.md. Optional
+-- headers are absent.
 use Rattle.std.specs.Prelude.{ℕ, ◌==◌, ◌&&◌, ◌||◌, Bool, false, not, List, [], ◌∷◌, ◌++◌, map, flat_map, if◌then◌else◌, Option, Some, None}
 use Rattle.cocoon_num.specs.Tree.{Name, Expr, name, field, lit, true_or_false, call, unary, binary, slice, pick, Exprs, no_exprs, expr, Stmt, let_, set_field, if_, filter, havoc_var, havoc_field, assume, fork, send, Block, no_stmts, stmt, Param, HeaderDecl, Design}
 use Rattle.cocoon_num.specs.Names.{same_name}

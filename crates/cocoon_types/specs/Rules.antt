@@ -1,15 +1,16 @@
 -- The rules that a design keeps. For each rule there is the list of the places at which it fails; a design is well
 -- formed where none of them fails anywhere.
--- It follows the section "Rules of a design" of docs/LANGUAGE.md; no rule is absent.
+-- It follows the section "Rules of a design" of docs/LANGUAGE.md. All of its rules are there; optional headers, which
+-- are absent, would add some. The lists may name a place more than once.
 use Rattle.std.specs.Prelude.{◌≡◌, ℕ, suc, ◌+◌, ◌%◌, ◌==◌, ◌&&◌, ◌||◌, Bool, true, false, not, nat_le, nat_lt, List, [], ◌∷◌, ◌++◌, map, flat_map, filter_map, length, drop, if◌then◌else◌, Option, Some, None, is_none, is_some, option_and_then}
 use Rattle.cocoon_num.specs.Values.{UnaryOp, flip, not_, BinaryOp, add, sub, bits_and, bits_or, bits_xor, concat, equal, unequal, less, less_equal, greater, greater_equal, and_, or_, implies}
-use Rattle.cocoon_num.specs.Tree.{Name, Expr, name, field, lit, true_or_false, call, unary, binary, slice, pick, Exprs, no_exprs, expr, Stmt, let_, set_field, if_, filter, havoc_var, havoc_field, assume, fork, send, Block, no_stmts, stmt, Param, ResultKind, of_width, of_truth, FunctionDecl, Role, HostDecl, SwitchDecl, Decl, a_function, an_assumption, a_role, a_host, a_switch, Refine, HeaderDecl, Design, place}
+use Rattle.cocoon_num.specs.Tree.{Name, Expr, name, field, lit, true_or_false, call, unary, binary, slice, pick, Exprs, no_exprs, expr, Stmt, let_, set_field, if_, filter, havoc_var, havoc_field, assume, fork, send, Block, no_stmts, stmt, Param, of_width, of_truth, FunctionDecl, Role, HostDecl, SwitchDecl, Decl, a_function, an_assumption, a_role, a_host, a_switch, Refine, HeaderDecl, Design, place}
 use Rattle.cocoon_num.specs.Names.{same_name, named}
 use Rattle.cocoon_num.specs.Packets.{total}
 use Rattle.cocoon_types.specs.Design.{functions, as_role, as_host, as_switch, role_at, host_decl, switch_decl, last_level, all_decls, widths_of, field_width}
-use Rattle.cocoon_num.specs.Sorts.{Sort, bits_sort, truth_sort, same_sort}
+use Rattle.cocoon_num.specs.Sorts.{is_declared_width, Sort, bits_sort, truth_sort, same_sort}
 use Rattle.cocoon_types.specs.ReadBack.{hidden_in}
-use Rattle.cocoon_types.specs.Typing.{Scope, with_var, var_width, function_named, sort_of, ExprSite, StmtSite, DeclSite, decl_sites, params_of, inner, parts, exprs_of_stmt, stmts_in, all_stmts, all_exprs}
+use Rattle.cocoon_types.specs.Typing.{Scope, with_var, var_width, function_named, result_sort, sort_of, ExprSite, StmtSite, DeclSite, decl_sites, params_of, inner, parts, exprs_of_stmt, stmts_in, all_stmts, all_exprs}
 use Rattle.cocoon_num.specs.Lists.{first_of, each}
 
 -- the rules, by phases: names, types, forms
@@ -74,7 +75,7 @@ binds _ = None
 abbrev pub bound_again : StmtSite → List ℕ
 bound_again site = elim (binds site.s) [ None ↦ [] | Some x ↦ unless_named (is_none (var_width site.scope x.text)) x ]
 
--- where each of these stands
+-- where each declaration of the host roles stands
 abbrev pub host_places : List Decl → List ℕ
 host_places ds = map (λ (h : HostDecl). h.at) (filter_map as_host ds)
 
@@ -178,10 +179,6 @@ abbrev pub zero_counts : Design → List ℕ
 zero_counts d =
     flat_map (λ (b : Refine). unless (not (b.within == 0)) b.at) d.refines
     ++ flat_map (λ (s : SwitchDecl). unless (not (s.ports == 0)) s.at) (filter_map as_switch (all_decls d))
-
--- widths that may be declared
-abbrev pub is_declared_width : ℕ → Bool
-is_declared_width w = nat_le 1 w && nat_le w 64
 
 -- parameters of other widths
 abbrev pub wide_params : List Param → List ℕ
@@ -329,15 +326,10 @@ wrong_in_stmt site = elim site.s [
   | _ ↦ []
 ]
 
--- the type of a function's result
-abbrev pub result_of : ResultKind → Sort
-result_of (of_width w) = bits_sort w
-result_of of_truth = truth_sort
-
 -- a body of another type than the function's result
 abbrev pub wrong_result : DeclSite → List ℕ
 wrong_result site = elim site.decl [
-  | a_function f ↦ elim f.body [ None ↦ [] | Some e ↦ unless_is (inner site) (result_of f.result) e ]
+  | a_function f ↦ elim f.body [ None ↦ [] | Some e ↦ unless_is (inner site) (result_sort f.result) e ]
   | _ ↦ []
 ]
 
@@ -464,7 +456,7 @@ abbrev pub declared_as : List ℕ → List Role → List Role
 declared_as x [] = []
 declared_as x (r ∷ rs) = if same_name x r.name.text then r ∷ declared_as x rs else declared_as x rs
 
--- the same of a role's body
+-- the statements of a role's body that follow one that ends
 abbrev pub after_sends : Role → List ℕ
 after_sends r = elim r.body [ None ↦ [] | Some b ↦ after_send_at b ]
 
@@ -703,7 +695,7 @@ is_choice _ = false
 abbrev pub last_choices : Design → List ℕ
 last_choices d = flat_map (λ (r : Name). flat_map (λ (site : StmtSite). unless (not (is_choice site.s)) (stmt_place site.s)) (last_stmts d r.text)) (all_roles d)
 
--- x occurs in none of these expressions
+-- x occurs in one of these expressions
 abbrev pub mentions : List ℕ → List ExprSite → Bool
 mentions x [] = false
 mentions x (site ∷ sites) = elim site.e [ name at y ↦ same_name x y | _ ↦ false ] || mentions x sites
@@ -760,7 +752,11 @@ fails_at sink_refined d = sink_refined_at d
 fails_at no_host d = unless (is_some (host_decl d)) 0
 fails_at no_switch d = unless (is_some (switch_decl d)) 0
 fails_at zero_count d = zero_counts d
-fails_at too_wide d = flat_map (λ (h : HeaderDecl). wide_params h.fields) d.headers ++ flat_map (λ (s : DeclSite). wide_params (params_of s.decl)) (decl_sites d) ++ flat_map wide_result (decl_sites d) ++ flat_map wide_in_stmt (all_stmts d) ++ flat_map wide_in_expr (all_exprs d)
+fails_at too_wide d =
+    flat_map (λ (h : HeaderDecl). wide_params h.fields) d.headers
+    ++ flat_map (λ (s : DeclSite). wide_params (params_of s.decl)) (decl_sites d) ++ flat_map wide_result (decl_sites d)
+    ++ flat_map wide_in_stmt (all_stmts d)
+    ++ flat_map wide_in_expr (all_exprs d)
 fails_at header_width d = header_widths d
 fails_at wrong_width d = flat_map wrong_in_expr (all_exprs d) ++ flat_map wrong_in_stmt (all_stmts d) ++ flat_map wrong_result (decl_sites d)
 fails_at not_bool d = flat_map not_bool_in_expr (all_exprs d) ++ flat_map not_bool_in_stmt (all_stmts d) ++ flat_map not_bool_in_decl (decl_sites d)

@@ -1,7 +1,8 @@
 -- One body's run, chains of runs, and what the last level delivers. A run takes a location, a packet and a list
 -- of choices. `Does` relates a statement or a block to how it ends, by cases on the tree; the choices of the
 -- parts are joined. It follows the sections "A body's run" and "Hosts" of docs/LANGUAGE.md; every statement has its
--- case. Packets have no tags.
+-- case. Headers are all there: none is optional. What the rules of designs shut out is not tested here once more (values of
+-- another width, fields that are not declared, a second role without a body): who cites a run has a well-formed design.
 use Rattle.std.specs.Prelude.{◌≡◌, ℕ, zero, suc, ◌+◌, ◌*◌, ◌⊎◌, true, false, List, [], ◌∷◌, ◌++◌, Option, Some, None}
 use Rattle.cocoon_num.specs.Values.{Value, number, truth, number_of, FitsWidth}
 use Rattle.cocoon_num.specs.Tree.{Expr, Stmt, let_, set_field, if_, filter, havoc_var, havoc_field, assume, fork, send, Block, no_stmts, stmt, Role, HostDecl, Design}

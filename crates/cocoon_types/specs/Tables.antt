@@ -1,5 +1,6 @@
 -- Definitions of the run-time functions: for each a list of rows and a default, and its value by the first row
--- that matches. It follows the section "Definitions" of docs/LANGUAGE.md. Rows have no tags.
+-- that matches. It follows the section "Definitions" of docs/LANGUAGE.md. Rows have one version, with no
+-- tag.
 use Rattle.std.specs.Prelude.{ℕ, ◌==◌, ◌&&◌, Bool, true, false, List, [], ◌∷◌, filter_map, bit_and, if◌then◌else◌, Option, Some, None, option_map}
 use Rattle.cocoon_num.specs.Values.{Value}
 use Rattle.cocoon_num.specs.Tree.{Name, FunctionDecl, Design, Pattern, literal, masked, any, Entry, a_default, a_row, DefsText}

@@ -1,5 +1,5 @@
--- The types of a design's expressions, and every expression and statement of it with what is in scope there.
--- It follows the section "Rules of a design" of docs/LANGUAGE.md.
+-- The types of a design's expressions, and every expression and statement of it with what is in scope there. It follows
+-- the section "Rules of a design" of docs/LANGUAGE.md. Optional headers are absent.
 use Rattle.std.specs.Prelude.{ℕ, suc, ◌&&◌, Bool, true, false, List, [], ◌∷◌, ◌++◌, map, flat_map, if◌then◌else◌, Option, Some, None, option_map, option_and_then}
 use Rattle.cocoon_num.specs.Tree.{Name, Expr, name, field, lit, true_or_false, call, unary, binary, slice, pick, Exprs, no_exprs, expr, Stmt, let_, set_field, if_, filter, havoc_var, havoc_field, assume, fork, send, Block, no_stmts, stmt, Param, ResultKind, of_width, of_truth, FunctionDecl, Decl, a_function, an_assumption, a_role, a_host, a_switch, Refine, Design}
 use Rattle.cocoon_num.specs.Names.{named}
@@ -51,10 +51,10 @@ call_sort None ss = None
 call_sort (Some d) ss = if args_fit (widths_of d.params) ss then Some (result_sort d.result) else None
 
 abbrev mutual
-  -- the type of an expression, where it and all its parts have one
+  -- the type of an expression, where it and all its parts have one; a field has one only where there is a packet
   pub sort_of : Scope → Expr → Option Sort
   sort_of s (name at x) = option_map bits_sort (var_width s x)
-  sort_of s (field at h f) = option_map bits_sort (field_width s.design.headers h.text f.text)
+  sort_of s (field at h f) = if s.packet then option_map bits_sort (field_width s.design.headers h.text f.text) else None
   sort_of s (lit at w n) = Some (bits_sort w)
   sort_of s (true_or_false at b) = Some truth_sort
   sort_of s (call at f es) = call_sort (function_named s f.text) (sorts_of s es)

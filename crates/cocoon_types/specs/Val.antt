@@ -1,14 +1,14 @@
 -- The value of an expression, by cases on its tree, over names. It has none where a name is not there or the
 -- widths do not fit. A function with a body is its body over the arguments; its body sees the functions that
--- are declared before it. It follows the section "Values" of docs/LANGUAGE.md; every form of expression has its case.
+-- are declared before it. It follows the section "Values" of docs/LANGUAGE.md; every form there has its case.
+-- Optional headers are absent.
 use Rattle.std.specs.Prelude.{ℕ, List, [], ◌∷◌, if◌then◌else◌, Option, Some, None, option_map, option_and_then, reverse}
-use Rattle.cocoon_num.specs.Values.{Value, number, truth, number_of, fits_width, of_unary, of_binary, of_slice, of_pick}
+use Rattle.cocoon_num.specs.Values.{Value, number, truth, number_of, fits_width, of_unary, of_binary, of_slice, of_pick, with_both, with_all}
 use Rattle.cocoon_num.specs.Tree.{Param, Expr, name, field, lit, true_or_false, call, unary, binary, slice, pick, Exprs, no_exprs, expr, FunctionDecl, HeaderDecl, Design}
 use Rattle.cocoon_num.specs.Names.{same_name}
 use Rattle.cocoon_num.specs.Packets.{Packet}
 use Rattle.cocoon_types.specs.Design.{read_field, functions}
 use Rattle.cocoon_types.specs.Tables.{Defs, look_up}
-use Rattle.cocoon_num.specs.Values.{with_both, with_all}
 
 -- a variable and its value, the latest first
 pub record Binding : Type 0 where

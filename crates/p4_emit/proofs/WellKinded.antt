@@ -4,13 +4,12 @@ use Rattle.std.specs.Prelude.{◌==◌, codes, slice_get, nat_le, nat_lt, option
 use Rattle.std.proofs.lemmas.Bool.{and_parts, or_cases, eqb-true, ltb-true, leb-true}
 use Rattle.cocoon_num.specs.Values.{UnaryOp, flip, not_, BinaryOp, add, sub, bits_and, bits_or, bits_xor, concat, equal, unequal, less, less_equal, greater, greater_equal, and_, or_, implies}
 use Rattle.cocoon_num.specs.Names.{same_name}
-use Rattle.cocoon_num.specs.Sorts.{Sort, bits_sort, truth_sort, unary_sort, binary_sort, slice_sort, pick_sort, of_two, of_three, has_sort, one_width, joined_sort, two_truths, same_sort}
-use Rattle.cocoon_num.specs.Tokens.{is_run, is_letter, is_word_byte}
+use Rattle.cocoon_num.specs.Sorts.{Sort, bits_sort, truth_sort, unary_sort, binary_sort, slice_sort, pick_sort, of_two, of_three, has_sort, one_width, joined_sort, two_truths, same_sort, is_declared_width}
+use Rattle.cocoon_num.specs.Tokens.{is_run, is_letter, is_word_byte, is_shallow}
 use Rattle.p4_emit.specs.P4Tree.{P4Expr, p_lit, p_truth, p_meta, p_field, p_port, p_rid, p_unary, p_binary, p_slice, p_pick, P4Stmt, set_meta, set_header, apply_table, p_if, p_if_else, verdict, egress_port, group, p_return, P4Block, p_done, p_then, P4Field, P4Header, P4Table, Program, field_widths}
 use Rattle.p4_emit.specs.P4Text.{result_width, p4_bounds, program_tokens}
-use Rattle.cocoon_num.specs.Lists.{each, has_number, ascend}
-use Rattle.p4_emit.specs.P4Kinds.{are_distinct, is_meta_name, last_is_digit, names_fit, is_width, widths_fit, table_fits, tables_fit, numbers_of, Within, sort_if, meta_sort, field_sort, is_implies, p4_sort, sets, is_empty, stmt_fits, block_fits, is_well_kinded}
-use Rattle.cocoon_num.specs.Tokens.{is_shallow}
+use Rattle.cocoon_num.specs.Lists.{each, has_number, ascend, all_distinct}
+use Rattle.p4_emit.specs.P4Kinds.{is_meta_name, last_is_digit, names_fit, widths_fit, table_fits, tables_fit, numbers_of, Within, sort_if, meta_sort, field_sort, is_implies, p4_sort, sets, is_empty, stmt_fits, block_fits, is_well_kinded}
 use Rattle.p4_emit.specs.P4Reads.{P4Reads}
 use Rattle.cocoon_num.specs.Packets.{total}
 use Rattle.p4_emit.specs.Printed.{printed}
@@ -72,19 +71,19 @@ record Wide (w : ℕ) : Type 0 where
   some : 1 ≤ w
   narrow : w ≤ 64
 
-is_wide : (w : ℕ) → is_width w ≡ true → Wide w
+is_wide : (w : ℕ) → is_declared_width w ≡ true → Wide w
 is_wide w h = let hs = and_parts (nat_le 1 w) (nat_le w 64) h in record { some = leb-true 1 w hs.0; narrow = leb-true w 64 hs.1 }
 
-field_fits : (f : P4Field) → is_run f.name ≡ true → is_width f.width ≡ true → FieldFits f
+field_fits : (f : P4Field) → is_run f.name ≡ true → is_declared_width f.width ≡ true → FieldFits f
 field_fits f n w = let wide = is_wide f.width w in record { name = is_rest_words f.name n; width = omega (arith, wide.narrow) }
 
-header_fits : (h : P4Header) → (is_run h.name && each (λ (f : P4Field). is_run f.name) h.fields && are_distinct (map (λ (f : P4Field). f.name) h.fields)) ≡ true → each is_width (field_widths h.fields) ≡ true → HeaderFits h
+header_fits : (h : P4Header) → (is_run h.name && each (λ (f : P4Field). is_run f.name) h.fields && all_distinct (map (λ (f : P4Field). f.name) h.fields)) ≡ true → each is_declared_width (field_widths h.fields) ≡ true → HeaderFits h
 header_fits h n w =
     let h1 = and_parts (is_run h.name && each (λ (f : P4Field). is_run f.name) h.fields) _ n in
     let h2 = and_parts (is_run h.name) (each (λ (f : P4Field). is_run f.name) h.fields) h1.0 in
-    record { name = is_rest_words h.name h2.0; fields = each_both (λ (f : P4Field). is_run f.name) (λ (f : P4Field). is_width f.width) FieldFits field_fits h.fields h2.1 (sym (each_map is_width (λ (f : P4Field). f.width) h.fields) ∙ w) }
+    record { name = is_rest_words h.name h2.0; fields = each_both (λ (f : P4Field). is_run f.name) (λ (f : P4Field). is_declared_width f.width) FieldFits field_fits h.fields h2.1 (sym (each_map is_declared_width (λ (f : P4Field). f.width) h.fields) ∙ w) }
 
-meta_fits : (f : P4Field) → is_meta_name f.name ≡ true → is_width f.width ≡ true → MetaFits f
+meta_fits : (f : P4Field) → is_meta_name f.name ≡ true → is_declared_width f.width ≡ true → MetaFits f
 meta_fits f n w = let wide = is_wide f.width w in record { name = meta_is_name f.name n; width = omega (arith, wide.narrow) }
 
 -- every field's width, of the headers and of the meta fields
@@ -92,8 +91,8 @@ record AllWide (p : Program) : Type 0 where
   headers : Each (λ (h : P4Header). Each (λ (f : P4Field). Wide f.width) h.fields) p.headers
   meta : Each (λ (f : P4Field). Wide f.width) p.meta
 
-wide_fields : (fs : List P4Field) → each is_width (field_widths fs) ≡ true → Each (λ (f : P4Field). Wide f.width) fs
-wide_fields fs h = each_of (λ (f : P4Field). is_width f.width) (λ (f : P4Field). Wide f.width) (λ f e. is_wide f.width e) fs (sym (each_map is_width (λ (f : P4Field). f.width) fs) ∙ h)
+wide_fields : (fs : List P4Field) → each is_declared_width (field_widths fs) ≡ true → Each (λ (f : P4Field). Wide f.width) fs
+wide_fields fs h = each_of (λ (f : P4Field). is_declared_width f.width) (λ (f : P4Field). Wide f.width) (λ f e. is_wide f.width e) fs (sym (each_map is_declared_width (λ (f : P4Field). f.width) fs) ∙ h)
 
 -- ---- expressions
 
@@ -312,24 +311,24 @@ kinds_spell p h =
     let h2 = and_parts (names_fit p && widths_fit p && tables_fit p) (block_fits ingress p.ingress.body) h1.0 in
     let h3 = and_parts (names_fit p && widths_fit p) (tables_fit p) h2.0 in
     let h4 = and_parts (names_fit p) (widths_fit p) h3.0 in
-    let n1 = and_parts (each (λ (h : P4Header). is_run h.name && each (λ (f : P4Field). is_run f.name) h.fields && are_distinct (map (λ (f : P4Field). f.name) h.fields)) p.headers && are_distinct (map (λ (h : P4Header). h.name) p.headers) && each (λ (f : P4Field). is_meta_name f.name) p.meta) (are_distinct (map (λ (f : P4Field). f.name) p.meta)) h4.0 in
-    let n2 = and_parts (each (λ (h : P4Header). is_run h.name && each (λ (f : P4Field). is_run f.name) h.fields && are_distinct (map (λ (f : P4Field). f.name) h.fields)) p.headers && are_distinct (map (λ (h : P4Header). h.name) p.headers)) (each (λ (f : P4Field). is_meta_name f.name) p.meta) n1.0 in
-    let n3 = and_parts (each (λ (h : P4Header). is_run h.name && each (λ (f : P4Field). is_run f.name) h.fields && are_distinct (map (λ (f : P4Field). f.name) h.fields)) p.headers) (are_distinct (map (λ (h : P4Header). h.name) p.headers)) n2.0 in
-    let w1 = and_parts (each (λ (h : P4Header). each is_width (field_widths h.fields) && (total (field_widths h.fields) % 8 == 0)) p.headers) (each is_width (field_widths p.meta)) h4.1 in
+    let n1 = and_parts (each (λ (h : P4Header). is_run h.name && each (λ (f : P4Field). is_run f.name) h.fields && all_distinct (map (λ (f : P4Field). f.name) h.fields)) p.headers && all_distinct (map (λ (h : P4Header). h.name) p.headers) && each (λ (f : P4Field). is_meta_name f.name) p.meta) (all_distinct (map (λ (f : P4Field). f.name) p.meta)) h4.0 in
+    let n2 = and_parts (each (λ (h : P4Header). is_run h.name && each (λ (f : P4Field). is_run f.name) h.fields && all_distinct (map (λ (f : P4Field). f.name) h.fields)) p.headers && all_distinct (map (λ (h : P4Header). h.name) p.headers)) (each (λ (f : P4Field). is_meta_name f.name) p.meta) n1.0 in
+    let n3 = and_parts (each (λ (h : P4Header). is_run h.name && each (λ (f : P4Field). is_run f.name) h.fields && all_distinct (map (λ (f : P4Field). f.name) h.fields)) p.headers) (all_distinct (map (λ (h : P4Header). h.name) p.headers)) n2.0 in
+    let w1 = and_parts (each (λ (h : P4Header). each is_declared_width (field_widths h.fields) && (total (field_widths h.fields) % 8 == 0)) p.headers) (each is_declared_width (field_widths p.meta)) h4.1 in
     let t1 = and_parts (each (table_fits p) p.ingress.tables && each (table_fits p) p.egress.tables) (ascend (numbers_of p.ingress.tables ++ numbers_of p.egress.tables)) h3.1 in
     let t2 = and_parts (each (table_fits p) p.ingress.tables) (each (table_fits p) p.egress.tables) t1.0 in
     let wide : AllWide p = record {
-      headers = each_of (λ (h : P4Header). each is_width (field_widths h.fields) && (total (field_widths h.fields) % 8 == 0)) (λ (h : P4Header). Each (λ (f : P4Field). Wide f.width) h.fields)
-          (λ h e. wide_fields h.fields (and_parts (each is_width (field_widths h.fields)) (total (field_widths h.fields) % 8 == 0) e).0) p.headers w1.0;
+      headers = each_of (λ (h : P4Header). each is_declared_width (field_widths h.fields) && (total (field_widths h.fields) % 8 == 0)) (λ (h : P4Header). Each (λ (f : P4Field). Wide f.width) h.fields)
+          (λ h e. wide_fields h.fields (and_parts (each is_declared_width (field_widths h.fields)) (total (field_widths h.fields) % 8 == 0) e).0) p.headers w1.0;
       meta = wide_fields p.meta w1.1;
     } in
     let ing : Each (TableFits p) p.ingress.tables = each_of (table_fits p) (TableFits p) (table_of_kind p wide) p.ingress.tables t2.0 in
     let egr : Each (TableFits p) p.egress.tables = each_of (table_fits p) (TableFits p) (table_of_kind p wide) p.egress.tables t2.1 in
     record {
       names = record {
-        headers = each_both (λ (h : P4Header). is_run h.name && each (λ (f : P4Field). is_run f.name) h.fields && are_distinct (map (λ (f : P4Field). f.name) h.fields)) (λ (h : P4Header). each is_width (field_widths h.fields) && (total (field_widths h.fields) % 8 == 0)) HeaderFits
-            (λ h a b. header_fits h a (and_parts (each is_width (field_widths h.fields)) (total (field_widths h.fields) % 8 == 0) b).0) p.headers n3.0 w1.0;
-        meta = each_both (λ (f : P4Field). is_meta_name f.name) (λ (f : P4Field). is_width f.width) MetaFits meta_fits p.meta n2.1 (sym (each_map is_width (λ (f : P4Field). f.width) p.meta) ∙ w1.1);
+        headers = each_both (λ (h : P4Header). is_run h.name && each (λ (f : P4Field). is_run f.name) h.fields && all_distinct (map (λ (f : P4Field). f.name) h.fields)) (λ (h : P4Header). each is_declared_width (field_widths h.fields) && (total (field_widths h.fields) % 8 == 0)) HeaderFits
+            (λ h a b. header_fits h a (and_parts (each is_declared_width (field_widths h.fields)) (total (field_widths h.fields) % 8 == 0) b).0) p.headers n3.0 w1.0;
+        meta = each_both (λ (f : P4Field). is_meta_name f.name) (λ (f : P4Field). is_declared_width f.width) MetaFits meta_fits p.meta n2.1 (sym (each_map is_declared_width (λ (f : P4Field). f.width) p.meta) ∙ w1.1);
       };
       ingress = record { tables = ing; body = block_of_kind ingress wide (number_small p p.ingress.tables ing) p.ingress.body h2.1 };
       egress = record { tables = egr; body = block_of_kind egress wide (number_small p p.egress.tables egr) p.egress.body h1.1 };

@@ -1,5 +1,5 @@
 -- What a network delivers: visits of switches along links, from the attachment of a host to a host. It follows the
--- paragraph "The network" in docs/FORMATS.md.
+-- section "The network" of docs/FORMATS.md. Visits look at no tag, and rows have one version.
 use Rattle.std.specs.Prelude.{◌≡◌, ℕ, zero, suc, ◌==◌, ◌&&◌, List, [], ◌∷◌, ◌++◌, if◌then◌else◌, Option, Some, None}
 use Rattle.p4_emit.specs.Switch.{switch_go}
 use Rattle.p4_emit.specs.NetTree.{LinkEnd, to_switch, to_host, Link, HostPort, SwitchFiles, NetData}

@@ -1,5 +1,6 @@
--- Networks: switches with their programs and rows, links and hosts. Lists ascend by their first numbers.
--- It follows "The network" and "Bundle files" in docs/FORMATS.md.
+-- Networks: switches with their programs and rows, links and hosts. Where they are read from files, lists ascend by their
+-- first numbers. It follows the sections "The network" and "Bundle files" of docs/FORMATS.md. Programs have no tagged form,
+-- and rows have one version.
 use Rattle.std.specs.Prelude.{ℕ, List, Option}
 use Rattle.p4_emit.specs.P4Tree.{Program, RowsFile}
 

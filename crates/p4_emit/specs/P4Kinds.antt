@@ -1,18 +1,14 @@
--- The kind rules of programs: names, widths, tables, operands, and what stands in which control.
--- It follows "Kind rules" in docs/FORMATS.md.
+-- The kind rules of programs: names, widths, tables, operands, and what stands in which control. It follows "Kind
+-- rules" in docs/FORMATS.md; they are P4-16's, narrowed to the subset. Optional headers, tags and versions of rows are
+-- absent.
 use Rattle.std.specs.Prelude.{ℕ, ◌-◌, ◌^◌, ◌%◌, ◌==◌, ◌&&◌, ◌||◌, Bool, true, false, not, nat_le, nat_lt, List, [], ◌∷◌, ◌++◌, length, map, slice_get, if◌then◌else◌, Option, Some, None, option_map, option_and_then, codes}
 use Rattle.cocoon_num.specs.Values.{BinaryOp, implies}
 use Rattle.cocoon_num.specs.Names.{same_name}
 use Rattle.cocoon_num.specs.Packets.{total}
 use Rattle.cocoon_num.specs.Tokens.{is_digit, is_letter, is_word_byte, is_run}
-use Rattle.cocoon_num.specs.Sorts.{Sort, bits_sort, truth_sort, unary_sort, binary_sort, slice_sort, pick_sort, of_two, of_three, has_sort}
+use Rattle.cocoon_num.specs.Sorts.{is_declared_width, Sort, bits_sort, truth_sort, unary_sort, binary_sort, slice_sort, pick_sort, of_two, of_three, has_sort}
 use Rattle.p4_emit.specs.P4Tree.{P4Expr, p_lit, p_truth, p_meta, p_field, p_port, p_rid, p_unary, p_binary, p_slice, p_pick, P4Stmt, set_meta, set_header, apply_table, p_if, p_if_else, verdict, egress_port, group, p_return, P4Block, p_done, p_then, P4Field, P4Header, P4Table, Program, field_widths}
-use Rattle.cocoon_num.specs.Lists.{is_one_of}
-use Rattle.cocoon_num.specs.Lists.{each, has_number, ascend}
-
-abbrev pub are_distinct : List (List ℕ) → Bool
-are_distinct [] = true
-are_distinct (x ∷ xs) = not (is_one_of xs x) && are_distinct xs
+use Rattle.cocoon_num.specs.Lists.{all_distinct, each, has_number, ascend}
 
 -- ---- names
 
@@ -28,20 +24,17 @@ is_meta_name (b ∷ bs) = same_name (b ∷ bs) (codes "site") || (is_letter b &&
 
 abbrev pub names_fit : Program → Bool
 names_fit p =
-    each (λ (h : P4Header). is_run h.name && each (λ (f : P4Field). is_run f.name) h.fields && are_distinct (map (λ (f : P4Field). f.name) h.fields)) p.headers
-    && are_distinct (map (λ (h : P4Header). h.name) p.headers)
+    each (λ (h : P4Header). is_run h.name && each (λ (f : P4Field). is_run f.name) h.fields && all_distinct (map (λ (f : P4Field). f.name) h.fields)) p.headers
+    && all_distinct (map (λ (h : P4Header). h.name) p.headers)
     && each (λ (f : P4Field). is_meta_name f.name) p.meta
-    && are_distinct (map (λ (f : P4Field). f.name) p.meta)
+    && all_distinct (map (λ (f : P4Field). f.name) p.meta)
 
 -- ---- widths
 
-abbrev pub is_width : ℕ → Bool
-is_width w = nat_le 1 w && nat_le w 64
-
 abbrev pub widths_fit : Program → Bool
 widths_fit p =
-    each (λ (h : P4Header). each is_width (field_widths h.fields) && (total (field_widths h.fields) % 8 == 0)) p.headers
-    && each is_width (field_widths p.meta)
+    each (λ (h : P4Header). each is_declared_width (field_widths h.fields) && (total (field_widths h.fields) % 8 == 0)) p.headers
+    && each is_declared_width (field_widths p.meta)
 
 -- ---- tables
 

@@ -1,4 +1,6 @@
--- Which program a P4 text reads as. It follows "Lowering and the P4 text" in docs/FORMATS.md, with the bounds on depth of the reader.
+-- Which program a P4 text reads as. It follows "The text", with the bounds on depth that its paragraph "The grammar read"
+-- has, and "Kind rules" in docs/FORMATS.md; the subset is one of P4-16. Optional headers, tags and versions of rows are
+-- absent.
 use Rattle.std.specs.Prelude.{◌≡◌, ℕ, List, Ok, IsTrue}
 use Rattle.cocoon_num.specs.Tokens.{Token, lex, kinds, is_shallow}
 use Rattle.p4_emit.specs.P4Tree.{Program}

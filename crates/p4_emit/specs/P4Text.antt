@@ -1,9 +1,10 @@
 -- The tokens of a program's text. The subset has one spelling for each program: blanks, comments and the spelling of
 -- numbers aside, a text is determined by its program. So the grammar is the list of tokens that a program has, one
--- case for each production. It follows "The text" in docs/FORMATS.md.
-use Rattle.std.specs.Prelude.{ℕ, Bool, true, false, List, [], ◌∷◌, ◌++◌, flat_map, slice_get, Option, Some, None, Result, Ok, Err, decimal, codes}
+-- case for each production. It follows "The text" in docs/FORMATS.md; the subset is one of P4-16. Optional headers, tags
+-- and versions of rows are absent.
+use Rattle.std.specs.Prelude.{ℕ, Bool, true, false, List, [], ◌∷◌, ◌++◌, flat_map, slice_get, Option, Some, None, decimal, codes}
 use Rattle.cocoon_num.specs.Values.{UnaryOp, flip, not_, BinaryOp, add, sub, bits_and, bits_or, bits_xor, concat, equal, unequal, less, less_equal, greater, greater_equal, and_, or_, implies}
-use Rattle.cocoon_num.specs.Tokens.{Kind, word, plain, literal, mark, finish, Token, LexFault, Lexicon, Bounds, lex, kinds}
+use Rattle.cocoon_num.specs.Tokens.{Kind, word, plain, literal, mark, finish, Lexicon, Bounds, said_by}
 use Rattle.p4_emit.specs.P4Tree.{P4Expr, p_lit, p_truth, p_meta, p_field, p_port, p_rid, p_unary, p_binary, p_slice, p_pick, P4Stmt, set_meta, set_header, apply_table, p_if, p_if_else, verdict, egress_port, group, p_return, P4Block, p_done, p_then, P4Field, P4Header, P4Table, Control, Program}
 
 -- ---- tokens of P4 texts
@@ -22,18 +23,9 @@ p4_bounds = record {
   operators_most = 1024;
 }
 
-abbrev pub without_finish : List Kind → List Kind
-without_finish [] = []
-without_finish (finish ∷ ks) = []
-without_finish (k ∷ ks) = k ∷ without_finish ks
-
-abbrev pub kinds_or_none : Result (List Token) LexFault → List Kind
-kinds_or_none (Ok ts) = without_finish (kinds ts)
-kinds_or_none (Err e) = []
-
 -- the tokens of a fixed piece of text
 abbrev pub said : List ℕ → List Kind
-said text = kinds_or_none (lex p4_lexicon text)
+said text = said_by p4_lexicon text
 
 -- ---- names
 

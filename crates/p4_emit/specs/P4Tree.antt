@@ -1,5 +1,6 @@
 -- Programs of the P4-16 subset, and the rows that tables are filled with. Meta fields, headers and fields are named
--- by their numbers, from 0. It follows "Lowering and the P4 text" in docs/FORMATS.md.
+-- by their numbers, from 0. It follows "Lowering and the P4 text" in docs/FORMATS.md. Optional headers, tags and versions
+-- of rows are absent.
 use Rattle.std.specs.Prelude.{ℕ, Bool, List, [], map}
 use Rattle.cocoon_num.specs.Values.{UnaryOp, BinaryOp}
 use Rattle.cocoon_num.specs.Packets.{Layout}
@@ -11,7 +12,7 @@ pub data P4Expr : Type 0 where
   p_field : (header field : ℕ) → P4Expr
   p_port p_rid : P4Expr
   p_unary : (op : UnaryOp) (a : P4Expr) → P4Expr
-  -- any operator but `implies`
+  -- any operator; the kind rules shut `implies` out
   p_binary : (op : BinaryOp) (a b : P4Expr) → P4Expr
   p_slice : (a : P4Expr) (high low : ℕ) → P4Expr
   p_pick : (c a b : P4Expr) → P4Expr

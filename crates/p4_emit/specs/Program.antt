@@ -1,4 +1,5 @@
--- The program of the definitions that a program in memory stands for.
+-- The program of the definitions, which follow "Lowering and the P4 text" in docs/FORMATS.md, that a program in memory
+-- stands for.
 use Rattle.std.specs.Prelude.{List, [], ◌∷◌, map}
 use Rattle.cocoon_num.specs.Values.{UnaryOp, flip, not_, BinaryOp, add, sub, bits_and, bits_or, bits_xor, concat, equal, unequal, less, less_equal, greater, greater_equal, and_, or_}
 use Rattle.p4_emit.specs.P4Tree as tree

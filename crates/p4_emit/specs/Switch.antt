@@ -1,10 +1,12 @@
 -- One visit of a switch that runs a program over rows: the parser, ingress, the verdict, for a copy the egress run of
--- its member, and the deparser. It follows "One visit" and "Rows" in docs/FORMATS.md.
+-- its member, and the deparser. It follows "One visit" and "Rows" in docs/FORMATS.md; parsers, `exact` and `ternary`
+-- keys, default actions and `return` are those of P4-16. Optional headers and versions of rows are absent, and with
+-- them the form of a visit that looks at a tag.
 use Rattle.std.specs.Prelude.{ℕ, zero, suc, ◌==◌, ◌&&◌, Bool, true, false, List, [], ◌∷◌, replicate, length, slice_get, bit_and, if◌then◌else◌, Option, Some, None, option_map, option_and_then}
-use Rattle.cocoon_num.specs.Values.{Value, number, truth, number_of, of_unary, of_binary, of_slice, of_pick}
+use Rattle.cocoon_num.specs.Values.{Value, number, truth, number_of, of_unary, of_binary, of_slice, of_pick, with_both, with_all}
+use Rattle.cocoon_num.specs.Lists.{has_number}
 use Rattle.cocoon_num.specs.Packets.{Packet, Layout, enter, leave}
 use Rattle.p4_emit.specs.P4Tree.{P4Expr, p_lit, p_truth, p_meta, p_field, p_port, p_rid, p_unary, p_binary, p_slice, p_pick, P4Stmt, set_meta, set_header, apply_table, p_if, p_if_else, verdict, egress_port, group, p_return, P4Block, p_done, p_then, P4Table, Program, KeyRow, TableRows, Group, RowsFile, field_widths, program_layout}
-use Rattle.cocoon_num.specs.Values.{with_both, with_all}
 
 -- what a control works on
 pub record State : Type 0 where
@@ -15,7 +17,7 @@ pub record State : Type 0 where
   pub group : ℕ
 
 -- what a control runs in: the program, its tables, the rows, and the port or the member that it is run for
-pub record Place : Type 0 where
+pub record Running : Type 0 where
   pub program : Program
   pub tables : List P4Table
   pub rows : List TableRows
@@ -43,7 +45,7 @@ abbrev pub header_field : Layout → Packet → ℕ → ℕ → Option Value
 header_field layout packet h f =
     option_and_then (λ widths. option_and_then (λ ns. numbered widths ns f) (slice_get packet h)) (slice_get layout h)
 
-abbrev pub p4_value : Place → State → P4Expr → Option Value
+abbrev pub p4_value : Running → State → P4Expr → Option Value
 p4_value at s (p_lit w n) = Some (number w n)
 p4_value at s (p_truth b) = Some (truth b)
 p4_value at s (p_meta i) = numbered (field_widths at.program.meta) s.meta i
@@ -81,7 +83,7 @@ all_there ns [] = Some []
 all_there ns (i ∷ is) = option_and_then (λ n. option_map (λ rest. n ∷ rest) (all_there ns is)) (slice_get ns i)
 
 -- the state after a table was applied
-abbrev pub applied : Place → State → ℕ → Option State
+abbrev pub applied : Running → State → ℕ → Option State
 applied at s n =
     option_and_then (λ (t : P4Table). option_and_then (λ (r : TableRows). option_map
     (λ xs. record s { meta = put s.meta t.result (table_result r.rows r.otherwise xs) }) (all_there s.meta t.keys))
@@ -113,7 +115,7 @@ then_run (Some (goes_on s)) f = f s
 then_run (Some (returned s)) f = Some (returned s)
 
 abbrev mutual
-  pub p4_run : Place → P4Stmt → State → Option Ran
+  pub p4_run : Running → P4Stmt → State → Option Ran
   p4_run at (set_meta i e) s = setting (p4_value at s e) (λ n. record s { meta = put s.meta i n })
   p4_run at (set_header h f e) s = setting (p4_value at s e) (λ n. record s { packet = set_in_header s.packet h f n })
   p4_run at (apply_table n) s = option_map goes_on (applied at s n)
@@ -124,7 +126,7 @@ abbrev mutual
   p4_run at (group e) s = setting (p4_value at s e) (λ n. record s { group = n })
   p4_run at p_return s = Some (returned s)
 
-  pub p4_run_all : Place → P4Block → State → Option Ran
+  pub p4_run_all : Running → P4Block → State → Option Ran
   p4_run_all at p_done s = Some (goes_on s)
   p4_run_all at (p_then first rest) s = then_run (p4_run at first s) (p4_run_all at rest)
 
@@ -139,10 +141,6 @@ abbrev pub members : List Group → ℕ → List ℕ
 members [] n = []
 members (g ∷ gs) n = if g.number == n then g.members else members gs n
 
-abbrev pub is_member : ℕ → List ℕ → Bool
-is_member x [] = false
-is_member x (y ∷ ys) = if x == y then true else is_member x ys
-
 -- the state that ingress leaves of some headers
 abbrev pub ingress_of : Program → RowsFile → ℕ → Packet → Option State
 ingress_of p rows port packet = option_map state_of (p4_run_all
@@ -155,24 +153,25 @@ egress_of p rows rid s = option_map state_of (p4_run_all
     (record { program = p; tables = p.egress.tables; rows = rows.tables; port = None; rid = Some rid }) p.egress.body
     (record s { verdict = 0; egress_port = 0 }))
 
-abbrev pub Left : Type 0
-Left = Option (ℕ × List ℕ)
+-- what leaves: a port and bytes, or nothing
+abbrev pub Departure : Type 0
+Departure = Option (ℕ × List ℕ)
 
 -- a port and bytes, where a state has verdict 1
-abbrev pub sent_by : Program → List ℕ → State → Left
+abbrev pub sent_by : Program → List ℕ → State → Departure
 sent_by p payload s = if s.verdict == 1 then Some (s.egress_port, leave (program_layout p) s.packet payload) else None
 
-abbrev pub copied : Program → RowsFile → List ℕ → State → ℕ → Left
+abbrev pub copied : Program → RowsFile → List ℕ → State → ℕ → Departure
 copied p rows payload s rid =
-    if is_member rid (members rows.groups s.group) then option_and_then (sent_by p payload) (egress_of p rows rid s) else None
+    if has_number rid (members rows.groups s.group) then option_and_then (sent_by p payload) (egress_of p rows rid s) else None
 
 -- what follows from the state that ingress left: no copies are named but at verdict 2, and then one member is
-abbrev pub after_ingress : Program → RowsFile → List ℕ → List ℕ → State → Left
+abbrev pub after_ingress : Program → RowsFile → List ℕ → List ℕ → State → Departure
 after_ingress p rows payload [] s = sent_by p payload s
 after_ingress p rows payload (rid ∷ []) s = if s.verdict == 2 then copied p rows payload s rid else None
 after_ingress p rows payload (rid ∷ other ∷ rids) s = None
 
 -- None, or one port and bytes. The tag is not looked at.
-abbrev pub switch_go : Program → RowsFile → ℕ → ℕ → List ℕ → List ℕ → Left
+abbrev pub switch_go : Program → RowsFile → ℕ → ℕ → List ℕ → List ℕ → Departure
 switch_go p rows tag port bytes rids =
     option_and_then (λ entered. option_and_then (after_ingress p rows entered.1 rids) (ingress_of p rows port entered.0)) (enter (program_layout p) bytes)

@@ -3,9 +3,8 @@ use Rattle.std.proofs.Common.{◌≡◌, ℕ, zero, suc, List, [], ◌∷◌, �
 use Rattle.std.specs.Prelude.{◌==◌, slice_get}
 use Rattle.std.proofs.lemmas.Bool.{and_parts, eqb-true, eq-eqb}
 use Rattle.cocoon_num.specs.Names.{same_name}
-use Rattle.cocoon_num.specs.Lists.{each, is_one_of}
+use Rattle.cocoon_num.specs.Lists.{each, is_one_of, all_distinct}
 use Rattle.cocoon_num.specs.Tokens.{Kind}
-use Rattle.p4_emit.specs.P4Kinds.{are_distinct}
 
 -- ---- lists
 
@@ -74,12 +73,12 @@ next_number true n h = absurd (h refl)
 next_number false n h = refl
 
 -- Where names are distinct, the name of the i-th is found at i.
-pub number_is : {A : Type 0} (name : A → List ℕ) (xs : List A) (i : ℕ) (x : A) → are_distinct (map name xs) ≡ true → slice_get xs i ≡ Some x → number_named name (name x) xs ≡ i
+pub number_is : {A : Type 0} (name : A → List ℕ) (xs : List A) (i : ℕ) (x : A) → all_distinct (map name xs) ≡ true → slice_get xs i ≡ Some x → number_named name (name x) xs ≡ i
 number_is name [] i x d h = cc
 number_is name (y ∷ ys) zero x d h =
     let e : y ≡ x = cc in
     ap (λ b. elim b as (λ _. ℕ) [ true ↦ zero | false ↦ suc (number_named name (name x) ys) ]) (ap (λ z. same_name (name z) (name x)) e ∙ same_name_self (name x))
 number_is name (y ∷ ys) (suc i) x d h =
     next_number (same_name (name y) (name x)) (number_named name (name x) ys)
-    (λ t. not_true (is_one_of (map name ys) (name y)) (are_distinct (map name ys)) d (ap (λ w. is_one_of (map name ys) w) (same_name_is (name y) (name x) t) ∙ named_is_there name ys i x h))
-    ∙ ap suc (number_is name ys i x (and_parts (not (is_one_of (map name ys) (name y))) (are_distinct (map name ys)) d).1 h)
+    (λ t. not_true (is_one_of (map name ys) (name y)) (all_distinct (map name ys)) d (ap (λ w. is_one_of (map name ys) w) (same_name_is (name y) (name x) t) ∙ named_is_there name ys i x h))
+    ∙ ap suc (number_is name ys i x (and_parts (not (is_one_of (map name ys) (name y))) (all_distinct (map name ys)) d).1 h)

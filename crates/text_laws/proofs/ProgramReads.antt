@@ -6,7 +6,8 @@ use Rattle.cocoon_num.specs.Sorts.{Sort, bits_sort, unary_sort, binary_sort, sli
 use Rattle.cocoon_num.specs.Tokens.{Kind, word, plain, mark}
 use Rattle.p4_emit.specs.P4Tree.{P4Expr, p_lit, p_truth, p_meta, p_field, p_port, p_rid, p_unary, p_binary, p_slice, p_pick, P4Field, P4Header}
 use Rattle.p4_emit.specs.P4Text.{binary_mark}
-use Rattle.p4_emit.specs.P4Kinds.{are_distinct, Within, is_implies, p4_sort}
+use Rattle.p4_emit.specs.P4Kinds.{Within, is_implies, p4_sort}
+use Rattle.cocoon_num.specs.Lists.{all_distinct}
 use Rattle.text_laws.proofs.ProgramLists.{Each, number_is}
 use Rattle.text_laws.proofs.ProgramReader.{Read, is_mark, plain_of, header_number, meta_number, fields_of, read_field, after_binary, after_of, sliced, closed, arms, after_by, after_first, with_unary, field_expr, read_expr, size_of, meta_then, in_header, field_then, expr_then}
 
@@ -14,9 +15,9 @@ use Rattle.text_laws.proofs.ProgramReader.{Read, is_mark, plain_of, header_numbe
 
 -- the names of headers, of each header's fields and of meta fields are distinct
 pub record Names (hs : List P4Header) (ms : List P4Field) : Type 0 where
-  pub headers : are_distinct (map (λ (d : P4Header). d.name) hs) ≡ true
-  pub fields : Each (λ (d : P4Header). are_distinct (map (λ (f : P4Field). f.name) d.fields) ≡ true) hs
-  pub meta : are_distinct (map (λ (f : P4Field). f.name) ms) ≡ true
+  pub headers : all_distinct (map (λ (d : P4Header). d.name) hs) ≡ true
+  pub fields : Each (λ (d : P4Header). all_distinct (map (λ (f : P4Field). f.name) d.fields) ≡ true) hs
+  pub meta : all_distinct (map (λ (f : P4Field). f.name) ms) ≡ true
 
 each_at : {A : Type 0} (P : A → Type 0) (xs : List A) (i : ℕ) (x : A) → Each P xs → slice_get xs i ≡ Some x → P x
 each_at P [] i x e h = cc
@@ -26,7 +27,7 @@ each_at P (y ∷ ys) (suc i) x e h = each_at P ys i x e.1 h
 pub meta_there : (ms : List P4Field) (i : ℕ) (f : P4Field) (r : List Kind) → slice_get ms i ≡ Some f → meta_then ms i r ≡ word (codes "m") ∷ mark (codes ".") ∷ word f.name ∷ r
 meta_there ms i f r h = ap (λ o. elim o as (λ _. List Kind) [ Some f ↦ word (codes "m") ∷ mark (codes ".") ∷ word f.name ∷ r | None ↦ r ]) h
 
-pub meta_read : (ms : List P4Field) (i : ℕ) (f : P4Field) → are_distinct (map (λ (f : P4Field). f.name) ms) ≡ true → slice_get ms i ≡ Some f → meta_number ms f.name ≡ i
+pub meta_read : (ms : List P4Field) (i : ℕ) (f : P4Field) → all_distinct (map (λ (f : P4Field). f.name) ms) ≡ true → slice_get ms i ≡ Some f → meta_number ms f.name ≡ i
 meta_read ms i f d h = number_is (λ (f : P4Field). f.name) ms i f d h
 
 in_header_there : (d : P4Header) (f : ℕ) (x : P4Field) (r : List Kind) → slice_get d.fields f ≡ Some x → in_header d f r ≡ word (codes "h") ∷ mark (codes ".") ∷ word (codes "h_" ++ d.name) ∷ mark (codes ".") ∷ word (codes "f_" ++ x.name) ∷ r
@@ -40,7 +41,7 @@ pub field_read : (hs : List P4Header) (ms : List P4Field) (h f : ℕ) (d : P4Hea
 field_read hs ms h f d x r names e g =
     let at : header_number hs d.name ≡ h = number_is (λ (d : P4Header). d.name) hs h d names.headers e in
     let within : fields_of (slice_get hs (header_number hs d.name)) ≡ d.fields = ap (λ i. fields_of (slice_get hs i)) at ∙ ap fields_of e in
-    let distinct = each_at (λ (d : P4Header). are_distinct (map (λ (f : P4Field). f.name) d.fields) ≡ true) hs h d names.fields e in
+    let distinct = each_at (λ (d : P4Header). all_distinct (map (λ (f : P4Field). f.name) d.fields) ≡ true) hs h d names.fields e in
     ap₂ {C = ℕ × ℕ × List Kind} (λ i j. (i, j, r)) at (ap (λ fs. meta_number fs x.name) within ∙ meta_read d.fields f x distinct g)
 
 -- ---- sorts

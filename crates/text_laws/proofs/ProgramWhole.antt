@@ -2,11 +2,11 @@
 use Rattle.std.proofs.Common.{◌≡◌, ℕ, List, [], ◌∷◌, ◌++◌, Bool, true, false, ◌&&◌, Result, Ok, ap, sym, ◌∙◌, map, flat_map, append_assoc}
 use Rattle.std.specs.Prelude.{codes}
 use Rattle.std.proofs.lemmas.Bool.{and_parts}
-use Rattle.cocoon_num.specs.Lists.{each, ascend}
+use Rattle.cocoon_num.specs.Lists.{each, ascend, all_distinct}
 use Rattle.cocoon_num.specs.Tokens.{Kind, word, mark, finish, Token, LexFault, lex, kinds, is_run}
 use Rattle.p4_emit.specs.P4Tree.{P4Field, P4Header, Control, Program}
 use Rattle.p4_emit.specs.P4Text.{p4_lexicon, said, header_name, in_braces, architecture, header_tokens, member_tokens, meta_member_tokens, control_tokens, program_tokens}
-use Rattle.p4_emit.specs.P4Kinds.{are_distinct, is_meta_name, names_fit, widths_fit, table_fits, tables_fit, numbers_of, Within, block_fits, is_well_kinded}
+use Rattle.p4_emit.specs.P4Kinds.{is_meta_name, names_fit, widths_fit, table_fits, tables_fit, numbers_of, Within, block_fits, is_well_kinded}
 use Rattle.p4_emit.specs.P4Reads.{P4Reads}
 use Rattle.text_laws.proofs.ProgramLists.{each_of, cancel, cancel_same}
 use Rattle.text_laws.proofs.ProgramSpells.{one_part}
@@ -30,16 +30,16 @@ abbrev field_names : P4Header → List (List ℕ)
 field_names d = map (λ (f : P4Field). f.name) d.fields
 
 abbrev header_named : P4Header → Bool
-header_named d = is_run d.name && each (λ (f : P4Field). is_run f.name) d.fields && are_distinct (field_names d)
+header_named d = is_run d.name && each (λ (f : P4Field). is_run f.name) d.fields && all_distinct (field_names d)
 
 names_of : (p : Program) → names_fit p ≡ true → Names p.headers p.meta
 names_of p h =
-    let h1 = and_parts (each header_named p.headers && are_distinct (map (λ (d : P4Header). d.name) p.headers) && each (λ (f : P4Field). is_meta_name f.name) p.meta) (are_distinct (map (λ (f : P4Field). f.name) p.meta)) h in
-    let h2 = and_parts (each header_named p.headers && are_distinct (map (λ (d : P4Header). d.name) p.headers)) (each (λ (f : P4Field). is_meta_name f.name) p.meta) h1.0 in
-    let h3 = and_parts (each header_named p.headers) (are_distinct (map (λ (d : P4Header). d.name) p.headers)) h2.0 in
+    let h1 = and_parts (each header_named p.headers && all_distinct (map (λ (d : P4Header). d.name) p.headers) && each (λ (f : P4Field). is_meta_name f.name) p.meta) (all_distinct (map (λ (f : P4Field). f.name) p.meta)) h in
+    let h2 = and_parts (each header_named p.headers && all_distinct (map (λ (d : P4Header). d.name) p.headers)) (each (λ (f : P4Field). is_meta_name f.name) p.meta) h1.0 in
+    let h3 = and_parts (each header_named p.headers) (all_distinct (map (λ (d : P4Header). d.name) p.headers)) h2.0 in
     record {
       headers = h3.1;
-      fields = each_of header_named (λ (d : P4Header). are_distinct (field_names d) ≡ true) (λ d e. (and_parts (is_run d.name && each (λ (f : P4Field). is_run f.name) d.fields) (are_distinct (field_names d)) e).1) p.headers h3.0;
+      fields = each_of header_named (λ (d : P4Header). all_distinct (field_names d) ≡ true) (λ d e. (and_parts (is_run d.name && each (λ (f : P4Field). is_run f.name) d.fields) (all_distinct (field_names d)) e).1) p.headers h3.0;
       meta = h1.1;
     }
 

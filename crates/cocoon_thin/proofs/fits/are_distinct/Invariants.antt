@@ -1,6 +1,6 @@
 use Rattle.std.proofs.Common.{◌≡◌, length}
 use Rattle.cocoon_thin.specs.Read.{field_names}
-use Rattle.cocoon_thin.specs.Thin.{all_distinct}
+use Rattle.cocoon_num.specs.Lists.{all_distinct}
 use Rattle.cocoon_thin.proofs.fits.are_distinct.Given as goal
 
 abbrev pub invariant-loop-field : goal.invariant-loop-field

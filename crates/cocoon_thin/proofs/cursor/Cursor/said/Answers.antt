@@ -1,6 +1,7 @@
 use Rattle.std.proofs.Common.{◌∙◌, ap, sym}
 use Rattle.cocoon_thin.specs.Follow.{after_all, kinds_at}
-use Rattle.cocoon_thin.specs.Thin.{said, without_finish}
+use Rattle.cocoon_thin.specs.Thin.{said}
+use Rattle.cocoon_num.specs.Tokens.{without_finish}
 use Rattle.cocoon_thin.proofs.Follows.{piece_says}
 use Rattle.cocoon_thin.proofs.cursor.Cursor.said.Goals as goal
 

@@ -1,6 +1,6 @@
 use Rattle.std.proofs.Common.{◌≡◌, drop}
 use Rattle.cocoon_thin.specs.Follow.{after_all, kinds_at}
-use Rattle.cocoon_thin.specs.Thin.{without_finish}
+use Rattle.cocoon_num.specs.Tokens.{without_finish}
 use Rattle.cocoon_thin.proofs.cursor.Cursor.tokens_of.Given as goal
 
 abbrev pub invariant-loop-wanted : goal.invariant-loop-wanted
