@@ -7,8 +7,8 @@ ghost use Rattle.cocoon_thin.specs.ThinTree.{thin_defs, thin_tree};
 ghost use Rattle.cocoon_thin.specs.declared.parts.Thin.{Thin};
 
 use cocoon_thin::meaning::thin_texts_mean;
-use cocoon_types::runs::one_level;
 use cocoon_thin::visits::thin_roles_send;
+use cocoon_types::runs::one_level;
 
 /// A visit of a switch sends the packet as it came, to the port that the tested field chooses.
 pub fn thin_switches_visit()
