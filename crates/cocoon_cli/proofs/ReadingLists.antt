@@ -1,6 +1,6 @@
 -- Lists of numbers: what is in them, tests of each, what a filter keeps, and ascending ones.
 use Rattle.std.proofs.Common.{◌≡◌, ℕ, ◌<◌, Bool, true, false, cond, ◌||◌, List, [], ◌∷◌, ◌++◌, map, filter, flat_map, nat_lt, ◌⊎◌, inl, inr, refl, ap, sym, subst, arith}
-use Rattle.std.specs.Prelude.{◌==◌}
+use Rattle.std.specs.Prelude.{◌==◌, suc, slice_index}
 use Rattle.std.proofs.lemmas.Bool.{and_from, and_parts, eq-eqb, eqb-true, lt-ltb, ltb-true}
 use Rattle.cocoon_num.specs.Lists.{each, ascend, has_number}
 
@@ -31,6 +31,11 @@ first_or_further y x xs h = by_case (y == x) refl h
 pub each_from : (f : ℕ → Bool) (xs : List ℕ) → ((x : ℕ) → has_number x xs ≡ true → f x ≡ true) → each f xs ≡ true
 each_from f [] h = refl
 each_from f (x ∷ xs) h = and_from (f x) _ (h x (has_first x xs)) (each_from f xs (λ y k. h y (or_right (y == x) (has_number y xs) k)))
+
+-- numbers of which each is below a bound
+pub all_below : (top : ℕ) (xs : List ℕ) → ((k : ℕ) → slice_index xs k < top) → each (λ n. nat_lt n top) xs ≡ true
+all_below top [] h = refl
+all_below top (x ∷ xs) h = and_from (nat_lt x top) _ (lt-ltb x top (h 0)) (all_below top xs (λ k. h (suc k)))
 
 -- what holds of all that a function gives holds of each of their list
 pub each_map : {A : Type 0} (f : A → Bool) (g : ℕ → A) (xs : List ℕ) → each (λ x. f (g x)) xs ≡ true → each f (map g xs) ≡ true

@@ -12,7 +12,7 @@ use Rattle.cocoon_cli.specs.Lowered.{host_port, host_ports, port_hosts, links_of
 use Rattle.cocoon_cli.specs.NetJson.{KeptDigest, NetFile}
 use Rattle.cocoon_cli.specs.Network.{is_digest, pairs_ascend, host_numbers, attach_fits, host_fits, link_fits, net_file_fits}
 use Rattle.cocoon_cli.specs.Readable.{NumbersFit}
-use Rattle.cocoon_cli.proofs.ReadingLists.{or_right, number_itself, each_from, each_map, each_flat, kept_passes, kept_there, filter_ascends}
+use Rattle.cocoon_cli.proofs.ReadingLists.{all_below, or_right, number_itself, each_from, each_map, each_flat, kept_passes, kept_there, filter_ascends}
 
 -- ---- ascending pairs
 
@@ -119,5 +119,5 @@ few_ports t h =
 -- it fits where the parts of the design do
 pub wired_fits : (d : List ℕ) (fs : List KeptDigest) (t : Thin) → IsTrue (is_digest d) → numbers_fit t ≡ true → NumbersFit t → ascend t.hosts ≡ true → ascend t.switches ≡ true → IsTrue (net_file_fits (wired d fs t))
 wired_fits d fs t digest ports numbers hosts switches =
-    and_from _ _ (and_from _ _ (and_from _ _ (and_from _ _ (and_from _ _ (and_from _ _ (and_from _ _ digest (few_ports t ports)) numbers.switches) switches)
-    (hosts_fit d fs t t.hosts numbers.hosts)) (ap ascend (numbers_of_hosts t t.hosts) ∙ hosts)) (links_there d fs t)) (links_ascend t hosts switches)
+    and_from _ _ (and_from _ _ (and_from _ _ (and_from _ _ (and_from _ _ (and_from _ _ (and_from _ _ digest (few_ports t ports)) (all_below _ t.switches numbers.switches)) switches)
+    (hosts_fit d fs t t.hosts (all_below _ t.hosts numbers.hosts))) (ap ascend (numbers_of_hosts t t.hosts) ∙ hosts)) (links_there d fs t)) (links_ascend t hosts switches)

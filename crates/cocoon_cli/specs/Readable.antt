@@ -1,6 +1,5 @@
 -- What the made files of a thin design read as, by "The text" and "Bundle files" in docs/FORMATS.md.
-use Rattle.std.specs.Prelude.{ℕ, ◌<◌, ◌^◌, List, nat_lt, IsTrue}
-use Rattle.cocoon_num.specs.Lists.{each}
+use Rattle.std.specs.Prelude.{ℕ, ◌<◌, ◌^◌, List, slice_index}
 use Rattle.cocoon_thin.specs.declared.parts.Thin.{Thin}
 use Rattle.p4_emit.specs.P4Reads.{P4Reads}
 use Rattle.p4_emit.specs.Printed.{printed}
@@ -9,13 +8,15 @@ use Rattle.cocoon_cli.specs.Lowered.{thin_program}
 use Rattle.cocoon_cli.specs.Bundle.{net_file, net_text}
 use Rattle.cocoon_cli.specs.Network.{IsJson}
 
--- numbers have the sizes of their types
+-- each number of a list is below a bound
 abbrev pub AllBelow : ℕ → List ℕ → Type 0
-AllBelow most numbers = IsTrue (each (λ n. nat_lt n most) numbers)
+AllBelow top numbers = (k : ℕ) → slice_index numbers k < top
 
 -- the numbers of a thin design have the sizes of their types
 pub record NumbersFit (t : Thin) : Type 0 where
   pub entry : t.entry_switch < 2 ^ 16
+  pub first : t.first_port < 2 ^ 16
+  pub other : t.other_port < 2 ^ 16
   pub switches : AllBelow (2 ^ 16) t.switches
   pub hosts : AllBelow (2 ^ 64) t.hosts
 

@@ -1,17 +1,18 @@
 //! The files of a bundle: all of them are made, and then they are written, the file of the network last.
-ghost use Rattle.std.specs.Prelude.{◌≡◌, ◌≤◌, ◌++◌, ◌^◌, IfErr, IfOk, OnErr, OnOk, codes, map, string_bytes};
+ghost use Rattle.std.specs.Prelude.{◌≡◌, ◌≤◌, ◌++◌, IfErr, IfOk, OnErr, OnOk, codes, map, string_bytes};
 ghost use Rattle.cocoon_cli.specs.Bundle as spec;
 ghost use Rattle.cocoon_cli.specs.Causes.{NotWritten, totals_of};
 ghost use Rattle.cocoon_cli.specs.Lowered.{thin_program};
 ghost use Rattle.cocoon_cli.specs.NetJson.{net_data};
 ghost use Rattle.cocoon_cli.specs.NetOf.{FaultRose, IsLowerable, IsWriteRefusal, MadeTooLong, kept_of, named_of, net_file_of};
 ghost use Rattle.cocoon_cli.specs.Network.{IsJson};
-ghost use Rattle.cocoon_cli.specs.Readable.{AllBelow, NumbersFit, Readable};
+ghost use Rattle.cocoon_cli.specs.Readable.{Readable};
 ghost use Rattle.p4_emit.specs.P4Reads.{P4Reads};
 ghost use Rattle.p4_emit.specs.Printed.{printed};
 
 use crate::json::{KeptDigest, NetFile, net_text};
 use crate::lower::{host_ports, links, program_text};
+use crate::ranges::know_numbers;
 use crate::refusal::{Refusal, Totals};
 use cocoon_io::{Folder, FolderFault};
 use cocoon_num::NoMemory;
@@ -150,33 +151,6 @@ fn named(alloc: Global, out: &str, files: Vec<BundleFile>) -> Result<Vec<BundleF
         })?;
     }
     Ok(named)
-}
-
-/// That switches have the numbers of their type.
-fn know_switches(switches: &[u16])
-    ensures { AllBelow (2 ^ 16) switches.now }
-{
-    for switch in switches {
-        let _switch = *switch;
-    }
-}
-
-/// That hosts have the numbers of their type.
-fn know_hosts(hosts: &[u64])
-    ensures { AllBelow (2 ^ 64) hosts.now }
-{
-    for host in hosts {
-        let _host = *host;
-    }
-}
-
-/// That all numbers of a network have the sizes of their types.
-fn know_numbers(thin: &Thin)
-    ensures { NumbersFit thin.now }
-{
-    let _entry = thin.entry_switch;
-    know_switches(thin.switches.items());
-    know_hosts(thin.hosts.items());
 }
 
 /// The files of the bundle `out`, in the order in which they are written.

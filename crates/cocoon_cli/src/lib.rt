@@ -8,6 +8,7 @@ pub mod example;
 pub mod json;
 pub mod lower;
 pub mod network;
+mod ranges;
 pub mod refusal;
 pub mod report;
 pub mod status;

@@ -1,5 +1,5 @@
 //! From a thin design to its network: the program of the switches, the attachments of hosts, and the links.
-ghost use Rattle.std.specs.Prelude.{◌≡◌, ◌<◌, ◌^◌, ◌++◌, [], IfOk, List as Items, OnOk, codes, length, map, slice_index, ℕ};
+ghost use Rattle.std.specs.Prelude.{◌≡◌, ◌<◌, ◌++◌, [], IfOk, List as Items, OnOk, codes, length, map, ℕ};
 ghost use Rattle.p4_emit.specs.P4Reads.{P4Reads};
 ghost use Rattle.p4_emit.specs.Printed.{printed};
 ghost use Rattle.p4_emit.specs.Program.{block_of, control_of, field_of, header_of, program_of, stmt_of};
@@ -12,6 +12,7 @@ ghost use Rattle.cocoon_cli.specs.Visits.{VisitsAreRuns};
 ghost use Rattle.cocoon_cli.specs.Wires.{HostsAreRuns, LinksAreRuns};
 
 use crate::network::{HostPort, Link, LinkEnd};
+use crate::ranges::know_numbers;
 use crate::visits::thin_switches_run;
 use cocoon_num::{Bits, List, NoMemory, Text};
 use cocoon_thin::visits::{thin_entries_run, thin_exits_run};
@@ -131,36 +132,13 @@ pub fn program(alloc: Global, thin: &Thin) -> Result<Program, NoMemory>
     })
 }
 
-/// That ports are of 16 bits, as their type says.
-fn know_ports(thin: &Thin)
-    ensures first { thin.now.first_port < 2 ^ 16 }
-    ensures other { thin.now.other_port < 2 ^ 16 }
-{
-    let _first = thin.first_port;
-    let _other = thin.other_port;
-}
-
-/// That numbers are of 16 bits, as their type says.
-fn know_numbers(numbers: &[u16])
-    ensures { (k : ℕ) → slice_index numbers.now k < 2 ^ 16 }
-{}
-
-/// The same of the numbers of switches.
-fn know_switches(thin: &Thin)
-    ensures entry { thin.now.entry_switch < 2 ^ 16 }
-    ensures each { (k : ℕ) → slice_index thin.now.switches k < 2 ^ 16 }
-{
-    let _entry = thin.entry_switch;
-    know_numbers(thin.switches.items());
-}
-
 /// The text of that program.
 pub fn program_text(alloc: Global, thin: &Thin) -> Result<Vec<u8>, NoMemory>
     requires { IsLowerable thin.now }
     ensures text { IfOk result (λ v. v.items ≡ printed (spec.thin_program thin.now)) }
     ensures reads { IfOk result (λ v. P4Reads v.items (spec.thin_program thin.now)) }
 {
-    know_ports(thin);
+    know_numbers(thin);
     let program = program(alloc, thin)?;
     emit(alloc, &program)
 }
@@ -191,7 +169,7 @@ pub fn host_ports(alloc: Global, thin: &Thin) -> Result<Vec<HostPort>, NoMemory>
     ensures attached { IfOk result (λ v. (design defs : Items ℕ) (h : AreThin design defs thin.now) → HostsAreRuns (map host_port_of v.items) (thin_tree h.names thin.now) (thin_defs h.names thin.now h.entries) h.names) }
 {
     thin_entries_run();
-    know_switches(thin);
+    know_numbers(thin);
     let mut ports = Vec::new(alloc);
     for host in thin.hosts.items() {
         ports.push(attachment(thin, *host))?;
@@ -234,7 +212,7 @@ pub fn links(alloc: Global, thin: &Thin) -> Result<Vec<Link>, NoMemory>
     ensures wired { IfOk result (λ v. (design defs : Items ℕ) (h : AreThin design defs thin.now) → LinksAreRuns (map link_of v.items) (thin_tree h.names thin.now) (thin_defs h.names thin.now h.entries) h.names) }
 {
     thin_exits_run();
-    know_switches(thin);
+    know_numbers(thin);
     let hosts = port_hosts(alloc, thin)?;
     let mut links = Vec::new(alloc);
     for switch in thin.switches.items() {

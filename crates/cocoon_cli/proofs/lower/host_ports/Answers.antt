@@ -13,4 +13,4 @@ returns-clause-attached c =
     let all : map host_port_of c.loop-host.ports.items ≡ host_ports c.args.thin.now = grind (arith, common_steps) in
     λ design defs h.
     subst (λ (hosts : List HostPort). HostsAreRuns hosts (thin_tree h.names c.args.thin.now) (thin_defs h.names c.args.thin.now h.entries) h.names) (sym all)
-    (hosts_are_runs (thin_tree h.names c.args.thin.now) (thin_defs h.names c.args.thin.now h.entries) h.names c.args.thin.now c.know_switches.ensures.entry (c.thin_entries_run.ensures design defs c.args.thin.now h))
+    (hosts_are_runs (thin_tree h.names c.args.thin.now) (thin_defs h.names c.args.thin.now h.entries) h.names c.args.thin.now c.know_numbers.ensures.entry (c.thin_entries_run.ensures design defs c.args.thin.now h))

@@ -14,4 +14,4 @@ returns-clause-wired c =
     λ design defs h.
     subst (λ (ls : List Link). LinksAreRuns ls (thin_tree h.names c.args.thin.now) (thin_defs h.names c.args.thin.now h.entries) h.names) (sym all)
     (links_are_runs (thin_tree h.names c.args.thin.now) (thin_defs h.names c.args.thin.now h.entries) h.names c.args.thin.now
-    (below_among c.args.thin.now.switches (2 ^ 16) c.know_switches.ensures.each) (c.thin_exits_run.ensures design defs c.args.thin.now h))
+    (below_among c.args.thin.now.switches (2 ^ 16) c.know_numbers.ensures.switches) (c.thin_exits_run.ensures design defs c.args.thin.now h))
