@@ -82,6 +82,17 @@ pub fn assert_written(rt: &impl Abort, folder: &MemFolder, count: usize) {
     }
 }
 
+/// The number of the last file of the bundle `one` that is new, counted from 1; 0 where none is.
+pub fn written(folder: &MemFolder) -> usize {
+    let mut count = 0;
+    for (place, (name, text)) in BUNDLE.into_iter().enumerate() {
+        if folder.file(name) == Some(text.as_bytes()) {
+            count = place + 1;
+        }
+    }
+    count
+}
+
 /// Asserts that a file has these bytes.
 fn assert_file(rt: &impl Abort, folder: &MemFolder, name: &str, wanted: &str) {
     let bytes = folder.file(name).unwrap_or_default();

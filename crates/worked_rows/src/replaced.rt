@@ -1,7 +1,7 @@
 //! A design with one byte replaced.
 use crate::bench::{COMPILE, folder, status};
 use crate::texts::DESIGN;
-use cocoon_io::MemSink;
+use cocoon_io::{MemFolder, MemSink};
 use cocoon_num::NoMemory;
 use std::alloc::Global;
 use std::test::Fail;
@@ -60,21 +60,27 @@ fn replaced(alloc: Global, place: usize, byte: u8) -> Result<Vec<u8>, NoMemory> 
 }
 
 /// The status of the design with another byte at a place.
-fn status_of(alloc: Global, place: usize, byte: u8) -> Result<u8, NoMemory> {
-    let mut folder = folder(alloc, Vec::new(alloc))?;
-    folder.place_file(alloc, "c.ccn", &replaced(alloc, place, byte)?)?;
+fn status_of(
+    alloc: Global,
+    folder: &mut MemFolder,
+    place: usize,
+    byte: u8,
+) -> Result<u8, NoMemory> {
+    let text = replaced(alloc, place, byte)?;
+    folder.place_file(alloc, "c.ccn", &text)?;
     let mut sink = MemSink::new(alloc, Vec::new(alloc));
-    status(alloc, &COMPILE, &mut folder, &mut sink)
+    status(alloc, &COMPILE, folder, &mut sink)
 }
 
 #[test]
 fn every_byte_of_a_design_replaced(rt: HostRuntime) -> Result<(), Fail> {
+    let mut folder = folder(rt.alloc(), Vec::new(rt.alloc()))?;
     let mut front = Vec::new(rt.alloc());
     for (place, old) in DESIGN.bytes().enumerate() {
         for byte in BYTES {
             let is_thin = byte == old || is_kept(&front, byte);
             let wanted = if is_thin { 0 } else { 3 };
-            let status = status_of(rt.alloc(), place, byte)?;
+            let status = status_of(rt.alloc(), &mut folder, place, byte)?;
             assert_eq!(rt; status, wanted, "byte {byte} at {place}");
         }
         front.push(old)?;
