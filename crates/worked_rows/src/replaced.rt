@@ -52,9 +52,9 @@ fn is_kept(front: &[u8], byte: u8) -> bool {
 
 /// The design with another byte at a place.
 fn replaced(alloc: Global, place: usize, byte: u8) -> Result<Vec<u8>, NoMemory> {
-    let mut text = Vec::new(alloc);
-    for (at, old) in DESIGN.bytes().enumerate() {
-        text.push(if at == place { byte } else { old })?;
+    let mut text = DESIGN.as_bytes().to_vec(alloc)?;
+    if let Some(old) = text.get_mut(place) {
+        *old = byte;
     }
     Ok(text)
 }
