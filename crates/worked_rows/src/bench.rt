@@ -69,8 +69,8 @@ pub fn assert_report(
 ) -> Result<(), NoMemory> {
     let mut sink = MemSink::new(alloc, Vec::new(alloc));
     let status = status(alloc, words, folder, &mut sink)?;
-    assert_eq!(rt; sink.bytes(), wanted.1.as_bytes());
-    assert_eq!(rt; status, wanted.0);
+    assert_eq!(rt; sink.bytes(), wanted.1.as_bytes(), "{words:?}");
+    assert_eq!(rt; status, wanted.0, "{words:?}");
     Ok(())
 }
 

@@ -1,6 +1,10 @@
 //! Texts that are cut off: each proper front of a design, and of its definitions.
-use crate::bench::{COMPILE, COMPILED, assert_report, folder};
+use crate::bench::{COMPILE, COMPILED, folder, status};
 use crate::texts::{DEFINITIONS, DESIGN};
+use cocoon_io::{MemFolder, MemSink};
+use cocoon_num::NoMemory;
+use std::alloc::Global;
+use std::process::Abort;
 use std::test::Fail;
 
 const NOT_A_DESIGN: (u8, &str) = (3, "language c.ccn 1:1 NotYet\n");
@@ -57,6 +61,21 @@ fn wanted_of_design(front: &[u8]) -> (u8, &'static str) {
     }
 }
 
+/// Compiles a front of so many bytes, and asserts the number of the status and the report.
+fn assert_front(
+    rt: &impl Abort,
+    alloc: Global,
+    folder: &mut MemFolder,
+    length: usize,
+    wanted: (u8, &str),
+) -> Result<(), NoMemory> {
+    let mut sink = MemSink::new(alloc, Vec::new(alloc));
+    let status = status(alloc, &COMPILE, folder, &mut sink)?;
+    assert_eq!(rt; sink.bytes(), wanted.1.as_bytes(), "{length} bytes");
+    assert_eq!(rt; status, wanted.0, "{length} bytes");
+    Ok(())
+}
+
 #[test]
 fn every_front_of_a_design(rt: HostRuntime) -> Result<(), Fail> {
     let mut folder = folder(rt.alloc(), Vec::new(rt.alloc()))?;
@@ -64,7 +83,7 @@ fn every_front_of_a_design(rt: HostRuntime) -> Result<(), Fail> {
     for byte in DESIGN.bytes() {
         folder.place_file(rt.alloc(), "c.ccn", &front)?;
         let wanted = wanted_of_design(&front);
-        assert_report(&rt, rt.alloc(), &COMPILE, &mut folder, wanted)?;
+        assert_front(&rt, rt.alloc(), &mut folder, front.len(), wanted)?;
         front.push(byte)?;
     }
     Ok(())
@@ -77,7 +96,7 @@ fn every_front_of_definitions(rt: HostRuntime) -> Result<(), Fail> {
     for byte in DEFINITIONS.bytes() {
         folder.place_file(rt.alloc(), "c.defs", &front)?;
         let wanted = wanted_of_definitions(&front);
-        assert_report(&rt, rt.alloc(), &COMPILE, &mut folder, wanted)?;
+        assert_front(&rt, rt.alloc(), &mut folder, front.len(), wanted)?;
         front.push(byte)?;
     }
     Ok(())
