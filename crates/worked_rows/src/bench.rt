@@ -9,8 +9,14 @@ use std::process::Abort;
 /// The words of a command that compiles the first design into the bundle `one`.
 pub const COMPILE: [&str; 5] = ["cocoon", "compile", "c.ccn", "c.defs", "one"];
 
+/// The report of that command.
+pub const COMPILED: &str = "compiled switches 1 hosts 4 links 4 obligations 0\n";
+
 /// What an older bundle has in each of its files.
 pub const OLDER: &str = "older";
+
+/// Files of an older bundle that the new one does not have.
+const LEFT: [&str; 2] = ["one.certs.json", "one.s2.p4"];
 
 /// A folder with the designs and definitions, whose calls with these numbers fail.
 pub fn folder(alloc: Global, failing: Vec<u64>) -> Result<MemFolder, NoMemory> {
@@ -22,9 +28,12 @@ pub fn folder(alloc: Global, failing: Vec<u64>) -> Result<MemFolder, NoMemory> {
     Ok(folder)
 }
 
-/// Puts an older bundle `one` there.
+/// Puts an older bundle `one` there, with files that the new one does not have.
 pub fn place_older(alloc: Global, folder: &mut MemFolder) -> Result<(), NoMemory> {
     for (name, _) in BUNDLE {
+        folder.place_file(alloc, name, OLDER.as_bytes())?;
+    }
+    for name in LEFT {
         folder.place_file(alloc, name, OLDER.as_bytes())?;
     }
     Ok(())
@@ -60,8 +69,8 @@ pub fn assert_report(
 ) -> Result<(), NoMemory> {
     let mut sink = MemSink::new(alloc, Vec::new(alloc));
     let status = status(alloc, words, folder, &mut sink)?;
-    assert_eq!(rt; sink.bytes(), wanted.1.as_bytes());
-    assert_eq!(rt; status, wanted.0);
+    assert_eq!(rt; sink.bytes(), wanted.1.as_bytes(), "{words:?}");
+    assert_eq!(rt; status, wanted.0, "{words:?}");
     Ok(())
 }
 
@@ -69,8 +78,33 @@ pub fn assert_report(
 pub fn assert_written(rt: &impl Abort, folder: &MemFolder, count: usize) {
     for (place, (name, text)) in BUNDLE.into_iter().enumerate() {
         let wanted = if place < count { text } else { OLDER };
-        let bytes = folder.file(name).unwrap_or_default();
-        assert_eq!(rt; bytes, wanted.as_bytes(), "{name}");
+        assert_file(rt, folder, name, wanted);
+    }
+}
+
+/// The number of the last file of the bundle `one` that is new, counted from 1; 0 where none is.
+pub fn written(folder: &MemFolder) -> usize {
+    let mut count = 0;
+    for (place, (name, text)) in BUNDLE.into_iter().enumerate() {
+        if folder.file(name) == Some(text.as_bytes()) {
+            count = place + 1;
+        }
+    }
+    count
+}
+
+/// Asserts that a file has these bytes.
+fn assert_file(rt: &impl Abort, folder: &MemFolder, name: &str, wanted: &str) {
+    let bytes = folder.file(name).unwrap_or_default();
+    assert_eq!(rt; bytes, wanted.as_bytes(), "{name}");
+}
+
+/// Asserts that the files that were read, and those of the older bundle alone, are as they were.
+pub fn assert_left(rt: &impl Abort, folder: &MemFolder) {
+    assert_file(rt, folder, "c.ccn", DESIGN);
+    assert_file(rt, folder, "c.defs", DEFINITIONS);
+    for name in LEFT {
+        assert_file(rt, folder, name, OLDER);
     }
 }
 

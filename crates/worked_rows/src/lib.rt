@@ -9,9 +9,17 @@ mod bench;
 #[cfg(test)]
 mod faults;
 #[cfg(test)]
+mod fronts;
+#[cfg(test)]
+mod limits;
+#[cfg(test)]
 mod memory;
 #[cfg(test)]
+mod names;
+#[cfg(test)]
 mod refusals;
+#[cfg(test)]
+mod replaced;
 #[cfg(test)]
 mod texts;
 #[cfg(test)]

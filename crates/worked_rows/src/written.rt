@@ -1,12 +1,11 @@
 //! Commands that end well, or that a design turns away.
-use crate::bench::{COMPILE, assert_none, assert_report, assert_written, folder};
+use crate::bench::{COMPILE, COMPILED, assert_none, assert_report, assert_written, folder};
 use std::test::Fail;
 
 #[test]
 fn compiles_the_first_design(rt: HostRuntime) -> Result<(), Fail> {
     let mut folder = folder(rt.alloc(), Vec::new(rt.alloc()))?;
-    let wanted = (0, "compiled switches 1 hosts 4 links 4 obligations 0\n");
-    assert_report(&rt, rt.alloc(), &COMPILE, &mut folder, wanted)?;
+    assert_report(&rt, rt.alloc(), &COMPILE, &mut folder, (0, COMPILED))?;
     assert_written(&rt, &folder, 3);
     Ok(())
 }
