@@ -12,6 +12,7 @@ use std::marker::Model;
 /// Files in memory.
 #[derive(Drop)]
 pub struct HonestFolder {
+    alloc: Global,
     files: BTreeMap<String, Vec<u8>>,
 }
 
@@ -32,17 +33,18 @@ impl HonestFolder {
         ensures { result ≡ map.empty }
     {
         HonestFolder {
+            alloc,
             files: BTreeMap::new(alloc),
         }
     }
 
     /// Puts bytes under a name, as a test sets up its files.
-    pub fn place_file(&mut self, alloc: Global, name: &str, bytes: &[u8]) -> Result<(), NoMemory>
+    pub fn place_file(&mut self, name: &str, bytes: &[u8]) -> Result<(), NoMemory>
         ensures ok { OnOk result (self.new ≡ map.insert self.old name.now bytes.now) }
         ensures err { OnErr result (self.new ≡ self.old) }
     {
-        let key = String::from_str(alloc, name)?;
-        let value = bytes.to_vec(alloc)?;
+        let key = String::from_str(self.alloc, name)?;
+        let value = bytes.to_vec(self.alloc)?;
         self.files.insert(key, value)?;
         Ok(())
     }
@@ -88,12 +90,12 @@ impl Folder for HonestFolder {
         Ok(Some(bytes.to_vec(alloc)?))
     }
 
-    fn write(&mut self, alloc: Global, name: &str, bytes: &[u8]) -> Result<(), FolderFault>
+    fn write(&mut self, _alloc: Global, name: &str, bytes: &[u8]) -> Result<(), FolderFault>
         ensures ok { OnOk result (self.new ≡ map.insert self.old name.now bytes.now) }
         ensures err { OnErr result (self.new ≡ self.old) }
         ensures never_fails { IfErr result (λ e. e ≡ FolderFault.NoMemory) }
     {
-        self.place_file(alloc, name, bytes)?;
+        self.place_file(name, bytes)?;
         Ok(())
     }
 }

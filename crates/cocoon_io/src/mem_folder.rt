@@ -47,11 +47,11 @@ impl MemFolder {
     }
 
     /// Puts bytes under a name. This call is not counted.
-    pub fn place_file(&mut self, alloc: Global, name: &str, bytes: &[u8]) -> Result<(), NoMemory>
+    pub fn place_file(&mut self, name: &str, bytes: &[u8]) -> Result<(), NoMemory>
         ensures ok { OnOk result (self.new ≡ record self.old { files = map.insert self.old.files name.now bytes.now }) }
         ensures err { OnErr result (self.new ≡ self.old) }
     {
-        self.held.place_file(alloc, name, bytes)
+        self.held.place_file(name, bytes)
     }
 
     /// The bytes of a file. This call is not counted.

@@ -10,7 +10,7 @@ use std::test::Fail;
 #[test]
 fn honest_folder_answers(rt: HostRuntime) -> Result<(), Fail> {
     let mut folder = HonestFolder::new(rt.alloc());
-    folder.place_file(rt.alloc(), "placed", b"one")?;
+    folder.place_file("placed", b"one")?;
     folder.write(rt.alloc(), "a/written", b"three")?;
     assert_eq!(rt; folder.file("placed"), Some(b"one".as_slice()));
     let read = folder.read(rt.alloc(), "a/written", 5)?;
@@ -24,7 +24,7 @@ fn honest_folder_answers(rt: HostRuntime) -> Result<(), Fail> {
 #[test]
 fn mem_folder_fails_planned_calls(rt: HostRuntime) -> Result<(), Fail> {
     let mut folder = MemFolder::new(rt.alloc(), vec![in rt.alloc(); 2, 3]?);
-    folder.place_file(rt.alloc(), "name", b"placed")?;
+    folder.place_file("name", b"placed")?;
     folder.write(rt.alloc(), "name", b"first")?;
     let second = folder.read(rt.alloc(), "name", 9);
     assert!(rt; matches!(second, Err(FolderFault::Failed)));

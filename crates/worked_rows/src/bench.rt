@@ -21,20 +21,20 @@ const LEFT: [&str; 2] = ["one.certs.json", "one.s2.p4"];
 /// A folder with the designs and definitions, whose calls with these numbers fail.
 pub fn folder(alloc: Global, failing: Vec<u64>) -> Result<MemFolder, NoMemory> {
     let mut folder = MemFolder::new(alloc, failing);
-    folder.place_file(alloc, "c.ccn", DESIGN.as_bytes())?;
-    folder.place_file(alloc, "c.defs", DEFINITIONS.as_bytes())?;
-    folder.place_file(alloc, "m.ccn", REFINED.as_bytes())?;
-    folder.place_file(alloc, "no-default.defs", NO_DEFAULT.as_bytes())?;
+    folder.place_file("c.ccn", DESIGN.as_bytes())?;
+    folder.place_file("c.defs", DEFINITIONS.as_bytes())?;
+    folder.place_file("m.ccn", REFINED.as_bytes())?;
+    folder.place_file("no-default.defs", NO_DEFAULT.as_bytes())?;
     Ok(folder)
 }
 
 /// Puts an older bundle `one` there, with files that the new one does not have.
 pub fn place_older(alloc: Global, folder: &mut MemFolder) -> Result<(), NoMemory> {
     for (name, _) in BUNDLE {
-        folder.place_file(alloc, name, OLDER.as_bytes())?;
+        folder.place_file(name, OLDER.as_bytes())?;
     }
     for name in LEFT {
-        folder.place_file(alloc, name, OLDER.as_bytes())?;
+        folder.place_file(name, OLDER.as_bytes())?;
     }
     Ok(())
 }

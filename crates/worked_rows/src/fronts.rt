@@ -81,7 +81,7 @@ fn every_front_of_a_design(rt: HostRuntime) -> Result<(), Fail> {
     let mut folder = folder(rt.alloc(), Vec::new(rt.alloc()))?;
     let mut front = Vec::new(rt.alloc());
     for byte in DESIGN.bytes() {
-        folder.place_file(rt.alloc(), "c.ccn", &front)?;
+        folder.place_file("c.ccn", &front)?;
         let wanted = wanted_of_design(&front);
         assert_front(&rt, rt.alloc(), &mut folder, front.len(), wanted)?;
         front.push(byte)?;
@@ -94,7 +94,7 @@ fn every_front_of_definitions(rt: HostRuntime) -> Result<(), Fail> {
     let mut folder = folder(rt.alloc(), Vec::new(rt.alloc()))?;
     let mut front = Vec::new(rt.alloc());
     for byte in DEFINITIONS.bytes() {
-        folder.place_file(rt.alloc(), "c.defs", &front)?;
+        folder.place_file("c.defs", &front)?;
         let wanted = wanted_of_definitions(&front);
         assert_front(&rt, rt.alloc(), &mut folder, front.len(), wanted)?;
         front.push(byte)?;

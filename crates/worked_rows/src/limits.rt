@@ -34,7 +34,7 @@ fn takes_texts_up_to_their_limits(rt: HostRuntime) -> Result<(), Fail> {
     ] {
         let mut folder = folder(rt.alloc(), Vec::new(rt.alloc()))?;
         let long = padded(rt.alloc(), text, length)?;
-        folder.place_file(rt.alloc(), name, &long)?;
+        folder.place_file(name, &long)?;
         assert_report(&rt, rt.alloc(), &COMPILE, &mut folder, (status, report))?;
         if status != 0 {
             assert_none(&rt, &folder);

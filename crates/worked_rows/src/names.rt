@@ -45,8 +45,8 @@ const REFUSED: [&[&str]; 14] = [
 fn takes_names_of_their_bytes(rt: HostRuntime) -> Result<(), Fail> {
     for ([design, defs, out], net) in TAKEN {
         let mut folder = folder(rt.alloc(), Vec::new(rt.alloc()))?;
-        folder.place_file(rt.alloc(), ALL, DESIGN.as_bytes())?;
-        folder.place_file(rt.alloc(), "d", DEFINITIONS.as_bytes())?;
+        folder.place_file(ALL, DESIGN.as_bytes())?;
+        folder.place_file("d", DEFINITIONS.as_bytes())?;
         let words = ["cocoon", "compile", design, defs, out];
         assert_report(&rt, rt.alloc(), &words, &mut folder, (0, COMPILED))?;
         assert!(rt; folder.file(net).is_some(), "{net}");
@@ -57,8 +57,8 @@ fn takes_names_of_their_bytes(rt: HostRuntime) -> Result<(), Fail> {
 #[test]
 fn refuses_other_names_and_counts_of_words(rt: HostRuntime) -> Result<(), Fail> {
     let mut folder = folder(rt.alloc(), Vec::new(rt.alloc()))?;
-    folder.place_file(rt.alloc(), "c ccn", DESIGN.as_bytes())?;
-    folder.place_file(rt.alloc(), "", DESIGN.as_bytes())?;
+    folder.place_file("c ccn", DESIGN.as_bytes())?;
+    folder.place_file("", DESIGN.as_bytes())?;
     for words in REFUSED {
         assert_report(&rt, rt.alloc(), words, &mut folder, (2, USAGE))?;
     }

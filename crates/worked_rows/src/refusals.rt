@@ -49,7 +49,7 @@ fn refuses_a_long_design(rt: HostRuntime) -> Result<(), Fail> {
         (1_048_577, 10, "limit file c.ccn over 1048576\n"),
     ] {
         let long = vec![in rt.alloc(); b' '; length]?;
-        folder.place_file(rt.alloc(), "c.ccn", &long)?;
+        folder.place_file("c.ccn", &long)?;
         assert_report(&rt, rt.alloc(), &COMPILE, &mut folder, (status, report))?;
     }
     assert_none(&rt, &folder);

@@ -67,7 +67,7 @@ fn status_of(
     byte: u8,
 ) -> Result<u8, NoMemory> {
     let text = replaced(alloc, place, byte)?;
-    folder.place_file(alloc, "c.ccn", &text)?;
+    folder.place_file("c.ccn", &text)?;
     let mut sink = MemSink::new(alloc, Vec::new(alloc));
     status(alloc, &COMPILE, folder, &mut sink)
 }
