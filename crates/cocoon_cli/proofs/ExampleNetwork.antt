@@ -1,5 +1,6 @@
 -- The files of the worked example are a network, which delivers what the design does.
-use Rattle.std.specs.Prelude.{◌≡◌, ℕ, List, [], ◌∷◌, Some, codes, IsUtf8, refl}
+use Rattle.std.specs.Prelude.{◌≡◌, ℕ, List, [], ◌∷◌, ◌++◌, map, Some, codes, IsUtf8, refl}
+use Rattle.std.proofs.Common.{ap, ap₂, ◌∙◌}
 use Rattle.std.proofs.lemmas.Str.{IsUtf8-from_is_utf8}
 use Rattle.std.specs.FinMap.{get, get-from_entries, find}
 use Rattle.std.specs.Ordering.{nat_cmp}
@@ -10,17 +11,20 @@ use Rattle.std.specs.Str.{is_utf8, chars}
 use lib.Utf8.{encode}
 use Rattle.serde_json.proofs.OnLiterals.{serde_json_on_literals}
 use Rattle.serde_json.specs.Read.{read}
+use Rattle.serde_json.specs.Written.{compact_text}
+use Rattle.p4_emit.specs.Printed.{fixed, header_field_text, header_text, member_text, meta_member_text, extract_text, deparse_text, heads_text, ingress_text, egress_text, printed, verdict_text, egress_port_text, if_text, else_text, end_text}
 use Rattle.sha2.specs.Sha256.{sha256, first_words, schedule, rounds, compress, hash_after, digest_bytes}
 use Rattle.hex.specs.Hex.{encode_with}
 use Rattle.cocoon_cli.specs.Network.{Network, SwitchReads, rows_data}
-use Rattle.cocoon_cli.specs.NetJson.{NetFile, net_data}
-use Rattle.cocoon_cli.specs.Bundle.{digest_of, program_name, rows_name, file_name}
-use Rattle.cocoon_thin.specs.ExampleThin.{example_design}
+use Rattle.cocoon_cli.specs.NetJson.{KeptDigest, NetFile, net_data}
+use Rattle.cocoon_cli.specs.Bundle.{NamedFile, digest_of, program_name, rows_name, file_name, switch_files, all_switch_files, kept, net_file, in_bundle, bundle}
+use Rattle.cocoon_cli.specs.Lowered.{thin_program, host_ports, links}
+use Rattle.cocoon_thin.specs.ExampleThin.{example_design, example_thin}
 use Rattle.p4_emit.specs.NetRuns.{NetGo}
 use Rattle.p4_emit.specs.P4Reads.{P4Reads}
 use Rattle.p4_emit.specs.P4Tree.{no_rows}
 use Rattle.p4_emit.specs.ExampleP4.{c_p4, c_program}
-use Rattle.cocoon_cli.specs.ExampleNet.{c_net_text, c_rows_text, c_entries, c_files, c_hosts, c_links, c_net}
+use Rattle.cocoon_cli.specs.ExampleNet.{c_net_text, c_rows_text, c_entries, c_files, c_bundle, c_hosts, c_links, c_net}
 
 abbrev p4_digest : List ℕ
 p4_digest = codes "e67d94a264d4b635fcfe55e15a15fccfe1512dd38883f5a94ec911880168d479"
@@ -104,3 +108,50 @@ c_network = record {
   hosts = refl;
   switches = (c_file.files, [], refl, refl, c_switch_reads, refl);
 }
+
+-- ---- what is written for the example
+
+program_printed : printed (thin_program example_thin) ≡ c_p4
+unfolding digits fixed header_field_text header_text member_text meta_member_text extract_text deparse_text heads_text ingress_text egress_text verdict_text egress_port_text if_text else_text end_text
+program_printed = refl
+
+-- the files of a switch whose program has this text
+abbrev files_with : List ℕ → List NamedFile
+files_with text = switch_files text 1
+
+files_written : all_switch_files example_thin ≡ files_with c_p4
+unfolding digits
+files_written = ap (λ text. files_with text ++ []) program_printed
+
+kept_written : map kept (files_with c_p4) ≡ c_file.files
+unfolding digits
+kept_written = rw (p4_digested, rows_digested) refl
+
+-- the file of the network with these digests
+abbrev net_with : List ℕ → List KeptDigest → NetFile
+net_with design files = record {
+  design = design;
+  files = files;
+  hosts = host_ports example_thin;
+  links = links example_thin;
+  ports = example_thin.ports;
+  switches = example_thin.switches;
+}
+
+net_written : net_file example_design example_thin ≡ c_file
+net_written = ap₂ net_with design_digested (ap (map kept) files_written ∙ kept_written)
+
+text_written : compact_text (net_data c_file) ≡ c_net_text
+unfolding serde_json_on_literals digits
+text_written = refl
+
+-- the bundle with these files of its switch and this text of its network
+abbrev bundle_with : List NamedFile → List ℕ → List NamedFile
+bundle_with files text = map (in_bundle (codes "one")) (files ++ record { name = codes "net.json"; bytes = text } ∷ [])
+
+named_written : bundle_with (files_with c_p4) c_net_text ≡ c_bundle
+unfolding digits
+named_written = refl
+
+pub c_written : bundle (codes "one") example_design example_thin ≡ c_bundle
+c_written = ap₂ bundle_with files_written (ap (λ f. compact_text (net_data f)) net_written ∙ text_written) ∙ named_written

@@ -6,6 +6,7 @@ use Rattle.cocoon_io.specs.Files.{Files}
 use Rattle.p4_emit.specs.P4Tree.{no_rows}
 use Rattle.p4_emit.specs.ExampleP4.{c_p4, c_program}
 use Rattle.p4_emit.specs.NetTree.{HostPort, Link, to_host, NetData}
+use Rattle.cocoon_cli.specs.Bundle.{NamedFile}
 
 abbrev pub c_net_text : List ℕ
 c_net_text = codes "{\"cocoon\":1,\"design\":\"7e058e1bac69fcdac8ff0809f4df524e35ab352603fc49c62ad890cf063da8a1\",\"files\":[[\"s1.p4\",\"e67d94a264d4b635fcfe55e15a15fccfe1512dd38883f5a94ec911880168d479\"],[\"s1.rows.json\",\"0da9167320e9119ac7da5e151cc6c92c92a3bb0c15d452cfc26eebbb4f038ac1\"]],\"hosts\":[[0,1,0],[1,1,1],[2,1,2],[3,1,3]],\"links\":[[1,0,\"host\",0],[1,1,\"host\",1],[1,2,\"host\",2],[1,3,\"host\",3]],\"ports\":4,\"switches\":[1]}"
@@ -18,6 +19,12 @@ c_entries = (codes "one.net.json", c_net_text) ∷ (codes "one.s1.p4", c_p4) ∷
 
 abbrev pub c_files : Files
 c_files = from_entries c_entries
+
+-- the same in the order in which they are written
+abbrev pub c_bundle : List NamedFile
+c_bundle =
+    record { name = codes "one.s1.p4"; bytes = c_p4 } ∷ record { name = codes "one.s1.rows.json"; bytes = c_rows_text }
+    ∷ record { name = codes "one.net.json"; bytes = c_net_text } ∷ []
 
 abbrev pub c_hosts : List HostPort
 c_hosts = record { host = 0; attach = Some (1, 0) } ∷ record { host = 1; attach = Some (1, 1) } ∷ record { host = 2; attach = Some (1, 2) } ∷ record { host = 3; attach = Some (1, 3) } ∷ []

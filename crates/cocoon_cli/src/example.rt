@@ -1,6 +1,7 @@
 //! The first example, worked out from the definitions. The functions do nothing; their contracts are the laws.
-ghost use Rattle.std.specs.Prelude.{[], ◌∷◌, List, codes, ℕ};
-ghost use Rattle.cocoon_cli.specs.ExampleNet.{c_files, c_net};
+ghost use Rattle.std.specs.Prelude.{[], ◌∷◌, ◌≡◌, List, codes, ℕ};
+ghost use Rattle.cocoon_cli.specs.Bundle.{bundle};
+ghost use Rattle.cocoon_cli.specs.ExampleNet.{c_bundle, c_files, c_net};
 ghost use Rattle.cocoon_cli.specs.Network.{Network};
 ghost use Rattle.cocoon_thin.specs.ExampleThin.{example_defs, example_design, example_thin};
 ghost use Rattle.cocoon_types.specs.Runs.{LastGo};
@@ -11,9 +12,10 @@ ghost use Rattle.p4_emit.specs.NetRuns.{NetGo};
 use crate::visits::thin_networks_deliver;
 use cocoon_thin::meaning::{thin_example, thin_texts_mean};
 
-/// The files that `compile` writes for the example are a network. It delivers at host 1 what has the tag and at host 2
+/// These files are the bundle of the example, and they are a network. It delivers at host 1 what has the tag and at host 2
 /// what has not, and nothing of no bytes.
 pub fn example_network()
+    ensures written { bundle (codes "one") example_design example_thin ≡ c_bundle }
     ensures network { Network c_files (codes "one") c_net }
     ensures tagged { NetGo c_net 0 (1 ∷ 255 ∷ []) [] 1 1 (1 ∷ 255 ∷ []) }
     ensures untagged { NetGo c_net 3 (2 ∷ []) [] 1 2 (2 ∷ []) }

@@ -1,5 +1,5 @@
 //! What a thin network does. The functions do nothing; their contracts are the laws.
-ghost use Rattle.std.specs.Prelude.{◌<◌, ◌^◌, List, length, ℕ};
+ghost use Rattle.std.specs.Prelude.{◌<◌, ◌^◌, ◌≡◌, List, length, ℕ};
 ghost use Rattle.cocoon_cli.specs.Lowered.{thin_program};
 ghost use Rattle.cocoon_cli.specs.Visits.{NetDelivers, NetMeaning, VisitsAreRuns, VisitsAreThin};
 ghost use Rattle.cocoon_thin.specs.Thin.{AreThin};
@@ -7,8 +7,16 @@ ghost use Rattle.cocoon_thin.specs.ThinTree.{thin_defs, thin_tree};
 ghost use Rattle.cocoon_thin.specs.declared.parts.Thin.{Thin};
 
 use cocoon_thin::meaning::thin_texts_mean;
+use cocoon_thin::texts::one_thin_design;
 use cocoon_thin::visits::thin_roles_send;
 use cocoon_types::runs::one_level;
+
+/// The program of the switches depends on the design alone, and not on the definitions.
+pub fn programs_are_of_designs()
+    ensures { (design defs others : List ℕ) (t u : Thin) → AreThin design defs t → AreThin design others u → thin_program t ≡ thin_program u }
+{
+    one_thin_design();
+}
 
 /// A visit of a switch sends the packet as it came, to the port that the tested field chooses.
 pub fn thin_switches_visit()

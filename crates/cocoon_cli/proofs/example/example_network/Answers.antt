@@ -1,6 +1,6 @@
 use Rattle.std.proofs.Common.{arith}
 use Rattle.cocoon_thin.specs.ExampleThin.{example_thin}
-use Rattle.cocoon_cli.proofs.ExampleNetwork.{c_network, c_goes, c_goes_otherwise}
+use Rattle.cocoon_cli.proofs.ExampleNetwork.{c_written, c_network, c_goes, c_goes_otherwise}
 use Rattle.cocoon_cli.proofs.example.example_network.Goals as goal
 
 pub returns-clause-network : goal.returns-clause-network
@@ -15,3 +15,6 @@ returns-clause-untagged c = c_goes_otherwise
 pub returns-clause-too_short : goal.returns-clause-too_short
 returns-clause-too_short c a choices visits b out h =
     c.thin_example.ensures.too_short _ _ _ _ _ ((c.thin_networks_deliver.ensures example_thin (omega arith) (omega arith) a _ choices visits b out).0 h)
+
+pub returns-clause-written : goal.returns-clause-written
+returns-clause-written c = c_written
