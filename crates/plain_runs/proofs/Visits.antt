@@ -4,7 +4,7 @@ use Rattle.std.proofs.Common.{◌∙◌, ap}
 use Rattle.cocoon_num.specs.Values.{Value, number, truth, number_of, of_binary, with_both, equal}
 use Rattle.cocoon_num.specs.Packets.{Packet, Layout, enter}
 use Rattle.p4_emit.specs.P4Tree.{P4Expr, p_lit, p_truth, p_field, p_port, p_binary, P4Stmt, p_if_else, verdict, egress_port, p_return, P4Block, p_done, p_then, Program, no_rows, program_layout}
-use Rattle.p4_emit.specs.Switch.{Left, State, Place, Ran, goes_on, returned, p4_value, header_field, numbered, both, p4_run, p4_run_all, choose, then_run, state_of, ingress_of, after_ingress, switch_go}
+use Rattle.p4_emit.specs.Switch.{Departure, State, Running, Ran, goes_on, returned, p4_value, header_field, numbered, both, p4_run, p4_run_all, choose, then_run, state_of, ingress_of, after_ingress, switch_go}
 use Rattle.plain_runs.specs.Ingress as plain
 use Rattle.plain_runs.specs.Plain.{is_plain_expr, is_width_of, has_width, is_plain_stmt, is_plain_block, is_plain}
 use Rattle.plain_runs.specs.declared.switch.Found.{Found}
@@ -50,7 +50,7 @@ equal_is (Some (Number v x)) (Some (Truth c)) = refl
 equal_is (Some (Truth c)) None = refl
 equal_is (Some (Truth c)) (Some b) = refl
 
-value_is : (at : Place) (s : State) (port : ℕ) (e : P4Expr) → at.port ≡ Some port → IsTrue (is_plain_expr e)
+value_is : (at : Running) (s : State) (port : ℕ) (e : P4Expr) → at.port ≡ Some port → IsTrue (is_plain_expr e)
     → p4_value at s e ≡ option_map value_of (plain.found (program_layout at.program) port s.packet e)
 value_is at s port (p_lit w n) q h = refl
 value_is at s port (p_truth b) q h = refl
@@ -78,7 +78,7 @@ field_number f None p h = refl
 field_number f (Some ws) None h = refl
 field_number f (Some ws) (Some ns) h = number_in (slice_get ws f) (slice_get ns f) h
 
-port_is : (at : Place) (s : State) (port : ℕ) (e : P4Expr) → at.port ≡ Some port → IsTrue (has_width 16 (program_layout at.program) e)
+port_is : (at : Running) (s : State) (port : ℕ) (e : P4Expr) → at.port ≡ Some port → IsTrue (has_width 16 (program_layout at.program) e)
     → option_and_then number_of (p4_value at s e) ≡ plain.port_in (plain.found (program_layout at.program) port s.packet e)
 port_is at s port (p_lit w n) q h = sixteen w n h
 port_is at s port (p_field i f) q h = field_number f (slice_get (program_layout at.program) i) (slice_get s.packet i) h
@@ -114,7 +114,7 @@ then_is s o (Some (GoesOn d)) f g e h = rw e (h d)
 then_is s o (Some (Returned d)) f g e h = rw e refl
 
 mutual
-  run_is : (at : Place) (s : State) (port : ℕ) (t : P4Stmt) (d : Decision) → at.port ≡ Some port → IsTrue (is_plain_stmt (program_layout at.program) t)
+  run_is : (at : Running) (s : State) (port : ℕ) (t : P4Stmt) (d : Decision) → at.port ≡ Some port → IsTrue (is_plain_stmt (program_layout at.program) t)
       → p4_run at t (state_at s d) ≡ option_map (ran_of s) (plain.ran (program_layout at.program) port s.packet t d)
   run_is at s port (p_if_else e first second) d q h =
       let parts = both_true (is_plain_expr e) (is_plain_block (program_layout at.program) first && is_plain_block (program_layout at.program) second) h in
@@ -127,7 +127,7 @@ mutual
   run_is at s port p_return d q h = refl
   run_is at s port _ d q h = cc h
 
-  run_all_is : (at : Place) (s : State) (port : ℕ) (b : P4Block) (d : Decision) → at.port ≡ Some port → IsTrue (is_plain_block (program_layout at.program) b)
+  run_all_is : (at : Running) (s : State) (port : ℕ) (b : P4Block) (d : Decision) → at.port ≡ Some port → IsTrue (is_plain_block (program_layout at.program) b)
       → p4_run_all at b (state_at s d) ≡ option_map (ran_of s) (plain.ran_all (program_layout at.program) port s.packet b d)
   run_all_is at s port p_done d q h = refl
   run_all_is at s port (p_then first rest) d q h =
@@ -141,7 +141,7 @@ decided_is s None = refl
 decided_is s (Some (GoesOn d)) = refl
 decided_is s (Some (Returned d)) = refl
 
-no_copies : (b : Bool) (none : Left) → cond b none none ≡ none
+no_copies : (b : Bool) (none : Departure) → cond b none none ≡ none
 no_copies true none = refl
 no_copies false none = refl
 
@@ -159,7 +159,7 @@ after_is p s payload choices (Some d) = left_is p s payload choices d
 abbrev first_state : Program → Packet → State
 first_state p packet = record { packet = packet; meta = replicate (length p.meta) 0; verdict = 0; egress_port = 0; group = 0 }
 
-abbrev ingress_place : Program → ℕ → Place
+abbrev ingress_place : Program → ℕ → Running
 ingress_place p port = record { program = p; tables = p.ingress.tables; rows = []; port = Some port; rid = None }
 
 passed_is : (p : Program) (port : ℕ) (choices : List ℕ) → IsTrue (is_plain_block (program_layout p) p.ingress.body) → (o : Option (Packet × List ℕ))
