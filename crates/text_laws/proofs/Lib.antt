@@ -1,4 +1,0 @@
-pub mod DesignEnough
-pub mod DesignParts
-pub mod DesignReader
-pub mod DesignReads

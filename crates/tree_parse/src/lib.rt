@@ -1,0 +1,4 @@
+//! The trees of texts.
+#![tactic(auto)]
+
+pub mod laws;
