@@ -33,7 +33,7 @@ chain K p q = record { depth = p.depth + q.depth; gives = λ n h. rw (p.gives n 
 
 -- ---- tokens
 
-same : (x : List ℕ) → same_name x x ≡ true
+pub same : (x : List ℕ) → same_name x x ≡ true
 same [] = refl
 same (b ∷ bs) = rw (eq-eqb b b refl) (same bs)
 

@@ -1,3 +1,4 @@
 pub mod Enough
+pub mod Fails
 pub mod ReadsExprs
 pub mod ReadsParts
