@@ -1,4 +1,6 @@
 pub mod Enough
+pub mod Exact
+pub mod ExactExprs
 pub mod Fails
 pub mod ReadsExprs
 pub mod ReadsParts
