@@ -71,8 +71,8 @@ Implies op = op ≡ implies
 
 -- ---- the shortest expression
 
-abbrev pub a_truth : List Kind
-a_truth = keyword (codes "true") ∷ []
+abbrev pub true_token : List Kind
+true_token = keyword (codes "true") ∷ []
 
 true_is : (us : List Kind) (l : Level) (p : ℕ) → Word us p (codes "true") → ExprAt us l p (true_or_false p true) (suc p)
 true_is us of_expr p t = no_implication (a_chain refl (a_chain refl (no_comparison (a_chain refl (a_chain refl (a_chain refl (no_unary (a_chain refl (a_true t) no_part)) no_part) no_part) no_part)) no_part) no_part)
@@ -86,10 +86,10 @@ true_is us of_unary p t = no_unary (a_chain refl (a_true t) no_part)
 true_is us of_post p t = a_chain refl (a_true t) no_part
 true_is us of_prim p t = a_true t
 
-expr_ends : (l : Level) (p : ℕ) → Ends (λ us. ExprAt us l p) p a_truth
+expr_ends : (l : Level) (p : ℕ) → Ends (λ us. ExprAt us l p) p true_token
 expr_ends l p us a = (true_or_false p true, subst (λ z. ExprAt us l p (true_or_false p true) z) (let e : suc p ≡ p + 1 = omega arith in e) (true_is us l p a.0))
 
-exprs_ends : (p : ℕ) → Ends (λ us. ExprsAt us p) p a_truth
+exprs_ends : (p : ℕ) → Ends (λ us. ExprsAt us p) p true_token
 exprs_ends p us a = let d = expr_ends of_expr p us a in (expr d.0 no_exprs, last_expr d.1)
 
 rest_ends : (l : Level) (e : Expr) (p : ℕ) → Ends (λ us. RestAt us l e p) p []
@@ -115,14 +115,14 @@ path_exact p = word_then (codes "pkt") (p + 1) (omega arith) (mark_then (codes "
 
 -- the reading of expressions to a depth
 record Depth (n : ℕ) : Type 0 where
-  exprs : (p : ℕ) → Exact (λ us. ExprsAt us p) (λ us. exprs_from us n p) p a_truth
-  expr : (l : Level) (p : ℕ) → Exact (λ us. ExprAt us l p) (λ us. expr_from us n l p) p a_truth
+  exprs : (p : ℕ) → Exact (λ us. ExprsAt us p) (λ us. exprs_from us n p) p true_token
+  expr : (l : Level) (p : ℕ) → Exact (λ us. ExprAt us l p) (λ us. expr_from us n l p) p true_token
   rest : (l m : Level) → part l ≡ Some m → (a : Expr) (p : ℕ) → Exact (λ us. RestAt us l a p) (λ us. rest_from us n l a p) p []
 
 no_exprs_depth : Depth zero
-no_exprs_depth = record { exprs = λ p. no_depth p a_truth (exprs_ends p); expr = λ l p. no_depth p a_truth (expr_ends l p); rest = λ l m e a p. no_depth p [] (rest_ends l a p) }
+no_exprs_depth = record { exprs = λ p. no_depth p true_token (exprs_ends p); expr = λ l p. no_depth p true_token (expr_ends l p); rest = λ l m e a p. no_depth p [] (rest_ends l a p) }
 
-chain_exact : {n : ℕ} → Depth n → (l m : Level) → part l ≡ Some m → (p : ℕ) → Exact (λ us. ExprAt us l p) (λ us. after (expr_from us n m p) (rest_from us n l)) p a_truth
+chain_exact : {n : ℕ} → Depth n → (l m : Level) → part l ≡ Some m → (p : ℕ) → Exact (λ us. ExprAt us l p) (λ us. after (expr_from us n m p) (rest_from us n l)) p true_token
 chain_exact d l m e p = phrase_then _ [] (d.expr m p) (λ a j. as_well (λ us y k r h. a_chain e h r) (d.rest l m e a j))
 
 bracketed_exact : {n : ℕ} → Depth n → (p : ℕ) (c : Expr) (j : ℕ) → Exact (λ us y k. ExprAt us of_expr (suc p) c j → Mark us p (codes "(") → ExprAt us of_prim p y k) (λ us. bracketed us (expr_from us n of_expr) c j) j (mark (codes ")") ∷ [])
@@ -131,11 +131,11 @@ bracketed_exact d p c j = either_mark (codes "?") (suc j) refl
     (phrase_then _ (mark (codes ")") ∷ []) (d.expr of_expr (suc k)) (λ b l. mark_then (codes ")") (suc l) refl (done (pick (place c) c a b) (suc l) (suc l) refl (λ us z db o da q dc t. a_pick t dc q da o db z))))))
     (mark_then (codes ")") (suc j) refl (done c (suc j) (suc j) refl (λ us z d o. in_brackets o d z)))
 
-prim_exact : {n : ℕ} → Depth n → (p : ℕ) → Exact (λ us. ExprAt us of_prim p) (λ us. prim_of us (expr_from us n of_expr) (exprs_from us n) p (slice_get us p)) p a_truth
+prim_exact : {n : ℕ} → Depth n → (p : ℕ) → Exact (λ us. ExprAt us of_prim p) (λ us. prim_of us (expr_from us n of_expr) (exprs_from us n) p (slice_get us p)) p true_token
 prim_exact {n} d p = by_token (λ us k. prim_of us (expr_from us n of_expr) (exprs_from us n) p k) p (expr_ends of_prim p) over
   where
     no : (ts : List Kind) → p ≤ length ts → Told (λ us. ExprAt us of_prim p) (λ us. bad p) ts p (bad p)
-    no = stopped p a_truth (expr_ends of_prim p)
+    no = stopped p true_token (expr_ends of_prim p)
 
     by_word : (x : List ℕ) (b c : Bool) → same_name x (codes "true") ≡ b → same_name x (codes "false") ≡ c → (ts : List Kind) → p ≤ length ts → slice_get ts p ≡ Some (keyword x) →
         Told (λ us. ExprAt us of_prim p) (λ us. if b then good (true_or_false p true) (suc p) else if c then good (true_or_false p false) (suc p) else after (path_from us p) (λ x j. good (field p x.header x.field) j)) ts p
@@ -163,9 +163,9 @@ prim_exact {n} d p = by_token (λ us k. prim_of us (expr_from us n of_expr) (exp
 
 -- ---- one step of depth
 
-expr_step : {n : ℕ} → Depth n → (l : Level) (p : ℕ) → Exact (λ us. ExprAt us l p) (λ us. expr_from us (suc n) l p) p a_truth
+expr_step : {n : ℕ} → Depth n → (l : Level) (p : ℕ) → Exact (λ us. ExprAt us l p) (λ us. expr_from us (suc n) l p) p true_token
 expr_step {n} d of_expr p = phrase_then _ [] (d.expr of_or p) (λ a j. implied_exact of_expr Implies (refl, tt) a j _ (λ us h. no_implication h) (λ op e.
-    subst (λ o. Exact (λ us y k. Is us j (operator o) → ExprAt us of_or p a j → ExprAt us of_expr p y k) (λ us. after (expr_from us n of_expr (suc j)) (λ b k. good (binary (place a) o a b) k)) (suc j) a_truth) (sym e)
+    subst (λ o. Exact (λ us y k. Is us j (operator o) → ExprAt us of_or p a j → ExprAt us of_expr p y k) (λ us. after (expr_from us n of_expr (suc j)) (λ b k. good (binary (place a) o a b) k)) (suc j) true_token) (sym e)
     (phrase_then _ [] (d.expr of_expr (suc j)) (λ b k. done (binary (place a) implies a b) k k refl (λ us f t d. an_implication d t f)))))
 expr_step {n} d of_or p = chain_exact d of_or of_and refl p
 expr_step {n} d of_and p = chain_exact d of_and of_cmp refl p
@@ -184,9 +184,9 @@ slice_exact : {n : ℕ} → Depth n → (a : Expr) (p : ℕ) → Exact (λ us y 
 slice_exact d a p = number_then _ (p + 2) (omega arith) (λ high. mark_then (codes ":") (p + 3) (omega arith) (number_then _ (p + 4) (omega arith) (λ low. mark_then (codes "]") (p + 5) (omega arith)
     (as_well (λ us y k r x w v u t. a_slice t u v w x r) (d.rest of_post of_prim refl (slice (place a) a high low) (p + 5))))))
 
-part_exact : {n : ℕ} → Depth n → (l m : Level) → part l ≡ Some m → (a : Expr) (p : ℕ) (op : BinaryOp) → IsChain l op → Exact (λ us y k. Is us p (operator op) → RestAt us l a p y k) (λ us. after (part_from (expr_from us n) (part l) (suc p)) (λ b k. rest_from us n l (binary (place a) op a b) k)) (suc p) a_truth
+part_exact : {n : ℕ} → Depth n → (l m : Level) → part l ≡ Some m → (a : Expr) (p : ℕ) (op : BinaryOp) → IsChain l op → Exact (λ us y k. Is us p (operator op) → RestAt us l a p y k) (λ us. after (part_from (expr_from us n) (part l) (suc p)) (λ b k. rest_from us n l (binary (place a) op a b) k)) (suc p) true_token
 part_exact {n} d l m e a p op c =
-    subst (λ o. Exact (λ us y k. Is us p (operator op) → RestAt us l a p y k) (λ us. after (part_from (expr_from us n) o (suc p)) (λ b k. rest_from us n l (binary (place a) op a b) k)) (suc p) a_truth) (sym e)
+    subst (λ o. Exact (λ us y k. Is us p (operator op) → RestAt us l a p y k) (λ us. after (part_from (expr_from us n) o (suc p)) (λ b k. rest_from us n l (binary (place a) op a b) k)) (suc p) true_token) (sym e)
     (phrase_then _ [] (d.expr m (suc p)) (λ b j. as_well (λ us y k r h t. a_part e c t h r) (d.rest l m e (binary (place a) op a b) j)))
 
 rest_step : {n : ℕ} → Depth n → (l m : Level) → part l ≡ Some m → (a : Expr) (p : ℕ) → Exact (λ us. RestAt us l a p) (λ us. rest_from us (suc n) l a p) p []
@@ -207,7 +207,7 @@ rest_step {n} d l m e a p =
     by _ e k true q ts h t = absurd cc
     by l e k false q ts h t = by_part l e k (op_at l k) refl ts h t
 
-exprs_step : {n : ℕ} → Depth n → (p : ℕ) → Exact (λ us. ExprsAt us p) (λ us. exprs_from us (suc n) p) p a_truth
+exprs_step : {n : ℕ} → Depth n → (p : ℕ) → Exact (λ us. ExprsAt us p) (λ us. exprs_from us (suc n) p) p true_token
 exprs_step d p = phrase_then _ [] (d.expr of_expr p) (λ a j. either_mark (codes ",") (suc j) refl
     (phrase_then _ [] (d.exprs (suc j)) (λ es k. done (expr a es) k k refl (λ us ds t d. more_exprs d t ds)))
     (done (expr a no_exprs) j j refl (λ us d. last_expr d)))
@@ -216,8 +216,8 @@ depth : (n : ℕ) → Depth n
 depth zero = no_exprs_depth
 depth (suc n) = let d = depth n in record { exprs = exprs_step d; expr = expr_step d; rest = rest_step d }
 
-pub expr_exact : (n p : ℕ) → Exact (λ us. ExprAt us of_expr p) (λ us. expr_from us n of_expr p) p a_truth
+pub expr_exact : (n p : ℕ) → Exact (λ us. ExprAt us of_expr p) (λ us. expr_from us n of_expr p) p true_token
 expr_exact n p = (depth n).expr of_expr p
 
-pub exprs_exact : (n p : ℕ) → Exact (λ us. ExprsAt us p) (λ us. exprs_from us n p) p a_truth
+pub exprs_exact : (n p : ℕ) → Exact (λ us. ExprsAt us p) (λ us. exprs_from us n p) p true_token
 exprs_exact n p = (depth n).exprs p

@@ -1,6 +1,7 @@
 pub mod Enough
 pub mod Exact
 pub mod ExactExprs
+pub mod ExactParts
 pub mod Fails
 pub mod ReadsExprs
 pub mod ReadsParts
