@@ -1,13 +1,13 @@
 -- A reading that is exact. What it gives is derived, in each text that has the same tokens up to where it ends. Where it
 -- stops, some tokens end the phrase. It looks at no token past that where it ends, and none that it passes is the last
 -- of a text.
-use Rattle.std.specs.Prelude.{◌≡◌, ◌==◌, ◌⊎◌, ℕ, zero, suc, ◌+◌, ◌≤◌, ◌<◌, Bool, true, false, List, [], ◌∷◌, ◌++◌, length, slice_get, Option, Some, None, if◌then◌else◌, codes, refl}
+use Rattle.std.specs.Prelude.{◌≡◌, ◌==◌, ℕ, zero, suc, ◌+◌, ◌≤◌, ◌<◌, Bool, true, false, List, [], ◌∷◌, ◌++◌, length, slice_get, Option, Some, None, if◌then◌else◌, codes, refl}
 use Rattle.std.proofs.Common.{inl, inr, sym, ◌∙◌, ap, subst, arith}
 use Rattle.std.proofs.lemmas.Bool.{cases_lt, and_parts, eqb-true}
 use Rattle.std.proofs.lemmas.Option.{slice_get_within}
 use Rattle.cocoon_num.specs.Names.{same_name}
 use Rattle.cocoon_num.specs.Tree.{Name}
-use Rattle.cocoon_num.specs.Tokens.{Kind, word, keyword, plain, literal, mark, finish, same_kind}
+use Rattle.cocoon_num.specs.Tokens.{Kind, word, keyword, plain, literal, mark, finish}
 use Rattle.cocoon_num.specs.Reads.{Is, Mark, Word, Named, Many, no_more, one_more, Commas, last, then_comma}
 use Rattle.tree_parse.specs.Reader.{Read, good, bad, spent, after, is_mark, is_keyword, is_finish, name_at, plain_of, taken, marked, worded, named, numbered, many_from, some_from, commas_from}
 
@@ -84,11 +84,11 @@ text_is x y h = same_name-is x y h
 
 -- ---- tokens that stand in a row
 
-first_at : (us : List Kind) (p : ℕ) (w v : List Kind) → At us p (w ++ v) → At us p w
+pub first_at : (us : List Kind) (p : ℕ) (w v : List Kind) → At us p (w ++ v) → At us p w
 first_at us p [] v h = tt
 first_at us p (k ∷ w) v h = (h.0, first_at us (suc p) w v h.1)
 
-second_at : (us : List Kind) (p : ℕ) (w v : List Kind) → At us p (w ++ v) → At us (p + length w) v
+pub second_at : (us : List Kind) (p : ℕ) (w v : List Kind) → At us p (w ++ v) → At us (p + length w) v
 second_at us p [] v h = subst (λ q. At us q v) (let e : p ≡ p + 0 = omega arith in e) h
 second_at us p (k ∷ w) v h = subst (λ q. At us q v) (let e : suc p + length w ≡ p + suc (length w) = omega arith in e) (second_at us (suc p) w v h.1)
 
@@ -109,9 +109,10 @@ as_well {A} {P} {Q} {F} {p} {w} f e = record { told = λ ts h. over ts (F ts) (e
 
 -- nothing more is read
 pub done : {A : Type 0} {P : List Kind → A → ℕ → Type 0} (x : A) (j p : ℕ) → j ≡ p → ((us : List Kind) → P us x j) → Exact P (λ us. good x j) p []
-done {A} {P} x j p e f = record
-  { told = λ ts h. record { forward = omega (arith, e); within = omega (arith, e); clean = λ k a b. absurd (omega (arith, e)); holds = λ us a. f us; stays = λ us a. refl }
-  ; ends = λ us a. (x, subst (λ z. P us x z) (let d : j ≡ p + 0 = omega (arith, e) in d) (f us)) }
+done {A} {P} x j p e f = record {
+  told = λ ts h. record { forward = omega (arith, e); within = omega (arith, e); clean = λ k a b. absurd (omega (arith, e)); holds = λ us a. f us; stays = λ us a. refl };
+  ends = λ us a. (x, subst (λ z. P us x z) (let d : j ≡ p + 0 = omega (arith, e) in d) (f us));
+}
 
 -- no token is taken
 pub stopped : {A : Type 0} {P : List Kind → A → ℕ → Type 0} (p : ℕ) (w : List Kind) → Ends P p w → (ts : List Kind) → p ≤ length ts → Told P (λ us. bad p) ts p (bad p)
@@ -233,23 +234,34 @@ phrase_then {A} {B} {P} {Q} {F} G {p} {w} v f g = record { told = λ ts h. over 
         let c = (g x (i + length u)).ends us a in (c.0, subst (λ z. P us c.0 z) (let e : (i + length u) + length v ≡ i + length (u ++ v) = omega (arith, length_join u v) in e) (c.1 d))
 
     first_bad : (ts : List Kind) (r : ℕ) → BadRead Q F ts p r → BadRead P (λ us. after (F us) (G us)) ts p r
-    first_bad ts r b = record
-      { forward = b.forward; within = b.within; clean = b.clean; ends = b.ends ++ v
-      ; holds = λ us a c. let d = b.holds us a (first_at us r b.ends v c) in close us r b.ends d.0 d.1 (second_at us r b.ends v c)
-      ; stays = λ us a. ap (λ z. after z (G us)) (b.stays us a) }
+    first_bad ts r b = record {
+      forward = b.forward;
+      within = b.within;
+      clean = b.clean;
+      ends = b.ends ++ v;
+      holds = λ us a c. let d = b.holds us a (first_at us r b.ends v c) in close us r b.ends d.0 d.1 (second_at us r b.ends v c);
+      stays = λ us a. ap (λ z. after z (G us)) (b.stays us a);
+    }
 
     both : (ts : List Kind) (j k : ℕ) → Clean ts p j → Clean ts j k → Clean ts p k
     both ts j k a b i c d = elim (cases_lt i j) [ inl e ↦ a i c e | inr e ↦ b i e d ]
 
     second : (ts : List Kind) (x : A) (j : ℕ) → GoodRead Q F ts p x j → (s : Read B) → Told (λ us y k. Q us x j → P us y k) (λ us. G us x j) ts j s → Told P (λ us. after (F us) (G us)) ts p s
-    second ts x j a (good y k) b = record
-      { forward = omega (arith, a.forward, b.forward); within = b.within; clean = both ts j k a.clean b.clean
-      ; holds = λ us c. b.holds us c (a.holds us (λ i h. c i (omega (arith, b.forward, h))))
-      ; stays = λ us c. ap (λ z. after z (G us)) (a.stays us (λ i h. c i (omega (arith, b.forward, h)))) ∙ b.stays us c }
-    second ts x j a (bad r) b = record
-      { forward = omega (arith, a.forward, b.forward); within = b.within; clean = both ts j r a.clean b.clean; ends = b.ends
-      ; holds = λ us c d. let e = b.holds us c d in (e.0, e.1 (a.holds us (λ i h. c i (omega (arith, b.forward, h)))))
-      ; stays = λ us c. ap (λ z. after z (G us)) (a.stays us (λ i h. c i (omega (arith, b.forward, h)))) ∙ b.stays us c }
+    second ts x j a (good y k) b = record {
+      forward = omega (arith, a.forward, b.forward);
+      within = b.within;
+      clean = both ts j k a.clean b.clean;
+      holds = λ us c. b.holds us c (a.holds us (λ i h. c i (omega (arith, b.forward, h))));
+      stays = λ us c. ap (λ z. after z (G us)) (a.stays us (λ i h. c i (omega (arith, b.forward, h)))) ∙ b.stays us c;
+    }
+    second ts x j a (bad r) b = record {
+      forward = omega (arith, a.forward, b.forward);
+      within = b.within;
+      clean = both ts j r a.clean b.clean;
+      ends = b.ends;
+      holds = λ us c d. let e = b.holds us c d in (e.0, e.1 (a.holds us (λ i h. c i (omega (arith, b.forward, h)))));
+      stays = λ us c. ap (λ z. after z (G us)) (a.stays us (λ i h. c i (omega (arith, b.forward, h)))) ∙ b.stays us c;
+    }
     second ts x j a spent b = tt
 
     over : (ts : List Kind) (r : Read A) → Told Q F ts p r → Told P (λ us. after (F us) (G us)) ts p (after r (G ts))

@@ -1,14 +1,13 @@
 -- The reading of expressions is exact.
-use Rattle.std.specs.Prelude.{◌≡◌, ℕ, zero, suc, ◌+◌, ◌≤◌, ◌&&◌, Bool, true, false, List, [], ◌∷◌, ◌++◌, length, slice_get, Option, Some, None, if◌then◌else◌, codes, refl}
+use Rattle.std.specs.Prelude.{◌≡◌, ℕ, zero, suc, ◌+◌, ◌≤◌, ◌&&◌, Bool, true, false, List, [], ◌∷◌, length, slice_get, Option, Some, None, if◌then◌else◌, codes, refl}
 use Rattle.std.proofs.Common.{sym, ◌∙◌, ap, subst, arith}
-use Rattle.std.proofs.Math.Numerals.{add-one}
 use Rattle.cocoon_num.specs.Names.{same_name}
 use Rattle.cocoon_num.specs.Values.{flip, not_, BinaryOp, add, sub, bits_and, bits_or, bits_xor, concat, equal, unequal, less, less_equal, greater, greater_equal, and_, or_, implies}
-use Rattle.cocoon_num.specs.Tree.{Name, Expr, name, field, lit, true_or_false, call, unary, binary, slice, pick, Exprs, no_exprs, expr, place}
+use Rattle.cocoon_num.specs.Tree.{Expr, name, field, lit, true_or_false, call, unary, binary, slice, pick, no_exprs, expr, place}
 use Rattle.cocoon_num.specs.Tokens.{Kind, word, keyword, plain, literal, mark, finish, same_kind}
-use Rattle.cocoon_num.specs.Reads.{Is, Mark, Word, Named, FieldAt, Level, of_expr, of_or, of_and, of_cmp, of_cat, of_bit, of_sum, of_unary, of_post, of_prim, part, IsChain, IsComparison, operator, ExprAt, RestAt, ExprsAt, no_implication, an_implication, a_chain, no_comparison, a_comparison, a_flip, a_not, no_unary, no_part, a_part, a_slice, a_variable, a_call, a_field, a_literal, a_true, a_false, in_brackets, a_pick, last_expr, more_exprs}
-use Rattle.tree_parse.specs.Reader.{Read, good, bad, spent, after, is_mark, is_keyword, is_finish, ops_of, op_in, op_at, marked, Path, path_from, implied, picked, bracketed, prim_of, unary_of, by_op, sliced, is_post, part_from, expr_from, rest_from, exprs_from}
-use Rattle.tree_parse.proofs.Exact.{Told, Ends, Exact, mark_is, text_is, as_well, done, stopped, stops, by_token, takes, either_mark, either_word, mark_then, word_then, name_then, number_then, phrase_then, no_depth, some_name, some_number}
+use Rattle.cocoon_num.specs.Reads.{Is, Mark, Word, FieldAt, Level, of_expr, of_or, of_and, of_cmp, of_cat, of_bit, of_sum, of_unary, of_post, of_prim, part, IsChain, IsComparison, operator, ExprAt, RestAt, ExprsAt, no_implication, an_implication, a_chain, no_comparison, a_comparison, a_flip, a_not, no_unary, no_part, a_part, a_slice, a_variable, a_call, a_field, a_literal, a_true, a_false, in_brackets, a_pick, last_expr, more_exprs}
+use Rattle.tree_parse.specs.Reader.{Read, good, bad, after, is_mark, is_finish, ops_of, op_in, op_at, path_from, implied, bracketed, prim_of, by_op, sliced, is_post, part_from, expr_from, rest_from, exprs_from}
+use Rattle.tree_parse.proofs.Exact.{Told, Ends, Exact, mark_is, text_is, as_well, done, stopped, by_token, takes, either_mark, either_word, mark_then, word_then, name_then, number_then, phrase_then, no_depth, some_name, some_number}
 
 -- ---- operators
 

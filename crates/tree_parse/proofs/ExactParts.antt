@@ -1,12 +1,12 @@
 -- The reading of statements, declarations, a whole design and definitions is exact.
 use Rattle.std.specs.Prelude.{◌≡◌, ℕ, zero, suc, ◌+◌, ◌≤◌, ◌||◌, Bool, true, false, List, [], ◌∷◌, ◌++◌, length, slice_get, Option, Some, None, if◌then◌else◌, codes, refl}
-use Rattle.std.proofs.Common.{sym, ◌∙◌, ap, subst, arith}
+use Rattle.std.proofs.Common.{◌∙◌, ap, subst, arith}
 use Rattle.cocoon_num.specs.Names.{same_name}
-use Rattle.cocoon_num.specs.Values.{Value, number, truth}
-use Rattle.cocoon_num.specs.Tree.{Name, Expr, Exprs, Stmt, let_, set_field, if_, filter, havoc_var, havoc_field, assume, fork, send, Block, no_stmts, stmt, Param, ResultKind, of_width, of_truth, Decl, a_function, an_assumption, a_role, a_host, a_switch, Refine, HeaderDecl, Design, Pattern, literal as pattern_literal, masked, any, Entry, a_default, a_row, DefsText}
+use Rattle.cocoon_num.specs.Values.{number, truth}
+use Rattle.cocoon_num.specs.Tree.{Expr, let_, set_field, if_, filter, havoc_var, havoc_field, assume, fork, send, no_stmts, stmt, of_width, of_truth, Decl, a_function, an_assumption, a_role, a_host, a_switch, Refine, HeaderDecl, literal as pattern_literal, masked, any, a_default, a_row}
 use Rattle.cocoon_num.specs.Tokens.{Kind, word, keyword, plain, literal, mark, finish}
-use Rattle.cocoon_num.specs.Reads.{Is, Mark, Word, Named, Many, Commas, of_expr, ExprAt, FieldAt, BitsAt, ParamAt, ParamsAt, StmtAt, a_let, a_setting, an_if, an_if_else, a_filter, a_havoc, a_field_havoc, an_assume, a_fork, a_send, StmtsAt, no_stmt, one_stmt, BlockAt, a_block, ResultAt, a_width, a_truth, BodyAt, without_body, with_body, RoleBodyAt, no_block, its_block, OptionalParamsAt, no_params, some_params, DeclAt, the_function, the_assumption, the_role, the_host, the_switch, NameAt, RefineAt, the_block, HeaderFieldAt, the_field, HeaderAt, the_header, DesignAt, ConstAt, const_number, const_true, const_false, PatternAt, one_number, under_mask, any_number, EntryAt, the_default, the_row, DefsAt}
-use Rattle.tree_parse.specs.Reader.{Read, good, bad, spent, after, taken, is_mark, is_keyword, is_finish, path_from, expr_from, exprs_from, bits_from, param_from, params_from, ended, let_from, setting_from, tested, if_from, havoc_from, fork_from, send_from, stmt_of, stmt_from, stmts_from, block_from, result_from, body_from, role_body_from, optional_params_from, function_from, assumption_from, role_from, host_from, switch_from, decl_from, closes, finishes, ends_decls, name_from, refine_from, header_field_from, header_from, design_from, const_of, const_from, Literal, literal_of, pattern_from, default_from, row_from, entry_from, defs_from, commas_from, many_from, some_from}
+use Rattle.cocoon_num.specs.Reads.{Is, Mark, Word, Many, of_expr, ExprAt, BitsAt, ParamAt, ParamsAt, StmtAt, a_let, a_setting, an_if, an_if_else, a_filter, a_havoc, a_field_havoc, an_assume, a_fork, a_send, StmtsAt, no_stmt, one_stmt, BlockAt, a_block, ResultAt, a_width, a_truth, BodyAt, without_body, with_body, RoleBodyAt, no_block, its_block, OptionalParamsAt, no_params, some_params, DeclAt, the_function, the_assumption, the_role, the_host, the_switch, NameAt, RefineAt, the_block, HeaderFieldAt, the_field, HeaderAt, the_header, DesignAt, ConstAt, const_number, const_true, const_false, PatternAt, one_number, under_mask, any_number, EntryAt, the_default, the_row}
+use Rattle.tree_parse.specs.Reader.{Read, good, bad, taken, is_mark, is_keyword, is_finish, expr_from, exprs_from, bits_from, param_from, params_from, ended, let_from, setting_from, if_from, havoc_from, fork_from, send_from, stmt_from, stmts_from, block_from, result_from, body_from, role_body_from, optional_params_from, function_from, assumption_from, role_from, host_from, switch_from, decl_from, name_from, refine_from, header_field_from, header_from, design_from, const_of, const_from, Literal, literal_of, pattern_from, default_from, row_from, entry_from, defs_from}
 use Rattle.tree_parse.proofs.Exact.{Told, Ends, Exact, text_is, as_well, done, stopped, stops, by_token, takes, either, either_mark, either_word, after_token, mark_then, word_then, name_then, number_then, phrase_then, no_depth, some_name, some_number, many_exact, some_exact, commas_exact}
 use Rattle.tree_parse.proofs.ExactExprs.{true_token, a_path, path_exact, expr_exact, exprs_exact}
 

@@ -5,3 +5,4 @@ pub mod ExactParts
 pub mod Fails
 pub mod ReadsExprs
 pub mod ReadsParts
+pub mod Whole

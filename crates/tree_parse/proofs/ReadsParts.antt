@@ -210,7 +210,7 @@ refines_first : (ts : List Kind) {i : ℕ} {rs : List Refine} {j : ℕ} → Many
 refines_first ts no_more e = rw e refl
 refines_first ts (one_more (the_block t a rs w n m ds c) more) e = rw t refl
 
-design_read : (ts : List Kind) (x : Design) (d : DesignAt ts x) → Enough (λ n. design_from ts n) x d.after_refines
+pub design_read : (ts : List Kind) (x : Design) (d : DesignAt ts x) → Enough (λ n. design_from ts n) x d.after_refines
 unfolding design_from
 design_read ts x d =
     words _ _ _ d.packet (marks _ _ _ d.opens (chain _ (some_read (header_from ts) (closes ts) (header_read ts) (header_closes ts) d.some_header d.headers (rw d.closes refl)) (marks _ _ _ d.closes
@@ -253,7 +253,7 @@ entry_finishes : (ts : List Kind) (i : ℕ) (x : Entry) (j : ℕ) → EntryAt ts
 entry_finishes ts i _ _ (the_default t f m v s) = rw t refl
 entry_finishes ts i _ _ (the_row t f m ps c e v s) = rw t refl
 
-defs_read : (ts : List Kind) (x : DefsText) (d : DefsAt ts x) → Enough (λ n. defs_from ts n) x d.0
+pub defs_read : (ts : List Kind) (x : DefsText) (d : DefsAt ts x) → Enough (λ n. defs_from ts n) x d.0
 unfolding defs_from
 defs_read ts x d = many_read (entry_from ts) (finishes ts) (entry_read ts) (entry_finishes ts) d.1 (rw d.2 refl)
 
