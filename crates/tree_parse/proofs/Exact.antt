@@ -55,11 +55,11 @@ pub record Exact {A : Type 0} (P : List Kind → A → ℕ → Type 0) (F : List
 
 -- ---- tokens
 
-same_name-is : (x y : List ℕ) → same_name x y ≡ true → x ≡ y
-same_name-is [] [] h = refl
-same_name-is [] (b ∷ y) h = absurd cc
-same_name-is (a ∷ x) [] h = absurd cc
-same_name-is (a ∷ x) (b ∷ y) h = let p = and_parts (a == b) (same_name x y) h in let e = eqb-true a b p.0 in let f = same_name-is x y p.1 in cc
+pub text_is : (x y : List ℕ) → same_name x y ≡ true → x ≡ y
+text_is [] [] h = refl
+text_is [] (b ∷ y) h = absurd cc
+text_is (a ∷ x) [] h = absurd cc
+text_is (a ∷ x) (b ∷ y) h = let p = and_parts (a == b) (same_name x y) h in let e = eqb-true a b p.0 in let f = text_is x y p.1 in cc
 
 pub mark_is : (m : List ℕ) (k : Option Kind) → is_mark m k ≡ true → k ≡ Some (mark m)
 mark_is m None h = absurd cc
@@ -67,20 +67,17 @@ mark_is m (Some (word x)) h = absurd cc
 mark_is m (Some (keyword x)) h = absurd cc
 mark_is m (Some (plain n)) h = absurd cc
 mark_is m (Some (literal w n)) h = absurd cc
-mark_is m (Some (mark x)) h = ap (λ z. Some (mark z)) (sym (same_name-is m x h))
+mark_is m (Some (mark x)) h = ap (λ z. Some (mark z)) (sym (text_is m x h))
 mark_is m (Some finish) h = absurd cc
 
 pub word_is : (m : List ℕ) (k : Option Kind) → is_keyword m k ≡ true → k ≡ Some (keyword m)
 word_is m None h = absurd cc
 word_is m (Some (word x)) h = absurd cc
-word_is m (Some (keyword x)) h = ap (λ z. Some (keyword z)) (sym (same_name-is m x h))
+word_is m (Some (keyword x)) h = ap (λ z. Some (keyword z)) (sym (text_is m x h))
 word_is m (Some (plain n)) h = absurd cc
 word_is m (Some (literal w n)) h = absurd cc
 word_is m (Some (mark x)) h = absurd cc
 word_is m (Some finish) h = absurd cc
-
-pub text_is : (x y : List ℕ) → same_name x y ≡ true → x ≡ y
-text_is x y h = same_name-is x y h
 
 -- ---- tokens that stand in a row
 
@@ -185,9 +182,6 @@ pub name_then : {A : Type 0} {P : List Kind → A → ℕ → Type 0} (F : List 
 unfolding named
 name_then {A} {P} F {p} q {v} e f = by_token (λ us o. taken (name_at p o) p (F us)) p close over
   where
-    called : List ℕ → Name
-    called x = record { at = p; text = x }
-
     here : (x : List ℕ) → Exact (λ us y j. Is us p (word x) → P us y j) (λ us. F us (record { at = p; text = x })) q v
     here x = as_well (λ us y j h t. h (t, refl)) (f (record { at = p; text = x }))
 

@@ -12,26 +12,26 @@ use Rattle.tree_parse.proofs.ExactExprs.{true_token, a_path, path_exact, expr_ex
 
 -- ---- types, parameters
 
-abbrev a_type : List Kind
+abbrev pub a_type : List Kind
 a_type = keyword (codes "bit") ∷ mark (codes "<") ∷ some_number ∷ mark (codes ">") ∷ []
 
-bits_exact : (p : ℕ) → Exact (λ us. BitsAt us p) (λ us. bits_from us p) p a_type
+pub bits_exact : (p : ℕ) → Exact (λ us. BitsAt us p) (λ us. bits_from us p) p a_type
 unfolding bits_from
 bits_exact p = word_then (codes "bit") (p + 1) (omega arith) (mark_then (codes "<") (p + 2) (omega arith) (number_then _ (p + 3) (omega arith) (λ width. mark_then (codes ">") (p + 4) (omega arith) (done width (p + 4) (p + 4) refl (λ us d c b a. (a, b, c, d, refl))))))
 
-abbrev a_param : List Kind
+abbrev pub a_param : List Kind
 a_param = some_name ∷ mark (codes ":") ∷ a_type
 
-param_exact : (p : ℕ) → Exact (λ us. ParamAt us p) (λ us. param_from us p) p a_param
+pub param_exact : (p : ℕ) → Exact (λ us. ParamAt us p) (λ us. param_from us p) p a_param
 unfolding param_from
 param_exact p = name_then _ (p + 1) (omega arith) (λ x. mark_then (codes ":") (p + 2) (omega arith) (phrase_then _ [] (bits_exact (p + 2)) (λ width j. done (record { name = x; width = width }) j j refl (λ us c b a. (a, b, c)))))
 
-params_exact : (n p : ℕ) → Exact (λ us. ParamsAt us p) (λ us. params_from us n p) p a_param
+pub params_exact : (n p : ℕ) → Exact (λ us. ParamsAt us p) (λ us. params_from us n p) p a_param
 params_exact n p = commas_exact (λ us m. param_from us) (λ m. param_exact) n p
 
 -- ---- statements
 
-abbrev its_end : List Kind
+abbrev pub its_end : List Kind
 its_end = keyword (codes "true") ∷ mark (codes ";") ∷ []
 
 ended_exact : {A : Type 0} {P : List Kind → A → ℕ → Type 0} (n p : ℕ) (f : Expr → A) → ((us : List Kind) (x : Expr) (k : ℕ) → ExprAt us of_expr p x k → Mark us k (codes ";") → P us (f x) (suc k)) → Exact P (λ us. ended us (expr_from us n of_expr) p f) p its_end
@@ -41,7 +41,7 @@ let_exact : (n p : ℕ) → Exact (λ us s k. Word us p (codes "let") → StmtAt
 unfolding let_from
 let_exact n p = phrase_then _ (mark (codes "=") ∷ its_end) (param_exact (suc p)) (λ x j. mark_then (codes "=") (suc j) refl (ended_exact n (suc j) (λ e. let_ p x.name x.width e) (λ us e k d s m x t. a_let t x m d s)))
 
-abbrev a_statement : List Kind
+abbrev pub a_statement : List Kind
 a_statement = a_path ++ (mark (codes "=") ∷ its_end)
 
 setting_exact : (n p : ℕ) → Exact (λ us. StmtAt us p) (λ us. setting_from us (expr_from us n of_expr) p) p a_statement
@@ -59,7 +59,7 @@ unfolding send_from
 send_exact n p = name_then _ (p + 2) (omega arith) (λ r. mark_then (codes "[") (p + 3) (omega arith) (phrase_then _ (mark (codes "]") ∷ mark (codes ";") ∷ []) (exprs_exact n (p + 3)) (λ xs j. mark_then (codes "]") (j + 1) (omega arith) (mark_then (codes ";") (j + 2) (omega arith)
     (done (send p r xs) (j + 2) (j + 2) refl (λ us s c xs o r t. a_send t r o xs c s))))))
 
-abbrev braces : List Kind
+abbrev pub braces : List Kind
 braces = mark (codes "{") ∷ mark (codes "}") ∷ []
 
 block_ends : (p : ℕ) → Ends (λ us. BlockAt us p) p braces
@@ -110,30 +110,36 @@ depth : (n : ℕ) → Depth n
 depth zero = record { one = λ p. no_depth p a_statement (setting_exact zero p).ends; some = λ p. no_depth p [] (stmts_ends p); block = λ p. no_depth p braces (block_ends p) }
 depth (suc n) = let d = depth n in record { one = stmt_step d; some = stmts_step d; block = block_step d }
 
-block_exact : (n p : ℕ) → Exact (λ us. BlockAt us p) (λ us. block_from us n p) p braces
+pub block_exact : (n p : ℕ) → Exact (λ us. BlockAt us p) (λ us. block_from us n p) p braces
 block_exact n p = (depth n).block p
+
+pub stmt_exact : (n p : ℕ) → Exact (λ us. StmtAt us p) (λ us. stmt_from us n p) p a_statement
+stmt_exact n p = (depth n).one p
+
+pub stmts_exact : (n p : ℕ) → Exact (λ us. StmtsAt us p) (λ us. stmts_from us n p) p []
+stmts_exact n p = (depth n).some p
 
 -- ---- declarations
 
-result_exact : (p : ℕ) → Exact (λ us. ResultAt us p) (λ us. result_from us p) p a_type
+pub result_exact : (p : ℕ) → Exact (λ us. ResultAt us p) (λ us. result_from us p) p a_type
 unfolding result_from
 result_exact p = either_word (codes "bool") (suc p) refl (done of_truth (suc p) (suc p) refl (λ us t. a_truth t)) (phrase_then _ [] (bits_exact p) (λ width j. done (of_width width) j j refl (λ us b. a_width b)))
 
-abbrev a_body : List Kind
+abbrev pub a_body : List Kind
 a_body = mark (codes "=") ∷ its_end
 
-body_exact : (n p : ℕ) → Exact (λ us. BodyAt us p) (λ us. body_from us n p) p a_body
+pub body_exact : (n p : ℕ) → Exact (λ us. BodyAt us p) (λ us. body_from us n p) p a_body
 unfolding body_from
 body_exact n p = either_mark (codes ";") (suc p) refl (done None (suc p) (suc p) refl (λ us t. without_body t)) (mark_then (codes "=") (suc p) refl (ended_exact n (suc p) (λ e. Some e) (λ us x k d s t. with_body t d s)))
 
-abbrev a_role_body : List Kind
+abbrev pub a_role_body : List Kind
 a_role_body = mark (codes "=") ∷ braces
 
-role_body_exact : (n p : ℕ) → Exact (λ us. RoleBodyAt us p) (λ us. role_body_from us n p) p a_role_body
+pub role_body_exact : (n p : ℕ) → Exact (λ us. RoleBodyAt us p) (λ us. role_body_from us n p) p a_role_body
 unfolding role_body_from
 role_body_exact n p = either_mark (codes ";") (suc p) refl (done None (suc p) (suc p) refl (λ us t. no_block t)) (mark_then (codes "=") (suc p) refl (phrase_then _ [] (block_exact n (suc p)) (λ b j. done (Some b) j j refl (λ us d t. its_block t d))))
 
-optional_params_exact : (n p : ℕ) → Exact (λ us. OptionalParamsAt us p) (λ us. optional_params_from us n p) p []
+pub optional_params_exact : (n p : ℕ) → Exact (λ us. OptionalParamsAt us p) (λ us. optional_params_from us n p) p []
 unfolding optional_params_from
 optional_params_exact n p = either (is_mark (codes ")")) (done [] p p refl (λ us. no_params)) (as_well (λ us x k d. some_params d) (params_exact n p))
 
@@ -152,7 +158,7 @@ unfolding role_from
 role_exact n p = name_then _ (p + 2) (omega arith) (λ r. mark_then (codes "[") (p + 3) (omega arith) (phrase_then _ (mark (codes "]") ∷ mark (codes "|") ∷ keyword (codes "true") ∷ a_role_body) (params_exact n (p + 3)) (λ ps j. mark_then (codes "]") (j + 1) (omega arith) (mark_then (codes "|") (j + 2) (omega arith)
     (phrase_then _ a_role_body (expr_exact n (j + 2)) (λ e k. phrase_then _ [] (role_body_exact n k) (λ b l. done (a_role (record { name = r; params = ps; guard = e; body = b })) l l refl (λ us b e m c ps o r t. the_role t r o ps c m e b))))))))
 
-abbrev a_pair : List Kind
+abbrev pub a_pair : List Kind
 a_pair = mark (codes "(") ∷ some_name ∷ mark (codes ",") ∷ some_name ∷ mark (codes ")") ∷ []
 
 host_exact : (p : ℕ) → Exact (λ us d k. Word us p (codes "host") → DeclAt us p d k) (λ us. host_from us p) (p + 1) (a_pair ++ (mark (codes ";") ∷ []))
@@ -165,13 +171,13 @@ unfolding switch_from
 switch_exact p = mark_then (codes "(") (p + 2) (omega arith) (name_then _ (p + 3) (omega arith) (λ x. mark_then (codes ",") (p + 4) (omega arith) (name_then _ (p + 5) (omega arith) (λ y. mark_then (codes ")") (p + 6) (omega arith) (word_then (codes "ports") (p + 7) (omega arith)
     (number_then _ (p + 8) (omega arith) (λ n. mark_then (codes ";") (p + 9) (omega arith) (done (a_switch (record { at = p; into = x; out = y; ports = n })) (p + 9) (p + 9) refl (λ us s n w c y m x o t. the_switch t refl o x m y c w n s)))))))))
 
-abbrev a_declaration : List Kind
+abbrev pub a_declaration : List Kind
 a_declaration = keyword (codes "host") ∷ (a_pair ++ (mark (codes ";") ∷ []))
 
 decl_ends : (p : ℕ) → Ends (λ us. DeclAt us p) p a_declaration
 decl_ends p = after_token (λ us. DeclAt us p) (p + 1) (keyword (codes "host")) (a_pair ++ (mark (codes ";") ∷ [])) (omega arith) (host_exact p).ends
 
-decl_exact : (n p : ℕ) → Exact (λ us. DeclAt us p) (λ us. decl_from us n p) p a_declaration
+pub decl_exact : (n p : ℕ) → Exact (λ us. DeclAt us p) (λ us. decl_from us n p) p a_declaration
 unfolding decl_from
 decl_exact n p =
     either_word (codes "function") (p + 1) (omega arith) (function_exact n p)
@@ -183,19 +189,19 @@ decl_exact n p =
 
 -- ---- a whole design
 
-name_exact : (p : ℕ) → Exact (λ us. NameAt us p) (λ us. name_from us p) p (some_name ∷ [])
+pub name_exact : (p : ℕ) → Exact (λ us. NameAt us p) (λ us. name_from us p) p (some_name ∷ [])
 unfolding name_from
 name_exact p = name_then _ (suc p) refl (λ x. done x (suc p) (suc p) refl (λ us t. (t, refl)))
 
-abbrev a_refinement : List Kind
+abbrev pub a_refinement : List Kind
 a_refinement = keyword (codes "refine") ∷ some_name ∷ keyword (codes "within") ∷ some_number ∷ braces
 
-refine_exact : (n p : ℕ) → Exact (λ us. RefineAt us p) (λ us. refine_from us n p) p a_refinement
+pub refine_exact : (n p : ℕ) → Exact (λ us. RefineAt us p) (λ us. refine_from us n p) p a_refinement
 unfolding refine_from
 refine_exact n p = word_then (codes "refine") (suc p) refl (phrase_then _ (keyword (codes "within") ∷ some_number ∷ braces) (commas_exact (λ us m. name_from us) (λ m. name_exact) n (suc p)) (λ rs j. word_then (codes "within") (j + 1) (omega arith) (number_then _ (j + 2) (omega arith) (λ w. mark_then (codes "{") (j + 3) (omega arith)
     (phrase_then _ (mark (codes "}") ∷ []) (many_exact decl_from (is_mark (codes "}")) decl_exact n (j + 3)) (λ ds k. mark_then (codes "}") (suc k) refl (done (record { at = p; roles = rs; within = w; decls = ds }) (suc k) (suc k) refl (λ us c ds o m w rs t. the_block t refl rs w m o ds c))))))))
 
-header_field_exact : (p : ℕ) → Exact (λ us. HeaderFieldAt us p) (λ us. header_field_from us p) p (a_param ++ (mark (codes ";") ∷ []))
+pub header_field_exact : (p : ℕ) → Exact (λ us. HeaderFieldAt us p) (λ us. header_field_from us p) p (a_param ++ (mark (codes ";") ∷ []))
 unfolding header_field_from
 header_field_exact p = phrase_then _ (mark (codes ";") ∷ []) (param_exact p) (λ x j. mark_then (codes ";") (suc j) refl (done x (suc j) (suc j) refl (λ us s d. the_field d s)))
 
@@ -203,10 +209,10 @@ header_field_exact p = phrase_then _ (mark (codes ";") ∷ []) (param_exact p) (
 abbrev SomeAt : {A : Type 0} → (ℕ → A → ℕ → Type 0) → ℕ → List A → ℕ → Type 0
 SomeAt {A} P p xs k = (y : A) × (ys : List A) × (xs ≡ y ∷ ys) × Many P p xs k
 
-abbrev a_header : List Kind
+abbrev pub a_header : List Kind
 a_header = keyword (codes "header") ∷ some_name ∷ mark (codes "{") ∷ (a_param ++ (mark (codes ";") ∷ mark (codes "}") ∷ []))
 
-header_exact : (n p : ℕ) → Exact (λ us. HeaderAt us p) (λ us. header_from us n p) p a_header
+pub header_exact : (n p : ℕ) → Exact (λ us. HeaderAt us p) (λ us. header_from us n p) p a_header
 unfolding header_from
 header_exact n p = word_then (codes "header") (p + 1) (omega arith) (name_then _ (p + 2) (omega arith) (λ h. mark_then (codes "{") (p + 3) (omega arith)
     (phrase_then _ (mark (codes "}") ∷ []) (some_exact {Q = λ us. SomeAt (HeaderFieldAt us) (p + 3)} (λ us m. header_field_from us) (is_mark (codes "}")) (λ m. header_field_exact) n (p + 3) (λ us x xs k d. (x, xs, refl, d))) (λ fs j.
@@ -228,7 +234,7 @@ design_exact n = word_then (codes "packet") 1 refl (mark_then (codes "{") 2 refl
 
 -- ---- definitions
 
-const_exact : (p : ℕ) → Exact (λ us. ConstAt us p) (λ us. const_from us p) p true_token
+pub const_exact : (p : ℕ) → Exact (λ us. ConstAt us p) (λ us. const_from us p) p true_token
 unfolding const_from
 const_exact p = by_token (λ us. const_of p) p closing over
   where
@@ -253,7 +259,7 @@ const_exact p = by_token (λ us. const_of p) p closing over
     over (Some (mark m)) ts h t = no ts h
     over (Some finish) ts h t = no ts h
 
-abbrev some_literal : Kind
+abbrev pub some_literal : Kind
 some_literal = literal 1 1
 
 literal_then : {A : Type 0} {P : List Kind → A → ℕ → Type 0} (F : List Kind → Literal → Read A) {p : ℕ} (q : ℕ) {v : List Kind} → q ≡ suc p → ((x : Literal) → Exact (λ us y j. Is us p (literal x.width x.n) → P us y j) (λ us. F us x) q v) → Exact P (λ us. taken (literal_of (slice_get us p)) p (F us)) p (some_literal ∷ v)
@@ -271,7 +277,7 @@ literal_then {A} {P} F {p} q {v} e f = by_token (λ us o. taken (literal_of o) p
     over (Some (mark x)) ts h t = stopped p (some_literal ∷ v) close ts h
     over (Some finish) ts h t = stopped p (some_literal ∷ v) close ts h
 
-pattern_exact : (p : ℕ) → Exact (λ us. PatternAt us p) (λ us. pattern_from us p) p (some_literal ∷ [])
+pub pattern_exact : (p : ℕ) → Exact (λ us. PatternAt us p) (λ us. pattern_from us p) p (some_literal ∷ [])
 unfolding pattern_from
 pattern_exact p = either_mark (codes "_") (suc p) refl (done any (suc p) (suc p) refl (λ us t. any_number t))
     (literal_then _ (p + 1) (omega arith) (λ x. either_mark (codes "&&&") (p + 2) (omega arith)
@@ -287,13 +293,13 @@ unfolding row_from
 row_exact n p = name_then _ (p + 2) (omega arith) (λ f. mark_then (codes "(") (p + 3) (omega arith) (phrase_then _ (mark (codes ")") ∷ mark (codes "=") ∷ its_end) (commas_exact (λ us m. pattern_from us) (λ m. pattern_exact) n (p + 3)) (λ ps j. mark_then (codes ")") (j + 1) (omega arith) (mark_then (codes "=") (j + 2) (omega arith)
     (phrase_then _ (mark (codes ";") ∷ []) (const_exact (j + 2)) (λ v k. mark_then (codes ";") (suc k) refl (done (a_row f ps v) (suc k) (suc k) refl (λ us s v m c ps o f t. the_row t f o ps c m v s))))))))
 
-abbrev an_entry : List Kind
+abbrev pub an_entry : List Kind
 an_entry = keyword (codes "default") ∷ some_name ∷ mark (codes "=") ∷ its_end
 
 entry_ends : (p : ℕ) → Ends (λ us. EntryAt us p) p an_entry
 entry_ends p = after_token (λ us. EntryAt us p) (p + 1) (keyword (codes "default")) (some_name ∷ mark (codes "=") ∷ its_end) (omega arith) (default_exact p).ends
 
-entry_exact : (n p : ℕ) → Exact (λ us. EntryAt us p) (λ us. entry_from us n p) p an_entry
+pub entry_exact : (n p : ℕ) → Exact (λ us. EntryAt us p) (λ us. entry_from us n p) p an_entry
 unfolding entry_from
 entry_exact n p = either_word (codes "default") (p + 1) (omega arith) (default_exact p) (either_word (codes "define") (p + 1) (omega arith) (row_exact n p) (stops p an_entry (entry_ends p)))
 

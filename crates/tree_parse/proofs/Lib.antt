@@ -5,4 +5,5 @@ pub mod ExactParts
 pub mod Fails
 pub mod ReadsExprs
 pub mod ReadsParts
+pub mod Stays
 pub mod Whole

@@ -9,8 +9,9 @@ use Rattle.cocoon_num.specs.Tokens.{Kind, word, keyword, plain, literal, mark, f
 use Rattle.cocoon_num.specs.Reads.{Is, Many, DesignAt, EntryAt, DefsAt, BeginsDesign, BeginsDefs, Unexpected}
 use Rattle.tree_parse.specs.Reader.{Read, good, bad, spent, after, is_mark, is_keyword, is_finish, marked, worded, many_from, some_from, closes, finishes, ends_decls, header_from, decl_from, refine_from, entry_from, design_from, defs_from}
 use Rattle.tree_parse.proofs.Fails.{Fails}
-use Rattle.tree_parse.proofs.Exact.{Agree, Clean, At, first_at, second_at, GoodRead, BadRead, Told}
+use Rattle.tree_parse.proofs.Exact.{Agree, Clean, At, first_at, second_at, GoodRead, BadRead}
 use Rattle.tree_parse.proofs.ExactParts.{design_exact, defs_exact}
+use Rattle.tree_parse.proofs.Stays.{good_read, bad_read}
 use Rattle.tree_parse.proofs.ReadsParts.{design_read, defs_read}
 
 -- ---- texts that begin alike
@@ -122,10 +123,10 @@ stops_within ts before i e c = elim (cases_lt (length before) i) [
 -- ---- designs
 
 design_good : (ts : List Kind) (n : ℕ) (d : Design) (j : ℕ) → design_from ts n ≡ good d j → GoodRead (λ us x k. Is us k finish → DesignAt us x) (λ us. design_from us n) ts 0 d j
-design_good ts n d j e = subst (λ r. Told (λ us x k. Is us k finish → DesignAt us x) (λ us. design_from us n) ts 0 r) e ((design_exact n).told ts (omega arith))
+design_good ts n d j e = good_read (λ us. design_from us n) (design_exact n) ts (omega arith) e
 
 design_bad : (ts : List Kind) (n i : ℕ) → design_from ts n ≡ bad i → BadRead (λ us x k. Is us k finish → DesignAt us x) (λ us. design_from us n) ts 0 i
-design_bad ts n i e = subst (λ r. Told (λ us x k. Is us k finish → DesignAt us x) (λ us. design_from us n) ts 0 r) e ((design_exact n).told ts (omega arith))
+design_bad ts n i e = bad_read (λ us. design_from us n) (design_exact n) ts (omega arith) e
 
 -- what is read is derived
 pub design_sound : (ts : List Kind) (n : ℕ) (d : Design) (j : ℕ) → design_from ts n ≡ good d j → DesignAt ts d
@@ -158,10 +159,10 @@ design_within ts n i before s e = stops_within ts before i s (design_bad ts n i 
 -- ---- definitions
 
 defs_good : (ts : List Kind) (n : ℕ) (d : DefsText) (j : ℕ) → defs_from ts n ≡ good d j → GoodRead (λ us. Many (EntryAt us) 0) (λ us. defs_from us n) ts 0 d j
-defs_good ts n d j e = subst (λ r. Told (λ us. Many (EntryAt us) 0) (λ us. defs_from us n) ts 0 r) e ((defs_exact n).told ts (omega arith))
+defs_good ts n d j e = good_read (λ us. defs_from us n) (defs_exact n) ts (omega arith) e
 
 defs_bad : (ts : List Kind) (n i : ℕ) → defs_from ts n ≡ bad i → BadRead (λ us. Many (EntryAt us) 0) (λ us. defs_from us n) ts 0 i
-defs_bad ts n i e = subst (λ r. Told (λ us. Many (EntryAt us) 0) (λ us. defs_from us n) ts 0 r) e ((defs_exact n).told ts (omega arith))
+defs_bad ts n i e = bad_read (λ us. defs_from us n) (defs_exact n) ts (omega arith) e
 
 pub defs_sound : (ts : List Kind) (n : ℕ) (d : DefsText) (j : ℕ) → defs_from ts n ≡ good d j → DefsAt ts d
 defs_sound ts n d j e = (j, (defs_good ts n d j e).holds ts (λ k h. refl), finish_is (slice_get ts j) (subst (λ r. Last ts r) e (defs_last ts n)))
