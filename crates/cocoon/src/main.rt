@@ -3,10 +3,13 @@
 //! The process ends with the number of the status that `run` answers.
 #![tactic(auto)]
 
-use cocoon_cli::{Status, run};
-use cocoon_io::{RealFolder, RealOut, Sink, SinkFault};
+ghost use Rattle.std.specs.Prelude.{◌≡◌};
+ghost use Rattle.std.specs.Process.{exit_status};
+ghost use Rattle.cocoon_cli.specs.Run.{number_of};
+
+use cocoon_cli::{Status, run, tell_no_memory};
+use cocoon_io::{RealFolder, RealOut};
 use cocoon_num::NoMemory;
-use std::alloc::Global;
 use std::env;
 use std::io::{self, ErrorKind};
 use std::process::ExitCode;
@@ -27,12 +30,11 @@ fn words(rt: &HostRuntime) -> Result<Vec<String>, NoMemory> {
     }
 }
 
-// Tells that there was no memory for the words.
-fn tell_no_memory<S: Sink>(alloc: Global, out: &mut S) -> Status {
-    match out.put(alloc, b"no memory\n") {
-        Err(SinkFault::Failed) => Status::WriteFault,
-        _ => Status::NoMemory,
-    }
+// The process ends with the status's number.
+fn exit_code(status: Status) -> ExitCode
+    ensures { exit_status result ≡ number_of status }
+{
+    ExitCode::from(status.number())
 }
 
 fn main(rt: HostRuntime) -> ExitCode {
@@ -42,5 +44,5 @@ fn main(rt: HostRuntime) -> ExitCode {
         Ok(words) => run(rt.alloc(), &words, &mut folder, &mut out),
         Err(NoMemory) => tell_no_memory(rt.alloc(), &mut out),
     };
-    ExitCode::from(status.number())
+    exit_code(status)
 }

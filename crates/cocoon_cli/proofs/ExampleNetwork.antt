@@ -8,12 +8,8 @@ use Rattle.std.proofs.lemmas.Cmp.{nat_list_cmp_total}
 use Rattle.std.specs.Fmt.{digits}
 use Rattle.std.specs.Str.{is_utf8, chars}
 use lib.Utf8.{encode}
-use Rattle.std.specs.Float.Numeral.{scan_numeral}
-use Rattle.json.specs.Lex.{lex, punctuate}
-use Rattle.json.specs.Json.{items, members, value}
-use Rattle.json.specs.Text.{code_unit, short_escape, content}
-use Rattle.json.specs.Word.{after_number, word}
-use Rattle.serde_json.specs.Read.{number_of, read}
+use Rattle.serde_json.proofs.OnLiterals.{serde_json_on_literals}
+use Rattle.serde_json.specs.Read.{read}
 use Rattle.sha2.specs.Sha256.{sha256, first_words, schedule, rounds, compress, hash_after, digest_bytes}
 use Rattle.hex.specs.Hex.{encode_with}
 use Rattle.cocoon_cli.specs.Network.{Network, SwitchReads, rows_data}
@@ -42,11 +38,11 @@ c_file = record {
 }
 
 net_read : read c_net_text ≡ Some (net_data c_file)
-unfolding lex punctuate items members value code_unit short_escape content after_number word number_of scan_numeral
+unfolding serde_json_on_literals
 net_read = refl
 
 rows_read : read c_rows_text ≡ Some (rows_data no_rows)
-unfolding lex punctuate items members value code_unit short_escape content after_number word number_of scan_numeral
+unfolding serde_json_on_literals
 rows_read = refl
 
 rows_digested : digest_of c_rows_text ≡ rows_digest

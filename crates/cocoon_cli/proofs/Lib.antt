@@ -9,9 +9,14 @@ pub mod ThinVisit
 pub mod ThinLinks
 pub mod ThinNetwork
 pub mod ThinRoles
+pub mod Wired
 pub mod NetMeans
 pub mod OneReading
 pub mod Running
 pub mod ExampleNetwork
+pub mod ReadingLists
+pub mod ReadingDigests
+pub mod ReadingWiring
+pub mod ReadingNames
 pub mod ReadingBack
 pub mod Headlines

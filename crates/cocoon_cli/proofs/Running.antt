@@ -16,28 +16,28 @@ use Rattle.cocoon_parse.specs.Read.{OneThinDesign}
 use Rattle.cocoon_cli.proofs.OneReading.{one_reading}
 use Rattle.cocoon_cli.specs.Bundle.{NamedFile, bundle, with_files, AllFit, SomeExceeds, made_most}
 use Rattle.cocoon_cli.specs.Causes.{Gives, Lacks, Exceeds, NotRead, Inputs, NotMade, NotWritten, Makes, Refuses, no_design, no_defs, not_made, not_written, Compiles, FindsOf, design_most, defs_most}
-use Rattle.cocoon_cli.specs.NetOf.{ReadFaultRose}
+use Rattle.cocoon_cli.specs.NetOf.{FaultRose, ReadFaultRose}
 use Rattle.cocoon_cli.specs.Report.{Says, whole, front, no_memory, front_of_no_memory, Puts, all, a_front, nothing, status_of, refusal_status, report_of, no_memory_line}
 use Rattle.cocoon_cli.specs.Run as spec
-use Rattle.cocoon_cli.specs.Run.{Stage, missing, long, there, stage_of, Verdict, a_file_missing, a_file_too_long, not_thin, not_thin_defs, all_good, JudgesTexts, JudgesStages, Judges, verdict_status, Yields, to_read_fault, to_write_fault, to_no_memory, ExactOf, Exactly, UsageOf, UsageExactly, WritesOf, Writes, SomeOf, Leaves, MayWrite, done, failed, TellFailed}
+use Rattle.cocoon_cli.specs.Run.{Stage, missing, long, there, stage_of, Verdict, a_file_missing, a_file_too_long, not_thin, not_thin_defs, all_good, JudgesTexts, JudgesStages, Judges, verdict_status, Yields, to_read_fault, to_write_fault, to_no_memory, ExactOf, Exactly, UsageOf, UsageExactly, WritesOf, Writes, SomeOf, Leaves, MayWrite, done, failed, HasFault}
 
 -- ---- what was said
 
 -- a report that is put
-pub put_report : (found : Result Totals Refusal) (old new : Option (List ℕ)) (s : Status) → Puts (report_of found) (status_of found) old new s → Says found old new s
+pub put_report : {sink_failed : Type 0} (found : Result Totals Refusal) (old new : Option (List ℕ)) (s : Status) → Puts sink_failed (report_of found) (status_of found) old new s → Says sink_failed found old new s
 put_report found old new s (all e n) = whole e n
-put_report found old new s (a_front e n) = front e n
+put_report found old new s (a_front e rose n) = front e rose n
 put_report found old new s (nothing e n) = no_memory e (inl n)
 
 -- the same, of equal bytes and an equal status
-pub put_as : (found : Result Totals Refusal) (bytes : List ℕ) (before : Status) (old new : Option (List ℕ)) (s : Status) → bytes ≡ report_of found → before ≡ status_of found → Puts bytes before old new s → Says found old new s
-put_as found bytes before old new s p q h =
-    put_report found old new s (subst (λ (b : List ℕ). Puts b (status_of found) old new s) p (subst (λ (t : Status). Puts bytes t old new s) q h))
+pub put_as : {sink_failed : Type 0} (found : Result Totals Refusal) (bytes : List ℕ) (before : Status) (old new : Option (List ℕ)) (s : Status) → bytes ≡ report_of found → before ≡ status_of found → Puts sink_failed bytes before old new s → Says sink_failed found old new s
+put_as {sink_failed} found bytes before old new s p q h =
+    put_report found old new s (subst (λ (b : List ℕ). Puts sink_failed b (status_of found) old new s) p (subst (λ (t : Status). Puts sink_failed bytes t old new s) q h))
 
 -- the line for want of memory, where the report was not made
-pub put_line : (found : Result Totals Refusal) (old new : Option (List ℕ)) (s : Status) → Puts no_memory_line NoMemory old new s → Says found old new s
+pub put_line : {sink_failed : Type 0} (found : Result Totals Refusal) (old new : Option (List ℕ)) (s : Status) → Puts sink_failed no_memory_line NoMemory old new s → Says sink_failed found old new s
 put_line found old new s (all e n) = no_memory e (inr n)
-put_line found old new s (a_front e n) = front_of_no_memory e n
+put_line found old new s (a_front e rose n) = front_of_no_memory e rose n
 put_line found old new s (nothing e n) = no_memory e (inl n)
 
 -- ---- what was judged
@@ -110,11 +110,11 @@ found_judged : (files : Files) (d e o : List ℕ) (found : Result Totals Refusal
 found_judged files d e o (Ok totals) now h = inr (all_good, good files d e o h.0 totals h.1, refl)
 found_judged files d e o (Err r) now h = refused_judged files d e o r now h
 
-said_judged : (files : Files) (d e o : List ℕ) (found : Result Totals Refusal) (old new : Option (List ℕ)) (s : Status) → Judged files d e o (status_of found) → Says found old new s → Judged files d e o s
+said_judged : {sink_failed : Type 0} (files : Files) (d e o : List ℕ) (found : Result Totals Refusal) (old new : Option (List ℕ)) (s : Status) → Judged files d e o (status_of found) → Says sink_failed found old new s → Judged files d e o s
 said_judged files d e o found old new s h (whole q n) = subst (λ (x : Status). Judged files d e o x) (sym q) h
-said_judged files d e o found old new s h (front q n) = inl (to_write_fault q)
+said_judged files d e o found old new s h (front q rose n) = inl (to_write_fault q)
 said_judged files d e o found old new s h (no_memory q n) = inl (to_no_memory q)
-said_judged files d e o found old new s h (front_of_no_memory q n) = inl (to_write_fault q)
+said_judged files d e o found old new s h (front_of_no_memory q rose n) = inl (to_write_fault q)
 
 -- ---- one verdict
 
@@ -211,18 +211,18 @@ exact_by one files d e o v s (inr (w, j, p)) = (
   λ k. inl (p ∙ ap verdict_status (stages_agree one o _ _ w v j k)),
 )
 
-no_command : (found : Result Totals Refusal) (old new : Option (List ℕ)) (s : Status) → found ≡ Err refusal.Usage → Says found old new s → (s ≡ Usage) ⊎ ((s ≡ WriteFault) ⊎ (s ≡ NoMemory))
+no_command : {sink_failed : Type 0} (found : Result Totals Refusal) (old new : Option (List ℕ)) (s : Status) → found ≡ Err refusal.Usage → Says sink_failed found old new s → (s ≡ Usage) ⊎ ((s ≡ WriteFault) ⊎ (s ≡ NoMemory))
 no_command found old new s u (whole e n) = inl (e ∙ ap status_of u)
-no_command found old new s u (front e n) = inr (inl e)
+no_command found old new s u (front e rose n) = inr (inl e)
 no_command found old new s u (no_memory e n) = inr (inr e)
-no_command found old new s u (front_of_no_memory e n) = inr (inl e)
+no_command found old new s u (front_of_no_memory e rose n) = inr (inl e)
 
 not_judging : (s : Status) → (s ≡ Usage) ⊎ ((s ≡ WriteFault) ⊎ (s ≡ NoMemory)) → judging s ≡ false
 not_judging s (inl e) = ap judging e
 not_judging s (inr (inl e)) = ap judging e
 not_judging s (inr (inr e)) = ap judging e
 
-pub exact_of : OneThinDesign → (c : Option Command) (told : Option Files) (found : Result Totals Refusal) (now : Option Files) (old new : Option (List ℕ)) (v : Verdict) (s : Status) → FindsOf c told found now → Says found old new s → ExactOf c told v s
+pub exact_of : {sink_failed : Type 0} → OneThinDesign → (c : Option Command) (told : Option Files) (found : Result Totals Refusal) (now : Option Files) (old new : Option (List ℕ)) (v : Verdict) (s : Status) → FindsOf c told found now → Says sink_failed found old new s → ExactOf c told v s
 exact_of one None told found now old new v s h k = λ e. other v s (not_judging s (no_command found old new s h.0 k)) e
 exact_of one (Some (compile d e o)) None found now old new v s h k = tt
 exact_of one (Some (compile d e o)) (Some files) found now old new v s h k = exact_by one files d e o v s (said_judged files d e o found old new s (found_judged files d e o found now h) k)
@@ -255,13 +255,13 @@ found_usage : (told : Option Files) (d e o : List ℕ) (found : Result Totals Re
 found_usage told d e o (Ok totals) now h k = cc
 found_usage told d e o (Err r) now h k = not_usage r (refuses_something told d e o r now h) k
 
-said_usage : (found : Result Totals Refusal) (old new : Option (List ℕ)) (s : Status) → (status_of found ≡ Usage → ⊥) → Says found old new s → s ≡ Usage → ⊥
+said_usage : {sink_failed : Type 0} (found : Result Totals Refusal) (old new : Option (List ℕ)) (s : Status) → (status_of found ≡ Usage → ⊥) → Says sink_failed found old new s → s ≡ Usage → ⊥
 said_usage found old new s h (whole e n) k = h (sym e ∙ k)
-said_usage found old new s h (front e n) k = cc
+said_usage found old new s h (front e rose n) k = cc
 said_usage found old new s h (no_memory e n) k = cc
-said_usage found old new s h (front_of_no_memory e n) k = cc
+said_usage found old new s h (front_of_no_memory e rose n) k = cc
 
-pub usage_of : (c : Option Command) (told : Option Files) (found : Result Totals Refusal) (now : Option Files) (old new : Option (List ℕ)) (s : Status) → FindsOf c told found now → Says found old new s → UsageOf c s
+pub usage_of : {sink_failed : Type 0} (c : Option Command) (told : Option Files) (found : Result Totals Refusal) (now : Option Files) (old new : Option (List ℕ)) (s : Status) → FindsOf c told found now → Says sink_failed found old new s → UsageOf c s
 usage_of None told found now old new s h k = no_command found old new s h.0 k
 usage_of (Some (compile d e o)) told found now old new s h k = λ q. said_usage found old new s (found_usage told d e o found now h) k q
 
@@ -278,11 +278,11 @@ read_rose last old new (Err (refusal.TooLong f n)) h e = cc
 read_rose last old new (Err refusal.NoMemory) h e = cc
 read_rose last old new (Err (refusal.NoFile f)) h e = cc
 
-pub read_fault_of : (last : Option ℕ) (old new : ℕ) (found : Result Totals Refusal) (before after : Option (List ℕ)) (s : Status) → IfErr found (ReadFaultRose last old new) → Says found before after s → s ≡ ReadFault → Rose last old new
+pub read_fault_of : {sink_failed : Type 0} (last : Option ℕ) (old new : ℕ) (found : Result Totals Refusal) (before after : Option (List ℕ)) (s : Status) → IfErr found (ReadFaultRose last old new) → Says sink_failed found before after s → s ≡ ReadFault → Rose last old new
 read_fault_of last old new found before after s h (whole q n) e = read_rose last old new found h (sym q ∙ e)
-read_fault_of last old new found before after s h (front q n) e = cc
+read_fault_of last old new found before after s h (front q rose n) e = cc
 read_fault_of last old new found before after s h (no_memory q n) e = cc
-read_fault_of last old new found before after s h (front_of_no_memory q n) e = cc
+read_fault_of last old new found before after s h (front_of_no_memory q rose n) e = cc
 
 -- ---- what is left
 
@@ -301,11 +301,11 @@ done_writes None told found now old new h e n = let no : status_of found ≡ Usa
 done_writes (Some (compile d x o)) told (Ok totals) now old new h e n = (h.0, totals, h.1, h.2, n)
 done_writes (Some (compile d x o)) told (Err r) now old new h e n = absurd (refusal_not_done r e)
 
-pub writes_of : (c : Option Command) (told : Option Files) (found : Result Totals Refusal) (now : Option Files) (old new : Option (List ℕ)) (s : Status) → FindsOf c told found now → Says found old new s → s ≡ Done → WritesOf c told now old new
+pub writes_of : {sink_failed : Type 0} (c : Option Command) (told : Option Files) (found : Result Totals Refusal) (now : Option Files) (old new : Option (List ℕ)) (s : Status) → FindsOf c told found now → Says sink_failed found old new s → s ≡ Done → WritesOf c told now old new
 writes_of c told found now old new s h (whole q n) e = done_writes c told found now old new h (sym q ∙ e) n
-writes_of c told found now old new s h (front q n) e = let no : WriteFault ≡ Done = sym q ∙ e in cc
+writes_of c told found now old new s h (front q rose n) e = let no : WriteFault ≡ Done = sym q ∙ e in cc
 writes_of c told found now old new s h (no_memory q n) e = let no : NoMemory ≡ Done = sym q ∙ e in cc
-writes_of c told found now old new s h (front_of_no_memory q n) e = let no : WriteFault ≡ Done = sym q ∙ e in cc
+writes_of c told found now old new s h (front_of_no_memory q rose n) e = let no : WriteFault ≡ Done = sym q ∙ e in cc
 
 not_written_may : (fs : List NamedFile) (r : Refusal) (s : Status) → NotWritten fs r → s ≡ refusal_status r → MayWrite s
 not_written_may fs (refusal.WriteFault f) s h e = failed e
@@ -323,11 +323,11 @@ found_same None told found now s h e = inr h.1
 found_same (Some (compile d x o)) told (Ok totals) now s h e = inl (done e)
 found_same (Some (compile d x o)) told (Err r) now s h e = refused_same told d x o r now s h e
 
-pub same_of : (c : Option Command) (told : Option Files) (found : Result Totals Refusal) (now : Option Files) (old new : Option (List ℕ)) (s : Status) → FindsOf c told found now → Says found old new s → MayWrite s ⊎ (now ≡ told)
+pub same_of : {sink_failed : Type 0} (c : Option Command) (told : Option Files) (found : Result Totals Refusal) (now : Option Files) (old new : Option (List ℕ)) (s : Status) → FindsOf c told found now → Says sink_failed found old new s → MayWrite s ⊎ (now ≡ told)
 same_of c told found now old new s h (whole q n) = found_same c told found now s h q
-same_of c told found now old new s h (front q n) = inl (failed q)
+same_of c told found now old new s h (front q rose n) = inl (failed q)
 same_of c told found now old new s h (no_memory q n) = inl (spec.no_memory q)
-same_of c told found now old new s h (front_of_no_memory q n) = inl (failed q)
+same_of c told found now old new s h (front_of_no_memory q rose n) = inl (failed q)
 
 all_taken : (fs : List NamedFile) → take (length fs) fs ≡ fs
 all_taken [] = refl
@@ -343,3 +343,36 @@ pub leaves_of : (c : Option Command) (told : Option Files) (found : Result Total
 leaves_of None told found now h = inl h.1
 leaves_of (Some (compile d x o)) told (Ok totals) now h = inr (h.0, totals, h.1, (length h.0, h.2 ∙ ap (λ (fs : List NamedFile). with_files fs told) (sym (all_taken h.0))))
 leaves_of (Some (compile d x o)) told (Err r) now h = refused_leaves told d x o r now h
+
+-- ---- faults
+
+-- a found fault of a read or a write is counted
+pub has_fault : (read_last write_last : Option ℕ) (r r' w w' : ℕ) (found : Result Totals Refusal) → IfErr found (ReadFaultRose read_last r r') → IfErr found (FaultRose write_last w w') → HasFault (Rose read_last r r') (Rose write_last w w') found
+has_fault read_last write_last r r' w w' (Ok totals) h k = tt
+has_fault read_last write_last r r' w w' (Err (refusal.ReadFault file)) h k = h
+has_fault read_last write_last r r' w w' (Err (refusal.WriteFault file)) h k = k
+has_fault read_last write_last r r' w w' (Err refusal.Usage) h k = tt
+has_fault read_last write_last r r' w w' (Err (refusal.Design file)) h k = tt
+has_fault read_last write_last r r' w w' (Err (refusal.Definitions file)) h k = tt
+has_fault read_last write_last r r' w w' (Err (refusal.TooLong file n)) h k = tt
+has_fault read_last write_last r r' w w' (Err refusal.NoMemory) h k = tt
+has_fault read_last write_last r r' w w' (Err (refusal.NoFile file)) h k = tt
+
+-- a found fault of a write, by its status
+found_fault : (last : Option ℕ) (old new : ℕ) (found : Result Totals Refusal) → IfErr found (FaultRose last old new) → status_of found ≡ WriteFault → Rose last old new
+found_fault last old new (Ok totals) h e = cc
+found_fault last old new (Err (refusal.WriteFault file)) h e = h
+found_fault last old new (Err (refusal.ReadFault file)) h e = cc
+found_fault last old new (Err refusal.Usage) h e = cc
+found_fault last old new (Err (refusal.Design file)) h e = cc
+found_fault last old new (Err (refusal.Definitions file)) h e = cc
+found_fault last old new (Err (refusal.TooLong file n)) h e = cc
+found_fault last old new (Err refusal.NoMemory) h e = cc
+found_fault last old new (Err (refusal.NoFile file)) h e = cc
+
+-- a write fault is one of the folder or one of the sink
+pub write_fault_of : {sink_failed : Type 0} (last : Option ℕ) (old new : ℕ) (found : Result Totals Refusal) (before after : Option (List ℕ)) (s : Status) → IfErr found (FaultRose last old new) → Says sink_failed found before after s → s ≡ WriteFault → Rose last old new ⊎ sink_failed
+write_fault_of last old new found before after s h (whole q n) e = inl (found_fault last old new found h (sym q ∙ e))
+write_fault_of last old new found before after s h (front q rose n) e = inr rose
+write_fault_of last old new found before after s h (no_memory q n) e = cc
+write_fault_of last old new found before after s h (front_of_no_memory q rose n) e = inr rose

@@ -8,11 +8,12 @@ use Rattle.cocoon_parse.specs.declared.parts.Thin.{Thin}
 use Rattle.cocoon_parse.specs.Tables.{Defs}
 use Rattle.cocoon_parse.specs.Thin.{ThinNames}
 use Rattle.cocoon_parse.specs.ThinVisits.{is_port, ThinVisit, VisitRun}
+use Rattle.cocoon_cli.specs.Lowered.{thin_program}
 use Rattle.cocoon_cli.specs.Visits.{SendsAt, VisitsAreRuns}
 use Rattle.cocoon_cli.proofs.ThinVisit.{visits, left, leaves}
 
 -- what the switch sends is a visit by the parts
-sent : (t : Thin) → t.tested < length t.fields → (s port : ℕ) → is_port t s port ≡ true → (bytes choices : List ℕ) (to : ℕ) (out : List ℕ) → SendsAt t port bytes choices to out → ThinVisit t s port bytes choices to out
+sent : (t : Thin) → t.tested < length t.fields → (s port : ℕ) → is_port t s port ≡ true → (bytes choices : List ℕ) (to : ℕ) (out : List ℕ) → SendsAt (thin_program t) t port bytes choices to out → ThinVisit t s port bytes choices to out
 sent t h s port i bytes choices to out e =
     let l = left t bytes choices to out (sym (visits t h 0 port bytes choices) ∙ e.0) in
     let there = (and_parts (fits_width 16 s && has_number s t.switches) (nat_lt port t.ports) i).0 in
@@ -28,7 +29,7 @@ sent t h s port i bytes choices to out e =
     }
 
 -- and the switch sends it
-sends : (t : Thin) → t.tested < length t.fields → (s port : ℕ) (bytes choices : List ℕ) (to : ℕ) (out : List ℕ) → ThinVisit t s port bytes choices to out → SendsAt t port bytes choices to out
+sends : (t : Thin) → t.tested < length t.fields → (s port : ℕ) (bytes choices : List ℕ) (to : ℕ) (out : List ℕ) → ThinVisit t s port bytes choices to out → SendsAt (thin_program t) t port bytes choices to out
 sends t h s port bytes choices to out v =
     let below = (and_parts (fits_width 16 s && has_number s t.switches) (nat_lt to t.ports) v.out_at).1 in (
       visits t h 0 port bytes choices
@@ -39,7 +40,7 @@ sends t h s port bytes choices to out v =
 -- so it sends what the role sends
 pub runs : (t : Thin) → t.tested < length t.fields → (design : Design) (defs : Defs) (n : ThinNames)
     → ((s port : ℕ) (bytes choices : List ℕ) (to : ℕ) (out : List ℕ) → VisitRun design defs n s port bytes choices to out ↔ ThinVisit t s port bytes choices to out)
-    → VisitsAreRuns design defs n t
+    → VisitsAreRuns (thin_program t) design defs n t
 runs t h design defs n roles s port i bytes choices to out = (
   λ e. (roles s port bytes choices to out).1 (sent t h s port i bytes choices to out e),
   λ r. sends t h s port bytes choices to out ((roles s port bytes choices to out).0 r),

@@ -12,3 +12,4 @@ pub mod Network
 pub mod Readable
 pub mod Headline
 pub mod ExampleNet
+pub mod Wires

@@ -49,16 +49,17 @@ abbrev pub no_memory_line : List ℕ
 no_memory_line = codes "no memory\n"
 
 -- How a command ends that found this, by what the sink was told: the whole report; a front of it, where the sink
--- failed; or, for want of memory, the line that says so, a front of that, or nothing.
-pub data Says (found : Result Totals Refusal) (old new : Option (List ℕ)) : Status → Type 0 where
-  whole : {s : Status} → s ≡ status_of found → new ≡ appended old (report_of found) → Says found old new s
-  front : {s : Status} → s ≡ status.WriteFault → AppendsFront old (report_of found) new → Says found old new s
-  no_memory : {s : Status} → s ≡ status.NoMemory → (new ≡ old) ⊎ (new ≡ appended old no_memory_line) → Says found old new s
-  front_of_no_memory : {s : Status} → s ≡ status.WriteFault → AppendsFront old no_memory_line new → Says found old new s
+-- failed; or, for want of memory, the line that says so, a front of that where the sink failed, or nothing. What says
+-- that the sink failed is a parameter.
+pub data Says (sink_failed : Type 0) (found : Result Totals Refusal) (old new : Option (List ℕ)) : Status → Type 0 where
+  whole : {s : Status} → s ≡ status_of found → new ≡ appended old (report_of found) → Says sink_failed found old new s
+  front : {s : Status} → s ≡ status.WriteFault → sink_failed → AppendsFront old (report_of found) new → Says sink_failed found old new s
+  no_memory : {s : Status} → s ≡ status.NoMemory → (new ≡ old) ⊎ (new ≡ appended old no_memory_line) → Says sink_failed found old new s
+  front_of_no_memory : {s : Status} → s ≡ status.WriteFault → sink_failed → AppendsFront old no_memory_line new → Says sink_failed found old new s
 
--- What a put of bytes and the status before it give: the status and all the bytes, a write fault and a front of them,
--- or want of memory and nothing.
-pub data Puts (bytes : List ℕ) (before : Status) (old new : Option (List ℕ)) : Status → Type 0 where
-  all : {s : Status} → s ≡ before → new ≡ appended old bytes → Puts bytes before old new s
-  a_front : {s : Status} → s ≡ status.WriteFault → AppendsFront old bytes new → Puts bytes before old new s
-  nothing : {s : Status} → s ≡ status.NoMemory → new ≡ old → Puts bytes before old new s
+-- What a put of bytes and the status before it give: the status and all the bytes, a write fault and a front of them
+-- where the sink failed, or want of memory and nothing.
+pub data Puts (sink_failed : Type 0) (bytes : List ℕ) (before : Status) (old new : Option (List ℕ)) : Status → Type 0 where
+  all : {s : Status} → s ≡ before → new ≡ appended old bytes → Puts sink_failed bytes before old new s
+  a_front : {s : Status} → s ≡ status.WriteFault → sink_failed → AppendsFront old bytes new → Puts sink_failed bytes before old new s
+  nothing : {s : Status} → s ≡ status.NoMemory → new ≡ old → Puts sink_failed bytes before old new s

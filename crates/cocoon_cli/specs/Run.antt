@@ -1,18 +1,19 @@
 -- What the top call promises. It follows "Statuses" and "Reports" in docs/FORMATS.md.
-use Rattle.std.specs.Prelude.{◌≡◌, ◌⊎◌, ℕ, List, length, nat_lt, if◌then◌else◌, Option, Some, None, Result}
+use Rattle.std.specs.Prelude.{◌≡◌, ◌⊎◌, ℕ, List, length, nat_lt, if◌then◌else◌, Option, Some, None, Result, Err}
 use Rattle.std.specs.FinMap.{get}
 use Rattle.cocoon_io.specs.Files.{Files}
-use Rattle.cocoon_io.specs.Told.{Rose, appended}
+use Rattle.cocoon_io.specs.Told.{appended}
 use Rattle.cocoon_parse.specs.declared.parts.Thin.{Thin}
 use Rattle.cocoon_parse.specs.Thin.{AreThin, ThinDesign, ThinDefs}
 use Rattle.cocoon_cli.specs.declared.refusal.Refusal.{Refusal}
+use Rattle.cocoon_cli.specs.declared.refusal.Refusal.TheVariants as refusal
 use Rattle.cocoon_cli.specs.declared.refusal.Totals.{Totals}
 use Rattle.cocoon_cli.specs.declared.status.Status.{Status}
 use Rattle.cocoon_cli.specs.declared.status.Status.TheVariants.{Done, Refuted, Usage, Language, Broken, HopBound, Budget, Bundle, ReadFault, WriteFault, Limit, Lines, NoMemory, NoFile}
 use Rattle.cocoon_cli.specs.Command.{Command, command, compile}
 use Rattle.cocoon_cli.specs.Bundle.{NamedFile, bundle, with_files, SomeWritten, AllFit, SomeExceeds}
 use Rattle.cocoon_cli.specs.Causes.{Finds, Makes, design_most, defs_most}
-use Rattle.cocoon_cli.specs.Report.{Says, status_of, totals_line}
+use Rattle.cocoon_cli.specs.Report.{Says, totals_line}
 
 -- the number of a status
 abbrev pub number_of : Status → ℕ
@@ -33,9 +34,19 @@ number_of NoFile = 13
 
 -- ---- the whole call
 
--- The words found something, with what the folder then holds, and it was said, with what the sink was told.
-abbrev pub Ran : List (List ℕ) → Option Files → Option Files → Option (List ℕ) → Option (List ℕ) → Status → Type 0
-Ran words told told' said said' result = (found : Result Totals Refusal) × Finds words told found told' × Says found said said' result
+-- A refusal that speaks of a fault of the folder comes only where that fault is counted.
+abbrev pub HasFault : (read_failed write_failed : Type 0) → Result Totals Refusal → Type 0
+HasFault read_failed write_failed (Err (refusal.ReadFault file)) = read_failed
+HasFault read_failed write_failed (Err (refusal.WriteFault file)) = write_failed
+HasFault read_failed write_failed found = Unit {0}
+
+-- The words found something, with what the folder then holds, and it was said, with what the sink was told. What says
+-- that a read, a write or the sink failed are parameters.
+pub record Ran (read_failed write_failed sink_failed : Type 0) (words : List (List ℕ)) (told told' : Option Files) (said said' : Option (List ℕ)) (result : Status) : Type 0 where
+  pub found : Result Totals Refusal
+  pub finds : Finds words told found told'
+  pub faults : HasFault read_failed write_failed found
+  pub says : Says sink_failed found said said' result
 
 -- ---- exact causes, over told files
 
@@ -128,12 +139,3 @@ pub data MayWrite : Status → Type 0 where
   done : {s : Status} → s ≡ Done → MayWrite s
   failed : {s : Status} → s ≡ WriteFault → MayWrite s
   no_memory : {s : Status} → s ≡ NoMemory → MayWrite s
-
--- ---- faults
-
--- a put that failed
-abbrev pub PutFailed : Option ℕ → Status → ℕ → ℕ → Status → Type 0
-PutFailed last before old new result = (result ≡ WriteFault) → (before ≡ WriteFault) ⊎ Rose last old new
-
-abbrev pub TellFailed : Option ℕ → Result Totals Refusal → ℕ → ℕ → Status → Type 0
-TellFailed last found old new result = (result ≡ WriteFault) → (status_of found ≡ WriteFault) ⊎ Rose last old new

@@ -7,6 +7,7 @@ use Rattle.cocoon_parse.specs.Runs.{LastGo, MayMake}
 use Rattle.cocoon_parse.specs.Thin.{ThinNames}
 use Rattle.cocoon_parse.specs.ThinRuns.{ThinDelivers, ThinMeaning}
 use Rattle.cocoon_parse.specs.ThinVisits.{is_port, VisitRun}
+use Rattle.p4_emit.specs.P4Tree.{Program}
 use Rattle.p4_emit.specs.Switch.{switch_go}
 use Rattle.p4_emit.specs.NetRuns.{NetGo}
 use Rattle.cocoon_cli.specs.Lowered.{thin_program}
@@ -16,14 +17,14 @@ use Rattle.cocoon_cli.specs.ThinNet.{no_rows, thin_net, thin_visit}
 abbrev pub VisitsAreThin : Thin → Type 0
 VisitsAreThin t = (tag port : ℕ) (bytes choices : List ℕ) → switch_go (thin_program t) no_rows tag port bytes choices ≡ thin_visit t bytes choices
 
--- the switch sends these bytes at one of its ports
-abbrev pub SendsAt : Thin → (port : ℕ) → (bytes choices : List ℕ) → (to : ℕ) → (out : List ℕ) → Type 0
-SendsAt t port bytes choices to out = (switch_go (thin_program t) no_rows 0 port bytes choices ≡ Some (to, out)) × (to < t.ports)
+-- a switch that runs the program sends these bytes at one of its ports
+abbrev pub SendsAt : Program → Thin → (port : ℕ) → (bytes choices : List ℕ) → (to : ℕ) → (out : List ℕ) → Type 0
+SendsAt program t port bytes choices to out = (switch_go program no_rows 0 port bytes choices ≡ Some (to, out)) × (to < t.ports)
 
 -- at each port of each switch it sends what the ingress role of the design sends
-abbrev pub VisitsAreRuns : Design → Defs → ThinNames → Thin → Type 0
-VisitsAreRuns design defs n t = (s port : ℕ) → IsTrue (is_port t s port) → (bytes choices : List ℕ) (to : ℕ) (out : List ℕ) →
-    SendsAt t port bytes choices to out ↔ VisitRun design defs n s port bytes choices to out
+abbrev pub VisitsAreRuns : Program → Design → Defs → ThinNames → Thin → Type 0
+VisitsAreRuns program design defs n t = (s port : ℕ) → IsTrue (is_port t s port) → (bytes choices : List ℕ) (to : ℕ) (out : List ℕ) →
+    SendsAt program t port bytes choices to out ↔ VisitRun design defs n s port bytes choices to out
 
 -- the network delivers what the parts of the design say, and nothing else
 abbrev pub NetDelivers : Thin → Type 0

@@ -3,8 +3,8 @@ ghost use Rattle.std.specs.Prelude.{◌≡◌, ◌⊎◌, IfErr, map, string_byt
 ghost use Rattle.cocoon_cli.specs.Causes.{Finds};
 ghost use Rattle.cocoon_cli.specs.Headline.{Headline};
 ghost use Rattle.cocoon_cli.specs.NetOf.{FaultRose, ReadFaultRose};
-ghost use Rattle.cocoon_cli.specs.Report.{Puts, Says};
-ghost use Rattle.cocoon_cli.specs.Run.{Exactly, Leaves, MayWrite, PutFailed, Ran, TellFailed, UsageExactly, Writes, a_file_missing, a_file_too_long, all_good, not_thin, not_thin_defs};
+ghost use Rattle.cocoon_cli.specs.Report.{Puts, Says, no_memory_line};
+ghost use Rattle.cocoon_cli.specs.Run.{Exactly, Leaves, MayWrite, Ran, UsageExactly, Writes, a_file_missing, a_file_too_long, all_good, not_thin, not_thin_defs};
 ghost use Rattle.cocoon_io.specs.Told.{Rose};
 
 use crate::compiler::compile;
@@ -20,8 +20,7 @@ use std::alloc::Global;
 
 /// Tells the bytes; where that fails, the status says so.
 fn put<S: Sink>(alloc: Global, out: &mut S, bytes: &[u8], status: Status) -> Status
-    ensures told { Puts bytes.now status (S.told out.old) (S.told out.new) result }
-    ensures failed { PutFailed S.last_fault status (S.faults out.old) (S.faults out.new) result }
+    ensures { Puts (Rose S.last_fault (S.faults out.old) (S.faults out.new)) bytes.now status (S.told out.old) (S.told out.new) result }
 {
     match out.put(alloc, bytes) {
         Ok(()) => status,
@@ -30,14 +29,20 @@ fn put<S: Sink>(alloc: Global, out: &mut S, bytes: &[u8], status: Status) -> Sta
     }
 }
 
+/// Tells that there was no memory.
+pub fn tell_no_memory<S: Sink>(alloc: Global, out: &mut S) -> Status
+    ensures { Puts (Rose S.last_fault (S.faults out.old) (S.faults out.new)) no_memory_line Status.NoMemory (S.told out.old) (S.told out.new) result }
+{
+    put(alloc, out, b"no memory\n", Status::NoMemory)
+}
+
 /// Tells what was found.
 fn tell<S: Sink>(alloc: Global, out: &mut S, found: &Result<Totals, Refusal>) -> Status
-    ensures says { Says found.now (S.told out.old) (S.told out.new) result }
-    ensures failed { TellFailed S.last_fault found.now (S.faults out.old) (S.faults out.new) result }
+    ensures { Says (Rose S.last_fault (S.faults out.old) (S.faults out.new)) found.now (S.told out.old) (S.told out.new) result }
 {
     match report(alloc, found) {
         Ok(line) => put(alloc, out, line.as_bytes(), status_of(found)),
-        Err(NoMemory) => put(alloc, out, b"no memory\n", Status::NoMemory),
+        Err(NoMemory) => tell_no_memory(alloc, out),
     }
 }
 
@@ -63,7 +68,7 @@ pub fn run<F: Folder, S: Sink>(
     out: &mut S,
 ) -> Status
     // every answer has its cause, and the report says it
-    ensures ran { Ran (map string_bytes words.now) (F.told folder.old) (F.told folder.new) (S.told out.old) (S.told out.new) result }
+    ensures ran { Ran (Rose F.last_read_fault (F.read_faults folder.old) (F.read_faults folder.new)) (Rose F.last_write_fault (F.write_faults folder.old) (F.write_faults folder.new)) (Rose S.last_fault (S.faults out.old) (S.faults out.new)) (map string_bytes words.now) (F.told folder.old) (F.told folder.new) (S.told out.old) (S.told out.new) result }
     ensures usage { UsageExactly (map string_bytes words.now) result }
     ensures no_file { Exactly (map string_bytes words.now) (F.told folder.old) a_file_missing result }
     ensures limit { Exactly (map string_bytes words.now) (F.told folder.old) a_file_too_long result }

@@ -14,5 +14,5 @@ pub mod status;
 pub mod visits;
 pub mod words;
 
-pub use driver::run;
+pub use driver::{run, tell_no_memory};
 pub use status::Status;

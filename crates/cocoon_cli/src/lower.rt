@@ -1,15 +1,20 @@
 //! From a thin design to its network: the program of the switches, the attachments of hosts, and the links.
-ghost use Rattle.std.specs.Prelude.{◌≡◌, ◌<◌, ◌^◌, ◌++◌, [], IfOk, OnOk, codes, length, map};
+ghost use Rattle.std.specs.Prelude.{◌≡◌, ◌<◌, ◌^◌, ◌++◌, [], IfOk, List as Items, OnOk, codes, length, map, slice_index, ℕ};
 ghost use Rattle.p4_emit.specs.P4Reads.{P4Reads};
 ghost use Rattle.p4_emit.specs.Printed.{printed};
 ghost use Rattle.p4_emit.specs.Program.{block_of, control_of, field_of, header_of, program_of, stmt_of};
 ghost use Rattle.cocoon_num.specs.Lists.{has_number};
-ghost use Rattle.cocoon_parse.specs.Thin.{field_width};
+ghost use Rattle.cocoon_parse.specs.Thin.{AreThin, field_width};
+ghost use Rattle.cocoon_parse.specs.ThinTree.{thin_defs, thin_tree};
 ghost use Rattle.cocoon_cli.specs.Lowered as spec;
 ghost use Rattle.cocoon_cli.specs.NetOf.{IsLowerable, host_port_of, link_of};
+ghost use Rattle.cocoon_cli.specs.Visits.{VisitsAreRuns};
+ghost use Rattle.cocoon_cli.specs.Wires.{HostsAreRuns, LinksAreRuns};
 
 use crate::network::{HostPort, Link, LinkEnd};
+use crate::visits::thin_switches_run;
 use cocoon_num::{Bits, List, NoMemory, Text};
+use cocoon_parse::visits::{thin_entries_run, thin_exits_run};
 use cocoon_parse::{Thin, ThinField};
 use p4_emit::{Control, P4Binary, P4Expr, P4Field, P4Header, P4Stmt, Program, emit};
 use std::alloc::Global;
@@ -109,8 +114,12 @@ fn control(alloc: Global, body: Vec<P4Stmt>) -> Control
 /// The program of every switch.
 pub fn program(alloc: Global, thin: &Thin) -> Result<Program, NoMemory>
     requires { IsLowerable thin.now }
-    ensures { IfOk result (λ p. program_of p ≡ spec.thin_program thin.now) }
+    ensures lowers { IfOk result (λ p. program_of p ≡ spec.thin_program thin.now) }
+
+    // one visit of a switch that runs it is one run of the ingress role
+    ensures visits { IfOk result (λ p. (design defs : Items ℕ) (h : AreThin design defs thin.now) → VisitsAreRuns (program_of p) (thin_tree h.names thin.now) (thin_defs h.names thin.now h.entries) h.names thin.now) }
 {
+    thin_switches_run();
     let header = header(alloc, thin)?;
     let site = site(alloc)?;
     let test = test(alloc, thin)?;
@@ -129,6 +138,20 @@ fn know_ports(thin: &Thin)
 {
     let _first = thin.first_port;
     let _other = thin.other_port;
+}
+
+/// That numbers are of 16 bits, as their type says.
+fn know_numbers(numbers: &[u16])
+    ensures { (k : ℕ) → slice_index numbers.now k < 2 ^ 16 }
+{}
+
+/// The same of the numbers of switches.
+fn know_switches(thin: &Thin)
+    ensures entry { thin.now.entry_switch < 2 ^ 16 }
+    ensures each { (k : ℕ) → slice_index thin.now.switches k < 2 ^ 16 }
+{
+    let _entry = thin.entry_switch;
+    know_numbers(thin.switches.items());
 }
 
 /// The text of that program.
@@ -162,8 +185,13 @@ fn attachment(thin: &Thin, host: u64) -> HostPort
 
 /// The attachments of all hosts, ascending by host.
 pub fn host_ports(alloc: Global, thin: &Thin) -> Result<Vec<HostPort>, NoMemory>
-    ensures { IfOk result (λ v. map host_port_of v.items ≡ spec.host_ports thin.now) }
+    ensures lowers { IfOk result (λ v. map host_port_of v.items ≡ spec.host_ports thin.now) }
+
+    // each attachment is the run of the entry role
+    ensures attached { IfOk result (λ v. (design defs : Items ℕ) (h : AreThin design defs thin.now) → HostsAreRuns (map host_port_of v.items) (thin_tree h.names thin.now) (thin_defs h.names thin.now h.entries) h.names) }
 {
+    thin_entries_run();
+    know_switches(thin);
     let mut ports = Vec::new(alloc);
     for host in thin.hosts.items() {
         ports.push(attachment(thin, *host))?;
@@ -200,8 +228,13 @@ fn push_links(links: &mut Vec<Link>, hosts: &[u16], switch: u16) -> Result<(), N
 
 /// All links, ascending by switch and port.
 pub fn links(alloc: Global, thin: &Thin) -> Result<Vec<Link>, NoMemory>
-    ensures { IfOk result (λ v. map link_of v.items ≡ spec.links thin.now) }
+    ensures lowers { IfOk result (λ v. map link_of v.items ≡ spec.links thin.now) }
+
+    // each link is the run of the egress role
+    ensures wired { IfOk result (λ v. (design defs : Items ℕ) (h : AreThin design defs thin.now) → LinksAreRuns (map link_of v.items) (thin_tree h.names thin.now) (thin_defs h.names thin.now h.entries) h.names) }
 {
+    thin_exits_run();
+    know_switches(thin);
     let hosts = port_hosts(alloc, thin)?;
     let mut links = Vec::new(alloc);
     for switch in thin.switches.items() {

@@ -1,5 +1,6 @@
 //! What a thin network does. The functions do nothing; their contracts are the laws.
 ghost use Rattle.std.specs.Prelude.{◌<◌, ◌^◌, List, length, ℕ};
+ghost use Rattle.cocoon_cli.specs.Lowered.{thin_program};
 ghost use Rattle.cocoon_cli.specs.Visits.{NetDelivers, NetMeaning, VisitsAreRuns, VisitsAreThin};
 ghost use Rattle.cocoon_parse.specs.Thin.{AreThin};
 ghost use Rattle.cocoon_parse.specs.ThinTree.{thin_defs, thin_tree};
@@ -14,9 +15,9 @@ pub fn thin_switches_visit()
     ensures { (t : Thin) → t.tested < length t.fields → VisitsAreThin t }
 {}
 
-/// A visit of a switch sends what the ingress role of the design sends from the same port.
+/// A visit of a switch that runs the program sends what the ingress role of the design sends from the same port.
 pub fn thin_switches_run()
-    ensures { (design defs : List ℕ) (t : Thin) (h : AreThin design defs t) → VisitsAreRuns (thin_tree h.names t) (thin_defs h.names t h.entries) h.names t }
+    ensures { (design defs : List ℕ) (t : Thin) (h : AreThin design defs t) → VisitsAreRuns (thin_program t) (thin_tree h.names t) (thin_defs h.names t h.entries) h.names t }
 {
     thin_roles_send();
 }

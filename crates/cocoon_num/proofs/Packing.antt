@@ -1,12 +1,12 @@
--- Numbers packed by their widths and cut again, and `leave` after `enter`.
-use Rattle.std.specs.Prelude.{◌≡◌, ℕ, zero, suc, ◌+◌, ◌*◌, ◌/◌, ◌%◌, ◌^◌, ◌<◌, Bool, true, false, List, [], ◌∷◌, length, take, drop, nat_lt, Option, Some, None, ◌⊎◌, cond, refl}
+-- Numbers packed by their widths and cut again, `leave` after `enter`, and `enter` after `leave`.
+use Rattle.std.specs.Prelude.{◌≡◌, ℕ, zero, suc, ◌+◌, ◌*◌, ◌/◌, ◌%◌, ◌^◌, ◌<◌, Bool, true, false, List, [], ◌∷◌, ◌++◌, length, take, drop, nat_lt, Option, Some, None, ◌⊎◌, cond, refl}
 use Rattle.std.proofs.Common.{sym, ◌∙◌, ap, arith, inl, inr, length-take}
-use Rattle.std.proofs.lemmas.List.{take-append-drop}
-use Rattle.std.proofs.lemmas.Bool.{ltb-false}
+use Rattle.std.proofs.lemmas.List.{length-append, take-append-drop}
+use Rattle.std.proofs.lemmas.Bool.{ltb-false, le-ltb}
 use Rattle.std.proofs.lemmas.Nat.{pow-add, mod-pow-add, field_of, mod_low, shr_high}
 use Rattle.std.proofs.Math.Pow.{pow_pos}
 use Rattle.std.proofs.Math.Nat.{mod-eq_of_lt, mod-lt}
-use Rattle.cocoon_num.specs.Packets.{Packet, Layout, total, packed, cut, eights, byte_count, AreBytes, AllWhole, fields_of, bytes_of, with_header, enter, leave}
+use Rattle.cocoon_num.specs.Packets.{Packet, Layout, FieldsFit, PacketFits, total, packed, cut, eights, byte_count, AreBytes, AllWhole, fields_of, bytes_of, with_header, enter, leave}
 
 -- each number fits its width, and there are as many
 abbrev pub Fit : List ℕ → List ℕ → Type 0
@@ -112,3 +112,53 @@ leave-enter (ws ∷ layout) bs packet payload w f h =
       | inr c ↦ one_header ws layout bs _ packet payload w.0 f c.0
           (λ rest more e. leave-enter layout (drop (byte_count ws) bs) rest more w.1 (bytes-drop _ bs f) e) c.1
     ]
+
+-- ---- `enter` undoes `leave`
+
+fields_fit : (ws ns : List ℕ) → FieldsFit ws ns → Fit ws ns
+fields_fit [] [] f = tt
+fields_fit [] (n ∷ ns) f = absurd f
+fields_fit (w ∷ ws) [] f = absurd f
+fields_fit (w ∷ ws) (n ∷ ns) f = (f.0, fields_fit ws ns f.1)
+
+length-cut : (ws : List ℕ) (n : ℕ) → length (cut ws n) ≡ length ws
+length-cut [] n = refl
+length-cut (w ∷ ws) n = ap suc (length-cut ws n)
+
+length-eights : (n : ℕ) → length (eights n) ≡ n
+length-eights zero = refl
+length-eights (suc n) = ap suc (length-eights n)
+
+length-bytes_of : (ws ns : List ℕ) → length (bytes_of ws ns) ≡ byte_count ws
+length-bytes_of ws ns = length-cut (eights (byte_count ws)) (packed ws ns) ∙ length-eights (byte_count ws)
+
+-- a header's fields are those of its bytes
+fields_again : (ws ns : List ℕ) → total ws % 8 ≡ 0 → Fit ws ns → fields_of ws (bytes_of ws ns) ≡ ns
+fields_again ws ns whole f =
+    let size : total (eights (byte_count ws)) ≡ total ws = total-eights (byte_count ws) ∙ omega arith in
+    let p : packed ws ns < 2 ^ total (eights (byte_count ws)) = rw size (packed_below ws ns f) in
+    rw (length-bytes_of ws ns, packed-cut (eights (byte_count ws)) (packed ws ns), mod-eq_of_lt p) (cut-packed ws ns f)
+
+take_front : (xs ys : List ℕ) (n : ℕ) → length xs ≡ n → take n (xs ++ ys) ≡ xs
+take_front [] ys zero h = refl
+take_front [] ys (suc n) h = cc
+take_front (x ∷ xs) ys zero h = cc
+take_front (x ∷ xs) ys (suc n) h = ap (λ zs. x ∷ zs) (take_front xs ys n (omega (arith, h)))
+
+drop_front : (xs ys : List ℕ) (n : ℕ) → length xs ≡ n → drop n (xs ++ ys) ≡ ys
+drop_front [] ys zero h = refl
+drop_front [] ys (suc n) h = cc
+drop_front (x ∷ xs) ys zero h = cc
+drop_front (x ∷ xs) ys (suc n) h = drop_front xs ys n (omega (arith, h))
+
+not_short : (xs ys : List ℕ) (n : ℕ) → length xs ≡ n → nat_lt (length (xs ++ ys)) n ≡ false
+not_short xs ys n h = let l : length (xs ++ ys) ≡ length xs + length ys = length-append xs ys in le-ltb _ _ (omega (arith, l, h))
+
+pub enter-leave : (layout : Layout) (packet : Packet) (payload : List ℕ) → AllWhole layout → PacketFits layout packet → enter layout (leave layout packet payload) ≡ Some (packet, payload)
+enter-leave [] [] payload w f = refl
+enter-leave [] (ns ∷ packet) payload w f = absurd f
+enter-leave (ws ∷ layout) [] payload w f = absurd f
+enter-leave (ws ∷ layout) (ns ∷ packet) payload w f =
+    let long : length (bytes_of ws ns) ≡ byte_count ws = length-bytes_of ws ns in
+    let rest = leave layout packet payload in
+    rw (not_short (bytes_of ws ns) rest (byte_count ws) long, take_front (bytes_of ws ns) rest (byte_count ws) long, drop_front (bytes_of ws ns) rest (byte_count ws) long, fields_again ws ns w.0 (fields_fit ws ns f.0), enter-leave layout packet payload w.1 f.1) refl

@@ -18,6 +18,7 @@ pub mod Taking
 pub mod ThinWalks
 pub mod ThinDelivered
 pub mod ThinVisited
+pub mod ThinWired
 pub mod OneLevel
 pub mod ThinMean
 pub mod ThinExample

@@ -19,7 +19,7 @@ use Rattle.cocoon_parse.proofs.ThinWalks.{Guards, thin_world, place, next_of, in
 use Rattle.cocoon_parse.proofs.ThinDelivered.{among, guards_of, mapped, none_behind, same_layout}
 
 -- a place of a switch is a port that it has
-place_is_port : (t : Thin) (s p : ℕ) → place t (among t.switches) s p ≡ true → is_port t s p ≡ true
+pub place_is_port : (t : Thin) (s p : ℕ) → place t (among t.switches) s p ≡ true → is_port t s p ≡ true
 place_is_port t s p h =
     let a = and_parts (fits_width 16 s) (fits_width 16 p && (has_number s t.switches && nat_lt p t.ports)) h in
     let b = and_parts (fits_width 16 p) (has_number s t.switches && nat_lt p t.ports) a.1 in
@@ -27,7 +27,7 @@ place_is_port t s p h =
     and_from _ _ (and_from _ _ a.0 c.0) c.1
 
 -- and the other way round
-port_is_place : (t : Thin) (s p : ℕ) → FieldFacts t → is_port t s p ≡ true → place t (among t.switches) s p ≡ true
+pub port_is_place : (t : Thin) (s p : ℕ) → FieldFacts t → is_port t s p ≡ true → place t (among t.switches) s p ≡ true
 port_is_place t s p f h =
     let a = and_parts (fits_width 16 s && has_number s t.switches) (nat_lt p t.ports) h in
     let b = and_parts (fits_width 16 s) (has_number s t.switches) a.0 in

@@ -12,4 +12,5 @@ pub mod DefsRules
 pub mod ThinTree
 pub mod ThinRuns
 pub mod ThinVisits
+pub mod ThinWires
 pub mod ExampleThin

@@ -2,10 +2,12 @@
 ghost use Rattle.std.specs.Prelude.{List as Items, ◌≡◌, ◌≢◌, ◌<◌, ◌^◌, Err, IfOk, length};
 ghost use Rattle.cocoon_parse.specs.Read.{AreWith, OneThinDesign, bare, entries_of, names_of};
 ghost use Rattle.cocoon_parse.specs.Thin.{AreThin, AreTrueAt, HasWords, IsThinDefs, IsThinDesign, ThinDefs, ThinDesign, ThinEntry};
+ghost use Rattle.cocoon_parse.specs.ThinRuns.{ThinMeaning};
 
 use crate::definitions::read_definitions;
 use crate::design::{Design, read_design};
 use crate::entry::Entry;
+use crate::meaning::thin_texts_mean;
 use crate::parts::Thin;
 use crate::tokens::Stop;
 use crate::values::true_numbers;
@@ -43,11 +45,15 @@ pub fn thin(alloc: Global, design: &[u8], defs: &[u8]) -> Result<Thin, ThinFault
     ensures ok { IfOk result (λ t. AreThin design.now defs.now t) }
     ensures words { IfOk result HasWords }
 
+    // what such texts mean: trees that keep every rule, and the deliveries of their parts
+    ensures means { IfOk result (ThinMeaning design.now defs.now) }
+
     // `Design` comes exactly where the design is not thin, and `Defs` exactly where it is and the definitions are not
     ensures design { result ≡ Err ThinFault.Design → ¬ ThinDesign design.now }
     ensures thin_design { result ≡ Err ThinFault.Defs → ThinDesign design.now }
     ensures defs { result ≡ Err ThinFault.Defs → ¬ ThinDefs design.now defs.now }
 {
+    thin_texts_mean();
     if design.len() >= TOO_LONG || defs.len() >= TOO_LONG {
         return Err(ThinFault::NoMemory);
     }

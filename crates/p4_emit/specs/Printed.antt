@@ -55,6 +55,10 @@ binary_text and_ = codes " && "
 binary_text or_ = codes " || "
 binary_text implies = []
 
+-- [HIGH:LOW]
+abbrev pub bounds_text : ℕ → ℕ → List ℕ
+bounds_text high low = codes "[" ++ (decimal high ++ (codes ":" ++ (decimal low ++ codes "]")))
+
 abbrev pub expr_text : Program → P4Expr → List ℕ
 expr_text p (p_lit w n) = literal_text w n
 expr_text p (p_truth true) = codes "true"
@@ -65,7 +69,7 @@ expr_text p p_port = codes "port"
 expr_text p p_rid = codes "rid"
 expr_text p (p_unary op a) = unary_text op ++ (expr_text p a ++ codes ")")
 expr_text p (p_binary op a b) = codes "(" ++ (expr_text p a ++ (binary_text op ++ (expr_text p b ++ codes ")")))
-expr_text p (p_slice a high low) = expr_text p a ++ (codes "[" ++ (decimal high ++ (codes ":" ++ (decimal low ++ codes "]"))))
+expr_text p (p_slice a high low) = expr_text p a ++ bounds_text high low
 expr_text p (p_pick c a b) = codes "(" ++ (expr_text p c ++ (codes " ? " ++ (expr_text p a ++ (codes " : " ++ (expr_text p b ++ codes ")")))))
 
 -- ---- statements, each from where its first line begins on

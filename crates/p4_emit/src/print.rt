@@ -161,6 +161,18 @@ fn binary_text<'a>(op: P4Binary) -> &'a str
     }
 }
 
+/// `[HIGH:LOW]`
+fn push_bounds(alloc: Global, out: &mut Vec<u8>, high: u8, low: u8) -> Result<(), NoMemory>
+    ensures { OnOk result (out.new.items ≡ out.old.items ++ spec.bounds_text high low) }
+{
+    push(out, "[")?;
+    push_number(alloc, out, u32::from(high))?;
+    push(out, ":")?;
+    push_number(alloc, out, u32::from(low))?;
+    push(out, "]")?;
+    Ok(())
+}
+
 #[cycle(expr)]
 fn emit_expr(
     alloc: Global,
@@ -194,12 +206,7 @@ fn emit_expr(
         }
         P4Expr::Slice(a, high, low) => {
             emit_expr(alloc, out, program, a)?;
-            push(out, "[")?;
-            push_number(alloc, out, u32::from(*high))?;
-            push(out, ":")?;
-            push_number(alloc, out, u32::from(*low))?;
-            push(out, "]")?;
-            Ok(())
+            push_bounds(alloc, out, *high, *low)
         }
         P4Expr::Pick(c, a, b) => {
             push(out, "(")?;

@@ -1,33 +1,33 @@
 use Rattle.cocoon_cli.proofs.Headlines.{headline_of}
-use Rattle.cocoon_cli.proofs.Running.{exact_of, usage_of, read_fault_of, writes_of, same_of, leaves_of}
+use Rattle.cocoon_cli.proofs.Running.{exact_of, usage_of, read_fault_of, write_fault_of, has_fault, writes_of, same_of, leaves_of}
 use Rattle.cocoon_cli.proofs.driver.run.Goals as goal
 
 pub returns-clause-usage : goal.returns-clause-usage
-returns-clause-usage g c = usage_of _ _ c.find-found.result _ _ _ c.tell.result c.find-found.ensures.found c.tell.ensures.says
+returns-clause-usage g c = usage_of _ _ c.find-found.result _ _ _ c.tell.result c.find-found.ensures.found c.tell.ensures
 
 pub returns-clause-no_file : goal.returns-clause-no_file
-returns-clause-no_file g c = exact_of c.one_thin_design.ensures _ _ c.find-found.result _ _ _ _ c.tell.result c.find-found.ensures.found c.tell.ensures.says
+returns-clause-no_file g c = exact_of c.one_thin_design.ensures _ _ c.find-found.result _ _ _ _ c.tell.result c.find-found.ensures.found c.tell.ensures
 
 pub returns-clause-limit : goal.returns-clause-limit
-returns-clause-limit g c = exact_of c.one_thin_design.ensures _ _ c.find-found.result _ _ _ _ c.tell.result c.find-found.ensures.found c.tell.ensures.says
+returns-clause-limit g c = exact_of c.one_thin_design.ensures _ _ c.find-found.result _ _ _ _ c.tell.result c.find-found.ensures.found c.tell.ensures
 
 pub returns-clause-language : goal.returns-clause-language
-returns-clause-language g c = exact_of c.one_thin_design.ensures _ _ c.find-found.result _ _ _ _ c.tell.result c.find-found.ensures.found c.tell.ensures.says
+returns-clause-language g c = exact_of c.one_thin_design.ensures _ _ c.find-found.result _ _ _ _ c.tell.result c.find-found.ensures.found c.tell.ensures
 
 pub returns-clause-broken : goal.returns-clause-broken
-returns-clause-broken g c = exact_of c.one_thin_design.ensures _ _ c.find-found.result _ _ _ _ c.tell.result c.find-found.ensures.found c.tell.ensures.says
+returns-clause-broken g c = exact_of c.one_thin_design.ensures _ _ c.find-found.result _ _ _ _ c.tell.result c.find-found.ensures.found c.tell.ensures
 
 pub returns-clause-done : goal.returns-clause-done
-returns-clause-done g c = exact_of c.one_thin_design.ensures _ _ c.find-found.result _ _ _ _ c.tell.result c.find-found.ensures.found c.tell.ensures.says
+returns-clause-done g c = exact_of c.one_thin_design.ensures _ _ c.find-found.result _ _ _ _ c.tell.result c.find-found.ensures.found c.tell.ensures
 
 pub returns-clause-read_fault : goal.returns-clause-read_fault
-returns-clause-read_fault g c = read_fault_of _ _ _ c.find-found.result _ _ c.tell.result c.find-found.ensures.read_failed c.tell.ensures.says
+returns-clause-read_fault g c = read_fault_of _ _ _ c.find-found.result _ _ c.tell.result c.find-found.ensures.read_failed c.tell.ensures
 
 pub returns-clause-writes : goal.returns-clause-writes
-returns-clause-writes g c = writes_of _ _ c.find-found.result _ _ _ c.tell.result c.find-found.ensures.found c.tell.ensures.says
+returns-clause-writes g c = writes_of _ _ c.find-found.result _ _ _ c.tell.result c.find-found.ensures.found c.tell.ensures
 
 pub returns-clause-unchanged : goal.returns-clause-unchanged
-returns-clause-unchanged g c = same_of _ _ c.find-found.result _ _ _ c.tell.result c.find-found.ensures.found c.tell.ensures.says
+returns-clause-unchanged g c = same_of _ _ c.find-found.result _ _ _ c.tell.result c.find-found.ensures.found c.tell.ensures
 
 pub returns-clause-leaves : goal.returns-clause-leaves
 returns-clause-leaves g c = leaves_of _ _ c.find-found.result _ c.find-found.ensures.found
@@ -35,4 +35,15 @@ returns-clause-leaves g c = leaves_of _ _ c.find-found.result _ c.find-found.ens
 pub returns-clause-headline : goal.returns-clause-headline
 returns-clause-headline g c done =
     headline_of c.thin_networks_mean.ensures _ _ _ (g.S.Sink.told c.args.out.now) (g.S.Sink.told c.tell.new.out)
-    (writes_of _ _ c.find-found.result _ _ _ c.tell.result c.find-found.ensures.found c.tell.ensures.says done)
+    (writes_of _ _ c.find-found.result _ _ _ c.tell.result c.find-found.ensures.found c.tell.ensures done)
+
+pub returns-clause-ran : goal.returns-clause-ran
+returns-clause-ran g c = record {
+  found = c.find-found.result;
+  finds = c.find-found.ensures.found;
+  faults = has_fault _ _ _ _ _ _ c.find-found.result c.find-found.ensures.read_failed c.find-found.ensures.write_failed;
+  says = c.tell.ensures;
+}
+
+pub returns-clause-write_fault : goal.returns-clause-write_fault
+returns-clause-write_fault g c = write_fault_of _ _ _ c.find-found.result _ _ c.tell.result c.find-found.ensures.write_failed c.tell.ensures

@@ -8,8 +8,8 @@ use Rattle.cocoon_cli.proofs.lower.program_text.Goals as goal
 
 pub emit-requires-clause-kinds : goal.emit-requires-clause-kinds
 emit-requires-clause-kinds c =
-    subst (λ (p : Program). is_well_kinded p ≡ true) (sym c.in_ok-program.ensures) (kinds c.args.thin.now c.requires c.know_ports.ensures.first c.know_ports.ensures.other)
+    subst (λ (p : Program). is_well_kinded p ≡ true) (sym c.in_ok-program.ensures.lowers) (kinds c.args.thin.now c.requires c.know_ports.ensures.first c.know_ports.ensures.other)
 
 pub emit-requires-clause-shallow : goal.emit-requires-clause-shallow
 emit-requires-clause-shallow c =
-    subst (λ (p : Program). is_shallow p4_bounds (program_tokens p) ≡ true) (sym c.in_ok-program.ensures) (shallow c.args.thin.now)
+    subst (λ (p : Program). is_shallow p4_bounds (program_tokens p) ≡ true) (sym c.in_ok-program.ensures.lowers) (shallow c.args.thin.now)

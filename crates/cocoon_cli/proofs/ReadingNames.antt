@@ -1,0 +1,105 @@
+-- What is under a name after files were put in, and the names of the files of a bundle.
+use Rattle.std.proofs.Common.{◌≡◌, ℕ, Bool, true, false, cond, List, [], ◌∷◌, ◌++◌, Option, Some, inl, inr, codes, decimal, refl, ap, sym, subst, ◌∙◌, arith}
+use Rattle.std.specs.FinMap.{get, insert, get-insert, slice_cmp-IsAntisymmetric, nat_cmp-IsAntisymmetric}
+use Rattle.std.specs.Ordering.{nat_cmp, eq_by_cmp}
+use Rattle.std.specs.Cmp.Lexicographic.{slice_cmp}
+use Rattle.std.proofs.lemmas.Cmp.{nat_list_cmp_total, eq_by_cmp_equiv}
+use Rattle.std.proofs.lemmas.Map.Views.{tells_apart}
+use Rattle.std.proofs.lemmas.List.{append_cancel_left}
+use Rattle.cocoon_io.specs.Files.{Files}
+use Rattle.cocoon_cli.specs.Bundle.{NamedFile, program_name, rows_name, file_name, with_files, HasFile}
+
+-- ---- one name
+
+abbrev same : List ℕ → List ℕ → Bool
+same x y = eq_by_cmp (slice_cmp nat_cmp) x y
+
+same_itself : (x y : List ℕ) → x ≡ y → same x y ≡ true
+same_itself x y e = subst (λ z. same x z ≡ true) e ((eq_by_cmp_equiv nat_list_cmp_total).refl x)
+
+same_is : (x y : List ℕ) → same x y ≡ true → x ≡ y
+same_is x y h = tells_apart (slice_cmp-IsAntisymmetric nat_cmp-IsAntisymmetric) x y h
+
+-- the bytes of the last of these files that has the name, or what was there
+abbrev last_of : List NamedFile → List ℕ → Option (List ℕ) → Option (List ℕ)
+last_of [] name before = before
+last_of (f ∷ fs) name before = last_of fs name (cond (same name f.name) (Some f.bytes) before)
+
+some_same : {A : Type 0} (x y : A) → ◌≡◌ {A = Option A} (Some x) (Some y) → x ≡ y
+some_same x y e = cc
+
+-- what is under a name after files were put in
+get_last : (fs : List NamedFile) (was is : Files) (name : List ℕ) → Some is ≡ with_files fs (Some was) → get is name ≡ last_of fs name (get was name)
+get_last [] was is name e = ap (λ (m : Files). get m name) (some_same is was e)
+get_last (f ∷ fs) was is name e = get_last fs (insert was f.name f.bytes) is name e ∙ ap (last_of fs name) (get-insert nat_list_cmp_total was f.name f.bytes name)
+
+-- the files of this name have these bytes
+abbrev pub Agree : List NamedFile → List ℕ → List ℕ → Type 0
+Agree [] name bytes = Unit {0}
+Agree (f ∷ fs) name bytes = (f.name ≡ name → f.bytes ≡ bytes) × Agree fs name bytes
+
+-- its bytes stay
+stays : (fs : List NamedFile) (name bytes : List ℕ) → Agree fs name bytes → last_of fs name (Some bytes) ≡ Some bytes
+stays [] name bytes a = refl
+stays (f ∷ fs) name bytes a = ap (last_of fs name) (by_case (same name f.name) refl) ∙ stays fs name bytes a.1
+  where
+    by_case : (b : Bool) → same name f.name ≡ b → cond b (Some f.bytes) (Some bytes) ≡ Some bytes
+    by_case true e = ap Some (a.0 (sym (same_is name f.name e)))
+    by_case false e = refl
+
+written : (fs : List NamedFile) (name bytes : List ℕ) (before : Option (List ℕ)) → HasFile fs name → Agree fs name bytes → last_of fs name before ≡ Some bytes
+written [] name bytes before h a = absurd h
+written (f ∷ fs) name bytes before (inl e) a =
+    ap (λ b. last_of fs name (cond b (Some f.bytes) before)) (same_itself name f.name (sym e))
+    ∙ ap (λ bs. last_of fs name (Some bs)) (a.0 e) ∙ stays fs name bytes a.1
+written (f ∷ fs) name bytes before (inr h) a = written fs name bytes _ h a.1
+
+unwritten : (fs : List NamedFile) (name : List ℕ) (before : Option (List ℕ)) → (HasFile fs name → ⊥) → last_of fs name before ≡ before
+unwritten [] name before h = refl
+unwritten (f ∷ fs) name before h = ap (last_of fs name) (by_case (same name f.name) refl) ∙ unwritten fs name before (λ k. h (inr k))
+  where
+    by_case : (b : Bool) → same name f.name ≡ b → cond b (Some f.bytes) before ≡ before
+    by_case true e = absurd (h (inl (sym (same_is name f.name e))))
+    by_case false e = refl
+
+-- a file that was put in, of which no other of its name has other bytes
+pub get_written : (fs : List NamedFile) (was is : Files) (name bytes : List ℕ) → Some is ≡ with_files fs (Some was) → HasFile fs name → Agree fs name bytes → get is name ≡ Some bytes
+get_written fs was is name bytes e h a = get_last fs was is name e ∙ written fs name bytes (get was name) h a
+
+-- a name that was not put in
+pub get_unwritten : (fs : List NamedFile) (was is : Files) (name : List ℕ) → Some is ≡ with_files fs (Some was) → (HasFile fs name → ⊥) → get is name ≡ get was name
+get_unwritten fs was is name e h = get_last fs was is name e ∙ unwritten fs name (get was name) h
+
+-- ---- the names of a bundle
+
+abbrev last : List ℕ → ℕ → ℕ
+last [] d = d
+last (x ∷ xs) d = last xs x
+
+last_append : (xs ys : List ℕ) (d : ℕ) → last (xs ++ ys) d ≡ last ys (last xs d)
+last_append [] ys d = refl
+last_append (x ∷ xs) ys d = last_append xs ys x
+
+-- names of one bundle are equal only where what follows the bundle's name is
+pub after_out : (out x y : List ℕ) → file_name out x ≡ file_name out y → x ≡ y
+after_out out x y e = append_cancel_left (codes ".") x y (append_cancel_left out _ _ e)
+
+-- a program ends in `4`, and rows in `n`
+program_ends : (s : ℕ) → last (program_name s) 0 ≡ 52
+program_ends s = last_append (decimal s) (codes ".p4") 115
+
+rows_ends : (s : ℕ) → last (rows_name s) 0 ≡ 110
+rows_ends s = last_append (decimal s) (codes ".rows.json") 115
+
+pub program_or_rows : (s r : ℕ) → program_name s ≡ rows_name r → ⊥
+program_or_rows s r e = let no : ◌≡◌ {A = ℕ} 52 110 = sym (program_ends s) ∙ ap (λ n. last n 0) e ∙ rows_ends r in omega arith
+
+abbrev first : List ℕ → ℕ
+first [] = 0
+first (x ∷ xs) = x
+
+pub program_or_net : (s : ℕ) → program_name s ≡ codes "net.json" → ⊥
+program_or_net s e = let no : ◌≡◌ {A = ℕ} 115 110 = ap first e in omega arith
+
+pub rows_or_net : (s : ℕ) → rows_name s ≡ codes "net.json" → ⊥
+rows_or_net s e = let no : ◌≡◌ {A = ℕ} 115 110 = ap first e in omega arith
