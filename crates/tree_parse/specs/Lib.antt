@@ -1,2 +1,3 @@
+pub mod Depth
 pub mod Reader
 pub mod Says

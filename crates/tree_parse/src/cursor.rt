@@ -3,7 +3,7 @@ ghost use Rattle.std.specs.Prelude.{◌≡◌, ◌<◌, ◌≤◌, ◌+◌, ◌^
 ghost use Rattle.cocoon_lex.specs.Kinds.{keyword_text, kind_of, mark_text};
 ghost use Rattle.cocoon_syntax.specs.TreeOf.{name_of};
 ghost use Rattle.tree_parse.specs.Reader as reader;
-ghost use Rattle.tree_parse.specs.Says.{NameAt, kind_at, kinds_at, word_of};
+ghost use Rattle.tree_parse.specs.Says.{LiteralAt, NameAt, NumberAt, TokenAt, kind_at, kinds_at, literal_of, word_of};
 
 use crate::fault::Stop;
 use cocoon_lex::{Keyword, Mark, Token, TokenKind};
@@ -83,6 +83,55 @@ impl<'a> Source<'a> {
         }
     }
 
+    /// Demands this mark at a place.
+    pub fn expect(&self, pos: usize, mark: Mark) -> Result<(), Stop>
+        ensures is { TokenAt pos (reader.is_mark (mark_text mark) (slice_get self.now pos)) result }
+        ensures within { IfOk result (λ _. (pos < length self.now) × (length self.now ≤ 2 ^ 32)) }
+    {
+        if self.is_mark(pos, mark) { Ok(()) } else { Err(Stop::Unexpected(pos)) }
+    }
+
+    /// Demands this reserved word at a place.
+    pub fn expect_keyword(&self, pos: usize, word: Keyword) -> Result<(), Stop>
+        ensures is { TokenAt pos (reader.is_keyword (keyword_text word) (slice_get self.now pos)) result }
+        ensures within { IfOk result (λ _. (pos < length self.now) × (length self.now ≤ 2 ^ 32)) }
+    {
+        if self.is_keyword(pos, word) { Ok(()) } else { Err(Stop::Unexpected(pos)) }
+    }
+
+    /// The number without a width at a place.
+    pub fn number(&self, pos: usize) -> Result<u32, Stop>
+        ensures is { NumberAt pos (slice_get self.now pos) result }
+        ensures within { IfOk result (λ _. (pos < length self.now) × (length self.now ≤ 2 ^ 32)) }
+    {
+        match self.plain(pos) {
+            Some(number) => Ok(number),
+            None => Err(Stop::Unexpected(pos)),
+        }
+    }
+
+    /// The number with a width at a place.
+    pub fn literal(&self, pos: usize) -> Option<Bits>
+        ensures is { option_map literal_of result ≡ reader.literal_of (slice_get self.now pos) }
+        ensures within { IsSome result → (pos < length self.now) × (length self.now ≤ 2 ^ 32) }
+    {
+        match self.tokens.get(pos) {
+            Some(token) => bits_of(token.kind),
+            None => None,
+        }
+    }
+
+    /// Demands a number with a width at a place.
+    pub fn demand_literal(&self, pos: usize) -> Result<Bits, Stop>
+        ensures is { LiteralAt pos (slice_get self.now pos) result }
+        ensures within { IfOk result (λ _. (pos < length self.now) × (length self.now ≤ 2 ^ 32)) }
+    {
+        match self.literal(pos) {
+            Some(bits) => Ok(bits),
+            None => Err(Stop::Unexpected(pos)),
+        }
+    }
+
     /// The bytes of the name at a place.
     pub fn word(&self, pos: usize) -> Option<&'a [u8]>
         ensures is { option_map (λ bytes. bytes.now) result ≡ word_of (slice_get self.now pos) }
@@ -141,6 +190,15 @@ fn plain_of(kind: TokenKind) -> Option<u32>
 {
     match kind {
         TokenKind::Plain(number) => Some(number),
+        _ => None,
+    }
+}
+
+fn bits_of(kind: TokenKind) -> Option<Bits>
+    ensures { (bytes : List ℕ) → option_map literal_of result ≡ reader.literal_of (Some (kind_of kind bytes)) }
+{
+    match kind {
+        TokenKind::Literal(bits) => Some(bits),
         _ => None,
     }
 }

@@ -1,0 +1,50 @@
+//! Fields of the packet, types and parameters.
+ghost use Rattle.std.specs.Prelude.{length};
+ghost use Rattle.cocoon_syntax.specs.TreeOf.{param_of};
+ghost use Rattle.tree_parse.specs.Reader as reader;
+ghost use Rattle.tree_parse.specs.Says.{Moves, Says, path_of};
+
+use crate::cursor::Source;
+use crate::fault::Stop;
+use cocoon_lex::{Keyword, Mark};
+use cocoon_syntax::{Name, Param};
+use std::alloc::Global;
+
+/// `pkt.h.f`: the header and its field.
+#[tactic(auto, unfolding(crate::specs::Reader::path_from, crate::specs::Reader::worded, crate::specs::Reader::marked, crate::specs::Reader::named))]
+pub fn path(alloc: Global, source: &Source, pos: usize) -> Result<((Name, Name), usize), Stop>
+    ensures says { Says (reader.path_from source.now pos) path_of result }
+    ensures moves { Moves pos (length source.now) result }
+{
+    source.expect_keyword(pos, Keyword::Pkt)?;
+    source.expect(pos + 1, Mark::Dot)?;
+    let header = source.name(alloc, pos + 2)?;
+    source.expect(pos + 3, Mark::Dot)?;
+    let field = source.name(alloc, pos + 4)?;
+    Ok(((header, field), pos + 5))
+}
+
+/// `bit<N>`: the width, in bits.
+#[tactic(auto, unfolding(crate::specs::Reader::bits_from, crate::specs::Reader::worded, crate::specs::Reader::marked, crate::specs::Reader::numbered))]
+pub fn bits(source: &Source, pos: usize) -> Result<(u32, usize), Stop>
+    ensures says { Says (reader.bits_from source.now pos) (λ width. width) result }
+    ensures moves { Moves pos (length source.now) result }
+{
+    source.expect_keyword(pos, Keyword::Bit)?;
+    source.expect(pos + 1, Mark::Less)?;
+    let width = source.number(pos + 2)?;
+    source.expect(pos + 3, Mark::Greater)?;
+    Ok((width, pos + 4))
+}
+
+/// `x: bit<N>`.
+#[tactic(auto, unfolding(crate::specs::Reader::param_from, crate::specs::Reader::marked, crate::specs::Reader::named, crate::specs::Reader::after))]
+pub fn param(alloc: Global, source: &Source, pos: usize) -> Result<(Param, usize), Stop>
+    ensures says { Says (reader.param_from source.now pos) param_of result }
+    ensures moves { Moves pos (length source.now) result }
+{
+    let name = source.name(alloc, pos)?;
+    source.expect(pos + 1, Mark::Colon)?;
+    let (width, next) = bits(source, pos + 2)?;
+    Ok((Param { name, width }, next))
+}
