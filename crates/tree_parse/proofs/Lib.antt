@@ -10,3 +10,4 @@ pub mod ReadsExprs
 pub mod ReadsParts
 pub mod Stays
 pub mod Whole
+pub mod WholeTexts

@@ -106,7 +106,7 @@ fn entry(alloc: Global, source: &Source, pos: usize) -> Result<(Entry, usize), S
 
 /// All definitions of a text, up to its end.
 pub fn entries(alloc: Global, source: &Source) -> Result<(Vec<Entry>, usize), Stop>
-    ensures { Tells (λ n. reader.many_from (reader.entry_from source.now) (reader.finishes source.now) n 0) (λ v. map entry_of v.items) result }
+    ensures { Tells (reader.defs_from source.now) (λ v. map entry_of v.items) result }
 {
     let mut entries = Vec::new(alloc);
     let mut next = 0;

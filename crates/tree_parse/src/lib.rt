@@ -7,5 +7,7 @@ mod defs;
 pub mod fault;
 pub mod laws;
 mod parts;
+pub mod texts;
 
 pub use fault::ParseFault;
+pub use texts::parse_defs;

@@ -1,6 +1,6 @@
 use Rattle.std.proofs.Common.{rules, ◌≡◌, ◌≤◌, ℕ, map, Err}
 use Rattle.cocoon_syntax.specs.TreeOf.{entry_of}
-use Rattle.tree_parse.specs.Reader.{many_from, entry_from, finishes}
+use Rattle.tree_parse.specs.Reader.{many_from, defs_from, entry_from, finishes}
 use Rattle.tree_parse.proofs.Given.{fails_as, read_gives, gives_read, none_yet_of, many_more, many_broken, many_stop, all_read}
 use Rattle.tree_parse.proofs.defs.entries.Goals as goal
 
@@ -14,6 +14,7 @@ entries-preserved c = record {
 }
 
 pub returns-in_err-entry : goal.returns-in_err-entry
+unfolding defs_from
 returns-in_err-entry c =
     let e : c.from_residual.result ≡ Err c.in_err-entry.field-0.0 = search rules in
     fails_as entry_of (λ v. map entry_of v.items) c.in_err-entry.field-0.0 e
@@ -21,4 +22,5 @@ returns-in_err-entry c =
     c.in_err-entry.ensures.says
 
 pub returns : goal.returns
+unfolding defs_from
 returns c = gives_read (λ v. map entry_of v.items) (all_read c.entries.invariant.so_far (many_stop (entry_from c.args.source.now) (finishes c.args.source.now) c.entries.next (search rules)))
