@@ -1,3 +1,4 @@
+pub mod Chains
 pub mod Depths
 pub mod Ends
 pub mod Enough

@@ -24,6 +24,11 @@ abbrev pub word_of : Option Kind → Option (List ℕ)
 word_of (Some (word bytes)) = Some bytes
 word_of _ = None
 
+-- whether a token is a name
+abbrev pub is_word : Option Kind → Bool
+is_word (Some (word bytes)) = true
+is_word _ = false
+
 -- the name at a place, or a token that is none
 abbrev pub NameAt : ℕ → Option Kind → Result Name Stop → Type 0
 NameAt pos k (Ok name) = name_at pos k ≡ Some (name_of name)

@@ -1,14 +1,17 @@
 //! Tokens of a text, by their places.
 ghost use Rattle.std.specs.Prelude.{◌≡◌, ◌<◌, ◌≤◌, ◌+◌, ◌^◌, ℕ, List, IfOk, IsSome, Some, option_map, length, slice_get, slice_range, true};
 ghost use Rattle.cocoon_lex.specs.Kinds.{keyword_text, kind_of, mark_text};
-ghost use Rattle.cocoon_syntax.specs.TreeOf.{name_of};
+ghost use Rattle.cocoon_syntax.specs.TreeOf.{binary_of};
+ghost use Rattle.cocoon_num.specs.Reads.{of_cmp, of_expr};
+ghost use Rattle.tree_parse.specs.Levels.{level_of};
 ghost use Rattle.tree_parse.specs.Reader as reader;
-ghost use Rattle.tree_parse.specs.Says.{LiteralAt, NameAt, NumberAt, TokenAt, kind_at, kinds_at, literal_of, word_of};
+ghost use Rattle.tree_parse.specs.Says.{LiteralAt, NameAt, NumberAt, TokenAt, kind_at, kinds_at, is_word, literal_of, word_of};
 
 use crate::fault::Stop;
+use crate::operators::{Chain, chained, compared, implied};
 use cocoon_lex::{Keyword, Mark, Token, TokenKind};
 use cocoon_num::{Bits, NoMemory, Text};
-use cocoon_syntax::Name;
+use cocoon_syntax::{BinaryOp, Name};
 use std::alloc::Global;
 use std::marker::Model;
 
@@ -38,6 +41,15 @@ impl<'a> Source<'a> {
         ensures { result ≡ kinds_at text.now tokens.now }
     {
         Source { text, tokens }
+    }
+
+    /// The place of a token, as trees have it.
+    pub fn place(&self, pos: usize) -> u32
+        requires { pos < length self.now }
+        ensures { result ≡ pos }
+    {
+        prove!(pos < self.tokens.len());
+        pos as u32
     }
 
     /// Whether this mark stands at a place.
@@ -79,6 +91,49 @@ impl<'a> Source<'a> {
     {
         match self.tokens.get(pos) {
             Some(token) => plain_of(token.kind),
+            None => None,
+        }
+    }
+
+    /// Whether a name stands at a place.
+    pub fn is_name(&self, pos: usize) -> bool
+        ensures { result ≡ is_word (slice_get self.now pos) }
+    {
+        match self.tokens.get(pos) {
+            Some(token) => is_name(token.kind),
+            None => false,
+        }
+    }
+
+    /// The operator of a chain at a place.
+    pub fn chained(&self, pos: usize, level: Chain) -> Option<BinaryOp>
+        ensures is { option_map binary_of result ≡ reader.op_at (level_of level) (slice_get self.now pos) }
+        ensures within { IsSome result → (pos < length self.now) × (length self.now ≤ 2 ^ 32) }
+    {
+        match self.tokens.get(pos) {
+            Some(token) => chained(token.kind, level),
+            None => None,
+        }
+    }
+
+    /// The operator of a comparison at a place.
+    pub fn compared(&self, pos: usize) -> Option<BinaryOp>
+        ensures is { option_map binary_of result ≡ reader.op_at of_cmp (slice_get self.now pos) }
+        ensures within { IsSome result → (pos < length self.now) × (length self.now ≤ 2 ^ 32) }
+    {
+        match self.tokens.get(pos) {
+            Some(token) => compared(token.kind),
+            None => None,
+        }
+    }
+
+    /// The implication at a place.
+    pub fn implied(&self, pos: usize) -> Option<BinaryOp>
+        ensures is { option_map binary_of result ≡ reader.op_at of_expr (slice_get self.now pos) }
+        ensures within { IsSome result → (pos < length self.now) × (length self.now ≤ 2 ^ 32) }
+    {
+        match self.tokens.get(pos) {
+            Some(token) => implied(token.kind),
             None => None,
         }
     }
@@ -155,6 +210,15 @@ impl<'a> Source<'a> {
             }),
             None => Err(Stop::Unexpected(pos)),
         }
+    }
+}
+
+fn is_name(kind: TokenKind) -> bool
+    ensures { (bytes : List ℕ) → result ≡ is_word (Some (kind_of kind bytes)) }
+{
+    match kind {
+        TokenKind::Name => true,
+        _ => false,
     }
 }
 

@@ -4,8 +4,10 @@
 mod cursor;
 mod deep;
 mod defs;
+mod exprs;
 pub mod fault;
 pub mod laws;
+mod operators;
 mod parts;
 pub mod texts;
 
