@@ -167,3 +167,29 @@ as_exprs ts i {result = result} p = record { depth = p.depth; says = λ n h. ove
     over n (Ok x) e = same_exprs ts n i ∙ ap (listed exprs_of) e
     over n (Err (Unexpected k)) e = same_exprs ts n i ∙ ap (listed exprs_of) e
     over n (Err NoMemory) e = tt
+
+one_stmt : (a : Stmt) (r : Read (List Stmt)) (s : Read Block) → s ≡ listed block_of r → after s (λ b k. good (stmt a b) k) ≡ listed block_of (after r (λ xs k. good (a ∷ xs) k))
+unfolding after
+one_stmt a (good xs k) s e = rw e refl
+one_stmt a (bad i) s e = rw e refl
+one_stmt a spent s e = rw e refl
+
+same_stmts : (ts : List Kind) (n i : ℕ) → stmts_from ts n i ≡ listed block_of (many_from (stmt_from ts) (closes ts) n i)
+unfolding after
+same_stmts ts zero i = refl
+same_stmts ts (suc n) i = by (same_stmts ts n) (is_mark (codes "}") (slice_get ts i)) (stmt_from ts n i)
+  where
+    by : ((j : ℕ) → stmts_from ts n j ≡ listed block_of (many_from (stmt_from ts) (closes ts) n j)) → (b : Bool) (r : Read Stmt) → (if b then good no_stmts i else after r (λ s j. after (stmts_from ts n j) (λ b k. good (stmt s b) k))) ≡
+        listed block_of (if b then good [] i else after r (λ x j. after (many_from (stmt_from ts) (closes ts) n j) (λ xs k. good (x ∷ xs) k)))
+    by ih true r = refl
+    by ih false (good s j) = one_stmt s _ _ (ih j)
+    by ih false (bad k) = refl
+    by ih false spent = refl
+
+pub as_block : (ts : List Kind) (i : ℕ) {result : Result (Vec CodeStmt Global × ℕ) Stop} → Tells (λ n. many_from (stmt_from ts) (closes ts) n i) (λ v. map stmt_of v.items) result → Tells (λ n. stmts_from ts n i) (λ v. block_of (map stmt_of v.items)) result
+as_block ts i {result = result} p = record { depth = p.depth; says = λ n h. over n result (p.says n h) }
+  where
+    over : (n : ℕ) (s : Result (Vec CodeStmt Global × ℕ) Stop) → Says (many_from (stmt_from ts) (closes ts) n i) (λ v. map stmt_of v.items) s → Says (stmts_from ts n i) (λ v. block_of (map stmt_of v.items)) s
+    over n (Ok x) e = same_stmts ts n i ∙ ap (listed block_of) e
+    over n (Err (Unexpected k)) e = same_stmts ts n i ∙ ap (listed block_of) e
+    over n (Err NoMemory) e = tt

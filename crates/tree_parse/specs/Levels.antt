@@ -1,9 +1,9 @@
 -- The levels of operators as the parser has them.
 use Rattle.std.specs.Prelude.{◌≡◌, ◌+◌, ℕ, suc, true, false, List, Option, Some, None, slice_get, Result, Ok, Err, if◌then◌else◌, codes}
 use Rattle.cocoon_num.specs.Tokens.{Kind}
-use Rattle.cocoon_num.specs.Tree.{Name, Expr, Exprs, name, call, lit, true_or_false, field}
+use Rattle.cocoon_num.specs.Tree.{Name, Expr, Exprs, name, call, lit, true_or_false, field, Stmt, havoc_field, havoc_var}
 use Rattle.cocoon_num.specs.Reads.{Level, of_or, of_and, of_cmp, of_cat, of_bit, of_sum, of_unary}
-use Rattle.tree_parse.specs.Reader.{Read, Literal, good, bad, after, is_mark, is_keyword, marked, literal_of, path_from, sliced}
+use Rattle.tree_parse.specs.Reader.{Read, Literal, good, bad, after, is_mark, is_keyword, marked, literal_of, path_from, param_from, sliced}
 use Rattle.tree_parse.specs.declared.fault.Stop.{Stop}
 use Rattle.tree_parse.specs.declared.fault.Stop.TheVariants.{Unexpected, NoMemory}
 use Rattle.tree_parse.specs.declared.operators.Chain.{Chain}
@@ -47,3 +47,10 @@ abbrev pub RangeAt : List Kind → ℕ → Result (ℕ × ℕ) Stop → Type 0
 RangeAt ts j (Ok range) = (f : ℕ → ℕ → Read Expr) → sliced ts j f ≡ f range.0 range.1
 RangeAt ts j (Err (Unexpected i)) = (f : ℕ → ℕ → Read Expr) → sliced ts j f ≡ bad i
 RangeAt ts j (Err NoMemory) = Unit {0}
+
+-- the two forms of a havoc, from its first token on
+abbrev pub havoc_field_from : List Kind → ℕ → Read Stmt
+havoc_field_from ts i = after (path_from ts (suc i)) (λ p j. marked ts (codes ";") j (good (havoc_field i p.header p.field) (suc j)))
+
+abbrev pub havoc_variable_from : List Kind → ℕ → Read Stmt
+havoc_variable_from ts i = after (param_from ts (suc i)) (λ p j. marked ts (codes ";") j (good (havoc_var i p.name p.width) (suc j)))

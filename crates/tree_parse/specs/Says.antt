@@ -76,3 +76,8 @@ pub record Tells {A B : Type 0} (F : ℕ → Read B) (f : A → B) (result : Res
 abbrev pub Moves : {A : Type 0} → ℕ → ℕ → Result (A × ℕ) Stop → Type 0
 Moves pos end (Ok found) = (pos < found.1) × (found.1 ≤ end)
 Moves pos end (Err stop) = Unit {0}
+
+-- the same where nothing may be read
+abbrev pub Advances : {A : Type 0} → ℕ → ℕ → Result (A × ℕ) Stop → Type 0
+Advances pos end (Ok found) = (pos ≤ found.1) × (found.1 ≤ end)
+Advances pos end (Err stop) = Unit {0}

@@ -9,6 +9,7 @@ pub mod fault;
 pub mod laws;
 mod operators;
 mod parts;
+mod stmts;
 pub mod texts;
 
 pub use fault::ParseFault;
