@@ -1,10 +1,10 @@
 -- A reading that is given from some depth on: how a phrase's reading is that of its parts.
-use Rattle.std.specs.Prelude.{◌≡◌, ℕ, zero, suc, ◌+◌, ◌≤◌, Bool, true, false, List, [], ◌∷◌, ◌++◌, map, slice_get, Result, Ok, Err, if◌then◌else◌, codes, refl}
+use Rattle.std.specs.Prelude.{◌≡◌, ℕ, zero, suc, ◌+◌, ◌≤◌, Bool, true, false, List, [], ◌∷◌, ◌++◌, map, slice_get, Option, None, Result, Ok, Err, if◌then◌else◌, codes, refl}
 use Rattle.std.proofs.Common.{sym, ◌∙◌, ap, subst, arith}
 use Rattle.std.proofs.lemmas.List.{append_assoc, append-nil, map-append}
 use Rattle.cocoon_num.specs.Tokens.{Kind}
-use Rattle.tree_parse.specs.Reader.{Read, good, bad, spent, after, is_mark, many_from, some_from, commas_from}
-use Rattle.tree_parse.specs.Says.{Says, Tells}
+use Rattle.tree_parse.specs.Reader.{Read, good, bad, spent, after, is_mark, plain_of, many_from, some_from, commas_from}
+use Rattle.tree_parse.specs.Says.{Says, Tells, TokenAt, NumberAt}
 use Rattle.tree_parse.specs.declared.fault.Stop.{Stop}
 use Rattle.tree_parse.specs.declared.fault.Stop.TheVariants.{Unexpected, NoMemory}
 
@@ -53,6 +53,21 @@ fails_as {F = F} {G = G} f g stop {result = result} e k p = subst (λ r. Tells G
     by : (s : Stop) → Tells F f (Err s) → Tells G g (Err s)
     by (Unexpected i) t = let q = k i (record { depth = t.depth; gives = t.says }) in record { depth = q.depth; says = q.gives }
     by NoMemory t = record { depth = 0; says = λ n h. tt }
+
+-- a token that another stands for
+pub token_stops : {A B : Type 0} (f : A → B) {r : Read B} (pos : ℕ) (b : Bool) (s : Stop) {result : Result (A × ℕ) Stop} → TokenAt pos b (Err s) → result ≡ Err s → (b ≡ false → r ≡ bad pos) → Says r f result
+token_stops f {r = r} pos b s t e k = subst (Says r f) (sym e) (by s t)
+  where
+    by : (s : Stop) → TokenAt pos b (Err s) → Says r f (Err s)
+    by (Unexpected i) t = k t.0 ∙ ap bad (sym t.1)
+    by NoMemory t = tt
+
+pub number_stops : {A B : Type 0} (f : A → B) {r : Read B} (pos : ℕ) (k : Option Kind) (s : Stop) {result : Result (A × ℕ) Stop} → NumberAt pos k (Err s) → result ≡ Err s → (plain_of k ≡ None → r ≡ bad pos) → Says r f result
+number_stops f {r = r} pos k s t e h = subst (Says r f) (sym e) (by s t)
+  where
+    by : (s : Stop) → NumberAt pos k (Err s) → Says r f (Err s)
+    by (Unexpected i) t = h t.0 ∙ ap bad (sym t.1)
+    by NoMemory t = tt
 
 -- what is said at every depth
 pub at_once : {A B : Type 0} {r : Read B} {f : A → B} {result : Result (A × ℕ) Stop} → Says r f result → Tells (λ n. r) f result

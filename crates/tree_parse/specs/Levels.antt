@@ -1,11 +1,13 @@
 -- The levels of operators as the parser has them.
-use Rattle.std.specs.Prelude.{◌≡◌, ◌+◌, ℕ, suc, true, false, List, Option, Some, None, slice_get, Result, Ok, Err, if◌then◌else◌, codes}
+use Rattle.std.specs.Prelude.{◌≡◌, ◌+◌, ℕ, suc, Bool, true, false, List, Option, Some, None, slice_get, Result, Ok, Err, if◌then◌else◌, codes}
 use Rattle.cocoon_num.specs.Tokens.{Kind}
 use Rattle.cocoon_num.specs.Tree.{Name, Expr, Exprs, name, call, lit, true_or_false, field, Stmt, havoc_field, havoc_var}
 use Rattle.cocoon_num.specs.Reads.{Level, of_or, of_and, of_cmp, of_cat, of_bit, of_sum, of_unary}
-use Rattle.tree_parse.specs.Reader.{Read, Literal, good, bad, after, is_mark, is_keyword, marked, literal_of, path_from, param_from, sliced}
+use Rattle.tree_parse.specs.Reader.{Read, Literal, good, bad, after, is_mark, is_keyword, marked, literal_of, path_from, param_from, sliced, closes, ends_decls}
 use Rattle.tree_parse.specs.declared.fault.Stop.{Stop}
 use Rattle.tree_parse.specs.declared.fault.Stop.TheVariants.{Unexpected, NoMemory}
+use Rattle.tree_parse.specs.declared.decls.Until.{Until}
+use Rattle.tree_parse.specs.declared.decls.Until.TheVariants.{Brace, Refine}
 use Rattle.tree_parse.specs.declared.operators.Chain.{Chain}
 use Rattle.tree_parse.specs.declared.operators.Chain.TheVariants.{Or, And, Concat, Bits, Sum}
 
@@ -54,3 +56,8 @@ havoc_field_from ts i = after (path_from ts (suc i)) (λ p j. marked ts (codes "
 
 abbrev pub havoc_variable_from : List Kind → ℕ → Read Stmt
 havoc_variable_from ts i = after (param_from ts (suc i)) (λ p j. marked ts (codes ";") j (good (havoc_var i p.name p.width) (suc j)))
+
+-- the test on what stands after the declarations of a level
+abbrev pub stops_of : Until → List Kind → ℕ → Bool
+stops_of Brace = closes
+stops_of Refine = ends_decls

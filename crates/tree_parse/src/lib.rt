@@ -2,6 +2,7 @@
 #![tactic(auto)]
 
 mod cursor;
+mod decls;
 mod deep;
 mod defs;
 mod exprs;

@@ -1,8 +1,8 @@
 //! Fields of the packet, types and parameters.
-ghost use Rattle.std.specs.Prelude.{length};
-ghost use Rattle.cocoon_syntax.specs.TreeOf.{param_of};
+ghost use Rattle.std.specs.Prelude.{length, map};
+ghost use Rattle.cocoon_syntax.specs.TreeOf.{name_of, param_of};
 ghost use Rattle.tree_parse.specs.Reader as reader;
-ghost use Rattle.tree_parse.specs.Says.{Moves, Says, path_of};
+ghost use Rattle.tree_parse.specs.Says.{Moves, Says, Tells, path_of};
 
 use crate::cursor::Source;
 use crate::fault::Stop;
@@ -47,4 +47,46 @@ pub fn param(alloc: Global, source: &Source, pos: usize) -> Result<(Param, usize
     source.expect(pos + 1, Mark::Colon)?;
     let (width, next) = bits(source, pos + 2)?;
     Ok((Param { name, width }, next))
+}
+
+/// One or more parameters with commas between.
+pub fn params(alloc: Global, source: &Source, pos: usize) -> Result<(Vec<Param>, usize), Stop>
+    ensures says { Tells (λ n. reader.params_from source.now n pos) (λ v. map param_of v.items) result }
+    ensures moves { Moves pos (length source.now) result }
+{
+    let mut params = Vec::new(alloc);
+    let (first, mut next) = param(alloc, source, pos)?;
+    params.push(first)?;
+    'params: while source.is_mark(next, Mark::Comma) {
+        let (param, after) = param(alloc, source, next + 1)?;
+        params.push(param)?;
+        next = after;
+    }
+    Ok((params, next))
+}
+
+/// A name, as a phrase.
+#[tactic(auto, unfolding(crate::specs::Reader::name_from, crate::specs::Reader::named))]
+pub fn name(alloc: Global, source: &Source, pos: usize) -> Result<(Name, usize), Stop>
+    ensures says { Says (reader.name_from source.now pos) name_of result }
+    ensures moves { Moves pos (length source.now) result }
+{
+    let name = source.name(alloc, pos)?;
+    Ok((name, pos + 1))
+}
+
+/// One or more names with commas between.
+pub fn names(alloc: Global, source: &Source, pos: usize) -> Result<(Vec<Name>, usize), Stop>
+    ensures says { Tells (λ n. reader.commas_from source.now (λ m. reader.name_from source.now) n pos) (λ v. map name_of v.items) result }
+    ensures moves { Moves pos (length source.now) result }
+{
+    let mut names = Vec::new(alloc);
+    let (first, mut next) = name(alloc, source, pos)?;
+    names.push(first)?;
+    'names: while source.is_mark(next, Mark::Comma) {
+        let (name, after) = name(alloc, source, next + 1)?;
+        names.push(name)?;
+        next = after;
+    }
+    Ok((names, next))
 }
