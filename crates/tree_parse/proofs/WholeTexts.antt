@@ -1,20 +1,17 @@
 -- From what is read up to the first deep token to what the whole text is, or which its first fault is.
 use Rattle.std.specs.Prelude.{◌≡◌, ℕ, zero, suc, ◌+◌, ◌-◌, ◌≤◌, ◌<◌, Bool, true, false, nat_lt, nat_le, ◌&&◌, if◌then◌else◌, IsTrue, List, [], ◌∷◌, ◌++◌, length, map, take, slice_get, Option, Some, None, Ok, Err, ◌^◌, refl}
-use Rattle.std.proofs.Common.{Vec, Global}
 use Rattle.std.proofs.Common.{sym, ◌∙◌, ap, subst, add-one, arith}
 use Rattle.std.proofs.lemmas.Bool.{and_parts, ltb-true, ltb-false}
 use Rattle.std.proofs.lemmas.Option.{slice_get_within}
 use Rattle.std.proofs.lemmas.List.{length-map, length-take, length-take-le, take-take, take-map, take_all}
-use Rattle.cocoon_num.specs.Tree.{DefsText}
+use Rattle.cocoon_num.specs.Tree.{DefsText, Design}
 use Rattle.cocoon_num.specs.Tokens.{Kind, kinds, lex, language, is_shallow, none_deep, brackets_after, operators_after, language_bounds, finish}
-use Rattle.cocoon_num.specs.Reads.{DefsAt, BeginsDefs, Unexpected, TooDeep, ReadsDefs}
-use Rattle.cocoon_syntax.specs.declared.defs.Entry.{Entry}
-use Rattle.cocoon_syntax.specs.TreeOf.{entry_of}
+use Rattle.cocoon_num.specs.Reads.{DefsAt, DesignAt, BeginsDefs, BeginsDesign, Unexpected, TooDeep, Reads, ReadsDefs}
 use Rattle.cocoon_lex.specs.Kinds.{token_of}
 use Rattle.cocoon_lex.specs.declared.token.Token.{Token}
 use Rattle.tree_parse.specs.Depth.{DeepAt, FirstDeep}
 use Rattle.tree_parse.specs.Faults.{reach, fault_of, Finds, Fits}
-use Rattle.tree_parse.specs.Reader.{Read, good, bad, is_finish, defs_from}
+use Rattle.tree_parse.specs.Reader.{Read, good, bad, is_finish, defs_from, design_from}
 use Rattle.tree_parse.specs.Says.{Tells, kind_at, kinds_at}
 use Rattle.tree_parse.specs.declared.fault.ParseFault.{ParseFault}
 use Rattle.tree_parse.specs.declared.fault.ParseFault.TheVariants as fault
@@ -22,10 +19,10 @@ use Rattle.tree_parse.specs.declared.fault.Stop.{Stop}
 use Rattle.tree_parse.specs.declared.fault.Stop.TheVariants as stops
 use Rattle.tree_parse.proofs.Ends.{Ended, Lasts, ended_is, ends_last, end_is_shallow, lexed_lasts}
 use Rattle.tree_parse.proofs.Exact.{Agree}
-use Rattle.tree_parse.proofs.ExactParts.{defs_exact}
+use Rattle.tree_parse.proofs.ExactParts.{defs_exact, design_exact}
 use Rattle.tree_parse.proofs.Fails.{Fails}
 use Rattle.tree_parse.proofs.Stays.{fails_stays}
-use Rattle.tree_parse.proofs.Whole.{defs_sound, defs_stops, defs_unexpected}
+use Rattle.tree_parse.proofs.Whole.{defs_sound, defs_stops, defs_unexpected, design_sound, design_stops, design_unexpected}
 
 pub kinds_are : (text : List ℕ) (tokens : List Token) → kinds (map (token_of text) tokens) ≡ kinds_at text tokens
 kinds_are text [] = refl
@@ -135,6 +132,15 @@ definitions = record {
   unexpected = defs_unexpected;
 }
 
+pub designs : Reading design_from DesignAt BeginsDesign
+designs = record {
+  sound = design_sound;
+  ends = λ ts x h. (h.after_refines, h.ends);
+  stops = design_stops;
+  stays = λ ts us i a f. fails_stays design_from design_exact ts us (omega arith) a f;
+  unexpected = design_unexpected;
+}
+
 -- ---- tokens of the code
 
 pub lexed : (text : List ℕ) (tokens : List Token) → lex language text ≡ Ok (map (token_of text) tokens) → Ended (kinds_at text tokens)
@@ -154,22 +160,37 @@ fault_fits Begins ts (fault.TooDeep i) h g = let w = g.within in omega arith
 fault_fits Begins ts fault.NoMemory h g = tt
 
 -- what is read, and the fault that is found, in the terms of the tokens of the definitions
-pub definitions_read : (text : List ℕ) (tokens : List Token) (deep : Option ℕ) (source : List Kind) → lex language text ≡ Ok (map (token_of text) tokens) → FirstDeep tokens deep → source ≡ kinds_at text (reach deep tokens) → (n : ℕ) (x : DefsText) (j : ℕ) → defs_from source n ≡ good x j → ReadsDefs text x
-definitions_read text tokens deep source e p q n x j g =
+pub whole_read : {A : Type 0} (R : List Kind → ℕ → Read A) {Holds : List Kind → A → Type 0} {Begins : List Kind → Type 0} → Reading R Holds Begins → (text : List ℕ) (tokens : List Token) (deep : Option ℕ) (source : List Kind) → lex language text ≡ Ok (map (token_of text) tokens) → FirstDeep tokens deep → source ≡ kinds_at text (reach deep tokens) → (n : ℕ) (x : A) (j : ℕ) → R source n ≡ good x j →
+    Holds (kinds (map (token_of text) tokens)) x × IsTrue (is_shallow language_bounds (kinds (map (token_of text) tokens)))
+whole_read R {Holds = Holds} reading text tokens deep source e p q n x j g =
     let ts = kinds_at text tokens in
-    let r = read_whole defs_from definitions ts deep (lexed text tokens e) (deep_in text tokens deep p) n x j (subst (λ us. defs_from us n ≡ good x j) (q ∙ reach_kinds text deep tokens) g) in
-    record { tokens = map (token_of text) tokens; tokens_are = e; shallow = subst (λ us. IsTrue (is_shallow language_bounds us)) (sym (kinds_are text tokens)) r.1; reads = subst (λ us. DefsAt us x) (sym (kinds_are text tokens)) r.0 }
+    let r = read_whole R reading ts deep (lexed text tokens e) (deep_in text tokens deep p) n x j (subst (λ us. R us n ≡ good x j) (q ∙ reach_kinds text deep tokens) g) in
+    (subst (λ us. Holds us x) (sym (kinds_are text tokens)) r.0, subst (λ us. IsTrue (is_shallow language_bounds us)) (sym (kinds_are text tokens)) r.1)
 
-pub definitions_fault : (text : List ℕ) (tokens : List Token) (deep : Option ℕ) (source : List Kind) → lex language text ≡ Ok (map (token_of text) tokens) → FirstDeep tokens deep → source ≡ kinds_at text (reach deep tokens) → (s : Stop) → Tells {A = Vec Entry Global} (defs_from source) (λ v. map entry_of v.items) (Err s) → Finds BeginsDefs (kinds (map (token_of text) tokens)) (fault_of deep s)
-definitions_fault text tokens deep source e p q (stops.Unexpected i) f =
-    let ts = kinds_at text tokens in
-    subst (λ us. Finds BeginsDefs us (fault_of deep (stops.Unexpected i))) (sym (kinds_are text tokens))
-    (fault_whole defs_from definitions ts deep (lexed text tokens e) (deep_in text tokens deep p) i (subst (λ us. Fails (defs_from us) i) (q ∙ reach_kinds text deep tokens) (record { depth = f.depth; gives = f.says })))
-definitions_fault text tokens deep source e p q stops.NoMemory f = by deep
+pub whole_fault : {A B : Type 0} (R : List Kind → ℕ → Read B) {Holds : List Kind → B → Type 0} {Begins : List Kind → Type 0} → Reading R Holds Begins → (text : List ℕ) (tokens : List Token) (deep : Option ℕ) (source : List Kind) → lex language text ≡ Ok (map (token_of text) tokens) → FirstDeep tokens deep → source ≡ kinds_at text (reach deep tokens) → (f : A → B) (s : Stop) → Tells (R source) f (Err s) →
+    Finds Begins (kinds (map (token_of text) tokens)) (fault_of deep s)
+whole_fault R {Begins = Begins} reading text tokens deep source e p q f (stops.Unexpected i) g =
+    subst (λ us. Finds Begins us (fault_of deep (stops.Unexpected i))) (sym (kinds_are text tokens))
+    (fault_whole R reading (kinds_at text tokens) deep (lexed text tokens e) (deep_in text tokens deep p) i (subst (λ us. Fails (R us) i) (q ∙ reach_kinds text deep tokens) (record { depth = g.depth; gives = g.says })))
+whole_fault R {Begins = Begins} reading text tokens deep source e p q f stops.NoMemory g = by deep
   where
-    by : (d : Option ℕ) → Finds BeginsDefs (kinds (map (token_of text) tokens)) (fault_of d stops.NoMemory)
+    by : (d : Option ℕ) → Finds Begins (kinds (map (token_of text) tokens)) (fault_of d stops.NoMemory)
     by None = tt
     by (Some d) = tt
+
+pub definitions_read : (text : List ℕ) (tokens : List Token) (deep : Option ℕ) (source : List Kind) → lex language text ≡ Ok (map (token_of text) tokens) → FirstDeep tokens deep → source ≡ kinds_at text (reach deep tokens) → (n : ℕ) (x : DefsText) (j : ℕ) → defs_from source n ≡ good x j → ReadsDefs text x
+definitions_read text tokens deep source e p q n x j g =
+    let r = whole_read defs_from definitions text tokens deep source e p q n x j g in record { tokens = map (token_of text) tokens; tokens_are = e; shallow = r.1; reads = r.0 }
+
+pub design_read : (text : List ℕ) (tokens : List Token) (deep : Option ℕ) (source : List Kind) → lex language text ≡ Ok (map (token_of text) tokens) → FirstDeep tokens deep → source ≡ kinds_at text (reach deep tokens) → (n : ℕ) (x : Design) (j : ℕ) → design_from source n ≡ good x j → Reads text x
+design_read text tokens deep source e p q n x j g =
+    let r = whole_read design_from designs text tokens deep source e p q n x j g in record { tokens = map (token_of text) tokens; tokens_are = e; shallow = r.1; reads = r.0 }
+
+pub is_unexpected : (Begins : List Kind → Type 0) (ts : List Kind) (f : ParseFault) (i : ℕ) → Finds Begins ts f → f ≡ fault.Unexpected i → Unexpected Begins ts i
+is_unexpected Begins ts f i g e = subst (Finds Begins ts) e g
+
+pub is_too_deep : (Begins : List Kind → Type 0) (ts : List Kind) (f : ParseFault) (i : ℕ) → Finds Begins ts f → f ≡ fault.TooDeep i → TooDeep Begins ts i
+is_too_deep Begins ts f i g e = subst (Finds Begins ts) e g
 
 pub deep_within : (tokens : List Token) (d : ℕ) → FirstDeep tokens (Some d) → d < length tokens
 deep_within tokens d f = let h = (f []).within in omega (arith, h, length-map tokens (kind_at []))

@@ -14,4 +14,4 @@ mod stmts;
 pub mod texts;
 
 pub use fault::ParseFault;
-pub use texts::parse_defs;
+pub use texts::{parse_defs, parse_design};
