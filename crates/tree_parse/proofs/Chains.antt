@@ -1,16 +1,16 @@
 -- Chains, loop by loop: the rest of a run is the run.
-use Rattle.std.specs.Prelude.{◌≡◌, ℕ, zero, suc, ◌+◌, ◌≤◌, ◌==◌, ◌&&◌, Bool, true, false, List, [], ◌∷◌, map, slice_get, Option, Some, None, Result, Ok, Err, option_map, if◌then◌else◌, codes, refl}
-use Rattle.std.proofs.Common.{Vec, Global, sym, ◌∙◌, ap, subst, arith}
+use Rattle.std.specs.Prelude.{◌≡◌, ℕ, zero, suc, ◌+◌, ◌==◌, Bool, true, false, List, [], ◌∷◌, map, slice_get, Option, Some, None, Result, Ok, Err, if◌then◌else◌, codes, refl}
+use Rattle.std.proofs.Common.{Vec, Global, sym, ◌∙◌, ap, subst}
 use Rattle.std.proofs.lemmas.Bool.{eq-eqb, eqb-true}
 use Rattle.cocoon_num.specs.Values.{BinaryOp}
 use Rattle.cocoon_num.specs.Tokens.{Kind, word, keyword, plain, literal, mark, finish}
 use Rattle.cocoon_num.specs.Tree.{Expr, Exprs, expr, no_exprs, binary, slice, place, Stmt, Block, stmt, no_stmts}
-use Rattle.cocoon_num.specs.Reads.{Level, of_expr, of_or, of_and, of_cat, of_bit, of_sum, of_post, of_prim}
+use Rattle.cocoon_num.specs.Reads.{of_expr, of_post, of_prim}
 use Rattle.cocoon_syntax.specs.TreeOf.{expr_of, exprs_of, block_of, stmt_of}
 use Rattle.cocoon_syntax.specs.declared.expr.Expr.{Expr as CodeExpr}
 use Rattle.cocoon_syntax.specs.declared.stmt.Stmt.{Stmt as CodeStmt}
 use Rattle.tree_parse.specs.Levels.{level_of, part_of, RangeAt, leaf_from}
-use Rattle.tree_parse.specs.Reader.{Read, good, bad, spent, after, is_mark, is_post, op_at, expr_from, rest_from, exprs_from, commas_from, many_from, stmt_from, stmts_from, closes, sliced, by_op, prim_of, path_from, worded}
+use Rattle.tree_parse.specs.Reader.{Read, good, bad, spent, after, is_mark, op_at, expr_from, rest_from, exprs_from, commas_from, many_from, stmt_from, stmts_from, closes, sliced, by_op, prim_of, path_from, worded}
 use Rattle.tree_parse.specs.Says.{Says, Tells, is_word}
 use Rattle.cocoon_num.specs.Names.{same_name}
 use Rattle.tree_parse.specs.declared.fault.Stop.{Stop}
@@ -56,8 +56,10 @@ chain_fails ts c i k p = deeper (by_one p (λ n e. opens ts n c i ∙ ap (λ z. 
 
 pub chain_more : (ts : List Kind) (c : Chain) (a : Expr) (j k : ℕ) (op : BinaryOp) {F : ℕ → Read Expr} {b : Expr} {l : ℕ} {both : Expr} → Rest F (λ n. rest_from ts n (level_of c) a j) → op_at (level_of c) (slice_get ts j) ≡ Some op → k ≡ suc j → Gives (λ n. expr_from ts n (part_of c) k) (good b l) → both ≡ binary (place a) op a b → Rest F (λ n. rest_from ts n (level_of c) both l)
 unfolding after
-chain_more ts c a j k op {b = b} {l = l} {both = both} s t q p e = record { gives = λ r g. s.gives r (deeper (by_two (subst (λ z. Gives (λ n. expr_from ts n (part_of c) z) (good b l)) q p) g (λ n f h.
-    goes_on ts n c a j op t ∙ ap (λ z. after z (λ x m. rest_from ts n (level_of c) (binary (place a) op a x) m)) f ∙ ap (λ z. rest_from ts n (level_of c) z l) (sym e) ∙ h))) }
+chain_more ts c a j k op {b = b} {l = l} {both = both} s t q p e = record {
+  gives = λ r g. s.gives r (deeper (by_two (subst (λ z. Gives (λ n. expr_from ts n (part_of c) z) (good b l)) q p) g (λ n f h.
+      goes_on ts n c a j op t ∙ ap (λ z. after z (λ x m. rest_from ts n (level_of c) (binary (place a) op a x) m)) f ∙ ap (λ z. rest_from ts n (level_of c) z l) (sym e) ∙ h)));
+}
 
 pub chain_broken : (ts : List Kind) (c : Chain) (a : Expr) (j k : ℕ) (op : BinaryOp) {F : ℕ → Read Expr} → Rest F (λ n. rest_from ts n (level_of c) a j) → op_at (level_of c) (slice_get ts j) ≡ Some op → k ≡ suc j → (i : ℕ) → Gives (λ n. expr_from ts n (part_of c) k) (bad i) → Gives F (bad i)
 unfolding after

@@ -6,8 +6,6 @@ use Rattle.std.proofs.lemmas.Bool.{le-leb}
 use Rattle.std.proofs.lemmas.Option.{slice_get-get_or}
 use Rattle.std.proofs.lemmas.Bool.Decides.{nat_tests}
 use Rattle.cocoon_num.specs.Tokens.{Kind, none_deep, brackets_after, operators_after, language_bounds, is_shallow}
-use Rattle.cocoon_lex.specs.declared.token.Token.{Token}
-use Rattle.tree_parse.specs.Says.{kind_at, kinds_at}
 
 -- these tokens are not deep, and after them so many brackets are open, and so many operators have come
 pub record Shallow (ks : List Kind) (brackets operators : ℕ) : Type 0 where

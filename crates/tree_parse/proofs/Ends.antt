@@ -1,8 +1,8 @@
 -- The tokens of a text: its last is the end, none before is, and there are at most as many as bytes, and the end.
-use Rattle.std.specs.Prelude.{◌≡◌, ℕ, zero, suc, ◌+◌, ◌-◌, ◌≤◌, ◌<◌, ◌&&◌, Bool, true, false, nat_le, nat_lt, ◌^◌, IsTrue, List, [], ◌∷◌, ◌++◌, length, map, take, drop, slice_get, Option, Some, None, Result, Ok, Err, if◌then◌else◌, codes, refl}
-use Rattle.std.proofs.Common.{sym, ◌∙◌, ap, subst, arith}
+use Rattle.std.specs.Prelude.{◌≡◌, ℕ, zero, suc, ◌+◌, ◌-◌, ◌≤◌, ◌&&◌, Bool, true, false, nat_le, nat_lt, ◌^◌, List, [], ◌∷◌, ◌++◌, length, drop, slice_get, Option, Some, None, Ok, Err, if◌then◌else◌, codes, refl}
+use Rattle.std.proofs.Common.{ap, subst, arith}
 use Rattle.std.proofs.lemmas.Bool.{and_parts, le-leb, leb-true}
-use Rattle.cocoon_num.specs.Tokens.{Kind, word, keyword, plain, literal, mark, finish, Token, LexFault, Lexicon, Lexed, Front, gap, piece, faulty, front, by_front, with_token, lex_from, lex, kinds, language, language_bounds, none_deep, is_shallow, brackets_after, operators_after, kept_if, literal_of, number_kind, number_front, decimal_value, literal_value, before_w, after_w, comment_front, block_front, digit_front, letter_front, line_front, mark_front, word_kind, word_front, leading, is_word_byte, beginning, comment_end, is_blank, is_digit, is_letter, begins}
+use Rattle.cocoon_num.specs.Tokens.{Kind, word, keyword, plain, literal, mark, finish, Token, Lexicon, Lexed, Front, gap, piece, faulty, front, by_front, with_token, lex_from, lex, kinds, language, language_bounds, none_deep, is_shallow, brackets_after, operators_after, kept_if, literal_of, number_kind, number_front, decimal_value, literal_value, before_w, after_w, comment_front, block_front, digit_front, letter_front, line_front, mark_front, leading, is_word_byte, beginning, comment_end, is_blank, is_digit, is_letter, begins}
 use Rattle.cocoon_num.specs.Lists.{is_one_of}
 use Rattle.tree_parse.specs.Reader.{is_finish}
 
@@ -46,7 +46,7 @@ literal_fine widest (Some w) None = tt
 literal_fine widest (Some w) (Some n) = kept_fine (nat_le 1 w && nat_le w widest && nat_lt n (2 ^ w)) (literal w n) refl
 
 number_fine : (widest : ℕ) (run : List ℕ) → FineKind (number_kind widest run)
-number_fine widest run = elim (decimal_value run) as (λ o. FineKind (elim o [ | Some n ↦ kept_if (nat_lt n (2 ^ 32)) (plain n) | None ↦ literal_of widest (decimal_value (before_w run)) (literal_value (after_w run)) ])) [
+number_fine widest run = elim (decimal_value run) as (λ o. FineKind (elim o [ Some n ↦ kept_if (nat_lt n (2 ^ 32)) (plain n) | None ↦ literal_of widest (decimal_value (before_w run)) (literal_value (after_w run)) ])) [
   | Some n ↦ kept_fine (nat_lt n (2 ^ 32)) (plain n) refl
   | None ↦ literal_fine widest (decimal_value (before_w run)) (literal_value (after_w run))
 ]

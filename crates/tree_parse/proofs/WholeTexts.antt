@@ -1,5 +1,5 @@
 -- From what is read up to the first deep token to what the whole text is, or which its first fault is.
-use Rattle.std.specs.Prelude.{◌≡◌, ℕ, zero, suc, ◌+◌, ◌-◌, ◌≤◌, ◌<◌, Bool, true, false, nat_lt, nat_le, ◌&&◌, if◌then◌else◌, IsTrue, List, [], ◌∷◌, ◌++◌, length, map, take, slice_get, Option, Some, None, Ok, Err, ◌^◌, refl}
+use Rattle.std.specs.Prelude.{◌≡◌, ℕ, zero, suc, ◌+◌, ◌≤◌, ◌<◌, Bool, true, false, nat_lt, nat_le, ◌&&◌, if◌then◌else◌, IsTrue, List, [], ◌∷◌, ◌++◌, length, map, take, slice_get, Option, Some, None, Ok, Err, ◌^◌, refl}
 use Rattle.std.proofs.Common.{sym, ◌∙◌, ap, subst, add-one, arith}
 use Rattle.std.proofs.lemmas.Bool.{and_parts, ltb-true, ltb-false}
 use Rattle.std.proofs.lemmas.Option.{slice_get_within}
@@ -11,13 +11,13 @@ use Rattle.cocoon_lex.specs.Kinds.{token_of}
 use Rattle.cocoon_lex.specs.declared.token.Token.{Token}
 use Rattle.tree_parse.specs.Depth.{DeepAt, FirstDeep}
 use Rattle.tree_parse.specs.Faults.{reach, fault_of, Finds, Fits}
-use Rattle.tree_parse.specs.Reader.{Read, good, bad, is_finish, defs_from, design_from}
+use Rattle.tree_parse.specs.Reader.{Read, good, bad, defs_from, design_from}
 use Rattle.tree_parse.specs.Says.{Tells, kind_at, kinds_at}
 use Rattle.tree_parse.specs.declared.fault.ParseFault.{ParseFault}
 use Rattle.tree_parse.specs.declared.fault.ParseFault.TheVariants as fault
 use Rattle.tree_parse.specs.declared.fault.Stop.{Stop}
 use Rattle.tree_parse.specs.declared.fault.Stop.TheVariants as stops
-use Rattle.tree_parse.proofs.Ends.{Ended, Lasts, ended_is, ends_last, end_is_shallow, lexed_lasts}
+use Rattle.tree_parse.proofs.Ends.{Ended, ended_is, ends_last, end_is_shallow, lexed_lasts}
 use Rattle.tree_parse.proofs.Exact.{Agree}
 use Rattle.tree_parse.proofs.ExactParts.{defs_exact, design_exact}
 use Rattle.tree_parse.proofs.Fails.{Fails}

@@ -1,5 +1,5 @@
 -- What a part of the parser answers where a reading of the tokens gives this.
-use Rattle.std.specs.Prelude.{◌≡◌, ◌<◌, ◌≤◌, ℕ, List, length, map, slice_range, Bool, true, false, ⊤, Option, Some, None, Result, Ok, Err}
+use Rattle.std.specs.Prelude.{◌≡◌, ◌<◌, ◌≤◌, ℕ, List, map, slice_range, Bool, true, false, ⊤, Option, Some, None, Result, Ok, Err}
 use Rattle.cocoon_num.specs.Tokens.{Kind, word}
 use Rattle.cocoon_lex.specs.Kinds.{kind_of}
 use Rattle.cocoon_lex.specs.declared.token.Token.{Token}

@@ -143,7 +143,11 @@ impl<'a> Source<'a> {
         ensures is { TokenAt pos (reader.is_mark (mark_text mark) (slice_get self.now pos)) result }
         ensures within { IfOk result (λ _. (pos < length self.now) × (length self.now ≤ 2 ^ 32)) }
     {
-        if self.is_mark(pos, mark) { Ok(()) } else { Err(Stop::Unexpected(pos)) }
+        if self.is_mark(pos, mark) {
+            Ok(())
+        } else {
+            Err(Stop::Unexpected(pos))
+        }
     }
 
     /// Demands this reserved word at a place.
@@ -151,7 +155,11 @@ impl<'a> Source<'a> {
         ensures is { TokenAt pos (reader.is_keyword (keyword_text word) (slice_get self.now pos)) result }
         ensures within { IfOk result (λ _. (pos < length self.now) × (length self.now ≤ 2 ^ 32)) }
     {
-        if self.is_keyword(pos, word) { Ok(()) } else { Err(Stop::Unexpected(pos)) }
+        if self.is_keyword(pos, word) {
+            Ok(())
+        } else {
+            Err(Stop::Unexpected(pos))
+        }
     }
 
     /// The number without a width at a place.

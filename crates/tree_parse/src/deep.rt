@@ -61,7 +61,11 @@ fn count_after(operators: u32, kind: TokenKind) -> u32
                 operators
             }
         }
-        TokenKind::Keyword(word) => if is_word_operator(word) { operators + 1 } else { operators },
+        TokenKind::Keyword(word) => if is_word_operator(word) {
+            operators + 1
+        } else {
+            operators
+        },
         _ => operators,
     }
 }

@@ -147,7 +147,12 @@ fn bracketed(alloc: Global, source: &Source, pos: usize) -> Result<(Expr, usize)
 
 /// What follows the condition of a choice, from the question mark on.
 #[cycle(expr)]
-fn picked(alloc: Global, source: &Source, condition: Expr, pos: usize) -> Result<(Expr, usize), Stop>
+fn picked(
+    alloc: Global,
+    source: &Source,
+    condition: Expr,
+    pos: usize,
+) -> Result<(Expr, usize), Stop>
     requires small { pos < 2 ^ 32 }
     requires within { pos < length source.now }
     ensures says { Tells (λ n. reader.after (reader.expr_from source.now n of_expr (pos + 1)) (reader.picked source.now (reader.expr_from source.now n of_expr) (expr_of condition))) expr_of result }
@@ -210,7 +215,10 @@ fn leaf(alloc: Global, source: &Source, pos: usize) -> Result<(Expr, usize), Sto
         return Ok((leaf_at(source.place(pos), ExprKind::Truth(false)), pos + 1));
     }
     let ((header, field), next) = path(alloc, source, pos)?;
-    Ok((leaf_at(source.place(pos), ExprKind::Field(header, field)), next))
+    Ok((
+        leaf_at(source.place(pos), ExprKind::Field(header, field)),
+        next,
+    ))
 }
 
 fn leaf_at(at: u32, kind: ExprKind) -> Expr

@@ -37,7 +37,11 @@ fn or(kind: TokenKind) -> Option<BinaryOp>
     ensures { (bytes : List ℕ) → option_map binary_of result ≡ op_at of_or (Some (kind_of kind bytes)) }
 {
     match kind {
-        TokenKind::Keyword(word) => if word == Keyword::Or { Some(BinaryOp::Or) } else { None },
+        TokenKind::Keyword(word) => if word == Keyword::Or {
+            Some(BinaryOp::Or)
+        } else {
+            None
+        },
         _ => None,
     }
 }
@@ -46,7 +50,11 @@ fn and(kind: TokenKind) -> Option<BinaryOp>
     ensures { (bytes : List ℕ) → option_map binary_of result ≡ op_at of_and (Some (kind_of kind bytes)) }
 {
     match kind {
-        TokenKind::Keyword(word) => if word == Keyword::And { Some(BinaryOp::And) } else { None },
+        TokenKind::Keyword(word) => if word == Keyword::And {
+            Some(BinaryOp::And)
+        } else {
+            None
+        },
         _ => None,
     }
 }
@@ -55,7 +63,11 @@ fn concat(kind: TokenKind) -> Option<BinaryOp>
     ensures { (bytes : List ℕ) → option_map binary_of result ≡ op_at of_cat (Some (kind_of kind bytes)) }
 {
     match kind {
-        TokenKind::Mark(mark) => if mark == Mark::PlusPlus { Some(BinaryOp::Concat) } else { None },
+        TokenKind::Mark(mark) => if mark == Mark::PlusPlus {
+            Some(BinaryOp::Concat)
+        } else {
+            None
+        },
         _ => None,
     }
 }
@@ -128,7 +140,11 @@ pub fn implied(kind: TokenKind) -> Option<BinaryOp>
     ensures { (bytes : List ℕ) → option_map binary_of result ≡ op_at of_expr (Some (kind_of kind bytes)) }
 {
     match kind {
-        TokenKind::Mark(mark) => if mark == Mark::Implies { Some(BinaryOp::Implies) } else { None },
+        TokenKind::Mark(mark) => if mark == Mark::Implies {
+            Some(BinaryOp::Implies)
+        } else {
+            None
+        },
         _ => None,
     }
 }

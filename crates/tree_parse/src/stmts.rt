@@ -208,7 +208,10 @@ fn havoc_variable(alloc: Global, source: &Source, pos: usize) -> Result<(Stmt, u
     let at = source.place(pos);
     let (variable, end) = param(alloc, source, pos + 1)?;
     source.expect(end, Mark::Semicolon)?;
-    Ok((node(at, StmtKind::HavocVar(variable.name, variable.width)), end + 1))
+    Ok((
+        node(at, StmtKind::HavocVar(variable.name, variable.width)),
+        end + 1,
+    ))
 }
 
 /// `send r[a, ..];`, from its first token on.

@@ -1,4 +1,4 @@
-use Rattle.std.proofs.Common.{rules, arith, ◌≤◌, ℕ, ◌+◌}
+use Rattle.std.proofs.Common.{rules, arith, ◌+◌}
 use Rattle.tree_parse.specs.Reader.{after, marked, assumption_from}
 use Rattle.tree_parse.proofs.decls.assumption.Goals as goal
 

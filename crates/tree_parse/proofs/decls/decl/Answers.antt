@@ -1,4 +1,4 @@
-use Rattle.std.proofs.Common.{rules, ◌≤◌, ℕ}
+use Rattle.std.proofs.Common.{rules}
 use Rattle.tree_parse.specs.Reader.{decl_from}
 use Rattle.tree_parse.proofs.decls.decl.Goals as goal
 

@@ -1,8 +1,8 @@
-use Rattle.std.proofs.Common.{rules, arith, ◌≡◌, ◌≤◌, ℕ, ◌+◌, map, Err}
+use Rattle.std.proofs.Common.{rules, arith, ◌≡◌, map, Err}
 use Rattle.cocoon_syntax.specs.TreeOf.{decl_of}
 use Rattle.tree_parse.specs.Levels.{stops_of}
 use Rattle.tree_parse.specs.Reader.{decl_from, many_from}
-use Rattle.tree_parse.proofs.Given.{flat, at_once, fails_as, read_gives, gives_read, none_yet_of, some_begin, some_fail, many_more, many_broken, many_stop, all_read}
+use Rattle.tree_parse.proofs.Given.{fails_as, read_gives, gives_read, none_yet_of, many_more, many_broken, many_stop, all_read}
 use Rattle.tree_parse.proofs.decls.decls.Goals as goal
 
 pub decls-init : goal.decls-init

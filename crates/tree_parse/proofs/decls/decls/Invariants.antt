@@ -1,4 +1,4 @@
-use Rattle.std.proofs.Common.{◌<◌, length, map, ℕ, ◌-◌, ◌≤◌}
+use Rattle.std.proofs.Common.{length, map, ◌-◌, ◌≤◌}
 use Rattle.cocoon_syntax.specs.TreeOf.{decl_of}
 use Rattle.tree_parse.specs.Levels.{stops_of}
 use Rattle.tree_parse.specs.Reader.{decl_from, many_from}

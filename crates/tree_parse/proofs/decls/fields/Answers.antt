@@ -1,7 +1,7 @@
-use Rattle.std.proofs.Common.{rules, arith, ◌≡◌, ◌≤◌, ℕ, ◌+◌, map, Err}
+use Rattle.std.proofs.Common.{rules, ◌≡◌, map, Err}
 use Rattle.cocoon_syntax.specs.TreeOf.{param_of}
-use Rattle.tree_parse.specs.Reader.{closes, header_field_from, many_from, some_from}
-use Rattle.tree_parse.proofs.Given.{flat, at_once, fails_as, read_gives, gives_read, none_yet_of, some_begin, some_fail, many_more, many_broken, many_stop, all_read}
+use Rattle.tree_parse.specs.Reader.{closes, header_field_from}
+use Rattle.tree_parse.proofs.Given.{flat, at_once, fails_as, gives_read, some_begin, some_fail, many_more, many_broken, many_stop, all_read}
 use Rattle.tree_parse.proofs.decls.fields.Goals as goal
 
 pub returns-in_err-first-clause-says : goal.returns-in_err-first-clause-says

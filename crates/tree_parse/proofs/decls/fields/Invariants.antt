@@ -1,4 +1,4 @@
-use Rattle.std.proofs.Common.{◌<◌, length, map, ℕ, ◌-◌, ◌≤◌}
+use Rattle.std.proofs.Common.{◌<◌, length, map, ◌-◌, ◌≤◌}
 use Rattle.cocoon_syntax.specs.TreeOf.{param_of}
 use Rattle.tree_parse.specs.Reader.{closes, header_field_from, many_from, some_from}
 use Rattle.tree_parse.proofs.Given.{SoFar}

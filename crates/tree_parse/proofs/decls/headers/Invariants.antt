@@ -1,4 +1,4 @@
-use Rattle.std.proofs.Common.{◌<◌, length, map, ℕ, ◌-◌, ◌≤◌}
+use Rattle.std.proofs.Common.{◌<◌, length, map, ◌-◌, ◌≤◌}
 use Rattle.cocoon_syntax.specs.TreeOf.{header_of}
 use Rattle.tree_parse.specs.Reader.{closes, header_from, many_from, some_from}
 use Rattle.tree_parse.proofs.Given.{SoFar}

@@ -1,7 +1,7 @@
-use Rattle.std.proofs.Common.{rules, arith, ◌≡◌, ◌≤◌, ℕ, ◌+◌, map, Err}
+use Rattle.std.proofs.Common.{rules, arith, ◌≡◌, map, Err}
 use Rattle.cocoon_syntax.specs.TreeOf.{refine_of}
 use Rattle.tree_parse.specs.Reader.{finishes, many_from, refine_from}
-use Rattle.tree_parse.proofs.Given.{flat, at_once, fails_as, read_gives, gives_read, none_yet_of, some_begin, some_fail, many_more, many_broken, many_stop, all_read}
+use Rattle.tree_parse.proofs.Given.{fails_as, read_gives, gives_read, none_yet_of, many_more, many_broken, many_stop, all_read}
 use Rattle.tree_parse.proofs.decls.refines.Goals as goal
 
 pub refines-init : goal.refines-init

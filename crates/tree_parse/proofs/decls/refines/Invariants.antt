@@ -1,4 +1,4 @@
-use Rattle.std.proofs.Common.{◌<◌, length, map, ℕ, ◌-◌, ◌≤◌}
+use Rattle.std.proofs.Common.{length, map, ◌-◌, ◌≤◌}
 use Rattle.cocoon_syntax.specs.TreeOf.{refine_of}
 use Rattle.tree_parse.specs.Reader.{finishes, many_from, refine_from}
 use Rattle.tree_parse.proofs.Given.{SoFar}

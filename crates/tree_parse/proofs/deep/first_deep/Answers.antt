@@ -1,4 +1,4 @@
-use Rattle.std.proofs.Common.{rules, arith, ◌≡◌, ◌≤◌, ◌<◌, ◌+◌, ◌++◌, ◌∷◌, [], ℕ, List, length, map, take, inl, inr, sym, ◌∙◌, subst}
+use Rattle.std.proofs.Common.{rules, arith, ◌≡◌, ◌+◌, ◌++◌, ◌∷◌, [], take, inl, inr, sym, subst}
 use Rattle.std.proofs.lemmas.List.{length-map, take_all}
 use Rattle.cocoon_num.specs.Tokens.{brackets_after, operators_after, language_bounds}
 use Rattle.tree_parse.specs.Says.{kind_at, kinds_at}
@@ -28,15 +28,15 @@ loop-at-preserved c = record {
   few_brackets = omega arith;
   few_operators = omega arith;
   shallow = λ text.
-    let tokens = c.args.tokens.now in
-    let at = c.loop-at.at in
-    let token = c.index-tokens-at.result in
-    let b : c.open_after-brackets.result ≡ brackets_after c.loop-at.brackets (kind_at text token) = search rules in
-    let o : c.count_after-operators.result ≡ operators_after language_bounds.operators c.loop-at.operators (kind_at text token) = search rules in
-    let next : take (at + 1) (kinds_at text tokens) ≡ take at (kinds_at text tokens) ++ kind_at text token ∷ [] = taken_one (kind_at text) tokens at token (omega arith) c.index-tokens-at.is in
-    subst (λ n. Shallow (take (at + 1) (kinds_at text tokens)) n c.count_after-operators.result) (sym b)
-    (subst (λ n. Shallow (take (at + 1) (kinds_at text tokens)) (brackets_after c.loop-at.brackets (kind_at text token)) n) (sym o)
-    (one_shallow _ _ _ _ _ next (c.loop-at.invariant.shallow text) (omega (arith, b)) (omega (arith, o))));
+      let tokens = c.args.tokens.now in
+      let at = c.loop-at.at in
+      let token = c.index-tokens-at.result in
+      let b : c.open_after-brackets.result ≡ brackets_after c.loop-at.brackets (kind_at text token) = search rules in
+      let o : c.count_after-operators.result ≡ operators_after language_bounds.operators c.loop-at.operators (kind_at text token) = search rules in
+      let next : take (at + 1) (kinds_at text tokens) ≡ take at (kinds_at text tokens) ++ kind_at text token ∷ [] = taken_one (kind_at text) tokens at token (omega arith) c.index-tokens-at.is in
+      subst (λ n. Shallow (take (at + 1) (kinds_at text tokens)) n c.count_after-operators.result) (sym b)
+      (subst (λ n. Shallow (take (at + 1) (kinds_at text tokens)) (brackets_after c.loop-at.brackets (kind_at text token)) n) (sym o)
+      (one_shallow _ _ _ _ _ next (c.loop-at.invariant.shallow text) (omega (arith, b)) (omega (arith, o))));
 }
 
 pub returns : goal.returns

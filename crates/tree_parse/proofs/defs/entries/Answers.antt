@@ -1,4 +1,4 @@
-use Rattle.std.proofs.Common.{rules, ◌≡◌, ◌≤◌, ℕ, map, Err}
+use Rattle.std.proofs.Common.{rules, ◌≡◌, map, Err}
 use Rattle.cocoon_syntax.specs.TreeOf.{entry_of}
 use Rattle.tree_parse.specs.Reader.{many_from, defs_from, entry_from, finishes}
 use Rattle.tree_parse.proofs.Given.{fails_as, read_gives, gives_read, none_yet_of, many_more, many_broken, many_stop, all_read}

@@ -1,4 +1,4 @@
-use Rattle.std.proofs.Common.{length, map, ℕ, ◌-◌, ◌≤◌}
+use Rattle.std.proofs.Common.{length, map, ◌-◌, ◌≤◌}
 use Rattle.cocoon_syntax.specs.TreeOf.{entry_of}
 use Rattle.tree_parse.specs.Reader.{many_from, entry_from, finishes}
 use Rattle.tree_parse.proofs.Given.{SoFar}

@@ -1,4 +1,4 @@
-use Rattle.std.proofs.Common.{rules, arith, ◌≤◌, ℕ, ◌+◌}
+use Rattle.std.proofs.Common.{rules, arith}
 use Rattle.tree_parse.specs.Reader.{entry_from}
 use Rattle.tree_parse.proofs.defs.entry.Goals as goal
 

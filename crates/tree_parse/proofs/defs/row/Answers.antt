@@ -1,4 +1,4 @@
-use Rattle.std.proofs.Common.{rules, arith, ◌≤◌, ℕ, ◌+◌}
+use Rattle.std.proofs.Common.{rules, arith}
 use Rattle.tree_parse.specs.Reader.{row_from, named, marked, after}
 use Rattle.tree_parse.proofs.defs.row.Goals as goal
 

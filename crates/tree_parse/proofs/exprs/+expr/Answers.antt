@@ -1,10 +1,10 @@
-use Rattle.std.proofs.Common.{rules, arith, ◌≡◌, ◌≤◌, ℕ, ◌+◌, suc, map, sym, ◌∙◌, ap, subst, Some, None, Err, option_map, slice_get, codes, refl, false}
+use Rattle.std.proofs.Common.{rules, arith, ◌≡◌, ◌+◌, map, sym, subst, Some, Err, slice_get, codes, refl, false}
 use Rattle.cocoon_num.specs.Reads.{of_expr}
-use Rattle.cocoon_syntax.specs.TreeOf.{binary_of, expr_of, exprs_of}
+use Rattle.cocoon_syntax.specs.TreeOf.{binary_of, expr_of}
 use Rattle.tree_parse.specs.Levels.{leaf_from, level_of, part_of}
 use Rattle.tree_parse.specs.Reader.{after, marked, named, path_from, worded, expr_from, exprs_from, is_mark, op_at}
 use Rattle.tree_parse.specs.Says.{Says, Tells, is_word}
-use Rattle.tree_parse.proofs.Given.{tells_deeper, read_gives, gives_read, at_once, fails_as, comma_fails, commas_begin, commas_more, commas_broken, commas_stop, all_read}
+use Rattle.tree_parse.proofs.Given.{tells_deeper, read_gives, gives_read, fails_as, comma_fails, commas_begin, commas_more, commas_broken, commas_stop, all_read}
 use Rattle.tree_parse.proofs.Chains.{chain_begins, chain_fails, chain_more, chain_broken, chain_ends, slices_begin, slices_fail, slices_more, slices_stopped, slices_end, leaf_only, as_exprs}
 use Rattle.tree_parse.proofs.exprs.+expr.Goals as goal
 
@@ -132,7 +132,6 @@ primary-returns-clause-says t c =
     let bracket : is_mark (codes "(") (slice_get ts pos) ≡ false = search rules in
     let name : is_word (slice_get ts pos) ≡ false = search rules in
     tells_deeper (record { depth = 0; says = λ n h. subst (λ r. Says r expr_of c.leaf.result) (sym (leaf_only ts (expr_from ts n of_expr) (exprs_from ts n) pos (slice_get ts pos) refl bracket name)) says })
-
 
 pub part-returns-in-Or-clause-says : goal.part-returns-in-Or-clause-says
 part-returns-in-Or-clause-says t c = subst (λ l. Tells (λ n. expr_from c.args.source.now n (part_of l) c.args.pos) expr_of c.chain.result) (sym c.in-Or.is) c.chain.ensures.says

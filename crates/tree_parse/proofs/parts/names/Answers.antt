@@ -1,4 +1,4 @@
-use Rattle.std.proofs.Common.{rules, arith, ◌≡◌, ◌≤◌, ℕ, ◌+◌, map, Err}
+use Rattle.std.proofs.Common.{rules, arith, ◌≡◌, ◌+◌, map, Err}
 use Rattle.cocoon_syntax.specs.TreeOf.{name_of}
 use Rattle.tree_parse.specs.Reader.{name_from, after}
 use Rattle.tree_parse.proofs.Given.{flat, at_once, fails_as, tells_deeper, commas_begin, commas_more, commas_broken, commas_stop, all_read}

@@ -1,4 +1,4 @@
-use Rattle.std.proofs.Common.{rules, arith, ◌≡◌, ◌≤◌, ℕ, ◌+◌, true, false, map, subst, add-one, slice_get, codes, Err}
+use Rattle.std.proofs.Common.{rules, arith, ◌≡◌, ◌+◌, true, false, map, subst, add-one, slice_get, codes, Err}
 use Rattle.cocoon_syntax.specs.TreeOf.{stmt_of}
 use Rattle.tree_parse.specs.Reader.{after, marked, if_from, fork_from, many_from, stmt_from, closes, is_keyword, ended, expr_from}
 use Rattle.tree_parse.specs.Says.{Says}
@@ -105,8 +105,11 @@ stmt-returns-then-is_keyword-6-clause-says t c =
     let k3 : is_keyword (codes "filter") (slice_get c.args.source.now c.args.pos) ≡ false = search rules in
     let k4 : is_keyword (codes "havoc") (slice_get c.args.source.now c.args.pos) ≡ false = search rules in
     let k5 : is_keyword (codes "assume") (slice_get c.args.source.now c.args.pos) ≡ true = search rules in
-    tells_deeper (record { depth = c.assume.ensures.says.depth; says = λ n h. rw (k0, k1, k2, k3, k4, k5)
-        (subst (λ z. Says (ended ts (expr_from ts n of_expr) z (λ x. tree.assume pos x)) stmt_of c.assume.result) (add-one pos) (c.assume.ensures.says.says n h)) })
+    tells_deeper (record {
+      depth = c.assume.ensures.says.depth;
+      says = λ n h. rw (k0, k1, k2, k3, k4, k5)
+          (subst (λ z. Says (ended ts (expr_from ts n of_expr) z (λ x. tree.assume pos x)) stmt_of c.assume.result) (add-one pos) (c.assume.ensures.says.says n h));
+    })
 
 pub stmt-returns-then-is_keyword-7-clause-says : goal.stmt-returns-then-is_keyword-7-clause-says
 stmt-returns-then-is_keyword-7-clause-says t c = tells_deeper (record { depth = c.fork.ensures.says.depth; says = λ n h. let e0 = c.fork.ensures.says.says n (omega arith) in search rules })

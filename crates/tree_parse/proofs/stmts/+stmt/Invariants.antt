@@ -1,4 +1,4 @@
-use Rattle.std.proofs.Common.{length, ℕ, ◌+◌, ◌-◌, ◌*◌, ◌≤◌, map}
+use Rattle.std.proofs.Common.{length, ◌+◌, ◌-◌, ◌*◌, ◌≤◌, map}
 use Rattle.cocoon_syntax.specs.TreeOf.{stmt_of}
 use Rattle.tree_parse.specs.Reader.{many_from, stmt_from, closes}
 use Rattle.tree_parse.proofs.Given.{SoFar}

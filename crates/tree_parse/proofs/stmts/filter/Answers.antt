@@ -1,4 +1,4 @@
-use Rattle.std.proofs.Common.{rules, arith, ◌≤◌, ℕ, ◌+◌}
+use Rattle.std.proofs.Common.{rules, arith}
 use Rattle.tree_parse.specs.Reader.{after, marked}
 use Rattle.tree_parse.proofs.stmts.filter.Goals as goal
 

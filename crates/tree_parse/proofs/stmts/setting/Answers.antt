@@ -1,4 +1,4 @@
-use Rattle.std.proofs.Common.{rules, arith, ◌≤◌, ℕ, ◌+◌}
+use Rattle.std.proofs.Common.{rules, arith}
 use Rattle.std.proofs.lemmas.Grind.{common_steps}
 use Rattle.tree_parse.specs.Reader.{after, marked, setting_from}
 use Rattle.tree_parse.proofs.stmts.setting.Goals as goal

@@ -1,10 +1,10 @@
-use Rattle.std.proofs.Common.{rules, arith, ◌≡◌, ◌≤◌, ◌+◌, ◌^◌, ℕ, length, map, sym, ◌∙◌, ap, subst}
+use Rattle.std.proofs.Common.{arith, ◌≡◌, ◌≤◌, ◌^◌, length, map, sym, ◌∙◌, ap, subst}
 use Rattle.std.proofs.lemmas.List.{length-map}
 use Rattle.cocoon_num.specs.Reads.{BeginsDefs}
 use Rattle.cocoon_num.specs.Tokens.{kinds}
 use Rattle.cocoon_lex.specs.Kinds.{token_of}
 use Rattle.cocoon_syntax.specs.TreeOf.{entry_of}
-use Rattle.tree_parse.specs.Faults.{Finds, reach}
+use Rattle.tree_parse.specs.Faults.{reach}
 use Rattle.tree_parse.specs.Says.{kind_at, kinds_at}
 use Rattle.tree_parse.specs.Reader.{defs_from}
 use Rattle.tree_parse.specs.declared.fault.ParseFault.TheVariants.{Unexpected, TooDeep}

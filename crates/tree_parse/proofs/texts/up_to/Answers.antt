@@ -1,4 +1,4 @@
-use Rattle.std.proofs.Common.{arith, ◌≡◌, ◌<◌, ◌+◌, ◌^◌, ℕ, Some, length, take, subst, sym}
+use Rattle.std.proofs.Common.{arith, ◌<◌, ◌+◌, length, subst, sym}
 use Rattle.std.proofs.lemmas.List.{length-take-le}
 use Rattle.tree_parse.specs.Depth.{FirstDeep}
 use Rattle.tree_parse.proofs.WholeTexts.{deep_within}
