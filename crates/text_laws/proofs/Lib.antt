@@ -1,7 +1,3 @@
-pub mod DesignEnough
-pub mod DesignParts
-pub mod DesignReader
-pub mod DesignReads
 pub mod ProgramLists
 pub mod ProgramReader
 pub mod ProgramSpells

@@ -2,6 +2,5 @@
 #![tactic(auto)]
 
 pub mod deliveries;
-pub mod designs;
 pub mod networks;
 pub mod programs;

@@ -1,0 +1,14 @@
+pub mod Chains
+pub mod Depths
+pub mod Ends
+pub mod Enough
+pub mod Exact
+pub mod ExactExprs
+pub mod ExactParts
+pub mod Fails
+pub mod Given
+pub mod ReadsExprs
+pub mod ReadsParts
+pub mod Stays
+pub mod Whole
+pub mod WholeTexts

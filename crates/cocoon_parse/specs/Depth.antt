@@ -1,0 +1,35 @@
+-- The first token of a text at which too many brackets are open, or too many operators have come.
+use Rattle.std.specs.Prelude.{◌≡◌, ◌<◌, ◌+◌, ℕ, false, List, [], ◌∷◌, length, take, Option, Some, None, IsTrue, codes}
+use Rattle.cocoon_num.specs.Tokens.{Kind, mark, keyword, is_shallow, language_bounds}
+use Rattle.cocoon_lex.specs.Kinds.{keyword_text, mark_text}
+use Rattle.cocoon_lex.specs.declared.token.Keyword.{Keyword}
+use Rattle.cocoon_lex.specs.declared.token.Mark.{Mark}
+use Rattle.cocoon_lex.specs.declared.token.Token.{Token}
+use Rattle.cocoon_parse.specs.Says.{kinds_at}
+
+abbrev pub marked : Mark → Kind
+marked m = mark (mark_text m)
+
+abbrev pub worded : Keyword → Kind
+worded w = keyword (keyword_text w)
+
+-- the marks that open brackets, those that close them, and those after which operators are counted anew
+abbrev pub opening : List Kind
+opening = mark (codes "(") ∷ mark (codes "[") ∷ mark (codes "{") ∷ []
+
+abbrev pub closing : List Kind
+closing = mark (codes ")") ∷ mark (codes "]") ∷ mark (codes "}") ∷ []
+
+abbrev pub restarting : List Kind
+restarting = mark (codes ";") ∷ mark (codes "{") ∷ mark (codes "}") ∷ []
+
+-- the tokens before are not deep, and with this one they are
+pub record DeepAt (ks : List Kind) (d : ℕ) : Type 0 where
+  pub within : d < length ks
+  pub before : IsTrue (is_shallow language_bounds (take d ks))
+  pub deep : is_shallow language_bounds (take (d + 1) ks) ≡ false
+
+-- the first deep one of tokens, whatever text they stand in, or none
+abbrev pub FirstDeep : List Token → Option ℕ → Type 0
+FirstDeep tokens None = (text : List ℕ) → IsTrue (is_shallow language_bounds (kinds_at text tokens))
+FirstDeep tokens (Some d) = (text : List ℕ) → DeepAt (kinds_at text tokens) d

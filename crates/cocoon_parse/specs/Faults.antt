@@ -1,0 +1,31 @@
+-- The first fault of a text, from where a reading of its tokens up to the first deep one stops.
+use Rattle.std.specs.Prelude.{◌+◌, ◌<◌, ◌^◌, ℕ, nat_lt, List, take, Option, Some, None, if◌then◌else◌}
+use Rattle.cocoon_num.specs.Tokens.{Kind}
+use Rattle.cocoon_num.specs.Reads as reads
+use Rattle.cocoon_parse.specs.declared.fault.ParseFault.{ParseFault}
+use Rattle.cocoon_parse.specs.declared.fault.ParseFault.TheVariants as fault
+use Rattle.cocoon_parse.specs.declared.fault.Stop.{Stop}
+use Rattle.cocoon_parse.specs.declared.fault.Stop.TheVariants as stop
+
+-- the tokens up to and with the first deep one, or all
+abbrev pub reach : {A : Type 0} → Option ℕ → List A → List A
+reach None ts = ts
+reach (Some d) ts = take (d + 1) ts
+
+-- a reading that stops past the first deep token has met no other fault
+abbrev pub fault_of : Option ℕ → Stop → ParseFault
+fault_of None (stop.Unexpected i) = fault.Unexpected i
+fault_of (Some d) (stop.Unexpected i) = if nat_lt d i then fault.TooDeep d else fault.Unexpected i
+fault_of deep stop.NoMemory = fault.NoMemory
+
+-- the place of a fault is the index of a token
+abbrev pub Fits : ParseFault → Type 0
+Fits (fault.Unexpected i) = i < 2 ^ 32
+Fits (fault.TooDeep i) = i < 2 ^ 32
+Fits fault.NoMemory = Unit {0}
+
+-- the fault is the first of these tokens
+abbrev pub Finds : (List Kind → Type 0) → List Kind → ParseFault → Type 0
+Finds Begins ts (fault.Unexpected i) = reads.Unexpected Begins ts i
+Finds Begins ts (fault.TooDeep i) = reads.TooDeep Begins ts i
+Finds Begins ts fault.NoMemory = Unit {0}

@@ -1,0 +1,119 @@
+//! Definitions.
+ghost use Rattle.std.specs.Prelude.{◌<◌, ◌^◌, length, map};
+ghost use Rattle.cocoon_syntax.specs.TreeOf.{const_of, entry_of, pattern_of};
+ghost use Rattle.cocoon_parse.specs.Reader as reader;
+ghost use Rattle.cocoon_parse.specs.Says.{Moves, Says, Tells};
+
+use crate::cursor::Source;
+use crate::fault::Stop;
+use cocoon_lex::{Keyword, Mark};
+use cocoon_syntax::{Const, Entry, Pattern};
+use std::alloc::Global;
+
+#[tactic(auto, unfolding(crate::specs::Reader::const_from))]
+fn constant(source: &Source, pos: usize) -> Result<(Const, usize), Stop>
+    ensures says { Says (reader.const_from source.now pos) const_of result }
+    ensures moves { Moves pos (length source.now) result }
+{
+    if let Some(bits) = source.literal(pos) {
+        return Ok((Const::Number(bits), pos + 1));
+    }
+    if source.is_keyword(pos, Keyword::True) {
+        return Ok((Const::Truth(true), pos + 1));
+    }
+    source.expect_keyword(pos, Keyword::False)?;
+    Ok((Const::Truth(false), pos + 1))
+}
+
+/// A literal, a literal with its mask, or `_`.
+#[tactic(auto, unfolding(crate::specs::Reader::pattern_from))]
+fn pattern(source: &Source, pos: usize) -> Result<(Pattern, usize), Stop>
+    ensures says { Says (reader.pattern_from source.now pos) pattern_of result }
+    ensures moves { Moves pos (length source.now) result }
+{
+    if source.is_mark(pos, Mark::Any) {
+        return Ok((Pattern::Any, pos + 1));
+    }
+    let bits = source.demand_literal(pos)?;
+    if !source.is_mark(pos + 1, Mark::Mask) {
+        return Ok((Pattern::Literal(bits), pos + 1));
+    }
+    let mask = source.demand_literal(pos + 2)?;
+    Ok((Pattern::Masked(bits, mask), pos + 3))
+}
+
+/// `default f = v;`, from its first token on.
+#[tactic(auto, unfolding(crate::specs::Reader::default_from, crate::specs::Reader::named, crate::specs::Reader::marked, crate::specs::Reader::after))]
+fn default(alloc: Global, source: &Source, pos: usize) -> Result<(Entry, usize), Stop>
+    requires { pos < 2 ^ 32 }
+    ensures says { Says (reader.default_from source.now pos) entry_of result }
+    ensures moves { Moves pos (length source.now) result }
+{
+    let function = source.name(alloc, pos + 1)?;
+    source.expect(pos + 2, Mark::Assign)?;
+    let (value, next) = constant(source, pos + 3)?;
+    source.expect(next, Mark::Semicolon)?;
+    Ok((Entry::Default(function, value), next + 1))
+}
+
+/// One or more patterns with commas between.
+fn patterns(alloc: Global, source: &Source, pos: usize) -> Result<(Vec<Pattern>, usize), Stop>
+    ensures says { Tells (λ n. reader.commas_from source.now (λ m. reader.pattern_from source.now) n pos) (λ v. map pattern_of v.items) result }
+    ensures moves { Moves pos (length source.now) result }
+{
+    let mut patterns = Vec::new(alloc);
+    let (first, mut next) = pattern(source, pos)?;
+    patterns.push(first)?;
+    while source.is_mark(next, Mark::Comma) {
+        let (pattern, after) = pattern(source, next + 1)?;
+        patterns.push(pattern)?;
+        next = after;
+    }
+    Ok((patterns, next))
+}
+
+/// `define f(p, ..) = v;`, from its first token on.
+#[tactic(auto, unfolding(crate::specs::Reader::row_from, crate::specs::Reader::named, crate::specs::Reader::marked, crate::specs::Reader::after))]
+fn row(alloc: Global, source: &Source, pos: usize) -> Result<(Entry, usize), Stop>
+    requires { pos < 2 ^ 32 }
+    ensures says { Tells (λ n. reader.row_from source.now n pos) entry_of result }
+    ensures moves { Moves pos (length source.now) result }
+{
+    let function = source.name(alloc, pos + 1)?;
+    source.expect(pos + 2, Mark::OpenParen)?;
+    let (patterns, closing) = patterns(alloc, source, pos + 3)?;
+    source.expect(closing, Mark::CloseParen)?;
+    source.expect(closing + 1, Mark::Assign)?;
+    let (value, next) = constant(source, closing + 2)?;
+    source.expect(next, Mark::Semicolon)?;
+    Ok((Entry::Define(function, patterns, value), next + 1))
+}
+
+/// A default or a row.
+#[tactic(auto, unfolding(crate::specs::Reader::entry_from))]
+fn entry(alloc: Global, source: &Source, pos: usize) -> Result<(Entry, usize), Stop>
+    ensures says { Tells (λ n. reader.entry_from source.now n pos) entry_of result }
+    ensures moves { Moves pos (length source.now) result }
+{
+    if source.is_keyword(pos, Keyword::Default) {
+        return default(alloc, source, pos);
+    }
+    if source.is_keyword(pos, Keyword::Define) {
+        return row(alloc, source, pos);
+    }
+    Err(Stop::Unexpected(pos))
+}
+
+/// All definitions of a text, up to its end.
+pub fn entries(alloc: Global, source: &Source) -> Result<(Vec<Entry>, usize), Stop>
+    ensures { Tells (reader.defs_from source.now) (λ v. map entry_of v.items) result }
+{
+    let mut entries = Vec::new(alloc);
+    let mut next = 0;
+    'entries: while !source.is_end(next) {
+        let (entry, after) = entry(alloc, source, next)?;
+        entries.push(entry)?;
+        next = after;
+    }
+    Ok((entries, next))
+}
