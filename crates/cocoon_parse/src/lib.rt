@@ -11,6 +11,8 @@ pub mod laws;
 mod operators;
 mod parts;
 mod stmts;
+#[cfg(test)]
+mod tests;
 pub mod texts;
 
 pub use fault::ParseFault;
