@@ -7,19 +7,23 @@ use Rattle.cocoon_lex.specs.declared.token.Mark.{Mark}
 use Rattle.cocoon_lex.specs.declared.token.Token.{Token}
 use Rattle.cocoon_parse.specs.Says.{kinds_at}
 
+-- the kind of a mark
 abbrev pub marked : Mark → Kind
 marked m = mark (mark_text m)
 
+-- the kind of a reserved word
 abbrev pub worded : Keyword → Kind
 worded w = keyword (keyword_text w)
 
--- the marks that open brackets, those that close them, and those after which operators are counted anew
+-- the marks that open brackets
 abbrev pub opening : List Kind
 opening = mark (codes "(") ∷ mark (codes "[") ∷ mark (codes "{") ∷ []
 
+-- those that close them
 abbrev pub closing : List Kind
 closing = mark (codes ")") ∷ mark (codes "]") ∷ mark (codes "}") ∷ []
 
+-- those after which operators are counted anew
 abbrev pub restarting : List Kind
 restarting = mark (codes ";") ∷ mark (codes "{") ∷ mark (codes "}") ∷ []
 

@@ -1,4 +1,4 @@
--- The levels of operators as the parser has them.
+-- The levels of operators as the parser has them, and the parts of phrases for which it has functions of their own.
 use Rattle.std.specs.Prelude.{◌≡◌, ◌+◌, ℕ, suc, Bool, true, false, List, Option, Some, None, slice_get, Result, Ok, Err, if◌then◌else◌, codes}
 use Rattle.cocoon_num.specs.Tokens.{Kind}
 use Rattle.cocoon_num.specs.Tree.{Name, Expr, Exprs, name, call, lit, true_or_false, field, Stmt, havoc_field, havoc_var}
@@ -11,7 +11,7 @@ use Rattle.cocoon_parse.specs.declared.decls.Until.TheVariants.{Brace, Refine}
 use Rattle.cocoon_parse.specs.declared.operators.Chain.{Chain}
 use Rattle.cocoon_parse.specs.declared.operators.Chain.TheVariants.{Or, And, Concat, Bits, Sum}
 
--- the level of a chain, and that of its parts
+-- the level of a chain
 abbrev pub level_of : Chain → Level
 level_of Or = of_or
 level_of And = of_and
@@ -19,6 +19,7 @@ level_of Concat = of_cat
 level_of Bits = of_bit
 level_of Sum = of_sum
 
+-- the level of its parts
 abbrev pub part_of : Chain → Level
 part_of Or = of_and
 part_of And = of_cmp
@@ -32,6 +33,7 @@ name_or_call ts es i x =
     if is_mark (codes "(") (slice_get ts (i + 1)) then after (es (i + 2)) (λ xs j. marked ts (codes ")") j (good (call i x xs) (suc j)))
     else good (name i x.text) (suc i)
 
+-- a literal that stands at the place, or what the reading gives without it
 abbrev pub literal_or : ℕ → Option Literal → Read Expr → Read Expr
 literal_or i None r = r
 literal_or i (Some x) r = good (lit i x.width x.n) (suc i)
@@ -50,10 +52,11 @@ RangeAt ts j (Ok range) = (f : ℕ → ℕ → Read Expr) → sliced ts j f ≡ 
 RangeAt ts j (Err (Unexpected i)) = (f : ℕ → ℕ → Read Expr) → sliced ts j f ≡ bad i
 RangeAt ts j (Err NoMemory) = Unit {0}
 
--- the two forms of a havoc, from its first token on
+-- a havoc of a field, from its first token on
 abbrev pub havoc_field_from : List Kind → ℕ → Read Stmt
 havoc_field_from ts i = after (path_from ts (suc i)) (λ p j. marked ts (codes ";") j (good (havoc_field i p.header p.field) (suc j)))
 
+-- a havoc of a variable, from its first token on
 abbrev pub havoc_variable_from : List Kind → ℕ → Read Stmt
 havoc_variable_from ts i = after (param_from ts (suc i)) (λ p j. marked ts (codes ";") j (good (havoc_var i p.name p.width) (suc j)))
 

@@ -1,13 +1,13 @@
--- What a part of the parser answers where a reading of the tokens gives this.
+-- What a part of the parser answers, by what a reading of the tokens gives. Want of memory says nothing.
 use Rattle.std.specs.Prelude.{◌≡◌, ◌<◌, ◌≤◌, ℕ, List, map, slice_range, Bool, true, false, ⊤, Option, Some, None, Result, Ok, Err}
 use Rattle.cocoon_num.specs.Tokens.{Kind, word}
+use Rattle.cocoon_num.specs.declared.bits.Bits.{Bits}
 use Rattle.cocoon_lex.specs.Kinds.{kind_of}
 use Rattle.cocoon_lex.specs.declared.token.Token.{Token}
 use Rattle.cocoon_syntax.specs.declared.name.Name.{Name}
 use Rattle.cocoon_syntax.specs.TreeOf.{name_of}
 use Rattle.cocoon_parse.specs.declared.fault.Stop.{Stop}
 use Rattle.cocoon_parse.specs.declared.fault.Stop.TheVariants.{Unexpected, NoMemory}
-use Rattle.cocoon_num.specs.declared.bits.Bits.{Bits}
 use Rattle.cocoon_parse.specs.Reader as reader
 use Rattle.cocoon_parse.specs.Reader.{Read, good, bad, Path, name_at, plain_of}
 
@@ -57,7 +57,7 @@ TokenAt pos stands (Ok _) = stands ≡ true
 TokenAt pos stands (Err (Unexpected i)) = (stands ≡ false) × (i ≡ pos)
 TokenAt pos stands (Err NoMemory) = Unit {0}
 
--- a phrase was read, or the token was found that cannot be taken
+-- the reading gives the tree of what was read, and the place after it, or the place of the token that it cannot take
 abbrev pub Says : {A B : Type 0} → Read B → (A → B) → Result (A × ℕ) Stop → Type 0
 Says r f (Ok found) = r ≡ good (f found.0) found.1
 Says r f (Err (Unexpected i)) = r ≡ bad i
@@ -67,7 +67,7 @@ Says r f (Err NoMemory) = Unit {0}
 abbrev pub path_of : Name × Name → Path
 path_of p = record { header = name_of p.0; field = name_of p.1 }
 
--- the same of a reading with enough depth
+-- the same of a reading with enough depth: from some depth on
 pub record Tells {A B : Type 0} (F : ℕ → Read B) (f : A → B) (result : Result (A × ℕ) Stop) : Type 0 where
   pub depth : ℕ
   pub says : (n : ℕ) → depth ≤ n → Says (F n) f result

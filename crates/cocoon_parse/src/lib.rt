@@ -1,4 +1,5 @@
-//! The trees of texts.
+//! The trees of texts of designs and of definitions, or the first fault of a text. A text is gone over once, from the
+//! left and with one token ahead; no more of it is read than up to the first token that is too deep.
 #![tactic(auto)]
 
 mod cursor;
