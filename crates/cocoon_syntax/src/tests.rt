@@ -62,6 +62,18 @@ fn put_name(out: &mut String, name: &Name) -> Result<(), Fail> {
     put_text(out, &name.text)
 }
 
+fn put_typed(out: &mut String, name: &Name, width: u32) -> Result<(), Fail> {
+    put_name(out, name)?;
+    write!(out, " bit<{width}>")?;
+    Ok(())
+}
+
+fn put_field(out: &mut String, header: &Name, field: &Name) -> Result<(), Fail> {
+    put_name(out, header)?;
+    out.push('.')?;
+    put_name(out, field)
+}
+
 fn put_text(out: &mut String, text: &Text) -> Result<(), Fail> {
     out.push_str(std::str::from_utf8(text.bytes())?)?;
     Ok(())
@@ -72,10 +84,7 @@ fn put_expr(out: &mut String, expr: &Expr) -> Result<(), Fail> {
     write!(out, "{}:", expr.at)?;
     match &expr.kind {
         ExprKind::Name(text) => put_text(out, text)?,
-        ExprKind::Field(header, field) => {
-            put_name(out, header)?;
-            put_name(out, field)?;
-        }
+        ExprKind::Field(header, field) => put_field(out, header, field)?,
         ExprKind::Lit(bits) => write!(out, "{}w{}", bits.width, bits.value)?,
         ExprKind::Truth(truth) => write!(out, "{truth}")?,
         ExprKind::Call(function, args) => {
@@ -121,7 +130,7 @@ fn expressions(rt: HostRuntime) -> Result<(), Fail> {
     let copy = choice(alloc)?.copy(alloc)?;
     let mut out = String::new(alloc);
     put_expr(&mut out, &copy)?;
-    let want = "1:1:Not 2:2:f 4:x 6:true ? 9:9:9:11:e13:tag[7:4] Concat 20:4w3 : 22:8w1";
+    let want = "1:1:Not 2:2:f 4:x 6:true ? 9:9:9:11:e.13:tag[7:4] Concat 20:4w3 : 22:8w1";
     assert_eq!(rt; out.as_str(), want);
     Ok(())
 }
@@ -129,38 +138,39 @@ fn expressions(rt: HostRuntime) -> Result<(), Fail> {
 /// `let y: bit<8> = true; pkt.e.tag = true; filter true;`, from token 6.
 fn first_block(alloc: Global) -> Result<Vec<Stmt>, NoMemory> {
     let mut stmts = Vec::new(alloc);
-    let kind = StmtKind::Let(name(alloc, 7, "y")?, 8, truth(13));
+    let kind = StmtKind::Let(name(alloc, 7, "y")?, 8, truth(14));
     stmts.push(Stmt { at: 6, kind })?;
-    let header = name(alloc, 17, "e")?;
-    let kind = StmtKind::SetField(header, name(alloc, 19, "tag")?, truth(21));
-    stmts.push(Stmt { at: 15, kind })?;
-    let kind = StmtKind::Filter(truth(24));
-    stmts.push(Stmt { at: 23, kind })?;
+    let header = name(alloc, 18, "e")?;
+    let kind = StmtKind::SetField(header, name(alloc, 20, "tag")?, truth(22));
+    stmts.push(Stmt { at: 16, kind })?;
+    let kind = StmtKind::Filter(truth(25));
+    stmts.push(Stmt { at: 24, kind })?;
     Ok(stmts)
 }
 
-/// `havoc z: bit<4>; havoc pkt.e.tag; assume true;`, from token 31.
+/// `havoc z: bit<4>; havoc pkt.e.tag; assume true;`, from token 30.
 fn second_block(alloc: Global) -> Result<Vec<Stmt>, NoMemory> {
     let mut stmts = Vec::new(alloc);
-    let kind = StmtKind::HavocVar(name(alloc, 32, "z")?, 4);
-    stmts.push(Stmt { at: 31, kind })?;
-    let header = name(alloc, 42, "e")?;
-    let kind = StmtKind::HavocField(header, name(alloc, 44, "tag")?);
-    stmts.push(Stmt { at: 39, kind })?;
-    let kind = StmtKind::Assume(truth(47));
-    stmts.push(Stmt { at: 46, kind })?;
+    let kind = StmtKind::HavocVar(name(alloc, 31, "z")?, 4);
+    stmts.push(Stmt { at: 30, kind })?;
+    let header = name(alloc, 41, "e")?;
+    let kind = StmtKind::HavocField(header, name(alloc, 43, "tag")?);
+    stmts.push(Stmt { at: 38, kind })?;
+    let kind = StmtKind::Assume(truth(46));
+    stmts.push(Stmt { at: 45, kind })?;
     Ok(stmts)
 }
 
 /// `fork (p: bit<16> | true) { send S[true]; }`, from token 52.
 fn fork(alloc: Global) -> Result<Stmt, NoMemory> {
-    let role = name(alloc, 64, "S")?;
-    let kind = StmtKind::Send(role, vec![in alloc; truth(66)]?);
-    let body = vec![in alloc; Stmt { at: 63, kind }]?;
-    let kind = StmtKind::Fork(name(alloc, 54, "p")?, 16, truth(60), body);
+    let role = name(alloc, 65, "S")?;
+    let kind = StmtKind::Send(role, vec![in alloc; truth(67)]?);
+    let body = vec![in alloc; Stmt { at: 64, kind }]?;
+    let kind = StmtKind::Fork(name(alloc, 54, "p")?, 16, truth(61), body);
     Ok(Stmt { at: 52, kind })
 }
 
+/// An `if` over the two blocks, from token 1.
 fn branch(alloc: Global) -> Result<Stmt, NoMemory> {
     let first = first_block(alloc)?;
     let kind = StmtKind::If(truth(3), first, second_block(alloc)?);
@@ -172,49 +182,40 @@ fn put_stmt(out: &mut String, stmt: &Stmt) -> Result<(), Fail> {
     write!(out, "{}:", stmt.at)?;
     match &stmt.kind {
         StmtKind::Let(name, width, value) => {
-            put_name(out, name)?;
-            write!(out, " bit<{width}> = ")?;
-            put_expr(out, value)?;
+            put_typed(out, name, *width)?;
+            out.push_str(" = ")?;
+            put_expr(out, value)
         }
         StmtKind::SetField(header, field, value) => {
-            put_name(out, header)?;
-            put_name(out, field)?;
+            put_field(out, header, field)?;
             out.push_str(" = ")?;
-            put_expr(out, value)?;
+            put_expr(out, value)
         }
         StmtKind::If(condition, first, second) => {
             put_expr(out, condition)?;
             put_block(out, first)?;
-            put_block(out, second)?;
+            put_block(out, second)
         }
         StmtKind::Filter(condition) => {
             out.push_str("filter ")?;
-            put_expr(out, condition)?;
+            put_expr(out, condition)
         }
-        StmtKind::HavocVar(name, width) => {
-            put_name(out, name)?;
-            write!(out, " bit<{width}>")?;
-        }
-        StmtKind::HavocField(header, field) => {
-            put_name(out, header)?;
-            put_name(out, field)?;
-        }
+        StmtKind::HavocVar(name, width) => put_typed(out, name, *width),
+        StmtKind::HavocField(header, field) => put_field(out, header, field),
         StmtKind::Assume(condition) => {
             out.push_str("assume ")?;
-            put_expr(out, condition)?;
+            put_expr(out, condition)
         }
         StmtKind::Fork(name, width, condition, body) => {
-            put_name(out, name)?;
-            write!(out, " bit<{width}> ")?;
+            put_typed(out, name, *width)?;
             put_expr(out, condition)?;
-            put_block(out, body)?;
+            put_block(out, body)
         }
         StmtKind::Send(role, args) => {
             put_name(out, role)?;
-            put_exprs(out, args)?;
+            put_exprs(out, args)
         }
     }
-    Ok(())
 }
 
 #[cycle(stmts)]
@@ -236,9 +237,9 @@ fn statements(rt: HostRuntime) -> Result<(), Fail> {
     let mut out = String::new(alloc);
     put_stmt(&mut out, &branch)?;
     put_stmt(&mut out, &fork)?;
-    let want = "1:3:true { 6:7:y bit<8> = 13:true 15:17:e19:tag = 21:true 23:filter 24:true } \
-        { 31:32:z bit<4> 39:42:e44:tag 46:assume 47:true }\
-        52:54:p bit<16> 60:true { 63:64:S 66:true }";
+    let want = "1:3:true { 6:7:y bit<8> = 14:true 16:18:e.20:tag = 22:true 24:filter 25:true } \
+        { 30:31:z bit<4> 38:41:e.43:tag 45:assume 46:true }\
+        52:54:p bit<16>61:true { 64:65:S 67:true }";
     assert_eq!(rt; out.as_str(), want);
     Ok(())
 }
@@ -248,7 +249,7 @@ fn role(alloc: Global) -> Result<Role, NoMemory> {
     Ok(Role {
         name: name(alloc, 71, "R")?,
         params: one_param(alloc, 73, "s", 16)?,
-        guard: truth(80),
+        guard: truth(81),
         body: Some(vec![in alloc; fork(alloc)?]?),
     })
 }
@@ -258,7 +259,7 @@ fn sink(alloc: Global) -> Result<Role, NoMemory> {
     Ok(Role {
         name: name(alloc, 111, "B")?,
         params: one_param(alloc, 113, "b", 16)?,
-        guard: truth(120),
+        guard: truth(121),
         body: None,
     })
 }
@@ -266,8 +267,7 @@ fn sink(alloc: Global) -> Result<Role, NoMemory> {
 fn put_params(out: &mut String, params: &[Param]) -> Result<(), Fail> {
     for param in params {
         out.push(' ')?;
-        put_name(out, &param.name)?;
-        write!(out, " bit<{}>", param.width)?;
+        put_typed(out, &param.name, param.width)?;
     }
     Ok(())
 }
@@ -289,7 +289,7 @@ fn roles(rt: HostRuntime) -> Result<(), Fail> {
     let role = role(alloc)?.copy(alloc)?;
     let mut out = String::new(alloc);
     put_role(&mut out, &role)?;
-    let want = "71:R 73:s bit<16> | 80:true { 52:54:p bit<16> 60:true { 63:64:S 66:true } }";
+    let want = "71:R 73:s bit<16> | 81:true { 52:54:p bit<16>61:true { 64:65:S 67:true } }";
     assert_eq!(rt; out.as_str(), want);
     Ok(())
 }
@@ -299,7 +299,7 @@ fn function(alloc: Global) -> Result<FunctionDecl, NoMemory> {
         name: name(alloc, 91, "f")?,
         params: one_param(alloc, 93, "x", 16)?,
         result: ResultKind::Width(8),
-        body: Some(truth(105)),
+        body: Some(truth(106)),
     })
 }
 
@@ -423,9 +423,9 @@ fn designs(rt: HostRuntime) -> Result<(), Fail> {
     for refine in &copy.refines {
         put_refine(&mut out, refine)?;
     }
-    let want = "86:e 88:tag bit<8>; 91:f 93:x bit<16> Width(8)105:true; \
+    let want = "86:e 88:tag bit<8>; 91:f 93:x bit<16> Width(8)106:true; \
         122:assume 124:a bit<16>131:true; \
-        150:2 151:A = 111:B 113:b bit<16> | 120:true; 133:host 135:A137:B; 140:switch 4 142:C144:D; ";
+        150:2 151:A = 111:B 113:b bit<16> | 121:true; 133:host 135:A137:B; 140:switch 4 142:C144:D; ";
     assert_eq!(rt; out.as_str(), want);
     Ok(())
 }
