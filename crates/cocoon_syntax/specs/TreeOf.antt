@@ -1,5 +1,6 @@
 -- The trees of the definitions that the trees of the code stand for.
-use Rattle.std.specs.Prelude.{ℕ, List, [], ◌∷◌, map, option_map}
+use Rattle.std.specs.Prelude.{ℕ, List, [], ◌∷◌, map, option_map, Vec}
+use Rattle.std.specs.declared.alloc.Global.{Global}
 use Rattle.cocoon_num.specs.Tree as tree
 use Rattle.cocoon_num.specs.Values as values
 use Rattle.cocoon_syntax.specs.declared.name.Name.{Name}
@@ -145,12 +146,12 @@ abbrev pub assume_of : AssumeDecl → tree.AssumeDecl
 assume_of a = record { at = a.at; params = map param_of a.params.items; body = expr_of a.body }
 
 -- the body of a role
-abbrev pub body_of : List Stmt → tree.Block
-body_of ss = block_of (map stmt_of ss)
+abbrev pub body_of : Vec Stmt Global → tree.Block
+body_of ss = block_of (map stmt_of ss.items)
 
 -- the role
 abbrev pub role_of : Role → tree.Role
-role_of r = record { name = name_of r.name; params = map param_of r.params.items; guard = expr_of r.guard; body = option_map (λ ss. body_of ss.items) r.body }
+role_of r = record { name = name_of r.name; params = map param_of r.params.items; guard = expr_of r.guard; body = option_map body_of r.body }
 
 -- the two roles of hosts
 abbrev pub host_of : HostDecl → tree.HostDecl

@@ -234,7 +234,7 @@ fn copy_value(alloc: Global, value: &Option<Expr>) -> Result<Option<Expr>, NoMem
 }
 
 fn copy_body(alloc: Global, body: &Option<Vec<Stmt>>) -> Result<Option<Vec<Stmt>>, NoMemory>
-    ensures { IfOk result (λ copy. option_map (λ ss. body_of ss.items) copy ≡ option_map (λ ss. body_of ss.items) body.now) }
+    ensures { IfOk result (λ copy. option_map body_of copy ≡ option_map body_of body.now) }
 {
     match body {
         Some(stmts) => Ok(Some(copy_stmts(alloc, stmts)?)),

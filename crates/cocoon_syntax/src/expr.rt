@@ -31,7 +31,7 @@ pub enum BinaryOp {
     Implies,
 }
 
-/// An expression at its place: its first token, or that of its first part.
+/// An expression, and the index of its first token, brackets apart.
 #[cycle(expr)]
 #[derive(Drop)]
 pub struct Expr {

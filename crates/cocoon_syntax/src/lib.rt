@@ -20,3 +20,6 @@ pub use defs::{Const, DefsText, Entry, Pattern};
 pub use expr::{BinaryOp, Expr, ExprKind, UnaryOp};
 pub use name::Name;
 pub use stmt::{Stmt, StmtKind};
+
+#[cfg(test)]
+mod tests;
