@@ -4,7 +4,8 @@ use Rattle.std.proofs.Common.{eqb-true, sym, ◌∙◌, ap, subst, arith}
 use Rattle.std.proofs.lemmas.List.{drop_all, append_assoc, append-nil}
 use Rattle.cocoon_num.specs.Packets.{Packet, Layout, total, byte_count, with_header, enter, FieldsFit, PacketFits}
 use Rattle.cocoon_num.specs.Lists.{each}
-use Rattle.plain_runs.specs.Widths.{is_header, is_width}
+use Rattle.cocoon_num.specs.Sorts.{is_declared_width}
+use Rattle.plain_runs.specs.Widths.{is_header}
 use Rattle.plain_runs.proofs.Packing.{cut_fits}
 
 -- these headers stand before those that entered
@@ -23,7 +24,7 @@ both_true false b h = cc h
 -- a header of so many bytes has eight times as many bits
 pub whole : (ws : List ℕ) (n : ℕ) → IsTrue (is_header ws) → byte_count ws ≡ n → total ws ≡ 8 * n
 whole ws n h e =
-    let none_left : total ws % 8 ≡ 0 = eqb-true (total ws % 8) 0 (both_true (each is_width ws) (total ws % 8 == 0) h).1 in
+    let none_left : total ws % 8 ≡ 0 = eqb-true (total ws % 8) 0 (both_true (each is_declared_width ws) (total ws % 8 == 0) h).1 in
     omega arith
 
 -- and of so many bits as many bytes are made

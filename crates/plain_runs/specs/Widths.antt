@@ -1,6 +1,7 @@
 -- Widths and bits. A bit is a number of the width 1.
-use Rattle.std.specs.Prelude.{ℕ, ◌==◌, ◌%◌, ◌&&◌, nat_le, Bool, List, replicate}
+use Rattle.std.specs.Prelude.{ℕ, ◌==◌, ◌%◌, ◌&&◌, Bool, List, replicate}
 use Rattle.cocoon_num.specs.Lists.{each}
+use Rattle.cocoon_num.specs.Sorts.{is_declared_width}
 use Rattle.cocoon_num.specs.Packets.{Layout, total, packed, cut}
 
 -- so many fields of one bit
@@ -11,13 +12,9 @@ ones count = replicate count 1
 abbrev pub bits_of : List ℕ → List ℕ → List ℕ
 bits_of ws ns = cut (ones (total ws)) (packed ws ns)
 
--- a field has 1 to 64 bits
-abbrev pub is_width : ℕ → Bool
-is_width w = nat_le 1 w && nat_le w 64
-
 -- each field has 1 to 64 bits, and they fill bytes
 abbrev pub is_header : List ℕ → Bool
-is_header ws = each is_width ws && (total ws % 8 == 0)
+is_header ws = each is_declared_width ws && (total ws % 8 == 0)
 
 -- such are all the headers
 abbrev pub is_layout : Layout → Bool

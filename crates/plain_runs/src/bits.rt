@@ -2,7 +2,8 @@
 ghost use Rattle.std.specs.Prelude.{◌≡◌, ◌+◌, ◌*◌, ◌<◌, ◌≤◌, ◌++◌, ◌^◌, IfOk, IsTrue, OnOk, length};
 ghost use Rattle.cocoon_num.specs.Lists.{each};
 ghost use Rattle.cocoon_num.specs.Packets.{cut, eights, FieldsFit, packed, total};
-ghost use Rattle.plain_runs.specs.Widths.{bits_of, is_width, ones};
+ghost use Rattle.cocoon_num.specs.Sorts.{is_declared_width};
+ghost use Rattle.plain_runs.specs.Widths.{bits_of, ones};
 
 use cocoon_num::NoMemory;
 use std::alloc::Global;
@@ -32,7 +33,7 @@ pub fn bits_of_bytes(alloc: Global, bytes: &[u8]) -> Result<Vec<u8>, NoMemory>
 
 /// The bits of fields of these widths.
 pub fn bits_of_fields(alloc: Global, widths: &[u8], fields: &[u64]) -> Result<Vec<u8>, NoMemory>
-    requires narrow { IsTrue (each is_width widths.now) }
+    requires narrow { IsTrue (each is_declared_width widths.now) }
     requires fit { FieldsFit widths.now fields.now }
     ensures { IfOk result (λ v. v.items ≡ bits_of widths.now fields.now) }
 {
@@ -59,7 +60,7 @@ fn number(bits: &[u8]) -> u64
 
 /// The fields of these widths that bits make, which are as many as the widths say.
 pub fn fields_of_bits(alloc: Global, widths: &[u8], bits: &[u8]) -> Result<Vec<u64>, NoMemory>
-    requires narrow { IsTrue (each is_width widths.now) }
+    requires narrow { IsTrue (each is_declared_width widths.now) }
     requires long { total widths.now ≡ length bits.now }
     requires fit { FieldsFit (ones (length bits.now)) bits.now }
     ensures { IfOk result (λ v. v.items ≡ cut widths.now (packed (ones (length bits.now)) bits.now)) }

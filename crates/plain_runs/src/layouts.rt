@@ -4,6 +4,7 @@ ghost use Rattle.cocoon_num.specs.Lists.{each};
 ghost use Rattle.cocoon_num.specs.Packets as packets;
 ghost use Rattle.p4_emit.specs.P4Tree.{field_widths, program_layout};
 ghost use Rattle.p4_emit.specs.Program.{field_of, program_of};
+ghost use Rattle.cocoon_num.specs.Sorts.{is_declared_width};
 ghost use Rattle.plain_runs.specs.Widths as spec;
 
 use cocoon_num::{List, NoMemory};
@@ -40,7 +41,7 @@ fn is_header(widths: &[u8]) -> bool
 }
 
 fn are_widths(widths: &[u8]) -> bool
-    ensures { result ≡ each spec.is_width widths.now }
+    ensures { result ≡ each is_declared_width widths.now }
 {
     for width in widths {
         if *width < 1 || *width > 64 {
