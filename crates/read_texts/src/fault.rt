@@ -53,15 +53,15 @@ pub fn first_fault(alloc: Global, grammar: Grammar, text: &[u8]) -> Result<Optio
 {
     match lex(alloc, text) {
         Ok(tokens) => fault_of_tokens(alloc, grammar, text, tokens.as_slice()),
-        Err(LexFault::BadByte(at)) => Ok(found(FaultKind::BadByte, at)),
-        Err(LexFault::BadNumber(at)) => Ok(found(FaultKind::BadNumber, at)),
-        Err(LexFault::OpenComment(at)) => Ok(found(FaultKind::OpenComment, at)),
+        Err(LexFault::BadByte(at)) => Ok(Some(fault_at(FaultKind::BadByte, at))),
+        Err(LexFault::BadNumber(at)) => Ok(Some(fault_at(FaultKind::BadNumber, at))),
+        Err(LexFault::OpenComment(at)) => Ok(Some(fault_at(FaultKind::OpenComment, at))),
         Err(LexFault::NoMemory) => Err(NoMemory),
     }
 }
 
-fn found(kind: FaultKind, at: u32) -> Option<Fault> {
-    Some(Fault { kind, at })
+fn fault_at(kind: FaultKind, at: u32) -> Fault {
+    Fault { kind, at }
 }
 
 /// The first fault of a text with these tokens.
@@ -78,9 +78,11 @@ fn fault_of_tokens(
     match parse_fault(alloc, grammar, text, tokens) {
         None => Ok(None),
         Some(ParseFault::Unexpected(index)) => {
-            Ok(found(FaultKind::Unexpected, offset(tokens, index)))
+            Ok(Some(fault_at(FaultKind::Unexpected, offset(tokens, index))))
         }
-        Some(ParseFault::TooDeep(index)) => { Ok(found(FaultKind::TooDeep, offset(tokens, index))) }
+        Some(ParseFault::TooDeep(index)) => {
+            Ok(Some(fault_at(FaultKind::TooDeep, offset(tokens, index))))
+        }
         Some(ParseFault::NoMemory) => Err(NoMemory),
     }
 }
