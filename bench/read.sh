@@ -32,7 +32,7 @@ design() {
       return text "  send R" number + 1 "[" sum("a", 40) ", " sum("b", 40) "];\n}\n"
     }
     function part(number) {
-      return "function f" number "(a: bit<16>, b: bit<16>): bit<16> = " sum("(a & ~ b)", 50) ";\n" role(number)
+      return "function f" number "(a: bit<16>, b: bit<16>): bit<16> = " sum("(a & ~ b)", 30) ";\n" role(number)
     }
     BEGIN {
       printf "packet { header e { tag: bit<8>; } }\nfunction h(a: bit<16>): bool;\n"
@@ -63,25 +63,32 @@ definitions() {
     }'
 }
 
-# The least wall time of the runs over a file, in microseconds.
-least() {
-  best=
-  for _ in $(seq "$runs"); do
-    before=$(date +%s%N)
-    "$program" "$1" <"$2" >"$folder/said" || exit 1
-    after=$(date +%s%N)
-    [ "$(cat "$folder/said")" = read ] || exit 1
-    taken=$(((after - before) / 1000))
-    if [ -z "$best" ] || [ "$taken" -lt "$best" ]; then best=$taken; fi
-  done
-  echo "$best"
+# The wall time of one run over a file, in microseconds.
+taken() {
+  before=$(date +%s%N)
+  "$program" "$1" <"$2" >"$folder/said" || return 1
+  after=$(date +%s%N)
+  [ "$(cat "$folder/said")" = read ] || return 1
+  echo "$(((after - before) / 1000))"
 }
 
-# Two texts, the whole and the half, and their ratio.
+# The lesser of two numbers, of which the first may be missing.
+lesser() {
+  if [ -z "$1" ] || [ "$2" -lt "$1" ]; then echo "$2"; else echo "$1"; fi
+}
+
+# The least times of a whole text and of its half, run in turn, and their ratio.
 compare() {
-  whole=$(least "$1" "$folder/whole") || return 1
-  half=$(least "$1" "$folder/half") || return 1
-  echo "$1: $(wc -c <"$folder/whole") bytes in $whole us, $(wc -c <"$folder/half") bytes in $half us, ratio $(awk -v a="$whole" -v b="$half" 'BEGIN { printf "%.2f", a / b }')"
+  whole=
+  half=
+  for _ in $(seq "$runs"); do
+    time=$(taken "$1" "$folder/whole") || return 1
+    whole=$(lesser "$whole" "$time")
+    time=$(taken "$1" "$folder/half") || return 1
+    half=$(lesser "$half" "$time")
+  done
+  ratio=$(awk -v a="$whole" -v b="$half" 'BEGIN { printf "%.2f", a / b }')
+  echo "$1: $(wc -c <"$folder/whole") bytes in $whole us, $(wc -c <"$folder/half") bytes in $half us, ratio $ratio"
 }
 
 design 1048576 >"$folder/whole"
