@@ -1,10 +1,11 @@
 #!/bin/sh
-# Measures how long reading takes: a design of 1 MiB and one of half, definitions of 4 MiB and of 2 MiB. Each is read five
-# times by the built program `read_texts`, and the least wall time counts. Build it before: `rt run` in crates/read_texts.
+# Measures how long reading takes: a design of 1 MiB and one of half, definitions of 4 MiB and of 2 MiB. Each is read by
+# the built program `read_texts` five times, or as often as the first word says, and the least wall time counts. Build it
+# before: `rt run -- design <stdin` in crates/read_texts.
 
 top=$(CDPATH='' cd -- "$(dirname -- "$0")/.." && pwd) || exit 2
 program=$top/crates/read_texts/out/read_texts
-runs=5
+runs=${1:-5}
 
 if ! [ -x "$program" ]; then
   echo 'read.sh: run `rt run -- design <stdin` in crates/read_texts first' >&2
