@@ -47,7 +47,7 @@ fn value(alloc: Global, source: &Source, pos: usize) -> Result<(Option<Expr>, us
 
 /// `;` or `= { .. }`.
 fn body(alloc: Global, source: &Source, pos: usize) -> Result<(Option<Vec<Stmt>>, usize), Stop>
-    ensures says { Tells (λ n. reader.role_body_from source.now n pos) (λ b. option_map (λ ss. body_of ss.items) b) result }
+    ensures says { Tells (λ n. reader.role_body_from source.now n pos) (λ b. option_map body_of b) result }
     ensures moves { Moves pos (length source.now) result }
 {
     if source.is_mark(pos, Mark::Semicolon) {
