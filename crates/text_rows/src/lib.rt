@@ -22,3 +22,5 @@ mod statements;
 mod texts;
 #[cfg(test)]
 mod tokens;
+#[cfg(test)]
+mod trees;
