@@ -18,59 +18,38 @@ const TOO_LONG: usize = 0x8000_0000;
 
 fn put_text(out: &mut String, text: &Text, at: u32) -> Result<(), Fail> {
     out.push_str(std::str::from_utf8(text.bytes())?)?;
-    write!(out, "@{at}")?;
-    Ok(())
+    Ok(write!(out, "@{at}")?)
 }
 
 fn put_name(out: &mut String, name: &Name) -> Result<(), Fail> {
+    out.push(' ')?;
     put_text(out, &name.text, name.at)
 }
 
 fn put_typed(out: &mut String, name: &Name, width: u32) -> Result<(), Fail> {
     put_name(out, name)?;
-    write!(out, ":{width}")?;
-    Ok(())
+    Ok(write!(out, ":{width}")?)
 }
 
 fn put_field(out: &mut String, header: &Name, field: &Name) -> Result<(), Fail> {
     put_name(out, header)?;
     out.push('.')?;
-    put_name(out, field)
-}
-
-fn put_bits(out: &mut String, bits: &Bits) -> Result<(), Fail> {
-    write!(out, "{}w{}", bits.width, bits.value)?;
-    Ok(())
+    put_text(out, &field.text, field.at)
 }
 
 #[cycle(exprs)]
 fn put_expr(out: &mut String, expr: &Expr) -> Result<(), Fail> {
     let at = expr.at;
     match &expr.kind {
-        ExprKind::Name(text) => put_text(out, text, at),
-        ExprKind::Lit(bits) => {
-            put_bits(out, bits)?;
-            write!(out, "@{at}")?;
-            Ok(())
-        }
-        ExprKind::Truth(truth) => {
-            write!(out, "{truth}@{at}")?;
-            Ok(())
-        }
-        kind => put_node(out, at, kind),
-    }
-}
-
-/// An expression of parts.
-#[cycle(exprs)]
-fn put_node(out: &mut String, at: u32, kind: &ExprKind) -> Result<(), Fail> {
-    match kind {
+        ExprKind::Name(text) => return put_text(out, text, at),
+        ExprKind::Lit(bits) => return Ok(write!(out, "{}w{}@{at}", bits.width, bits.value)?),
+        ExprKind::Truth(truth) => return Ok(write!(out, "{truth}@{at}")?),
         ExprKind::Field(header, field) => {
-            write!(out, "(pkt@{at} ")?;
+            write!(out, "(pkt@{at}")?;
             put_field(out, header, field)?;
         }
         ExprKind::Call(function, args) => {
-            write!(out, "(call@{at} ")?;
+            write!(out, "(call@{at}")?;
             put_name(out, function)?;
             put_exprs(out, args)?;
         }
@@ -94,12 +73,11 @@ fn put_node(out: &mut String, at: u32, kind: &ExprKind) -> Result<(), Fail> {
             put_part(out, first)?;
             put_part(out, second)?;
         }
-        _ => {}
     }
-    out.push(')')?;
-    Ok(())
+    Ok(out.push(')')?)
 }
 
+/// An expression behind a blank, as part of a node.
 #[cycle(exprs)]
 fn put_part(out: &mut String, expr: &Expr) -> Result<(), Fail> {
     out.push(' ')?;
@@ -114,65 +92,51 @@ fn put_exprs(out: &mut String, exprs: &[Expr]) -> Result<(), Fail> {
     Ok(())
 }
 
+fn stmt_name(kind: &StmtKind) -> &'static str {
+    match kind {
+        StmtKind::Let(..) => "let",
+        StmtKind::SetField(..) => "set",
+        StmtKind::If(..) => "if",
+        StmtKind::Filter(_) => "filter",
+        StmtKind::HavocVar(..) | StmtKind::HavocField(..) => "havoc",
+        StmtKind::Assume(_) => "assume",
+        StmtKind::Fork(..) => "fork",
+        StmtKind::Send(..) => "send",
+    }
+}
+
 #[cycle(stmts)]
 fn put_stmt(out: &mut String, stmt: &Stmt) -> Result<(), Fail> {
-    let at = stmt.at;
+    write!(out, "({}@{}", stmt_name(&stmt.kind), stmt.at)?;
     match &stmt.kind {
         StmtKind::Let(name, width, value) => {
-            write!(out, "(let@{at} ")?;
             put_typed(out, name, *width)?;
             put_part(out, value)?;
         }
         StmtKind::SetField(header, field, value) => {
-            write!(out, "(set@{at} ")?;
             put_field(out, header, field)?;
             put_part(out, value)?;
         }
-        StmtKind::Filter(condition) => {
-            write!(out, "(filter@{at}")?;
-            put_part(out, condition)?;
-        }
-        StmtKind::HavocVar(name, width) => {
-            write!(out, "(havoc@{at} ")?;
-            put_typed(out, name, *width)?;
-        }
-        StmtKind::HavocField(header, field) => {
-            write!(out, "(havoc@{at} ")?;
-            put_field(out, header, field)?;
-        }
-        StmtKind::Assume(condition) => {
-            write!(out, "(assume@{at}")?;
-            put_part(out, condition)?;
-        }
-        kind => put_last(out, at, kind)?,
-    }
-    out.push(')')?;
-    Ok(())
-}
-
-/// A statement with blocks, or a `send`.
-#[cycle(stmts)]
-fn put_last(out: &mut String, at: u32, kind: &StmtKind) -> Result<(), Fail> {
-    match kind {
         StmtKind::If(condition, first, second) => {
-            write!(out, "(if@{at}")?;
             put_part(out, condition)?;
             put_block(out, first)?;
-            put_block(out, second)
+            put_block(out, second)?;
         }
+        StmtKind::Filter(condition) => put_part(out, condition)?,
+        StmtKind::HavocVar(name, width) => put_typed(out, name, *width)?,
+        StmtKind::HavocField(header, field) => put_field(out, header, field)?,
+        StmtKind::Assume(condition) => put_part(out, condition)?,
         StmtKind::Fork(name, width, condition, body) => {
-            write!(out, "(fork@{at} ")?;
             put_typed(out, name, *width)?;
             put_part(out, condition)?;
-            put_block(out, body)
+            put_block(out, body)?;
         }
         StmtKind::Send(role, args) => {
-            write!(out, "(send@{at} ")?;
             put_name(out, role)?;
-            put_exprs(out, args)
+            put_exprs(out, args)?;
         }
-        _ => Ok(()),
     }
+    Ok(out.push(')')?)
 }
 
 #[cycle(stmts)]
@@ -181,20 +145,18 @@ fn put_block(out: &mut String, stmts: &[Stmt]) -> Result<(), Fail> {
     for stmt in stmts {
         put_stmt(out, stmt)?;
     }
-    out.push('}')?;
-    Ok(())
+    Ok(out.push('}')?)
 }
 
 fn put_params(out: &mut String, params: &[Param]) -> Result<(), Fail> {
     for param in params {
-        out.push(' ')?;
         put_typed(out, &param.name, param.width)?;
     }
     Ok(())
 }
 
 fn put_function(out: &mut String, function: &FunctionDecl) -> Result<(), Fail> {
-    out.push_str("(function ")?;
+    out.push_str("(function")?;
     put_name(out, &function.name)?;
     put_params(out, &function.params)?;
     match function.result {
@@ -208,7 +170,7 @@ fn put_function(out: &mut String, function: &FunctionDecl) -> Result<(), Fail> {
 }
 
 fn put_role(out: &mut String, role: &Role) -> Result<(), Fail> {
-    out.push_str("(role ")?;
+    out.push_str("(role")?;
     put_name(out, &role.name)?;
     put_params(out, &role.params)?;
     put_part(out, &role.guard)?;
@@ -228,21 +190,18 @@ fn put_decl(out: &mut String, decl: &Decl) -> Result<(), Fail> {
         }
         Decl::Role(role) => put_role(out, role)?,
         Decl::Host(host) => {
-            write!(out, "(host@{} ", host.at)?;
+            write!(out, "(host@{}", host.at)?;
             put_name(out, &host.entry)?;
-            out.push(' ')?;
             put_name(out, &host.sink)?;
         }
         Decl::Switch(switch) => {
-            write!(out, "(switch@{} ", switch.at)?;
+            write!(out, "(switch@{}", switch.at)?;
             put_name(out, &switch.into)?;
-            out.push(' ')?;
             put_name(out, &switch.out)?;
             write!(out, " {}", switch.ports)?;
         }
     }
-    out.push(')')?;
-    Ok(())
+    Ok(out.push(')')?)
 }
 
 fn put_decls(out: &mut String, decls: &[Decl]) -> Result<(), Fail> {
@@ -254,11 +213,10 @@ fn put_decls(out: &mut String, decls: &[Decl]) -> Result<(), Fail> {
 }
 
 fn put_header(out: &mut String, header: &HeaderDecl) -> Result<(), Fail> {
-    out.push_str(" (header ")?;
+    out.push_str(" (header")?;
     put_name(out, &header.name)?;
     put_params(out, &header.fields)?;
-    out.push(')')?;
-    Ok(())
+    Ok(out.push(')')?)
 }
 
 fn put_headers(out: &mut String, headers: &[HeaderDecl]) -> Result<(), Fail> {
@@ -271,13 +229,11 @@ fn put_headers(out: &mut String, headers: &[HeaderDecl]) -> Result<(), Fail> {
 fn put_refine(out: &mut String, refine: &Refine) -> Result<(), Fail> {
     write!(out, " (refine@{}", refine.at)?;
     for role in &refine.roles {
-        out.push(' ')?;
         put_name(out, role)?;
     }
     write!(out, " {}", refine.within)?;
     put_decls(out, &refine.decls)?;
-    out.push(')')?;
-    Ok(())
+    Ok(out.push(')')?)
 }
 
 fn put_design(out: &mut String, design: &Design) -> Result<(), Fail> {
@@ -287,8 +243,11 @@ fn put_design(out: &mut String, design: &Design) -> Result<(), Fail> {
     for refine in &design.refines {
         put_refine(out, refine)?;
     }
-    out.push(')')?;
-    Ok(())
+    Ok(out.push(')')?)
+}
+
+fn put_bits(out: &mut String, bits: &Bits) -> Result<(), Fail> {
+    Ok(write!(out, "{}w{}", bits.width, bits.value)?)
 }
 
 fn put_pattern(out: &mut String, pattern: &Pattern) -> Result<(), Fail> {
@@ -310,19 +269,18 @@ fn put_value(out: &mut String, value: &Const) -> Result<(), Fail> {
         Const::Number(bits) => put_bits(out, bits)?,
         Const::Truth(truth) => write!(out, "{truth}")?,
     }
-    out.push(')')?;
-    Ok(())
+    Ok(out.push(')')?)
 }
 
 fn put_entry(out: &mut String, entry: &Entry) -> Result<(), Fail> {
     match entry {
         Entry::Default(function, value) => {
-            out.push_str(" (default ")?;
+            out.push_str(" (default")?;
             put_name(out, function)?;
             put_value(out, value)
         }
         Entry::Define(function, patterns, value) => {
-            out.push_str(" (define ")?;
+            out.push_str(" (define")?;
             put_name(out, function)?;
             for pattern in patterns {
                 put_pattern(out, pattern)?;
@@ -337,11 +295,10 @@ fn put_definitions(out: &mut String, definitions: &DefsText) -> Result<(), Fail>
     for entry in &definitions.entries {
         put_entry(out, entry)?;
     }
-    out.push(')')?;
-    Ok(())
+    Ok(out.push(')')?)
 }
 
-/// The tree of a text, or nothing where it does not read.
+/// The tree of a text that reads.
 fn tree(rt: &impl Abort, alloc: Global, grammar: Grammar, text: &str) -> Result<String, Fail> {
     let bytes = text.as_bytes();
     assert!(rt; bytes.len() < TOO_LONG);
