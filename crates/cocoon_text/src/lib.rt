@@ -1,0 +1,12 @@
+//! Whole texts of designs and of definitions: the tree of a text, or its first fault with its line and column. This is
+//! where bytes become trees.
+#![tactic(auto)]
+
+pub mod fault;
+pub mod laws;
+#[cfg(test)]
+mod tests;
+pub mod texts;
+
+pub use fault::{FaultKind, TextFault, Unread};
+pub use texts::{read_defs, read_design};
