@@ -1,0 +1,4 @@
+pub mod Found
+pub mod OneFault
+pub mod Within
+pub mod Words
