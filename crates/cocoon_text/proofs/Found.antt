@@ -1,9 +1,7 @@
 -- From the fault that was found to why the text has no tree.
-use Rattle.std.specs.Prelude.{◌≡◌, ℕ, List, length, map, slice_get, Some, Result, Ok, Err, refl}
+use Rattle.std.specs.Prelude.{◌≡◌, ℕ, List, map, slice_get, Some, Result, Ok, Err, refl}
 use Rattle.std.proofs.Common.{sym, ◌∙◌, ap, subst}
-use Rattle.std.proofs.lemmas.List.{length-map}
 use Rattle.std.proofs.lemmas.Option.{slice_get-map}
-use Rattle.cocoon_num.specs.Tokens as lexing
 use Rattle.cocoon_num.specs.Tokens.{Kind, kinds, language, lex}
 use Rattle.cocoon_num.specs.Reads as reads
 use Rattle.cocoon_lex.specs.declared.token.Token.{Token}
@@ -25,9 +23,6 @@ first_fault Begins text f k at e line column h = record { offset = at; found = s
 -- a token of the code is the one of the text with its index
 token_at : (text : List ℕ) (tokens : List Token) (i : ℕ) (t : Token) → slice_get tokens i ≡ Some t → slice_get (map (token_of text) tokens) i ≡ Some (token_of text t)
 token_at text tokens i t e = slice_get-map (token_of text) tokens i ∙ rw e refl
-
-pub tokens_many : (text : List ℕ) (tokens : List Token) → length (kinds (map (token_of text) tokens)) ≡ length tokens
-tokens_many text tokens = length-map (map (token_of text) tokens) (λ (t : lexing.Token). t.kind) ∙ length-map tokens (token_of text)
 
 -- the same token of two
 same_token : (tokens : List Token) (i : ℕ) (t u : Token) → slice_get tokens i ≡ Some t → slice_get tokens i ≡ Some u → t.start ≡ u.start

@@ -4,14 +4,14 @@
 //! The process ends with the number of a `Status`.
 #![tactic(auto)]
 
-ghost use Rattle.std.specs.Prelude.{◌<◌, ◌^◌, length};
+ghost use Rattle.std.specs.Prelude.{◌<◌, ◌^◌, IfOk, length};
+ghost use Rattle.read_texts.specs.Answers.{MayEnd};
 
-mod fault;
+mod reading;
 mod status;
 
-use cocoon_lex::place;
-use cocoon_num::NoMemory;
-use fault::{Fault, Grammar, first_fault};
+use cocoon_text::Unread;
+use reading::{Grammar, fault_line, unread};
 use status::Status;
 use std::env;
 use std::io::{self, ErrorKind, Read};
@@ -32,32 +32,24 @@ fn grammar(words: &[String]) -> Option<Grammar> {
     }
 }
 
-/// Prints a fault of the text.
-fn tell(rt: &HostRuntime, text: &[u8], fault: Fault) -> io::Result<()>
-    requires { length text.now < 2 ^ 31 }
-{
-    let name = fault.kind.name();
-    if fault.at as usize > text.len() {
-        return println!(rt; "{name}");
-    }
-    let (line, column) = place(text, fault.at);
-    println!(rt; "{name} {line}:{column}")
-}
-
 /// Reads the text, and prints what that gives.
 fn answer(rt: &HostRuntime, grammar: Grammar, text: &[u8]) -> io::Result<Status>
     requires { length text.now < 2 ^ 31 }
+    ensures { IfOk result (MayEnd grammar text.now) }
 {
-    match first_fault(rt.alloc(), grammar, text) {
-        Ok(None) => {
+    match unread(rt.alloc(), grammar, text) {
+        None => {
             println!(rt; "read")?;
             Ok(Status::Read)
         }
-        Ok(Some(fault)) => {
-            tell(rt, text, fault)?;
+        Some(Unread::Faulty(fault)) => {
+            let Ok(line) = fault_line(rt.alloc(), fault) else {
+                return Ok(Status::NoMemory);
+            };
+            println!(rt; "{line}")?;
             Ok(Status::faulty(grammar))
         }
-        Err(NoMemory) => Ok(Status::NoMemory),
+        Some(Unread::NoMemory) => Ok(Status::NoMemory),
     }
 }
 

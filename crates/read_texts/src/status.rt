@@ -1,5 +1,8 @@
 //! How a run ends.
-use crate::fault::Grammar;
+ghost use Rattle.std.specs.Prelude.{◌≡◌};
+ghost use Rattle.read_texts.specs.Answers.{faulty_status};
+
+use crate::reading::Grammar;
 
 /// How a run ends.
 #[derive(Clone, Copy, Debug, Drop, PartialEq, Eq)]
@@ -18,7 +21,9 @@ pub enum Status {
 
 impl Status {
     /// The status after a fault.
-    pub fn faulty(grammar: Grammar) -> Status {
+    pub fn faulty(grammar: Grammar) -> Status
+        ensures { result ≡ faulty_status grammar }
+    {
         match grammar {
             Grammar::Design => Status::BadDesign,
             Grammar::Definitions => Status::BadDefinitions,
