@@ -1,11 +1,9 @@
 //! Texts, and what reading them gives: `read`, or the name of the first fault with its line and column.
-ghost use Rattle.std.specs.Prelude.{◌≡◌, ◌<◌, ◌^◌, Ok, length, map};
-ghost use Rattle.cocoon_num.specs.Tokens.{language, lex as lexed};
-ghost use Rattle.cocoon_lex.specs.Kinds.{token_of};
+ghost use Rattle.std.specs.Prelude.{◌<◌, ◌^◌, length};
 
-use cocoon_lex::{LexFault, Token, lex, place};
+use cocoon_lex::{LexFault, Token, lex};
 use cocoon_num::NoMemory;
-use cocoon_parse::{ParseFault, parse_defs, parse_design};
+use cocoon_text::{TextFault, Unread, read_defs, read_design};
 use std::alloc::Global;
 use std::process::Abort;
 
@@ -39,50 +37,18 @@ pub fn push_repeated(text: &mut String, piece: &str, count: usize) -> Result<(),
 }
 
 /// The fault with its line and column.
-fn told(alloc: Global, name: &str, text: &[u8], offset: u32) -> Result<String, NoMemory>
+fn told(alloc: Global, fault: TextFault) -> Result<String, NoMemory> {
+    let TextFault { kind, line, column } = fault;
+    Ok(format!(in alloc; "{} {line}:{column}", kind.name())?)
+}
+
+/// Why a text has no tree, if it has none.
+fn unread(alloc: Global, grammar: Grammar, text: &[u8]) -> Option<Unread>
     requires { length text.now < 2 ^ 31 }
 {
-    if offset as usize > text.len() {
-        return Ok(String::from_str(alloc, "outside")?);
-    }
-    let (line, column) = place(text, offset);
-    Ok(format!(in alloc; "{name} {line}:{column}")?)
-}
-
-/// The offset of the token with this index.
-fn offset(tokens: &[Token], index: u32) -> u32 {
-    match tokens.get(index as usize) {
-        Some(token) => token.start,
-        None => u32::MAX,
-    }
-}
-
-/// The first fault of the grammar in a text with these tokens.
-fn parse_fault(alloc: Global, grammar: Grammar, text: &[u8], tokens: &[Token]) -> Option<ParseFault>
-    requires small { length text.now < 2 ^ 31 }
-    requires tokens { lexed language text.now ≡ Ok (map (token_of text.now) tokens.now) }
-{
     match grammar {
-        Grammar::Design => parse_design(alloc, text, tokens).err(),
-        Grammar::Definitions => parse_defs(alloc, text, tokens).err(),
-    }
-}
-
-/// What reading a text with these tokens gives.
-fn parsed(
-    alloc: Global,
-    grammar: Grammar,
-    text: &[u8],
-    tokens: &[Token],
-) -> Result<String, NoMemory>
-    requires small { length text.now < 2 ^ 31 }
-    requires tokens { lexed language text.now ≡ Ok (map (token_of text.now) tokens.now) }
-{
-    match parse_fault(alloc, grammar, text, tokens) {
-        None => Ok(String::from_str(alloc, "read")?),
-        Some(ParseFault::Unexpected(at)) => told(alloc, "Unexpected", text, offset(tokens, at)),
-        Some(ParseFault::TooDeep(at)) => told(alloc, "TooDeep", text, offset(tokens, at)),
-        Some(ParseFault::NoMemory) => Err(NoMemory),
+        Grammar::Design => read_design(alloc, text).err(),
+        Grammar::Definitions => read_defs(alloc, text).err(),
     }
 }
 
@@ -90,12 +56,10 @@ fn parsed(
 fn reading(alloc: Global, grammar: Grammar, text: &[u8]) -> Result<String, NoMemory>
     requires { length text.now < 2 ^ 31 }
 {
-    match lex(alloc, text) {
-        Ok(tokens) => parsed(alloc, grammar, text, tokens.as_slice()),
-        Err(LexFault::BadByte(at)) => told(alloc, "BadByte", text, at),
-        Err(LexFault::BadNumber(at)) => told(alloc, "BadNumber", text, at),
-        Err(LexFault::OpenComment(at)) => told(alloc, "OpenComment", text, at),
-        Err(LexFault::NoMemory) => Err(NoMemory),
+    match unread(alloc, grammar, text) {
+        None => Ok(String::from_str(alloc, "read")?),
+        Some(Unread::Faulty(fault)) => told(alloc, fault),
+        Some(Unread::NoMemory) => Err(NoMemory),
     }
 }
 

@@ -3,7 +3,7 @@ use crate::bench::{PACKET, assert_design};
 use std::test::Fail;
 
 #[test]
-fn declarations(rt: HostRuntime) -> Result<(), Fail> {
+fn functions_and_assumptions(rt: HostRuntime) -> Result<(), Fail> {
     for (text, wanted) in [
         ("function f(a: bit<1>): bool", "Unexpected 2:28"),
         ("function f(a: bit<1>): bool function", "Unexpected 2:29"),
@@ -22,6 +22,15 @@ fn declarations(rt: HostRuntime) -> Result<(), Fail> {
         ("assume (a: bit<1>) f(a);", "read"),
         ("assume true;", "Unexpected 2:8"),
         ("assume (a: bit<1>);", "Unexpected 2:19"),
+    ] {
+        assert_design(&rt, rt.alloc(), &[PACKET, text], wanted)?;
+    }
+    Ok(())
+}
+
+#[test]
+fn roles_hosts_and_switches(rt: HostRuntime) -> Result<(), Fail> {
+    for (text, wanted) in [
         ("role R | a == a;", "Unexpected 2:8"),
         ("role R[] | true;", "Unexpected 2:8"),
         ("role R[a: bit<8>];", "Unexpected 2:18"),
@@ -38,6 +47,15 @@ fn declarations(rt: HostRuntime) -> Result<(), Fail> {
         ("switch (A, B) ports 4294967295;", "read"),
         ("switch (A, B) ports 004294967295;", "read"),
         ("switch (A, B) ports 4294967296;", "BadNumber 2:21"),
+    ] {
+        assert_design(&rt, rt.alloc(), &[PACKET, text], wanted)?;
+    }
+    Ok(())
+}
+
+#[test]
+fn refinements_and_no_declarations(rt: HostRuntime) -> Result<(), Fail> {
+    for (text, wanted) in [
         ("header h { x: bit<8>; }", "Unexpected 2:1"),
         ("refine R within 1 { }", "read"),
         ("refine R, S within 1 { host (A, B); }", "read"),
@@ -60,7 +78,7 @@ fn declarations(rt: HostRuntime) -> Result<(), Fail> {
 const GUARDED: &str = "role R[a: bit<8>] | ";
 
 #[test]
-fn expressions(rt: HostRuntime) -> Result<(), Fail> {
+fn operators(rt: HostRuntime) -> Result<(), Fail> {
     for (text, wanted) in [
         ("a < b < c;", "Unexpected 2:27"),
         ("a == b != c;", "Unexpected 2:28"),
@@ -75,6 +93,15 @@ fn expressions(rt: HostRuntime) -> Result<(), Fail> {
         ("- a;", "Unexpected 2:21"),
         ("~;", "Unexpected 2:22"),
         ("a not b;", "Unexpected 2:23"),
+    ] {
+        assert_design(&rt, rt.alloc(), &[PACKET, GUARDED, text], wanted)?;
+    }
+    Ok(())
+}
+
+#[test]
+fn picks_slices_and_calls(rt: HostRuntime) -> Result<(), Fail> {
+    for (text, wanted) in [
         ("(a ? b : c);", "read"),
         ("(a ? (b ? c : d) : e => f);", "read"),
         ("a ? b : c;", "Unexpected 2:23"),
@@ -92,6 +119,15 @@ fn expressions(rt: HostRuntime) -> Result<(), Fail> {
         ("pkt.e;", "Unexpected 2:26"),
         ("pkt.e.f.g;", "Unexpected 2:28"),
         ("pkt . e . f == 8w0x0F;", "read"),
+    ] {
+        assert_design(&rt, rt.alloc(), &[PACKET, GUARDED, text], wanted)?;
+    }
+    Ok(())
+}
+
+#[test]
+fn no_expressions(rt: HostRuntime) -> Result<(), Fail> {
+    for (text, wanted) in [
         ("7;", "Unexpected 2:21"),
         ("_;", "Unexpected 2:21"),
         ("a &&& b;", "Unexpected 2:23"),

@@ -3,7 +3,7 @@ use crate::bench::{PACKET, assert_design};
 use std::test::Fail;
 
 #[test]
-fn statements(rt: HostRuntime) -> Result<(), Fail> {
+fn sends_and_no_statements(rt: HostRuntime) -> Result<(), Fail> {
     for (text, wanted) in [
         ("", "read"),
         ("send S[a];", "read"),
@@ -18,6 +18,16 @@ fn statements(rt: HostRuntime) -> Result<(), Fail> {
         (";", "Unexpected 3:1"),
         ("{ }", "Unexpected 3:1"),
         ("role S[a: bit<8>] | a;", "Unexpected 3:1"),
+    ] {
+        let front = "role R[a: bit<8>] | a == a = {\n";
+        assert_design(&rt, rt.alloc(), &[PACKET, front, text, " }"], wanted)?;
+    }
+    Ok(())
+}
+
+#[test]
+fn ifs(rt: HostRuntime) -> Result<(), Fail> {
+    for (text, wanted) in [
         ("if (a) { } else { send S[a]; }", "read"),
         ("if (a) { if (b) { } else { } }", "read"),
         ("else { }", "Unexpected 3:1"),
@@ -27,6 +37,16 @@ fn statements(rt: HostRuntime) -> Result<(), Fail> {
         ("if (a) send S[a];", "Unexpected 3:8"),
         ("if a { }", "Unexpected 3:4"),
         ("if () { }", "Unexpected 3:5"),
+    ] {
+        let front = "role R[a: bit<8>] | a == a = {\n";
+        assert_design(&rt, rt.alloc(), &[PACKET, front, text, " }"], wanted)?;
+    }
+    Ok(())
+}
+
+#[test]
+fn other_statements(rt: HostRuntime) -> Result<(), Fail> {
+    for (text, wanted) in [
         ("let x: bit<8> = a;", "read"),
         ("let x: bit<8>;", "Unexpected 3:14"),
         ("let x: bool = a;", "Unexpected 3:8"),

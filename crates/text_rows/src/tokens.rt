@@ -4,7 +4,7 @@ use cocoon_lex::Keyword;
 use std::test::Fail;
 
 #[test]
-fn tokens_and_packets(rt: HostRuntime) -> Result<(), Fail> {
+fn bytes_and_numbers(rt: HostRuntime) -> Result<(), Fail> {
     for (text, wanted) in [
         ("packet /* x", "OpenComment 1:8"),
         ("/*/", "OpenComment 1:1"),
@@ -23,6 +23,15 @@ fn tokens_and_packets(rt: HostRuntime) -> Result<(), Fail> {
         ("/*é*/ $", "BadByte 1:8"),
         ("é", "BadByte 1:1"),
         ("} packet $", "BadByte 1:10"),
+    ] {
+        assert_design(&rt, rt.alloc(), &[text], wanted)?;
+    }
+    Ok(())
+}
+
+#[test]
+fn packets(rt: HostRuntime) -> Result<(), Fail> {
+    for (text, wanted) in [
         ("", "Unexpected 1:1"),
         (" \r\n\t", "Unexpected 2:2"),
         ("// packet", "Unexpected 1:10"),

@@ -3,13 +3,12 @@
 //! A tree is written in one line. A node stands in parentheses, its kind first. Behind `@` stands a place, the index of
 //! a token, and behind `:` the width of a parameter, a field or a variable. A block stands in braces.
 use crate::bench::{Grammar, PACKET, joined};
-use cocoon_lex::lex;
 use cocoon_num::{Bits, Text};
-use cocoon_parse::{parse_defs, parse_design};
 use cocoon_syntax::{
     Const, Decl, DefsText, Design, Entry, Expr, ExprKind, FunctionDecl, HeaderDecl, Name, Param,
     Pattern, Refine, ResultKind, Role, Stmt, StmtKind,
 };
+use cocoon_text::{read_defs, read_design};
 use std::alloc::Global;
 use std::process::Abort;
 use std::test::Fail;
@@ -303,16 +302,9 @@ fn tree(rt: &impl Abort, alloc: Global, grammar: Grammar, text: &str) -> Result<
     let bytes = text.as_bytes();
     assert!(rt; bytes.len() < TOO_LONG);
     let mut out = String::new(alloc);
-    let tokens = lex(alloc, bytes)?;
     match grammar {
-        Grammar::Design => {
-            let design = parse_design(alloc, bytes, tokens.as_slice())?;
-            put_design(&mut out, &design)?;
-        }
-        Grammar::Definitions => {
-            let definitions = parse_defs(alloc, bytes, tokens.as_slice())?;
-            put_definitions(&mut out, &definitions)?;
-        }
+        Grammar::Design => put_design(&mut out, &read_design(alloc, bytes)?)?,
+        Grammar::Definitions => put_definitions(&mut out, &read_defs(alloc, bytes)?)?,
     }
     Ok(out)
 }
@@ -330,7 +322,7 @@ fn assert_tree(rt: &impl Abort, alloc: Global, text: &[&str], wanted: &[&str]) -
 const GUARDED: &str = "role R[a: bit<8>] | ";
 
 #[test]
-fn expressions(rt: HostRuntime) -> Result<(), Fail> {
+fn operands(rt: HostRuntime) -> Result<(), Fail> {
     let front = "(design (header h@3 x@5:8) (role R@15 a@17:8 ";
     for (text, wanted) in [
         ("b", "b@25"),
@@ -342,6 +334,17 @@ fn expressions(rt: HostRuntime) -> Result<(), Fail> {
         ("false", "false@25"),
         ("((b))", "b@27"),
         ("(b ? c : d)", "(pick@26 b@26 c@28 d@30)"),
+    ] {
+        let text = [PACKET, GUARDED, text, ";"];
+        assert_tree(&rt, rt.alloc(), &text, &[front, wanted, " none))"])?;
+    }
+    Ok(())
+}
+
+#[test]
+fn operators(rt: HostRuntime) -> Result<(), Fail> {
+    let front = "(design (header h@3 x@5:8) (role R@15 a@17:8 ";
+    for (text, wanted) in [
         ("~b", "(Flip@25 b@26)"),
         ("not b", "(Not@25 b@26)"),
         ("~not ~b", "(Flip@25 (Not@26 (Flip@27 b@28)))"),
@@ -360,6 +363,17 @@ fn expressions(rt: HostRuntime) -> Result<(), Fail> {
         ("b and c", "(And@25 b@25 c@27)"),
         ("b or c", "(Or@25 b@25 c@27)"),
         ("b => c", "(Implies@25 b@25 c@27)"),
+    ] {
+        let text = [PACKET, GUARDED, text, ";"];
+        assert_tree(&rt, rt.alloc(), &text, &[front, wanted, " none))"])?;
+    }
+    Ok(())
+}
+
+#[test]
+fn slices(rt: HostRuntime) -> Result<(), Fail> {
+    let front = "(design (header h@3 x@5:8) (role R@15 a@17:8 ";
+    for (text, wanted) in [
         ("b[7:4]", "(slice@25 b@25 7 4)"),
         (
             "f(b)[7:4][2:0]",
@@ -367,6 +381,17 @@ fn expressions(rt: HostRuntime) -> Result<(), Fail> {
         ),
         ("(b ++ c)[8:1]", "(slice@26 (Concat@26 b@26 c@28) 8 1)"),
         ("~b[3:0]", "(Flip@25 (slice@26 b@26 3 0))"),
+    ] {
+        let text = [PACKET, GUARDED, text, ";"];
+        assert_tree(&rt, rt.alloc(), &text, &[front, wanted, " none))"])?;
+    }
+    Ok(())
+}
+
+#[test]
+fn groups(rt: HostRuntime) -> Result<(), Fail> {
+    let front = "(design (header h@3 x@5:8) (role R@15 a@17:8 ";
+    for (text, wanted) in [
         ("b - c - d", "(Sub@25 (Sub@25 b@25 c@27) d@29)"),
         ("b - (c - d)", "(Sub@25 b@25 (Sub@28 c@28 d@30))"),
         ("b + c - d", "(Sub@25 (Add@25 b@25 c@27) d@29)"),
@@ -435,7 +460,7 @@ fn statements(rt: HostRuntime) -> Result<(), Fail> {
 const HEADER: &str = "packet { header h { x: bit<8>; ";
 
 #[test]
-fn declarations(rt: HostRuntime) -> Result<(), Fail> {
+fn headers_and_functions(rt: HostRuntime) -> Result<(), Fail> {
     for (front, text, wanted) in [
         (HEADER, "} }", ")"),
         (HEADER, "y: bit<16>; } }", " y@12:16)"),
@@ -464,6 +489,16 @@ fn declarations(rt: HostRuntime) -> Result<(), Fail> {
             "function f(a: bit<8>, b: bit<16>): bit<4> = b;",
             ") (function f@15 a@17:8 b@24:16 4 b@37)",
         ),
+    ] {
+        let wanted = ["(design (header h@3 x@5:8", wanted, ")"];
+        assert_tree(&rt, rt.alloc(), &[front, text], &wanted)?;
+    }
+    Ok(())
+}
+
+#[test]
+fn assumptions_and_roles(rt: HostRuntime) -> Result<(), Fail> {
+    for (front, text, wanted) in [
         (PACKET, "assume () true;", ") (assume@14 true@17)"),
         (
             PACKET,
@@ -480,6 +515,16 @@ fn declarations(rt: HostRuntime) -> Result<(), Fail> {
             "role R[a: bit<8>] | a = { filter b; }",
             ") (role R@15 a@17:8 a@25 {(filter@28 b@29)})",
         ),
+    ] {
+        let wanted = ["(design (header h@3 x@5:8", wanted, ")"];
+        assert_tree(&rt, rt.alloc(), &[front, text], &wanted)?;
+    }
+    Ok(())
+}
+
+#[test]
+fn hosts_switches_and_refinements(rt: HostRuntime) -> Result<(), Fail> {
+    for (front, text, wanted) in [
         (PACKET, "host (A, B);", ") (host@14 A@16 B@18)"),
         (
             PACKET,
