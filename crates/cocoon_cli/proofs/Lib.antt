@@ -1,4 +1,4 @@
-pub mod FiveWords
+pub mod Matching
 pub mod Numbers
 pub mod TestProgram
 pub mod Lowerable
@@ -18,4 +18,8 @@ pub mod ReadingDigests
 pub mod ReadingWiring
 pub mod ReadingNames
 pub mod ReadingBack
+pub mod Outlines
 pub mod Headlines
+pub mod TellingFlaws
+pub mod OneFlaw
+pub mod FlawsTold

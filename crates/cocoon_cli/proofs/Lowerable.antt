@@ -8,7 +8,7 @@ use Rattle.cocoon_num.specs.Packets.{total}
 use Rattle.cocoon_num.specs.Tokens.{is_run, is_shallow}
 use Rattle.cocoon_thin.specs.declared.parts.ThinField.{ThinField}
 use Rattle.cocoon_thin.specs.declared.parts.Thin.{Thin}
-use Rattle.cocoon_thin.specs.Thin.{fields_fit, numbers_fit, field_width}
+use Rattle.cocoon_thin.specs.ThinParts.{fields_fit, numbers_fit, field_width}
 use Rattle.p4_emit.specs.P4Tree.{P4Field, field_widths}
 use Rattle.p4_emit.specs.P4Kinds.{is_well_kinded}
 use Rattle.cocoon_num.specs.Sorts.{is_declared_width}

@@ -10,7 +10,7 @@ use Rattle.serde_json.specs.Read.{read}
 use Rattle.cocoon_num.specs.Lists.{has_number}
 use Rattle.cocoon_io.specs.Files.{Files}
 use Rattle.cocoon_thin.specs.declared.parts.Thin.{Thin}
-use Rattle.cocoon_thin.specs.Thin.{AreThin}
+use Rattle.cocoon_thin.specs.Thin.{ThinTexts}
 use Rattle.p4_emit.specs.P4Reads.{P4Reads}
 use Rattle.p4_emit.specs.Printed.{printed}
 use Rattle.cocoon_cli.specs.Bundle.{NamedFile, digest_of, program_name, rows_name, empty_rows, switch_files, all_switch_files, kept, net_file, net_text, file_name, in_bundle, bundle, with_files, HasFile}
@@ -111,12 +111,12 @@ design_switches_read was is out text net t reads e =
     (λ s h. get_written _ was is _ _ e (rows_there out text net s t.switches h) (rows_agree out text net s t.switches))
 
 -- the file of the network fits
-pub file_fits : (design defs : List ℕ) (t : Thin) → AreThin design defs t → Readable design t → IsTrue (net_file_fits (net_file design t))
+pub file_fits : (design defs : List ℕ) (t : Thin) → ThinTexts design defs t → Readable design t → IsTrue (net_file_fits (net_file design t))
 file_fits design defs t thin readable =
-    wired_fits (digest_of design) (map kept (all_switch_files t)) t (digest_fits design) thin.design_is.numbers readable.numbers thin.hosts.ascending thin.switches.ascending
+    wired_fits (digest_of design) (map kept (all_switch_files t)) t (digest_fits design) thin.are_thin.design_is.numbers readable.numbers thin.are_thin.hosts.ascending thin.are_thin.switches.ascending
 
 -- the bundle that was put in is the network
-pub bundle_network : (was is : Files) (out design defs : List ℕ) (t : Thin) → AreThin design defs t → Readable design t → Some is ≡ with_files (bundle out design t) (Some was) → Network is out (thin_net t)
+pub bundle_network : (was is : Files) (out design defs : List ℕ) (t : Thin) → ThinTexts design defs t → Readable design t → Some is ≡ with_files (bundle out design t) (Some was) → Network is out (thin_net t)
 bundle_network was is out design defs t thin readable e =
     let text = printed (thin_program t) in
     let net = net_text design t in
@@ -133,7 +133,7 @@ bundle_network was is out design defs t thin readable e =
     }
 
 -- its file has the digest of the design
-pub network_digest : (was is : Files) (out design defs : List ℕ) (t : Thin) (thin : AreThin design defs t) (readable : Readable design t) (e : Some is ≡ with_files (bundle out design t) (Some was)) → (bundle_network was is out design defs t thin readable e).file.design ≡ digest_of design
+pub network_digest : (was is : Files) (out design defs : List ℕ) (t : Thin) (thin : ThinTexts design defs t) (readable : Readable design t) (e : Some is ≡ with_files (bundle out design t) (Some was)) → (bundle_network was is out design defs t thin readable e).file.design ≡ digest_of design
 unfolding bundle_network
 network_digest was is out design defs t thin readable e = refl
 

@@ -6,7 +6,7 @@ use Rattle.std.proofs.lemmas.Bool.Decides.{nat_tests}
 use Rattle.std.proofs.lemmas.List.{map-append}
 use Rattle.cocoon_num.specs.Lists.{each, ascend, has_number}
 use Rattle.cocoon_thin.specs.declared.parts.Thin.{Thin}
-use Rattle.cocoon_thin.specs.Thin.{numbers_fit}
+use Rattle.cocoon_thin.specs.ThinParts.{numbers_fit}
 use Rattle.p4_emit.specs.NetTree.{to_host, Link}
 use Rattle.cocoon_cli.specs.Lowered.{host_port, host_ports, port_hosts, links_of, links}
 use Rattle.cocoon_cli.specs.NetJson.{KeptDigest, NetFile}

@@ -5,16 +5,17 @@ use Rattle.std.proofs.lemmas.Bool.Decides.{nat_tests}
 use Rattle.cocoon_io.specs.Files.{Files}
 use Rattle.cocoon_io.specs.Told.{appended, Rose}
 use Rattle.cocoon_thin.specs.declared.parts.Thin.{Thin}
-use Rattle.cocoon_thin.specs.Thin.{AreThin, ThinDesign, ThinDefs}
+use Rattle.cocoon_thin.specs.Thin.{ThinTexts}
+use Rattle.cocoon_cli.specs.declared.refusal.Flaw.{Flaw}
 use Rattle.cocoon_cli.specs.declared.refusal.Refusal.{Refusal}
 use Rattle.cocoon_cli.specs.declared.refusal.Refusal.TheVariants as refusal
 use Rattle.cocoon_cli.specs.declared.refusal.Totals.{Totals}
 use Rattle.cocoon_cli.specs.declared.status.Status.{Status}
 use Rattle.cocoon_cli.specs.declared.status.Status.TheVariants.{Done, Usage, Language, Broken, ReadFault, WriteFault, Limit, NoMemory, NoFile}
 use Rattle.cocoon_cli.specs.Command.{Command, compile}
-use Rattle.cocoon_thin.specs.Read.{OneThinReading}
 use Rattle.cocoon_cli.specs.Bundle.{NamedFile, bundle, with_files, AllFit, SomeExceeds, made_most}
 use Rattle.cocoon_cli.specs.Causes.{Gives, Lacks, Exceeds, NotRead, Inputs, NotMade, NotWritten, Makes, Refuses, no_design, no_defs, not_made, not_written, Compiles, FindsOf, design_most, defs_most}
+use Rattle.cocoon_cli.specs.Flaws.{IsThinText, AreThinTexts, DesignFlaw, DefsFlaw}
 use Rattle.cocoon_cli.specs.NetOf.{FaultRose, ReadFaultRose}
 use Rattle.cocoon_cli.specs.Report.{Says, whole, front, no_memory, front_of_no_memory, Puts, all, a_front, nothing, status_of, refusal_status, report_of, no_memory_line}
 use Rattle.cocoon_cli.specs.Run as spec
@@ -83,31 +84,38 @@ defs_judged files d e o x r g h = absurd h
 texts : (files : Files) (d e o x y : List ℕ) (v : Verdict) → Inputs (Some files) d e x y → JudgesTexts o x y v → Judges files d e o v
 texts files d e o x y v i h = by_stages files d e o (there x) (there y) v (gives files d design_most x i.design_is) (gives files e defs_most y i.defs_are) h
 
-made_judged : (files : Files) (d e o x y : List ℕ) (r : Refusal) → Inputs (Some files) d e x y → NotMade d e o x y r → Judged files d e o (refusal_status r)
-made_judged files d e o x y (refusal.Design file) i h = inr (not_thin, texts files d e o x y not_thin i h.1, refl)
-made_judged files d e o x y (refusal.Definitions file) i h = inr (not_thin_defs, texts files d e o x y not_thin_defs i (h.1, h.2), refl)
-made_judged files d e o x y (refusal.TooLong file n) i h = inr (a_file_too_long, texts files d e o x y a_file_too_long i (h.1, h.2, _, h.3), refl)
-made_judged files d e o x y refusal.NoMemory i h = inl (to_no_memory refl)
-made_judged files d e o x y r i h = absurd h
+-- a text with a flaw is not thin
+abbrev pub NoDesign : Type 0
+NoDesign = (design : List ℕ) (f : Flaw) → DesignFlaw design f → ¬ IsThinText design
+
+abbrev pub NoDefinitions : Type 0
+NoDefinitions = (design defs : List ℕ) (f : Flaw) → DefsFlaw design defs f → IsThinText design × (¬ AreThinTexts design defs)
+
+made_judged : NoDesign → NoDefinitions → (files : Files) (d e o x y : List ℕ) (r : Refusal) → Inputs (Some files) d e x y → NotMade d e o x y r → Judged files d e o (refusal_status r)
+made_judged flawed flawed_defs files d e o x y (refusal.Design file flaw) i h = inr (not_thin, texts files d e o x y not_thin i (flawed x flaw h.1), refl)
+made_judged flawed flawed_defs files d e o x y (refusal.Definitions file flaw) i h = inr (not_thin_defs, texts files d e o x y not_thin_defs i (flawed_defs x y flaw h.1), refl)
+made_judged flawed flawed_defs files d e o x y (refusal.TooLong file n) i h = inr (a_file_too_long, texts files d e o x y a_file_too_long i (h.1, h.2, _, h.3), refl)
+made_judged flawed flawed_defs files d e o x y refusal.NoMemory i h = inl (to_no_memory refl)
+made_judged flawed flawed_defs files d e o x y r i h = absurd h
 
 written_judged : (files : Files) (d e o : List ℕ) (fs : List NamedFile) (r : Refusal) → NotWritten fs r → Judged files d e o (refusal_status r)
 written_judged files d e o fs (refusal.WriteFault file) h = inl (to_write_fault refl)
 written_judged files d e o fs refusal.NoMemory h = inl (to_no_memory refl)
 written_judged files d e o fs r h = absurd h
 
-refused_judged : (files : Files) (d e o : List ℕ) (r : Refusal) (now : Option Files) → Refuses (Some files) d e o r now → Judged files d e o (refusal_status r)
-refused_judged files d e o r now (no_design same h) = design_judged files d e o r h
-refused_judged files d e o r now (no_defs x same g h) = defs_judged files d e o x r g h
-refused_judged files d e o r now (not_made x y same i h) = made_judged files d e o x y r i h
-refused_judged files d e o r now (not_written fs totals m w h) = written_judged files d e o fs r h
+refused_judged : NoDesign → NoDefinitions → (files : Files) (d e o : List ℕ) (r : Refusal) (now : Option Files) → Refuses (Some files) d e o r now → Judged files d e o (refusal_status r)
+refused_judged flawed flawed_defs files d e o r now (no_design same h) = design_judged files d e o r h
+refused_judged flawed flawed_defs files d e o r now (no_defs x same g h) = defs_judged files d e o x r g h
+refused_judged flawed flawed_defs files d e o r now (not_made x y same i h) = made_judged flawed flawed_defs files d e o x y r i h
+refused_judged flawed flawed_defs files d e o r now (not_written fs totals m w h) = written_judged files d e o fs r h
 
 -- what is made is good
 good : (files : Files) (d e o : List ℕ) (fs : List NamedFile) (totals : Totals) → Makes (Some files) d e o fs totals → Judges files d e o all_good
 good files d e o fs totals m = texts files d e o m.design m.defs all_good m.inputs (m.parts, m.thin, subst AllFit m.files_are m.fit)
 
-found_judged : (files : Files) (d e o : List ℕ) (found : Result Totals Refusal) (now : Option Files) → Compiles (Some files) d e o found now → Judged files d e o (status_of found)
-found_judged files d e o (Ok totals) now h = inr (all_good, good files d e o h.0 totals h.1, refl)
-found_judged files d e o (Err r) now h = refused_judged files d e o r now h
+found_judged : NoDesign → NoDefinitions → (files : Files) (d e o : List ℕ) (found : Result Totals Refusal) (now : Option Files) → Compiles (Some files) d e o found now → Judged files d e o (status_of found)
+found_judged flawed flawed_defs files d e o (Ok totals) now h = inr (all_good, good files d e o h.0 totals h.1, refl)
+found_judged flawed flawed_defs files d e o (Err r) now h = refused_judged flawed flawed_defs files d e o r now h
 
 said_judged : {sink_failed : Type 0} (files : Files) (d e o : List ℕ) (found : Result Totals Refusal) (old new : Option (List ℕ)) (s : Status) → Judged files d e o (status_of found) → Says sink_failed found old new s → Judged files d e o s
 said_judged files d e o found old new s h (whole q n) = subst (λ (x : Status). Judged files d e o x) (sym q) h
@@ -117,21 +125,25 @@ said_judged files d e o found old new s h (front_of_no_memory q rose n) = inl (t
 
 -- ---- one verdict
 
-thin_design : (x y : List ℕ) (t : Thin) → AreThin x y t → ThinDesign x
-thin_design x y t h = (h.names, t, h.design_is)
+-- two thin texts have one reading
+abbrev pub OneReading : Type 0
+OneReading = (design defs : List ℕ) (t u : Thin) → ThinTexts design defs t → ThinTexts design defs u → t ≡ u
 
-thin_defs : (x y : List ℕ) (t : Thin) → AreThin x y t → ThinDefs x y
-thin_defs x y t h = (h.names, t, h.entries, h.design_is, h.defs_are)
+thin_design : (x y : List ℕ) (t : Thin) → ThinTexts x y t → IsThinText x
+thin_design x y t h = (h.tree, h.design_reads, (h.are_thin.names, t, h.are_thin.design_is))
+
+thin_defs : (x y : List ℕ) (t : Thin) → ThinTexts x y t → AreThinTexts x y
+thin_defs x y t h = (h.tree, h.entries, h.design_reads, h.defs_read, (h.are_thin.names, t, h.are_thin.entries, h.are_thin.design_is, h.are_thin.defs_are))
 
 never_both : (fs : List NamedFile) (name : List ℕ) → AllFit fs → SomeExceeds fs name → ⊥
 never_both [] name a h = h
 never_both (f ∷ fs) name a (inl h) = let l : length f.bytes ≤ made_most = a.0 in let m : made_most < length f.bytes = h.1 in omega arith
 never_both (f ∷ fs) name a (inr h) = never_both fs name a.1 h
 
-never_made : OneThinReading → (o x y : List ℕ) (t u : Thin) (name : List ℕ) → AreThin x y t → AreThin x y u → AllFit (bundle o x t) → SomeExceeds (bundle o x u) name → ⊥
+never_made : OneReading → (o x y : List ℕ) (t u : Thin) (name : List ℕ) → ThinTexts x y t → ThinTexts x y u → AllFit (bundle o x t) → SomeExceeds (bundle o x u) name → ⊥
 never_made one o x y t u name a b fit h = never_both (bundle o x u) name (subst (λ (w : Thin). AllFit (bundle o x w)) (one x y t u a b) fit) h
 
-texts_agree : OneThinReading → (o x y : List ℕ) (v w : Verdict) → JudgesTexts o x y v → JudgesTexts o x y w → v ≡ w
+texts_agree : OneReading → (o x y : List ℕ) (v w : Verdict) → JudgesTexts o x y v → JudgesTexts o x y w → v ≡ w
 texts_agree one o x y a_file_missing w h k = absurd h
 texts_agree one o x y a_file_too_long a_file_missing h k = absurd k
 texts_agree one o x y a_file_too_long a_file_too_long h k = refl
@@ -154,7 +166,7 @@ texts_agree one o x y all_good not_thin h k = absurd (k (thin_design x y h.0 h.1
 texts_agree one o x y all_good not_thin_defs h k = absurd (k.1 (thin_defs x y h.0 h.1))
 texts_agree one o x y all_good all_good h k = refl
 
-stages_agree : OneThinReading → (o : List ℕ) (s t : Stage) (v w : Verdict) → JudgesStages o s t v → JudgesStages o s t w → v ≡ w
+stages_agree : OneReading → (o : List ℕ) (s t : Stage) (v w : Verdict) → JudgesStages o s t v → JudgesStages o s t w → v ≡ w
 stages_agree one o missing t v w h k = h ∙ sym k
 stages_agree one o long t v w h k = h ∙ sym k
 stages_agree one o (there x) missing v w h k = h ∙ sym k
@@ -203,15 +215,16 @@ yields_other s (to_read_fault e) = ap judging e
 yields_other s (to_write_fault e) = ap judging e
 yields_other s (to_no_memory e) = ap judging e
 
-exact_by : OneThinReading → (files : Files) (d e o : List ℕ) (v : Verdict) (s : Status) → Judged files d e o s → ((s ≡ verdict_status v) → Judges files d e o v) × (Judges files d e o v → (s ≡ verdict_status v) ⊎ Yields s)
+exact_by : OneReading → (files : Files) (d e o : List ℕ) (v : Verdict) (s : Status) → Judged files d e o s → ((s ≡ verdict_status v) → Judges files d e o v) × (Judges files d e o v → (s ≡ verdict_status v) ⊎ Yields s)
 exact_by one files d e o v s (inl y) = (λ h. absurd (other v s (yields_other s y) h), λ j. inr y)
 exact_by one files d e o v s (inr (w, j, p)) = (
   λ h. subst (λ (x : Verdict). Judges files d e o x) (sym (back_again w) ∙ ap back (sym p ∙ h) ∙ back_again v) j,
   λ k. inl (p ∙ ap verdict_status (stages_agree one o _ _ w v j k)),
 )
 
-no_command : {sink_failed : Type 0} (found : Result Totals Refusal) (old new : Option (List ℕ)) (s : Status) → found ≡ Err refusal.Usage → Says sink_failed found old new s → (s ≡ Usage) ⊎ ((s ≡ WriteFault) ⊎ (s ≡ NoMemory))
-no_command found old new s u (whole e n) = inl (e ∙ ap status_of u)
+no_command : {sink_failed : Type 0} (found : Result Totals Refusal) (old new : Option (List ℕ)) (s : Status) → (found ≡ Err refusal.Usage) ⊎ (found ≡ Err refusal.NoMemory) → Says sink_failed found old new s → (s ≡ Usage) ⊎ ((s ≡ WriteFault) ⊎ (s ≡ NoMemory))
+no_command found old new s (inl u) (whole e n) = inl (e ∙ ap status_of u)
+no_command found old new s (inr u) (whole e n) = inr (inr (e ∙ ap status_of u))
 no_command found old new s u (front e rose n) = inr (inl e)
 no_command found old new s u (no_memory e n) = inr (inr e)
 no_command found old new s u (front_of_no_memory e rose n) = inr (inl e)
@@ -221,10 +234,10 @@ not_judging s (inl e) = ap judging e
 not_judging s (inr (inl e)) = ap judging e
 not_judging s (inr (inr e)) = ap judging e
 
-pub exact_of : {sink_failed : Type 0} → OneThinReading → (c : Option Command) (told : Option Files) (found : Result Totals Refusal) (now : Option Files) (old new : Option (List ℕ)) (v : Verdict) (s : Status) → FindsOf c told found now → Says sink_failed found old new s → ExactOf c told v s
-exact_of one None told found now old new v s h k = λ e. other v s (not_judging s (no_command found old new s h.0 k)) e
-exact_of one (Some (compile d e o)) None found now old new v s h k = tt
-exact_of one (Some (compile d e o)) (Some files) found now old new v s h k = exact_by one files d e o v s (said_judged files d e o found old new s (found_judged files d e o found now h) k)
+pub exact_of : {sink_failed : Type 0} → OneReading → NoDesign → NoDefinitions → (c : Option Command) (told : Option Files) (found : Result Totals Refusal) (now : Option Files) (old new : Option (List ℕ)) (v : Verdict) (s : Status) → FindsOf c told found now → Says sink_failed found old new s → ExactOf c told v s
+exact_of one flawed flawed_defs None told found now old new v s h k = λ e. other v s (not_judging s (no_command found old new s h.0 k)) e
+exact_of one flawed flawed_defs (Some (compile d e o)) None found now old new v s h k = tt
+exact_of one flawed flawed_defs (Some (compile d e o)) (Some files) found now old new v s h k = exact_by one files d e o v s (said_judged files d e o found old new s (found_judged flawed flawed_defs files d e o found now h) k)
 
 -- ---- usage
 
@@ -242,8 +255,8 @@ refuses_something told d e o r now h = refl
 -- a refusal that is not of the words has another status
 not_usage : (r : Refusal) → refusing r ≡ true → refusal_status r ≡ Usage → ⊥
 not_usage refusal.Usage h e = cc
-not_usage (refusal.Design f) h e = cc
-not_usage (refusal.Definitions f) h e = cc
+not_usage (refusal.Design f w) h e = cc
+not_usage (refusal.Definitions f w) h e = cc
 not_usage (refusal.ReadFault f) h e = cc
 not_usage (refusal.WriteFault f) h e = cc
 not_usage (refusal.TooLong f n) h e = cc
@@ -270,8 +283,8 @@ read_rose : (last : Option ℕ) (old new : ℕ) (found : Result Totals Refusal) 
 read_rose last old new (Ok totals) h e = cc
 read_rose last old new (Err (refusal.ReadFault f)) h e = h
 read_rose last old new (Err refusal.Usage) h e = cc
-read_rose last old new (Err (refusal.Design f)) h e = cc
-read_rose last old new (Err (refusal.Definitions f)) h e = cc
+read_rose last old new (Err (refusal.Design f v)) h e = cc
+read_rose last old new (Err (refusal.Definitions f w)) h e = cc
 read_rose last old new (Err (refusal.WriteFault f)) h e = cc
 read_rose last old new (Err (refusal.TooLong f n)) h e = cc
 read_rose last old new (Err refusal.NoMemory) h e = cc
@@ -287,8 +300,8 @@ read_fault_of last old new found before after s h (front_of_no_memory q rose n) 
 
 refusal_not_done : (r : Refusal) → refusal_status r ≡ Done → ⊥
 refusal_not_done refusal.Usage e = cc
-refusal_not_done (refusal.Design f) e = cc
-refusal_not_done (refusal.Definitions f) e = cc
+refusal_not_done (refusal.Design f w) e = cc
+refusal_not_done (refusal.Definitions f w) e = cc
 refusal_not_done (refusal.ReadFault f) e = cc
 refusal_not_done (refusal.WriteFault f) e = cc
 refusal_not_done (refusal.TooLong f n) e = cc
@@ -296,7 +309,8 @@ refusal_not_done refusal.NoMemory e = cc
 refusal_not_done (refusal.NoFile f) e = cc
 
 done_writes : (c : Option Command) (told : Option Files) (found : Result Totals Refusal) (now : Option Files) (old new : Option (List ℕ)) → FindsOf c told found now → status_of found ≡ Done → new ≡ appended old (report_of found) → WritesOf c told now old new
-done_writes None told found now old new h e n = let no : status_of found ≡ Usage = ap status_of h.0 in cc
+done_writes None told found now old new (inl u, same) e n = let no : status_of found ≡ Usage = ap status_of u in cc
+done_writes None told found now old new (inr u, same) e n = let no : status_of found ≡ NoMemory = ap status_of u in cc
 done_writes (Some (compile d x o)) told (Ok totals) now old new h e n = (h.0, totals, h.1, h.2, n)
 done_writes (Some (compile d x o)) told (Err r) now old new h e n = absurd (refusal_not_done r e)
 
@@ -351,8 +365,8 @@ has_fault read_last write_last r r' w w' (Ok totals) h k = tt
 has_fault read_last write_last r r' w w' (Err (refusal.ReadFault file)) h k = h
 has_fault read_last write_last r r' w w' (Err (refusal.WriteFault file)) h k = k
 has_fault read_last write_last r r' w w' (Err refusal.Usage) h k = tt
-has_fault read_last write_last r r' w w' (Err (refusal.Design file)) h k = tt
-has_fault read_last write_last r r' w w' (Err (refusal.Definitions file)) h k = tt
+has_fault read_last write_last r r' w w' (Err (refusal.Design file flaw)) h k = tt
+has_fault read_last write_last r r' w w' (Err (refusal.Definitions file flaw)) h k = tt
 has_fault read_last write_last r r' w w' (Err (refusal.TooLong file n)) h k = tt
 has_fault read_last write_last r r' w w' (Err refusal.NoMemory) h k = tt
 has_fault read_last write_last r r' w w' (Err (refusal.NoFile file)) h k = tt
@@ -363,8 +377,8 @@ found_fault last old new (Ok totals) h e = cc
 found_fault last old new (Err (refusal.WriteFault file)) h e = h
 found_fault last old new (Err (refusal.ReadFault file)) h e = cc
 found_fault last old new (Err refusal.Usage) h e = cc
-found_fault last old new (Err (refusal.Design file)) h e = cc
-found_fault last old new (Err (refusal.Definitions file)) h e = cc
+found_fault last old new (Err (refusal.Design file w)) h e = cc
+found_fault last old new (Err (refusal.Definitions file w)) h e = cc
 found_fault last old new (Err (refusal.TooLong file n)) h e = cc
 found_fault last old new (Err refusal.NoMemory) h e = cc
 found_fault last old new (Err (refusal.NoFile file)) h e = cc

@@ -6,7 +6,7 @@ use Rattle.cocoon_num.specs.Lists.{has_number}
 use Rattle.cocoon_num.specs.Tree.{Design}
 use Rattle.cocoon_thin.specs.declared.parts.Thin.{Thin}
 use Rattle.cocoon_types.specs.Tables.{Defs}
-use Rattle.cocoon_thin.specs.Thin.{ThinNames}
+use Rattle.cocoon_thin.specs.ThinParts.{ThinNames}
 use Rattle.cocoon_thin.specs.ThinVisits.{is_port, ThinVisit, VisitRun}
 use Rattle.cocoon_cli.specs.Lowered.{thin_program}
 use Rattle.cocoon_cli.specs.Visits.{SendsAt, VisitsAreRuns}

@@ -6,7 +6,7 @@ use Rattle.cocoon_num.specs.Values.{Value, number, truth, of_binary, equal, with
 use Rattle.cocoon_num.specs.Packets.{Packet, enter, leave}
 use Rattle.cocoon_thin.specs.declared.parts.ThinField.{ThinField}
 use Rattle.cocoon_thin.specs.declared.parts.Thin.{Thin}
-use Rattle.cocoon_thin.specs.Thin.{field_width}
+use Rattle.cocoon_thin.specs.ThinParts.{field_width}
 use Rattle.cocoon_thin.specs.ThinRuns.{thin_layout, port_of, leaves_at}
 use Rattle.p4_emit.specs.P4Tree.{no_rows, p_done, field_widths, program_layout}
 use Rattle.p4_emit.specs.Switch.{State, Running, both, choose, then_run, state_of, p4_run_all, ingress_of, after_ingress}

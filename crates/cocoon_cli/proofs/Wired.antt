@@ -9,7 +9,7 @@ use Rattle.cocoon_num.specs.Tree.{Design}
 use Rattle.cocoon_thin.specs.declared.parts.Thin.{Thin}
 use Rattle.cocoon_types.specs.Runs.{Loc, Go, world}
 use Rattle.cocoon_types.specs.Tables.{Defs}
-use Rattle.cocoon_thin.specs.Thin.{ThinNames}
+use Rattle.cocoon_thin.specs.ThinParts.{ThinNames}
 use Rattle.cocoon_thin.specs.ThinVisits.{enters_at, goes_out_at, is_port}
 use Rattle.cocoon_thin.specs.ThinWires.{begins_at, ends_at, ThinEnters, ThinExits}
 use Rattle.p4_emit.specs.NetTree.{LinkEnd, to_switch, to_host}

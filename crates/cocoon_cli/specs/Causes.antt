@@ -1,16 +1,17 @@
 -- What `compile` finds, and what it leaves in the folder. It follows "Statuses" in docs/FORMATS.md.
-use Rattle.std.specs.Prelude.{◌≡◌, ◌≤◌, ◌<◌, ℕ, List, length, Option, Some, None, Result, Ok, Err}
+use Rattle.std.specs.Prelude.{◌≡◌, ◌⊎◌, ◌≤◌, ◌<◌, ℕ, List, length, Option, Some, None, Result, Ok, Err}
 use Rattle.std.specs.FinMap.{get}
 use Rattle.std.specs.String.{string_bytes}
 use Rattle.cocoon_io.specs.Files.{Files}
 use Rattle.cocoon_thin.specs.declared.parts.Thin.{Thin}
-use Rattle.cocoon_thin.specs.Thin.{AreThin, ThinDesign, ThinDefs}
+use Rattle.cocoon_thin.specs.Thin.{ThinTexts}
 use Rattle.cocoon_cli.specs.declared.refusal.Refusal.{Refusal}
 use Rattle.cocoon_cli.specs.declared.refusal.Refusal.TheVariants.{Usage, Design, Definitions, ReadFault, WriteFault, TooLong, NoMemory, NoFile}
 use Rattle.cocoon_cli.specs.declared.refusal.Totals.{Totals}
 use Rattle.cocoon_cli.specs.Command.{Command, command, compile}
 use Rattle.cocoon_cli.specs.Lowered.{links}
 use Rattle.cocoon_cli.specs.Bundle.{NamedFile, bundle, with_files, SomeWritten, AllFit, HasFile, SomeExceeds, made_most}
+use Rattle.cocoon_cli.specs.Flaws.{DesignFlaw, DefsFlaw}
 use Rattle.cocoon_cli.specs.Readable.{Readable}
 
 -- ---- files that are read: what is said of told files holds of every folder that does not tell
@@ -53,9 +54,9 @@ pub record Inputs (told : Option Files) (design_name defs_name design defs : Lis
 
 -- why two texts are not compiled, before any write
 abbrev pub NotMade : (design_name defs_name out design defs : List ℕ) → Refusal → Type 0
-NotMade design_name defs_name out design defs (Design file) = (string_bytes file ≡ design_name) × (¬ ThinDesign design)
-NotMade design_name defs_name out design defs (Definitions file) = (string_bytes file ≡ defs_name) × ThinDesign design × (¬ ThinDefs design defs)
-NotMade design_name defs_name out design defs (TooLong file n) = (n ≡ made_most) × (t : Thin) × AreThin design defs t × SomeExceeds (bundle out design t) (string_bytes file)
+NotMade design_name defs_name out design defs (Design file flaw) = (string_bytes file ≡ design_name) × DesignFlaw design flaw
+NotMade design_name defs_name out design defs (Definitions file flaw) = (string_bytes file ≡ defs_name) × DefsFlaw design defs flaw
+NotMade design_name defs_name out design defs (TooLong file n) = (n ≡ made_most) × (t : Thin) × ThinTexts design defs t × SomeExceeds (bundle out design t) (string_bytes file)
 NotMade design_name defs_name out design defs NoMemory = Unit {0}
 NotMade design_name defs_name out design defs _ = ⊥
 
@@ -77,7 +78,7 @@ pub record Makes (told : Option Files) (design_name defs_name out : List ℕ) (f
   pub defs : List ℕ
   pub parts : Thin
   pub inputs : Inputs told design_name defs_name design defs
-  pub thin : AreThin design defs parts
+  pub thin : ThinTexts design defs parts
   pub files_are : files ≡ bundle out design parts
   pub totals_are : totals ≡ totals_of parts
   pub fit : AllFit files
@@ -97,7 +98,7 @@ Compiles told design_name defs_name out (Ok totals) now = (files : List NamedFil
 Compiles told design_name defs_name out (Err r) now = Refuses told design_name defs_name out r now
 
 abbrev pub FindsOf : Option Command → Option Files → Result Totals Refusal → Option Files → Type 0
-FindsOf None told found now = (found ≡ Err Usage) × (now ≡ told)
+FindsOf None told found now = ((found ≡ Err Usage) ⊎ (found ≡ Err NoMemory)) × (now ≡ told)
 FindsOf (Some (compile design defs out)) told found now = Compiles told design defs out found now
 
 -- what the words find, and what the folder then holds

@@ -1,3 +1,4 @@
+pub mod Stated
 pub mod Command
 pub mod Report
 pub mod Run
@@ -5,6 +6,7 @@ pub mod NetJson
 pub mod Lowered
 pub mod Bundle
 pub mod NetOf
+pub mod Flaws
 pub mod Causes
 pub mod ThinNet
 pub mod Visits

@@ -5,7 +5,7 @@ use Rattle.cocoon_num.specs.Values.{equal}
 use Rattle.cocoon_num.specs.Lists.{has_number}
 use Rattle.cocoon_thin.specs.declared.parts.ThinField.{ThinField}
 use Rattle.cocoon_thin.specs.declared.parts.Thin.{Thin}
-use Rattle.cocoon_thin.specs.Thin.{field_width}
+use Rattle.cocoon_thin.specs.ThinParts.{field_width}
 use Rattle.p4_emit.specs.P4Tree.{p_lit, p_field, p_binary, p_if_else, verdict, egress_port, p_return, P4Stmt, P4Block, p_done, p_then, P4Field, Program}
 use Rattle.p4_emit.specs.NetTree.{to_host, Link, HostPort}
 

@@ -1,9 +1,13 @@
 -- The parts of networks and bundles that values of the code stand for, and which refusals tell of what. They follow the
 -- sections "Bundle files" and "Statuses" of docs/FORMATS.md.
-use Rattle.std.specs.Prelude.{◌≡◌, ℕ, IsTrue, List, map, Option}
+use Rattle.std.specs.Prelude.{◌≡◌, ◌<◌, ℕ, IsTrue, List, length, map, Option}
 use Rattle.std.specs.String.{string_bytes}
 use Rattle.cocoon_thin.specs.declared.parts.Thin.{Thin}
-use Rattle.cocoon_thin.specs.Thin.{fields_fit, numbers_fit, HasWords, ThinDesign, ThinDefs}
+use Rattle.cocoon_num.specs.Tree as trees
+use Rattle.cocoon_num.specs.Reads.{Reads, BeginsDefs}
+use Rattle.cocoon_text.specs.TextFaults.{FirstFault}
+use Rattle.cocoon_thin.specs.Thin.{IsThinDesign}
+use Rattle.cocoon_thin.specs.ThinParts.{ThinNames, fields_fit, numbers_fit, HasWords}
 use Rattle.p4_emit.specs.NetTree as tree
 use Rattle.cocoon_cli.specs.NetJson as json
 use Rattle.cocoon_cli.specs.Bundle as files
@@ -16,6 +20,9 @@ use Rattle.cocoon_cli.specs.declared.json.NetFile.{NetFile}
 use Rattle.cocoon_io.specs.Told.{Rose}
 use Rattle.cocoon_io.specs.declared.folder.FolderFault.{FolderFault}
 use Rattle.cocoon_io.specs.declared.folder.FolderFault.TheVariants.{Failed, TooLong as TooLongFile}
+use Rattle.cocoon_cli.specs.Flaws.{DesignFlaw, DefsFlaw}
+use Rattle.cocoon_cli.specs.declared.refusal.Flaw.{Flaw}
+use Rattle.cocoon_cli.specs.declared.refusal.Flaw.TheVariants.{Fault}
 use Rattle.cocoon_cli.specs.declared.refusal.Refusal.{Refusal}
 use Rattle.cocoon_cli.specs.declared.refusal.Refusal.TheVariants.{Design, Definitions, ReadFault, TooLong, WriteFault, NoMemory}
 use Rattle.cocoon_cli.specs.declared.bundle.BundleFile.{BundleFile}
@@ -80,9 +87,46 @@ abbrev pub ReadFaultRose : Option ℕ → ℕ → ℕ → Refusal → Type 0
 ReadFaultRose last old new (ReadFault file) = Rose last old new
 ReadFaultRose last old new _ = Unit {0}
 
--- what is told of two texts that are not thin
+-- a file that was read has more bytes than it may have
+abbrev pub IsTooLong : List ℕ → ℕ → List ℕ → Refusal → Type 0
+IsTooLong name most bytes (TooLong file n) = (string_bytes file ≡ name) × (n ≡ most) × (most < length bytes)
+IsTooLong name most bytes NoMemory = Unit {0}
+IsTooLong name most bytes _ = ⊥
+
+-- what is told of a design with this flaw
+abbrev pub IsDesignFlaw : List ℕ → Flaw → Refusal → Type 0
+IsDesignFlaw name flaw (Design file found) = (string_bytes file ≡ name) × (found ≡ flaw)
+IsDesignFlaw name flaw NoMemory = Unit {0}
+IsDesignFlaw name flaw _ = ⊥
+
+-- what is told of definitions with this flaw
+abbrev pub IsDefsFlaw : List ℕ → Flaw → Refusal → Type 0
+IsDefsFlaw name flaw (Definitions file found) = (string_bytes file ≡ name) × (found ≡ flaw)
+IsDefsFlaw name flaw NoMemory = Unit {0}
+IsDefsFlaw name flaw _ = ⊥
+
+-- what is told of a design that is not taken
+abbrev pub IsDesignRefusal : (design_name design : List ℕ) → Refusal → Type 0
+IsDesignRefusal design_name design (Design file flaw) = (string_bytes file ≡ design_name) × DesignFlaw design flaw
+IsDesignRefusal design_name design NoMemory = Unit {0}
+IsDesignRefusal design_name design _ = ⊥
+
+-- what is told of definitions that do not read
+abbrev pub IsEntriesRefusal : (defs_name defs : List ℕ) → Refusal → Type 0
+IsEntriesRefusal defs_name defs (Definitions file (Fault f)) = (string_bytes file ≡ defs_name) × FirstFault BeginsDefs defs f
+IsEntriesRefusal defs_name defs NoMemory = Unit {0}
+IsEntriesRefusal defs_name defs _ = ⊥
+
+-- what is told of two texts that are not taken
 abbrev pub IsThinRefusal : (design_name defs_name design defs : List ℕ) → Refusal → Type 0
-IsThinRefusal design_name defs_name design defs (Design file) = (string_bytes file ≡ design_name) × (¬ ThinDesign design)
-IsThinRefusal design_name defs_name design defs (Definitions file) = (string_bytes file ≡ defs_name) × ThinDesign design × (¬ ThinDefs design defs)
+IsThinRefusal design_name defs_name design defs (Design file flaw) = (string_bytes file ≡ design_name) × DesignFlaw design flaw
+IsThinRefusal design_name defs_name design defs (Definitions file flaw) = (string_bytes file ≡ defs_name) × DefsFlaw design defs flaw
 IsThinRefusal design_name defs_name design defs NoMemory = Unit {0}
 IsThinRefusal design_name defs_name design defs _ = ⊥
+
+-- a text reads as a thin design of these names and parts
+pub record IsOutline (design : List ℕ) (n : ThinNames) (t : Thin) : Type 0 where
+  pub tree : trees.Design
+  pub reads : Reads design tree
+  pub thin : IsThinDesign tree n t
+  pub words : HasWords t

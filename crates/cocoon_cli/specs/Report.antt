@@ -4,23 +4,49 @@ use Rattle.std.specs.String.{string_bytes}
 use Rattle.cocoon_io.specs.Told.{appended, AppendsFront}
 use Rattle.cocoon_cli.specs.declared.status.Status.{Status}
 use Rattle.cocoon_cli.specs.declared.status.Status.TheVariants as status
+use Rattle.cocoon_text.specs.TextFaults.{kind_name}
+use Rattle.cocoon_cli.specs.declared.refusal.Flaw.{Flaw}
+use Rattle.cocoon_cli.specs.declared.refusal.Flaw.TheVariants.{Fault, NotYet}
 use Rattle.cocoon_cli.specs.declared.refusal.Refusal.{Refusal}
 use Rattle.cocoon_cli.specs.declared.refusal.Refusal.TheVariants as refusal
 use Rattle.cocoon_cli.specs.declared.refusal.Totals.{Totals}
 
 -- a line with a name in it
-abbrev pub line_of : List ℕ → List ℕ → List ℕ → List ℕ
-line_of front name back = front ++ (name ++ back)
+abbrev pub line_with : List ℕ → List ℕ → List ℕ → List ℕ
+line_with front name back = front ++ (name ++ back)
+
+-- ---- what is wrong with a text
+
+-- the line of its place
+abbrev pub line_of : Flaw → ℕ
+line_of (Fault f) = f.line
+line_of NotYet = 1
+
+-- the column
+abbrev pub column_of : Flaw → ℕ
+column_of (Fault f) = f.column
+column_of NotYet = 1
+
+-- its word
+abbrev pub word_of : Flaw → List ℕ
+word_of (Fault f) = kind_name f.kind
+word_of NotYet = codes "NotYet"
+
+-- FRONT FILE LINE:COLUMN WORD
+abbrev pub flaw_report : List ℕ → List ℕ → Flaw → List ℕ
+flaw_report front file flaw = front ++ (codes " " ++ (file ++ (codes " " ++ (decimal (line_of flaw) ++ (codes ":" ++ (decimal (column_of flaw) ++ (codes " " ++ (word_of flaw ++ codes "\n"))))))))
+
+-- ---- all lines
 
 abbrev pub refusal_line : Refusal → List ℕ
 refusal_line refusal.Usage = codes "usage cocoon check compile update forward step live gen\n"
-refusal_line (refusal.Design file) = line_of (codes "language ") (string_bytes file) (codes " 1:1 NotYet\n")
-refusal_line (refusal.Definitions file) = line_of (codes "definitions ") (string_bytes file) (codes " 1:1 NotYet\n")
-refusal_line (refusal.ReadFault file) = line_of (codes "read fault ") (string_bytes file) (codes "\n")
-refusal_line (refusal.WriteFault file) = line_of (codes "write fault ") (string_bytes file) (codes "\n")
-refusal_line (refusal.TooLong file most) = line_of (codes "limit file ") (string_bytes file) (codes " over " ++ (decimal most ++ codes "\n"))
+refusal_line (refusal.Design file flaw) = flaw_report (codes "language") (string_bytes file) flaw
+refusal_line (refusal.Definitions file flaw) = flaw_report (codes "definitions") (string_bytes file) flaw
+refusal_line (refusal.ReadFault file) = line_with (codes "read fault ") (string_bytes file) (codes "\n")
+refusal_line (refusal.WriteFault file) = line_with (codes "write fault ") (string_bytes file) (codes "\n")
+refusal_line (refusal.TooLong file most) = line_with (codes "limit file ") (string_bytes file) (codes " over " ++ (decimal most ++ codes "\n"))
 refusal_line refusal.NoMemory = codes "no memory\n"
-refusal_line (refusal.NoFile file) = line_of (codes "no file ") (string_bytes file) (codes "\n")
+refusal_line (refusal.NoFile file) = line_with (codes "no file ") (string_bytes file) (codes "\n")
 
 abbrev pub totals_line : Totals → List ℕ
 totals_line t = codes "compiled switches " ++ (decimal t.switches ++ (codes " hosts " ++ (decimal t.hosts ++ (codes " links " ++ (decimal t.links ++ codes " obligations 0\n")))))
@@ -31,8 +57,8 @@ report_of (Err r) = refusal_line r
 
 abbrev pub refusal_status : Refusal → Status
 refusal_status refusal.Usage = status.Usage
-refusal_status (refusal.Design file) = status.Language
-refusal_status (refusal.Definitions file) = status.Broken
+refusal_status (refusal.Design file flaw) = status.Language
+refusal_status (refusal.Definitions file flaw) = status.Broken
 refusal_status (refusal.ReadFault file) = status.ReadFault
 refusal_status (refusal.WriteFault file) = status.WriteFault
 refusal_status (refusal.TooLong file most) = status.Limit

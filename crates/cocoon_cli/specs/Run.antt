@@ -1,10 +1,13 @@
 -- What the top call promises. It follows "Statuses" and "Reports" in docs/FORMATS.md.
-use Rattle.std.specs.Prelude.{◌≡◌, ◌⊎◌, ℕ, List, length, nat_lt, if◌then◌else◌, Option, Some, None, Result, Err}
+use Rattle.std.specs.Prelude.{◌≡◌, ◌⊎◌, ◌<◌, ◌^◌, ℕ, List, ◌++◌, length, nat_lt, if◌then◌else◌, Option, Some, None, Result, Err, codes}
 use Rattle.std.specs.FinMap.{get}
 use Rattle.cocoon_io.specs.Files.{Files}
 use Rattle.cocoon_io.specs.Told.{appended}
 use Rattle.cocoon_thin.specs.declared.parts.Thin.{Thin}
-use Rattle.cocoon_thin.specs.Thin.{AreThin, ThinDesign, ThinDefs}
+use Rattle.cocoon_text.specs.declared.fault.FaultKind.{FaultKind}
+use Rattle.cocoon_thin.specs.Thin.{ThinTexts}
+use Rattle.cocoon_cli.specs.declared.refusal.Flaw.{Flaw}
+use Rattle.cocoon_cli.specs.declared.refusal.Flaw.TheVariants.{Fault}
 use Rattle.cocoon_cli.specs.declared.refusal.Refusal.{Refusal}
 use Rattle.cocoon_cli.specs.declared.refusal.Refusal.TheVariants as refusal
 use Rattle.cocoon_cli.specs.declared.refusal.Totals.{Totals}
@@ -12,8 +15,9 @@ use Rattle.cocoon_cli.specs.declared.status.Status.{Status}
 use Rattle.cocoon_cli.specs.declared.status.Status.TheVariants.{Done, Refuted, Usage, Language, Broken, HopBound, Budget, Bundle, ReadFault, WriteFault, Limit, Lines, NoMemory, NoFile}
 use Rattle.cocoon_cli.specs.Command.{Command, command, compile}
 use Rattle.cocoon_cli.specs.Bundle.{NamedFile, bundle, with_files, SomeWritten, AllFit, SomeExceeds}
-use Rattle.cocoon_cli.specs.Causes.{Finds, Makes, design_most, defs_most}
-use Rattle.cocoon_cli.specs.Report.{Says, totals_line}
+use Rattle.cocoon_cli.specs.Causes.{Finds, Inputs, Makes, design_most, defs_most}
+use Rattle.cocoon_cli.specs.Flaws.{IsThinText, AreThinTexts, DesignFlaw, DefsFlaw}
+use Rattle.cocoon_cli.specs.Report.{Says, flaw_report, totals_line}
 
 -- the number of a status
 abbrev pub number_of : Status → ℕ
@@ -66,10 +70,10 @@ pub data Verdict : Type 0 where
 -- what is found of two texts
 abbrev pub JudgesTexts : (out design defs : List ℕ) → Verdict → Type 0
 JudgesTexts out design defs a_file_missing = ⊥
-JudgesTexts out design defs a_file_too_long = (t : Thin) × AreThin design defs t × (name : List ℕ) × SomeExceeds (bundle out design t) name
-JudgesTexts out design defs not_thin = ¬ ThinDesign design
-JudgesTexts out design defs not_thin_defs = ThinDesign design × (¬ ThinDefs design defs)
-JudgesTexts out design defs all_good = (t : Thin) × AreThin design defs t × AllFit (bundle out design t)
+JudgesTexts out design defs a_file_too_long = (t : Thin) × ThinTexts design defs t × (name : List ℕ) × SomeExceeds (bundle out design t) name
+JudgesTexts out design defs not_thin = ¬ IsThinText design
+JudgesTexts out design defs not_thin_defs = IsThinText design × (¬ AreThinTexts design defs)
+JudgesTexts out design defs all_good = (t : Thin) × ThinTexts design defs t × AllFit (bundle out design t)
 
 -- the design is read first
 abbrev pub JudgesStages : List ℕ → Stage → Stage → Verdict → Type 0
@@ -114,6 +118,41 @@ UsageOf (Some c) result = (result ≡ Usage) → ⊥
 -- the words are no command exactly where the answer is `Usage`, which yields to the sink and to want of memory
 abbrev pub UsageExactly : List (List ℕ) → Status → Type 0
 UsageExactly words result = UsageOf (command words) result
+
+-- ---- exact flaws, over told files
+
+-- the design has this flaw
+abbrev pub DesignHas : Files → (design defs : List ℕ) → Flaw → Type 0
+DesignHas files design_name defs_name flaw = (design defs : List ℕ) × Inputs (Some files) design_name defs_name design defs × DesignFlaw design flaw
+
+-- the definitions have this flaw, and the design has none
+abbrev pub DefsHave : Files → (design defs : List ℕ) → Flaw → Type 0
+DefsHave files design_name defs_name flaw = (design defs : List ℕ) × Inputs (Some files) design_name defs_name design defs × DefsFlaw design defs flaw
+
+-- a sink that tells its bytes was told this line
+abbrev pub IsTold : Option (List ℕ) → Option (List ℕ) → List ℕ → Type 0
+IsTold None said' line = ⊥
+IsTold (Some said) said' line = said' ≡ Some (said ++ line)
+
+-- the status and the line come exactly where the cause is there
+abbrev pub ToldExactly : (cause : Type 0) → Status → List ℕ → Option (List ℕ) → Option (List ℕ) → Status → Type 0
+ToldExactly cause status line said said' result =
+    (cause → ((result ≡ status) × (said' ≡ appended said line)) ⊎ Yields result)
+    × (result ≡ status → IsTold said said' line → cause)
+
+abbrev pub FlawOf : Option Command → Option Files → Option (List ℕ) → Option (List ℕ) → Flaw → Status → Type 0
+FlawOf (Some (compile design defs out)) (Some files) said said' flaw result =
+    ToldExactly (DesignHas files design defs flaw) Language (flaw_report (codes "language") design flaw) said said' result
+    × ToldExactly (DefsHave files design defs flaw) Broken (flaw_report (codes "definitions") defs flaw) said said' result
+FlawOf _ _ said said' flaw result = Unit {0}
+
+-- a flaw of the design or of the definitions of a `compile` is told exactly where it is there
+abbrev pub FlawExactly : List (List ℕ) → Option Files → Option (List ℕ) → Option (List ℕ) → Flaw → Status → Type 0
+FlawExactly words told said said' flaw result = FlawOf (command words) told said said' flaw result
+
+-- and so is each fault of this kind, with its line and column, which have 32 bits
+abbrev pub FaultsExactly : List (List ℕ) → Option Files → Option (List ℕ) → Option (List ℕ) → FaultKind → Status → Type 0
+FaultsExactly words told said said' kind result = (line column : ℕ) → line < 2 ^ 32 → column < 2 ^ 32 → FlawExactly words told said said' (Fault (record { kind = kind; line = line; column = column })) result
 
 -- ---- what is left
 

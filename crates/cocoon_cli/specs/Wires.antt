@@ -4,7 +4,7 @@ use Rattle.cocoon_num.specs.Packets.{Packet}
 use Rattle.cocoon_num.specs.Tree.{Design}
 use Rattle.cocoon_types.specs.Runs.{Loc, Go, world}
 use Rattle.cocoon_types.specs.Tables.{Defs}
-use Rattle.cocoon_thin.specs.Thin.{ThinNames}
+use Rattle.cocoon_thin.specs.ThinParts.{ThinNames}
 use Rattle.cocoon_thin.specs.ThinVisits.{enters_at, goes_out_at}
 use Rattle.cocoon_thin.specs.ThinWires.{begins_at, ends_at}
 use Rattle.p4_emit.specs.NetTree.{LinkEnd, to_switch, to_host, Link, HostPort}

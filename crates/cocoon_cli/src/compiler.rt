@@ -1,16 +1,16 @@
 //! `compile`: a design and its definitions are read, the bundle is made, and then it is written.
-ghost use Rattle.std.specs.Prelude.{◌≡◌, ◌≤◌, IfErr, IfOk, map};
+ghost use Rattle.std.specs.Prelude.{◌≡◌, ◌≤◌, IfErr, IfOk, length, map};
 ghost use Rattle.cocoon_cli.specs.Bundle.{AllFit, bundle};
 ghost use Rattle.cocoon_cli.specs.Causes.{Compiles, Gives, NotRead};
-ghost use Rattle.cocoon_cli.specs.NetOf.{FaultRose, IsLowerable, IsReadRefusal, IsThinRefusal, MadeTooLong, ReadFaultRose, named_of};
+ghost use Rattle.cocoon_cli.specs.NetOf.{FaultRose, IsLowerable, IsReadRefusal, IsTooLong, MadeTooLong, ReadFaultRose, named_of};
 ghost use Rattle.cocoon_cli.specs.Readable.{Readable};
-ghost use Rattle.cocoon_thin.specs.Thin.{AreThin};
 
 use crate::bundle::{self, BundleFile};
 use crate::refusal::{Refusal, Totals};
+use crate::texts::parts;
 use crate::words::Compile;
 use cocoon_io::{Folder, FolderFault};
-use cocoon_thin::{Thin, ThinFault, thin};
+use cocoon_thin::Thin;
 use std::alloc::Global;
 
 /// The numbers of bytes that the design and the definitions may have.
@@ -32,9 +32,22 @@ fn read_refusal(alloc: Global, name: &str, most: u64, fault: &FolderFault) -> Re
     }
 }
 
+/// The bytes of a file that was read, if they are not too many.
+fn short(alloc: Global, name: &str, most: u64, bytes: Vec<u8>) -> Result<Vec<u8>, Refusal>
+    ensures ok { IfOk result (λ v. (v.items ≡ bytes.items) × (length v.items ≤ most)) }
+    ensures err { IfErr result (IsTooLong name.now most bytes.items) }
+{
+    if bytes.len() as u64 <= most {
+        Ok(bytes)
+    } else {
+        Err(Refusal::TooLong(String::from_str(alloc, name)?, most))
+    }
+}
+
 /// The bytes of a file that has to be there.
 fn read<F: Folder>(alloc: Global, folder: &mut F, name: &str, most: u64) -> Result<Vec<u8>, Refusal>
     ensures ok { IfOk result (λ v. Gives (F.told folder.old) name.now most v.items) }
+    ensures short { IfOk result (λ v. length v.items ≤ most) }
     ensures err { IfErr result (NotRead (F.told folder.old) name.now most) }
     ensures failed { IfErr result (ReadFaultRose F.last_read_fault (F.read_faults folder.old) (F.read_faults folder.new)) }
     ensures same { F.told folder.new ≡ F.told folder.old }
@@ -42,23 +55,9 @@ fn read<F: Folder>(alloc: Global, folder: &mut F, name: &str, most: u64) -> Resu
     ensures writes { F.write_faults folder.new ≡ F.write_faults folder.old }
 {
     match folder.read(alloc, name, most) {
-        Ok(Some(bytes)) => Ok(bytes),
+        Ok(Some(bytes)) => short(alloc, name, most, bytes),
         Ok(None) => Err(Refusal::NoFile(String::from_str(alloc, name)?)),
         Err(fault) => Err(read_refusal(alloc, name, most, &fault)),
-    }
-}
-
-/// The parts of the two texts, or what is told of them.
-fn parts(alloc: Global, names: &Compile<'_>, design: &[u8], defs: &[u8]) -> Result<Thin, Refusal>
-    ensures thin { IfOk result (AreThin design.now defs.now) }
-    ensures lowerable { IfOk result IsLowerable }
-    ensures refused { IfErr result (IsThinRefusal names.now.design.now names.now.defs.now design.now defs.now) }
-{
-    match thin(alloc, design, defs) {
-        Ok(parts) => Ok(parts),
-        Err(ThinFault::Design) => Err(Refusal::Design(String::from_str(alloc, names.design)?)),
-        Err(ThinFault::Defs) => Err(Refusal::Definitions(String::from_str(alloc, names.defs)?)),
-        Err(ThinFault::NoMemory) => Err(Refusal::NoMemory),
     }
 }
 

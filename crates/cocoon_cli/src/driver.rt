@@ -4,18 +4,19 @@ ghost use Rattle.cocoon_cli.specs.Causes.{Finds};
 ghost use Rattle.cocoon_cli.specs.Headline.{Headline};
 ghost use Rattle.cocoon_cli.specs.NetOf.{FaultRose, ReadFaultRose};
 ghost use Rattle.cocoon_cli.specs.Report.{Puts, Says, no_memory_line};
-ghost use Rattle.cocoon_cli.specs.Run.{Exactly, Leaves, MayWrite, Ran, UsageExactly, Writes, a_file_missing, a_file_too_long, all_good, not_thin, not_thin_defs};
+ghost use Rattle.cocoon_cli.specs.Run.{Exactly, FaultsExactly, FlawExactly, Leaves, MayWrite, Ran, UsageExactly, Writes, a_file_missing, a_file_too_long, all_good, not_thin, not_thin_defs};
 ghost use Rattle.cocoon_io.specs.Told.{Rose};
 
 use crate::compiler::compile;
-use crate::refusal::{Refusal, Totals, status_of};
+use crate::flaws::{one_flaw, one_reading};
+use crate::refusal::{Flaw, Refusal, Totals, status_of};
 use crate::report::report;
 use crate::status::Status;
 use crate::visits::thin_networks_mean;
 use crate::words::command;
 use cocoon_io::{Folder, Sink, SinkFault};
 use cocoon_num::NoMemory;
-use cocoon_thin::texts::one_thin_reading;
+use cocoon_text::FaultKind;
 use std::alloc::Global;
 
 /// Tells the bytes; where that fails, the status says so.
@@ -52,9 +53,10 @@ fn find<F: Folder>(alloc: Global, words: &[String], folder: &mut F) -> Result<To
     ensures read_failed { IfErr result (ReadFaultRose F.last_read_fault (F.read_faults folder.old) (F.read_faults folder.new)) }
     ensures write_failed { IfErr result (FaultRose F.last_write_fault (F.write_faults folder.old) (F.write_faults folder.new)) }
 {
-    match command(words) {
-        Some(names) => compile(alloc, &names, folder),
-        None => Err(Refusal::Usage),
+    match command(alloc, words) {
+        Ok(Some(names)) => compile(alloc, &names, folder),
+        Ok(None) => Err(Refusal::Usage),
+        Err(NoMemory) => Err(Refusal::NoMemory),
     }
 }
 
@@ -74,6 +76,12 @@ pub fn run<F: Folder, S: Sink>(
     ensures limit { Exactly (map string_bytes words.now) (F.told folder.old) a_file_too_long result }
     ensures language { Exactly (map string_bytes words.now) (F.told folder.old) not_thin result }
     ensures broken { Exactly (map string_bytes words.now) (F.told folder.old) not_thin_defs result }
+    ensures bad_byte { FaultsExactly (map string_bytes words.now) (F.told folder.old) (S.told out.old) (S.told out.new) FaultKind.BadByte result }
+    ensures bad_number { FaultsExactly (map string_bytes words.now) (F.told folder.old) (S.told out.old) (S.told out.new) FaultKind.BadNumber result }
+    ensures open_comment { FaultsExactly (map string_bytes words.now) (F.told folder.old) (S.told out.old) (S.told out.new) FaultKind.OpenComment result }
+    ensures unexpected { FaultsExactly (map string_bytes words.now) (F.told folder.old) (S.told out.old) (S.told out.new) FaultKind.Unexpected result }
+    ensures too_deep { FaultsExactly (map string_bytes words.now) (F.told folder.old) (S.told out.old) (S.told out.new) FaultKind.TooDeep result }
+    ensures not_yet { FlawExactly (map string_bytes words.now) (F.told folder.old) (S.told out.old) (S.told out.new) Flaw.NotYet result }
     ensures done { Exactly (map string_bytes words.now) (F.told folder.old) all_good result }
     ensures read_fault { result ≡ Status.ReadFault → Rose F.last_read_fault (F.read_faults folder.old) (F.read_faults folder.new) }
     ensures write_fault { result ≡ Status.WriteFault → Rose F.last_write_fault (F.write_faults folder.old) (F.write_faults folder.new) ⊎ Rose S.last_fault (S.faults out.old) (S.faults out.new) }
@@ -86,7 +94,8 @@ pub fn run<F: Folder, S: Sink>(
     ensures unchanged { MayWrite result ⊎ (F.told folder.new ≡ F.told folder.old) }
     ensures leaves { Leaves (map string_bytes words.now) (F.told folder.old) (F.told folder.new) }
 {
-    one_thin_reading();
+    one_reading();
+    one_flaw();
     thin_networks_mean();
     let found = find(alloc, words, folder);
     tell(alloc, out, &found)

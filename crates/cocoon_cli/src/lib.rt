@@ -5,6 +5,7 @@ pub mod bundle;
 pub mod compiler;
 pub mod driver;
 pub mod example;
+pub mod flaws;
 pub mod json;
 pub mod lower;
 pub mod network;
@@ -12,6 +13,7 @@ mod ranges;
 pub mod refusal;
 pub mod report;
 pub mod status;
+pub mod texts;
 pub mod visits;
 pub mod words;
 

@@ -4,8 +4,10 @@ ghost use Rattle.p4_emit.specs.P4Reads.{P4Reads};
 ghost use Rattle.p4_emit.specs.Printed.{printed};
 ghost use Rattle.p4_emit.specs.Program.{block_of, control_of, field_of, header_of, program_of, stmt_of};
 ghost use Rattle.cocoon_num.specs.Lists.{has_number};
-ghost use Rattle.cocoon_thin.specs.Thin.{AreThin, field_width};
-ghost use Rattle.cocoon_thin.specs.ThinTree.{thin_defs, thin_tree};
+ghost use Rattle.cocoon_num.specs.Tree.{DefsText, Design};
+ghost use Rattle.cocoon_types.specs.Tables.{defs_of};
+ghost use Rattle.cocoon_thin.specs.Thin.{AreThin};
+ghost use Rattle.cocoon_thin.specs.ThinParts.{field_width};
 ghost use Rattle.cocoon_cli.specs.Lowered as spec;
 ghost use Rattle.cocoon_cli.specs.NetOf.{IsLowerable, host_port_of, link_of};
 ghost use Rattle.cocoon_cli.specs.Visits.{VisitsAreRuns};
@@ -118,7 +120,7 @@ pub fn program(alloc: Global, thin: &Thin) -> Result<Program, NoMemory>
     ensures lowers { IfOk result (λ p. program_of p ≡ spec.thin_program thin.now) }
 
     // one visit of a switch that runs it is one run of the ingress role
-    ensures visits { IfOk result (λ p. (design defs : Items ℕ) (h : AreThin design defs thin.now) → VisitsAreRuns (program_of p) (thin_tree h.names thin.now) (thin_defs h.names thin.now h.entries) h.names thin.now) }
+    ensures visits { IfOk result (λ p. (design : Design) (defs : DefsText) (h : AreThin design defs thin.now) → VisitsAreRuns (program_of p) design (defs_of design defs) h.names thin.now) }
 {
     thin_switches_run();
     let header = header(alloc, thin)?;
@@ -166,7 +168,7 @@ pub fn host_ports(alloc: Global, thin: &Thin) -> Result<Vec<HostPort>, NoMemory>
     ensures lowers { IfOk result (λ v. map host_port_of v.items ≡ spec.host_ports thin.now) }
 
     // each attachment is the run of the entry role
-    ensures attached { IfOk result (λ v. (design defs : Items ℕ) (h : AreThin design defs thin.now) → HostsAreRuns (map host_port_of v.items) (thin_tree h.names thin.now) (thin_defs h.names thin.now h.entries) h.names) }
+    ensures attached { IfOk result (λ v. (design : Design) (defs : DefsText) (h : AreThin design defs thin.now) → HostsAreRuns (map host_port_of v.items) design (defs_of design defs) h.names) }
 {
     thin_entries_run();
     know_numbers(thin);
@@ -209,7 +211,7 @@ pub fn links(alloc: Global, thin: &Thin) -> Result<Vec<Link>, NoMemory>
     ensures lowers { IfOk result (λ v. map link_of v.items ≡ spec.links thin.now) }
 
     // each link is the run of the egress role
-    ensures wired { IfOk result (λ v. (design defs : Items ℕ) (h : AreThin design defs thin.now) → LinksAreRuns (map link_of v.items) (thin_tree h.names thin.now) (thin_defs h.names thin.now h.entries) h.names) }
+    ensures wired { IfOk result (λ v. (design : Design) (defs : DefsText) (h : AreThin design defs thin.now) → LinksAreRuns (map link_of v.items) design (defs_of design defs) h.names) }
 {
     thin_exits_run();
     know_numbers(thin);

@@ -1,20 +1,62 @@
 //! What a command found: totals, or why it stopped.
 ghost use Rattle.std.specs.Prelude.{◌≡◌, Err};
-ghost use Rattle.cocoon_cli.specs.Report.{refusal_status, status_of};
+ghost use Rattle.cocoon_cli.specs.Report.{column_of, line_of, refusal_status, status_of, word_of};
 
 use crate::status::Status;
 use cocoon_num::NoMemory;
+use cocoon_text::TextFault;
 use std::alloc::AllocError;
+
+/// What is wrong with a text.
+#[derive(Clone, Copy, Debug, Drop, PartialEq, Eq)]
+pub enum Flaw {
+    /// It has no tree, and this is its first fault.
+    Fault(TextFault),
+    /// It has a tree, which `compile` does not take yet.
+    NotYet,
+}
+
+impl Flaw {
+    /// The line of its place, from 1.
+    pub fn line(&self) -> u32
+        ensures { result ≡ line_of self.now }
+    {
+        match self {
+            Flaw::Fault(fault) => fault.line,
+            Flaw::NotYet => 1,
+        }
+    }
+
+    /// The column of its place, in bytes from 1.
+    pub fn column(&self) -> u32
+        ensures { result ≡ column_of self.now }
+    {
+        match self {
+            Flaw::Fault(fault) => fault.column,
+            Flaw::NotYet => 1,
+        }
+    }
+
+    /// The word of a report.
+    pub fn word(&self) -> &'static str
+        ensures { result.now ≡ word_of self.now }
+    {
+        match self {
+            Flaw::Fault(fault) => fault.kind.name(),
+            Flaw::NotYet => "NotYet",
+        }
+    }
+}
 
 /// Why a command stopped, with the file that its report names.
 #[derive(Debug, Drop)]
 pub enum Refusal {
     /// The words are no command.
     Usage,
-    /// The design is none that `compile` takes yet.
-    Design(String),
-    /// The definitions are none that `compile` takes yet.
-    Definitions(String),
+    /// The design has this flaw.
+    Design(String, Flaw),
+    /// The definitions have this flaw.
+    Definitions(String, Flaw),
     ReadFault(String),
     WriteFault(String),
     /// The file has more bytes than this number.
@@ -60,8 +102,8 @@ impl Refusal {
     {
         match self {
             Refusal::Usage => Status::Usage,
-            Refusal::Design(_) => Status::Language,
-            Refusal::Definitions(_) => Status::Broken,
+            Refusal::Design(_, _) => Status::Language,
+            Refusal::Definitions(_, _) => Status::Broken,
             Refusal::ReadFault(_) => Status::ReadFault,
             Refusal::WriteFault(_) => Status::WriteFault,
             Refusal::TooLong(_, _) => Status::Limit,

@@ -1,10 +1,19 @@
 //! The lines of reports.
 ghost use Rattle.std.specs.Prelude.{◌≡◌, IfOk, string_bytes};
-ghost use Rattle.cocoon_cli.specs.Report.{refusal_line, report_of, totals_line};
+ghost use Rattle.cocoon_cli.specs.Report.{flaw_report, refusal_line, report_of, totals_line};
 
-use crate::refusal::{Refusal, Totals};
+use crate::refusal::{Flaw, Refusal, Totals};
 use cocoon_num::NoMemory;
 use std::alloc::Global;
+
+fn flaw_report(alloc: Global, front: &str, file: &str, flaw: &Flaw) -> Result<String, NoMemory>
+    ensures { IfOk result (λ line. string_bytes line ≡ flaw_report front.now file.now flaw.now) }
+{
+    let line = flaw.line();
+    let column = flaw.column();
+    let word = flaw.word();
+    Ok(format!(in alloc; "{front} {file} {line}:{column} {word}\n")?)
+}
 
 fn refusal_line(alloc: Global, refusal: &Refusal) -> Result<String, NoMemory>
     ensures { IfOk result (λ line. string_bytes line ≡ refusal_line refusal.now) }
@@ -14,8 +23,8 @@ fn refusal_line(alloc: Global, refusal: &Refusal) -> Result<String, NoMemory>
             alloc,
             "usage cocoon check compile update forward step live gen\n",
         )?,
-        Refusal::Design(file) => format!(in alloc; "language {file} 1:1 NotYet\n")?,
-        Refusal::Definitions(file) => format!(in alloc; "definitions {file} 1:1 NotYet\n")?,
+        Refusal::Design(file, flaw) => flaw_report(alloc, "language", file, flaw)?,
+        Refusal::Definitions(file, flaw) => flaw_report(alloc, "definitions", file, flaw)?,
         Refusal::ReadFault(file) => format!(in alloc; "read fault {file}\n")?,
         Refusal::WriteFault(file) => format!(in alloc; "write fault {file}\n")?,
         Refusal::TooLong(file, most) => format!(in alloc; "limit file {file} over {most}\n")?,

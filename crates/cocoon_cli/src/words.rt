@@ -1,6 +1,21 @@
-//! The words of the command line.
-ghost use Rattle.std.specs.Prelude.{◌≡◌, map, option_map, string_bytes};
-ghost use Rattle.cocoon_cli.specs.Command.{command, compile, is_compile, is_file_name, is_name_byte};
+//! The words of the command line, which one `clap` command reads.
+ghost use Rattle.std.specs.Prelude.{◌≡◌, IfOk, false, map, option_and_then, option_map, string_bytes};
+ghost use Rattle.clap.specs.Words.{app_of, found_of, rows_of, rule_of, subcommand_rows_of, with_subcommand};
+ghost use Rattle.clap.specs.declared.builder.Command.TheViews.{out-Command};
+ghost use Rattle.cocoon_cli.specs.Command.{command, command_of, compile, compile_of, is_file_name, is_name_byte, matched, name_at};
+ghost use Rattle.cocoon_cli.specs.Stated.{cocoon, compile_app, position, with_each};
+
+use clap::error::ErrorKind;
+use clap::{Arg, ArgAction, ArgMatches, Command};
+use cocoon_num::NoMemory;
+use std::alloc::Global;
+
+/// The names of the positions.
+const DESIGN: &str = "DESIGN";
+
+const DEFS: &str = "DEFS";
+
+const OUT: &str = "OUT";
 
 /// The names that `compile` is given.
 #[derive(Clone, Copy, Debug, Drop)]
@@ -11,6 +26,68 @@ pub struct Compile<'w> {
     pub defs: &'w str,
     /// The name of the bundle, with which the names of its files begin.
     pub out: &'w str,
+}
+
+/// A position that has to be there.
+fn position<'w>(alloc: Global, id: &'w str) -> Arg<'w>
+    ensures rule { rule_of result ≡ position id.entry.now }
+    ensures local { result.global ≡ false }
+{
+    Arg::new(alloc, id).required(true).action(ArgAction::Set)
+}
+
+/// The command with these positions, in their order.
+fn with_positions<'w>(
+    alloc: Global,
+    command: Command<'w>,
+    ids: &[&'w str],
+) -> Result<Command<'w>, NoMemory>
+    ensures app { IfOk result (λ c. app_of c ≡ with_each position (app_of command.entry) (map (λ id. id.now) ids.now)) }
+    ensures local { IfOk result (λ c. (out-Command c).has_globals ≡ (out-Command command.entry).has_globals) }
+{
+    let mut command = command;
+    for id in ids {
+        command = command.arg(position(alloc, id))?;
+    }
+    Ok(command)
+}
+
+/// The subcommand `compile`.
+fn compile_command<'w>(alloc: Global) -> Result<Command<'w>, NoMemory>
+    ensures app { IfOk result (λ c. app_of c ≡ compile_app) }
+    ensures local { IfOk result (λ c. (out-Command c).has_globals ≡ false) }
+{
+    with_positions(alloc, Command::new(alloc, "compile"), &[DESIGN, DEFS, OUT])
+}
+
+/// The command with one more subcommand.
+fn with_subcommand<'w>(command: Command<'w>, sub: Command<'w>) -> Result<Command<'w>, NoMemory>
+    requires { (out-Command sub).has_globals ≡ false }
+    ensures { IfOk result (λ c. app_of c ≡ with_subcommand (app_of command.entry) (app_of sub.entry).top) }
+{
+    Ok(command.subcommand(sub)?)
+}
+
+/// The whole command.
+fn stated<'w>(alloc: Global) -> Result<Command<'w>, NoMemory>
+    ensures { IfOk result (λ c. app_of c ≡ cocoon) }
+{
+    let command = Command::new(alloc, "cocoon");
+    with_subcommand(command, compile_command(alloc)?)
+}
+
+/// What the command makes of the words; nothing where it refuses them, or is asked for help.
+fn matches<'w>(alloc: Global, words: &'w [String]) -> Result<Option<ArgMatches<'w>>, NoMemory>
+    ensures { IfOk result (λ m. option_and_then subcommand_rows_of m ≡ matched (map string_bytes words.entry.now)) }
+{
+    let command = stated(alloc)?;
+    match command.try_get_matches_from(words) {
+        Ok(matches) => Ok(Some(matches)),
+        Err(error) => match error.kind() {
+            ErrorKind::OutOfMemory => Err(NoMemory),
+            _ => Ok(None),
+        },
+    }
 }
 
 fn is_name_byte(byte: u8) -> bool
@@ -31,31 +108,54 @@ fn is_file_name(word: &str) -> bool
     !word.is_empty()
 }
 
-/// Whether the words after the program's name ask for `compile`.
-fn is_compile(word: &str, names: &Compile<'_>) -> bool
-    ensures { result ≡ is_compile word.now names.now.design.now names.now.defs.now names.now.out.now }
+/// The word at a position, where it is a name.
+fn name<'w>(matches: &ArgMatches<'w>, position: &str) -> Option<&'w str>
+    ensures { option_map (λ word. word.now) result ≡ name_at position.now (rows_of (found_of matches.now)) }
 {
-    word == "compile"
-        && is_file_name(names.design)
-        && is_file_name(names.defs)
-        && is_file_name(names.out)
+    match matches.get_str(position) {
+        Some(word) if is_file_name(word) => Some(word),
+        _ => None,
+    }
+}
+
+/// The names of a `compile`, where each has its form.
+fn compile_of<'w>(matches: &ArgMatches<'w>) -> Option<Compile<'w>>
+    ensures { option_map (λ c. compile c.design.now c.defs.now c.out.now) result ≡ compile_of (rows_of (found_of matches.now)) }
+{
+    let design = name(matches, DESIGN)?;
+    let defs = name(matches, DEFS)?;
+    let out = name(matches, OUT)?;
+    Some(Compile { design, defs, out })
+}
+
+/// What a subcommand asks for, by its name and its matches.
+fn command_of<'w>(name: &str, matches: &ArgMatches<'w>) -> Option<Compile<'w>>
+    ensures { option_map (λ c. compile c.design.now c.defs.now c.out.now) result ≡ command_of (name.now, rows_of (found_of matches.now)) }
+{
+    if name == "compile" {
+        compile_of(matches)
+    } else {
+        None
+    }
+}
+
+/// What the subcommand that was met asks for.
+fn asked<'w>(matches: &ArgMatches<'w>) -> Option<Compile<'w>>
+    ensures { option_map (λ c. compile c.design.now c.defs.now c.out.now) result ≡ option_and_then command_of (subcommand_rows_of matches.now) }
+{
+    match matches.subcommand() {
+        Some((name, met)) => command_of(name, met),
+        None => None,
+    }
 }
 
 /// The command that the words give, the program's name first.
-pub fn command<'w>(words: &'w [String]) -> Option<Compile<'w>>
-    ensures { option_map (λ c. compile c.design.now c.defs.now c.out.now) result ≡ command (map string_bytes words.entry.now) }
+#[tactic(auto, unfolding(crate::specs::Command::command))]
+pub fn command<'w>(alloc: Global, words: &'w [String]) -> Result<Option<Compile<'w>>, NoMemory>
+    ensures { IfOk result (λ c. option_map (λ n. compile n.design.now n.defs.now n.out.now) c ≡ command (map string_bytes words.entry.now)) }
 {
-    if words.len() != 5 {
-        return None;
-    }
-    let names = Compile {
-        design: words[2].as_str(),
-        defs: words[3].as_str(),
-        out: words[4].as_str(),
-    };
-    if is_compile(words[1].as_str(), &names) {
-        Some(names)
-    } else {
-        None
+    match matches(alloc, words)? {
+        Some(matches) => Ok(asked(&matches)),
+        None => Ok(None),
     }
 }

@@ -5,7 +5,7 @@ use Rattle.std.specs.Prelude.{if◌then◌else◌, insert, not, nat_lt, remove, 
 use Rattle.std.proofs.lemmas.Bool.Decides.{nat_tests}
 use Rattle.cocoon_num.specs.Lists.{ascend, has_number}
 use Rattle.cocoon_thin.specs.Read.{below, is_number}
-use Rattle.cocoon_thin.proofs.Back.{both}
+use Rattle.std.proofs.lemmas.Bool.{and_parts}
 
 -- ---- tests
 
@@ -73,7 +73,7 @@ ascend_parts m (k ∷ ks) = refl
 
 -- taken apart
 parts_of : (m : ℕ) (ks : List ℕ) → ascend (m ∷ ks) ≡ true → (begins_above m ks ≡ true) × (ascend ks ≡ true)
-parts_of m ks a = both (begins_above m ks) (ascend ks) (sym (ascend_parts m ks) ∙ a)
+parts_of m ks a = and_parts (begins_above m ks) (ascend ks) (sym (ascend_parts m ks) ∙ a)
 
 -- put together
 of_parts : (m : ℕ) (ks : List ℕ) → begins_above m ks ≡ true → ascend ks ≡ true → ascend (m ∷ ks) ≡ true

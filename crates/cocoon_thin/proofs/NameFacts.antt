@@ -4,7 +4,7 @@ use Rattle.std.proofs.Common.{◌∙◌, ap, ap₂}
 use Rattle.std.proofs.lemmas.Bool.{and_from, and_parts, eq-eqb, eqb-true, both_ways, false_from_ne_true}
 use Rattle.cocoon_num.specs.Names.{same_name}
 use Rattle.cocoon_num.specs.Lists.{is_one_of, all_distinct}
-use Rattle.cocoon_thin.specs.Thin.{ThinNames, names_fit}
+use Rattle.cocoon_thin.specs.ThinParts.{ThinNames, names_fit}
 
 -- a name is itself
 pub same_name-refl : (x : List ℕ) → same_name x x ≡ true

@@ -1,20 +1,64 @@
 -- A thin design and its definitions have one reading.
-use Rattle.std.proofs.Common.{◌≡◌, ℕ, ◌≤◌, ◌==◌, Bool, true, false, ◌||◌, List, [], ◌∷◌, ap, ap₂, refl, sym, ◌∙◌, arith}
+use Rattle.std.proofs.Common.{◌≡◌, ℕ, ◌≤◌, ◌==◌, Bool, true, false, ◌||◌, List, [], ◌∷◌, None, Some, ap, ap₂, refl, sym, ◌∙◌, arith}
 use Rattle.std.proofs.lemmas.Bool.{and_parts}
 use Rattle.std.proofs.lemmas.Bool.Decides.{nat_tests}
 use Rattle.cocoon_num.specs.Lists.{ascend, has_number}
-use Rattle.cocoon_thin.specs.Read.{OneThinReading, bare, entries_from}
-use Rattle.cocoon_thin.specs.Thin.{AreTrueAt, IsThinDefs, ThinEntry, ThinNames, is_true_at}
+use Rattle.std.proofs.lemmas.Option.{none-some, same_Some}
+use Rattle.cocoon_num.specs.Tree.{Design, DefsText}
+use Rattle.cocoon_thin.specs.Entries.{definitions_in}
+use Rattle.cocoon_thin.specs.Outlines.{with_names}
+use Rattle.cocoon_thin.specs.Read.{OneThinDesign, OneThinReading, bare}
+use Rattle.cocoon_thin.specs.Thin.{AreThin, IsThinDefs, IsThinDesign, ThinDefs}
+use Rattle.cocoon_thin.specs.ThinParts.{AreTrueAt, ThinEntry, ThinNames, fields_fit, is_true_at, numbers_fit}
+use Rattle.cocoon_thin.specs.ThinTree.{thin_tree}
 use Rattle.cocoon_thin.specs.declared.parts.Thin.{Thin}
-use Rattle.cocoon_thin.proofs.Designs as designs
-use Rattle.cocoon_thin.proofs.Designs.{one_kinds}
-use Rattle.cocoon_thin.proofs.Entries.{entries_back}
+use Rattle.cocoon_thin.proofs.Shown.{outline_shown}
+use Rattle.cocoon_thin.proofs.SeenEntries.{are_thin, definitions_shown}
+
+-- ---- designs
+
+-- the names and parts of two readings of one design
+same_outline : (design : Design) (n m : ThinNames) (t u : Thin) → IsThinDesign design n t → IsThinDesign design m u → with_names n (bare t) ≡ with_names m (bare u)
+same_outline design n m t u d e = same_Some _ _ (sym (outline_shown design n t d) ∙ outline_shown design m u e)
+
+-- two readings of one design are one
+pub one_design : OneThinDesign
+one_design design n m t u d e =
+    let same = same_outline design n m t u d e in
+    (ap (λ (o : ThinNames × Thin). o.0) same, ap (λ (o : ThinNames × Thin). o.1) same)
+
+-- hosts and switches play no part in a design
+with_others : (design : Design) (n : ThinNames) (t u : Thin) → IsThinDesign design n t → bare u ≡ bare t → IsThinDesign design n u
+with_others design n t u d e = record {
+  places = d.places;
+  tree = d.tree ∙ ap (thin_tree d.places n) (sym e);
+  names = d.names;
+  fields = ap (λ (v : Thin). fields_fit v.fields) e ∙ d.fields;
+  numbers = ap numbers_fit e ∙ d.numbers;
+}
+
+-- a thin design with its definitions and the numbers at which its guards are true
+pub whole : (design : Design) (defs : DefsText) (n : ThinNames) (entries : List ThinEntry) (t u : Thin) → IsThinDesign design n t → definitions_in n defs ≡ Some entries → bare u ≡ bare t →
+    AreTrueAt entries n.host_guard u.hosts → AreTrueAt entries n.switch_guard u.switches → AreThin design defs u
+whole design defs n entries t u d h e hosts switches = record {
+  names = n;
+  entries = entries;
+  design_is = with_others design n t u d e;
+  defs_are = are_thin n defs entries h;
+  hosts = hosts;
+  switches = switches;
+}
+
+-- definitions in which no entries are seen are not thin
+pub never : (design : Design) (defs : DefsText) (n : ThinNames) (t : Thin) → IsThinDesign design n t → definitions_in n defs ≡ None → ¬ ThinDefs design defs
+never design defs n t d none (m, u, entries, e, f) =
+    none-some entries (sym none ∙ ap (λ l. definitions_in l defs) (one_design design n m t u d e).0 ∙ definitions_shown m defs entries f)
 
 -- ---- entries
 
 -- definitions have one list of entries
-one_entries : (text : List ℕ) (n m : ThinNames) (es fs : List ThinEntry) → IsThinDefs text n es → IsThinDefs text m fs → es ≡ fs
-one_entries text n m es fs d e = sym (entries_back es) ∙ ap (entries_from 0) (one_kinds d.tokens e.tokens) ∙ entries_back fs
+one_entries : (defs : DefsText) (n m : ThinNames) (es fs : List ThinEntry) → n ≡ m → IsThinDefs defs n es → IsThinDefs defs m fs → es ≡ fs
+one_entries defs n m es fs e a b = same_Some es fs (sym (definitions_shown n defs es a) ∙ ap (λ l. definitions_in l defs) e ∙ definitions_shown m defs fs b)
 
 -- ---- ascending numbers
 
@@ -77,8 +121,8 @@ of_bare t = refl
 -- two readings of a design and its definitions are one
 pub one_reading : OneThinReading
 one_reading design defs t u a b =
-    let same = designs.one_reading design a.names b.names t u a.design_is b.design_is in
-    let entries : a.entries ≡ b.entries = one_entries defs a.names b.names a.entries b.entries a.defs_are b.defs_are in
+    let same = one_design design a.names b.names t u a.design_is b.design_is in
+    let entries : a.entries ≡ b.entries = one_entries defs a.names b.names a.entries b.entries same.0 a.defs_are b.defs_are in
     let hosts : t.hosts ≡ u.hosts = one_guard a.entries b.entries a.names.host_guard b.names.host_guard t.hosts u.hosts entries (ap (λ (n : ThinNames). n.host_guard) same.0) a.hosts b.hosts in
     let switches : t.switches ≡ u.switches = one_guard a.entries b.entries a.names.switch_guard b.names.switch_guard t.switches u.switches entries (ap (λ (n : ThinNames). n.switch_guard) same.0) a.switches b.switches in
     sym (of_bare t) ∙ ap (λ d. with_numbers d t.hosts t.switches) same.1 ∙ ap₂ (λ hs ss. with_numbers (bare u) hs ss) hosts switches ∙ of_bare u

@@ -5,18 +5,20 @@ use Rattle.std.proofs.lemmas.Bool.{and_from, and_parts, ltb-true, lt-ltb}
 use Rattle.cocoon_num.specs.Values.{truth, fits_width}
 use Rattle.cocoon_num.specs.Lists.{has_number}
 use Rattle.cocoon_num.specs.Packets.{Packet, enter, leave}
-use Rattle.cocoon_num.specs.Tree.{Role, Block, HostDecl}
+use Rattle.cocoon_num.specs.Tree.{Role, Block, HostDecl, Design, DefsText}
 use Rattle.cocoon_thin.specs.declared.parts.Thin.{Thin}
-use Rattle.cocoon_thin.specs.Thin.{ThinNames, AreThin}
+use Rattle.cocoon_thin.specs.Thin.{AreThin}
+use Rattle.cocoon_thin.specs.ThinParts.{ThinNames}
 use Rattle.cocoon_types.specs.Design.{layout}
-use Rattle.cocoon_types.specs.Tables.{Defs}
+use Rattle.cocoon_types.specs.Tables.{Defs, defs_of}
 use Rattle.cocoon_types.specs.Runs.{Loc, World, Walk, LastGo, entry_at, sink_at}
-use Rattle.cocoon_thin.specs.ThinTree.{name_at, thin_tree, thin_defs}
+use Rattle.cocoon_thin.specs.ThinTree.{Places, name_at, thin_tree, thin_entries}
 use Rattle.cocoon_thin.specs.ThinRuns.{thin_layout, tested_number, port_of, has_port, ThinDelivers}
 use Rattle.cocoon_thin.proofs.NameFacts.{AllApart, names_apart}
 use Rattle.cocoon_thin.proofs.ThinFields.{FieldFacts, field_facts, widths_are}
-use Rattle.cocoon_thin.proofs.ThinScope.{end_of, entry_of, sink_of, into_of, out_of, entry_is, sink_is, into_is, out_is}
-use Rattle.cocoon_thin.proofs.ThinTables.{host_guard_gives, switch_guard_gives}
+use Rattle.cocoon_thin.proofs.ThinScope.{entry_of, sink_of, into_of, out_of, entry_is, sink_is, into_is, out_is}
+use Rattle.cocoon_thin.proofs.ThinTables.{host_gives, switch_gives}
+use Rattle.cocoon_thin.proofs.ThinTrees.{of_trees}
 use Rattle.cocoon_types.specs.Taken.{Reached, RunsAreTaken, or_stop, then_walk, go, walk}
 use Rattle.cocoon_thin.proofs.ThinWalks.{Guards, thin_world, entry_loc, sink_loc, into_loc, out_loc, place, known_host, next_of, entry_goes, into_goes, out_goes}
 
@@ -107,57 +109,57 @@ pub none_behind : (cs : List ℕ) → cs ++ [] ≡ [] → cs ≡ []
 none_behind [] h = refl
 none_behind (c ∷ cs) h = absurd (cc h)
 
-module _ (taken : RunsAreTaken) (n : ThinNames) (t : Thin) (defs : Defs) (hosts switches : ℕ → Bool) (d : AllApart n) (f : FieldFacts t) (g : Guards n t defs hosts switches) where
+module _ (taken : RunsAreTaken) (places : Places) (n : ThinNames) (t : Thin) (defs : Defs) (hosts switches : ℕ → Bool) (d : AllApart n) (f : FieldFacts t) (g : Guards places n t defs hosts switches) where
   -- three bodies lead to the sink
-  three : (m a : ℕ) (packet : Packet) (cs : List ℕ) (y : Loc × Packet × List ℕ) → walk (thin_world n t defs) (suc (suc (suc m))) (entry_loc n a) packet cs ≡ Some y
+  three : (m a : ℕ) (packet : Packet) (cs : List ℕ) (y : Loc × Packet × List ℕ) → walk (thin_world places n t defs) (suc (suc (suc m))) (entry_loc n a) packet cs ≡ Some y
       → (v : ℕ) × Through t hosts switches a packet 1 v × (Some (sink_loc n (port_of t v), packet, cs) ≡ Some y)
   three m a packet cs y h =
-      let w : World = thin_world n t defs in
+      let w : World = thin_world places n t defs in
       let one = through (known_host hosts a) (place t switches t.entry_switch a) (into_loc n t.entry_switch a) packet cs (walk w (suc (suc m))) y
-      (sym (ap (λ r. then_walk r (walk w (suc (suc m)))) (entry_goes n t defs hosts switches d f g a packet cs))
-      ∙ sym (walk_on w (suc (suc m)) (entry_loc n a) packet cs (entry_of n t) _ (entry_is n t d) refl) ∙ h) in
+      (sym (ap (λ r. then_walk r (walk w (suc (suc m)))) (entry_goes places n t defs hosts switches d f g a packet cs))
+      ∙ sym (walk_on w (suc (suc m)) (entry_loc n a) packet cs (entry_of places n t) _ (entry_is places n t d) refl) ∙ h) in
       let two = through_switch n t switches t.entry_switch packet cs (place t switches t.entry_switch a) (tested_number t packet) (walk w (suc m)) y
-      (sym (ap (λ r. then_walk r (walk w (suc m))) (into_goes n t defs hosts switches d f g t.entry_switch a packet cs))
-      ∙ sym (walk_on w (suc m) (into_loc n t.entry_switch a) packet cs (into_of n t) _ (into_is n t d) refl) ∙ one.2) in
+      (sym (ap (λ r. then_walk r (walk w (suc m))) (into_goes places n t defs hosts switches d f g t.entry_switch a packet cs))
+      ∙ sym (walk_on w (suc m) (into_loc n t.entry_switch a) packet cs (into_of places n t) _ (into_is places n t d) refl) ∙ one.2) in
       let last = through (place t switches t.entry_switch (port_of t two.1)) (known_host hosts (port_of t two.1)) (sink_loc n (port_of t two.1)) packet cs (walk w m) y
-      (sym (ap (λ r. then_walk r (walk w m)) (out_goes n t defs hosts switches d f g t.entry_switch (port_of t two.1) packet cs))
-      ∙ sym (walk_on w m (out_loc n t.entry_switch (port_of t two.1)) packet cs (out_of n t) _ (out_is n t d) refl) ∙ two.4) in (
+      (sym (ap (λ r. then_walk r (walk w m)) (out_goes places n t defs hosts switches d f g t.entry_switch (port_of t two.1) packet cs))
+      ∙ sym (walk_on w m (out_loc n t.entry_switch (port_of t two.1)) packet cs (out_of places n t) _ (out_is places n t d) refl) ∙ two.4) in (
         two.1,
         record { from = one.0; in_at = one.1; read = two.2; out_at = two.3; to = last.1; visited = omega arith },
-        sym (walk_stops w m (sink_loc n (port_of t two.1)) packet cs (sink_of n t) (sink_is n t d) refl) ∙ last.2,
+        sym (walk_stops w m (sink_loc n (port_of t two.1)) packet cs (sink_of places n t) (sink_is places n t d) refl) ∙ last.2,
       )
 
   -- fewer than three do not
-  one_body : (a : ℕ) (packet : Packet) (cs : List ℕ) (y : Loc × Packet × List ℕ) → walk (thin_world n t defs) 1 (entry_loc n a) packet cs ≡ Some y → ⊥
+  one_body : (a : ℕ) (packet : Packet) (cs : List ℕ) (y : Loc × Packet × List ℕ) → walk (thin_world places n t defs) 1 (entry_loc n a) packet cs ≡ Some y → ⊥
   one_body a packet cs y h =
-      let w : World = thin_world n t defs in
+      let w : World = thin_world places n t defs in
       let one = through (known_host hosts a) (place t switches t.entry_switch a) (into_loc n t.entry_switch a) packet cs (walk w 0) y
-      (sym (ap (λ r. then_walk r (walk w 0)) (entry_goes n t defs hosts switches d f g a packet cs))
-      ∙ sym (walk_on w 0 (entry_loc n a) packet cs (entry_of n t) _ (entry_is n t d) refl) ∙ h) in
-      cc (sym (walk_short w (into_loc n t.entry_switch a) packet cs (into_of n t) _ (into_is n t d) refl) ∙ one.2)
+      (sym (ap (λ r. then_walk r (walk w 0)) (entry_goes places n t defs hosts switches d f g a packet cs))
+      ∙ sym (walk_on w 0 (entry_loc n a) packet cs (entry_of places n t) _ (entry_is places n t d) refl) ∙ h) in
+      cc (sym (walk_short w (into_loc n t.entry_switch a) packet cs (into_of places n t) _ (into_is places n t d) refl) ∙ one.2)
 
   -- the walk that the conditions allow
-  walk_there : (m a : ℕ) (packet : Packet) (cs : List ℕ) (v : ℕ) → Through t hosts switches a packet 1 v → walk (thin_world n t defs) (suc (suc (suc m))) (entry_loc n a) packet cs ≡ Some (sink_loc n (port_of t v), packet, cs)
+  walk_there : (m a : ℕ) (packet : Packet) (cs : List ℕ) (v : ℕ) → Through t hosts switches a packet 1 v → walk (thin_world places n t defs) (suc (suc (suc m))) (entry_loc n a) packet cs ≡ Some (sink_loc n (port_of t v), packet, cs)
   walk_there m a packet cs v h =
-      let w : World = thin_world n t defs in
-      walk_on w (suc (suc m)) (entry_loc n a) packet cs (entry_of n t) _ (entry_is n t d) refl
-      ∙ ap (λ r. then_walk r (walk w (suc (suc m)))) (entry_goes n t defs hosts switches d f g a packet cs
+      let w : World = thin_world places n t defs in
+      walk_on w (suc (suc m)) (entry_loc n a) packet cs (entry_of places n t) _ (entry_is places n t d) refl
+      ∙ ap (λ r. then_walk r (walk w (suc (suc m)))) (entry_goes places n t defs hosts switches d f g a packet cs
       ∙ ap₂ (λ b c. if b then (if c then Some (into_loc n t.entry_switch a, packet, cs) else None) else None) h.from h.in_at)
-      ∙ walk_on w (suc m) (into_loc n t.entry_switch a) packet cs (into_of n t) _ (into_is n t d) refl
-      ∙ ap (λ r. then_walk r (walk w (suc m))) (into_goes n t defs hosts switches d f g t.entry_switch a packet cs
+      ∙ walk_on w (suc m) (into_loc n t.entry_switch a) packet cs (into_of places n t) _ (into_is places n t d) refl
+      ∙ ap (λ r. then_walk r (walk w (suc m))) (into_goes places n t defs hosts switches d f g t.entry_switch a packet cs
       ∙ ap₂ (λ b o. if b then next_of n t switches t.entry_switch packet cs o else None) h.in_at h.read
       ∙ ap (λ b. if b then Some (out_loc n t.entry_switch (port_of t v), packet, cs) else None) h.out_at)
-      ∙ walk_on w m (out_loc n t.entry_switch (port_of t v)) packet cs (out_of n t) _ (out_is n t d) refl
-      ∙ ap (λ r. then_walk r (walk w m)) (out_goes n t defs hosts switches d f g t.entry_switch (port_of t v) packet cs
+      ∙ walk_on w m (out_loc n t.entry_switch (port_of t v)) packet cs (out_of places n t) _ (out_is places n t d) refl
+      ∙ ap (λ r. then_walk r (walk w m)) (out_goes places n t defs hosts switches d f g t.entry_switch (port_of t v) packet cs
       ∙ ap₂ (λ b c. if b then (if c then Some (sink_loc n (port_of t v), packet, cs) else None) else None) h.out_at h.to)
-      ∙ walk_stops w m (sink_loc n (port_of t v)) packet cs (sink_of n t) (sink_is n t d) refl
+      ∙ walk_stops w m (sink_loc n (port_of t v)) packet cs (sink_of places n t) (sink_is places n t d) refl
 
   -- a walk of the bodies of so many visits
-  walked : (k a b : ℕ) (packet sent : Packet) (cs : List ℕ) → Walk (thin_world n t defs) (2 * k + 1) (entry_loc n a) packet cs (sink_loc n b) sent
+  walked : (k a b : ℕ) (packet sent : Packet) (cs : List ℕ) → Walk (thin_world places n t defs) (2 * k + 1) (entry_loc n a) packet cs (sink_loc n b) sent
       → (v : ℕ) × Through t hosts switches a packet k v × (port_of t v ≡ b) × (sent ≡ packet) × (cs ≡ [])
-  walked zero a b packet sent cs h = absurd (one_body a packet (cs ++ []) _ (taken.walk_takes (thin_world n t defs) 1 (entry_loc n a) packet cs (sink_loc n b) sent h []))
+  walked zero a b packet sent cs h = absurd (one_body a packet (cs ++ []) _ (taken.walk_takes (thin_world places n t defs) 1 (entry_loc n a) packet cs (sink_loc n b) sent h []))
   walked (suc k) a b packet sent cs h =
-      let w : World = thin_world n t defs in
+      let w : World = thin_world places n t defs in
       let three_more : 2 * suc k + 1 ≡ suc (suc (suc (2 * k))) = omega arith in
       let e = taken.walk_takes w (2 * suc k + 1) (entry_loc n a) packet cs (sink_loc n b) sent h [] in
       let r = three (2 * k) a packet (cs ++ []) _ (subst (λ m. walk w m (entry_loc n a) packet (cs ++ []) ≡ Some (sink_loc n b, sent, [])) three_more e) in (
@@ -169,10 +171,10 @@ module _ (taken : RunsAreTaken) (n : ThinNames) (t : Thin) (defs : Defs) (hosts 
       )
 
   -- and the conditions give such a walk
-  walks : (k a b : ℕ) (packet : Packet) (v : ℕ) → Through t hosts switches a packet k v → port_of t v ≡ b → Walk (thin_world n t defs) (2 * k + 1) (entry_loc n a) packet [] (sink_loc n b) packet
+  walks : (k a b : ℕ) (packet : Packet) (v : ℕ) → Through t hosts switches a packet k v → port_of t v ≡ b → Walk (thin_world places n t defs) (2 * k + 1) (entry_loc n a) packet [] (sink_loc n b) packet
   walks zero a b packet v h e = absurd (omega (arith, h.visited))
   walks (suc k) a b packet v h e =
-      let w : World = thin_world n t defs in
+      let w : World = thin_world places n t defs in
       let three_more : suc (suc (suc (2 * k))) ≡ 2 * suc k + 1 = omega arith in
       let there = walk_there (2 * k) a packet [] v (record { from = h.from; in_at = h.in_at; read = h.read; out_at = h.out_at; to = h.to; visited = omega arith }) in
       let u = taken.walk_gives w (suc (suc (suc (2 * k)))) (entry_loc n a) packet [] (sink_loc n (port_of t v)) packet [] there in
@@ -222,30 +224,30 @@ mapped f (Some v) b h = (v, refl, ap (number_or 0) h)
     number_or x (Some y) = y
 
 -- the layout of the tree
-pub same_layout : (n : ThinNames) (t : Thin) → layout (thin_tree n t) ≡ thin_layout t
-same_layout n t = ap (λ ws. ws ∷ []) (widths_are t.fields 5)
+pub same_layout : (places : Places) (n : ThinNames) (t : Thin) → layout (thin_tree places n t) ≡ thin_layout t
+same_layout places n t = ap (λ ws. ws ∷ []) (widths_are t.fields places.fields)
 
 -- the host declaration of the tree
-abbrev hosts_at : ThinNames → Thin → HostDecl
-hosts_at n t = record { at = end_of t + 70; entry = name_at (end_of t + 72) n.entry; sink = name_at (end_of t + 74) n.sink }
+abbrev hosts_at : Places → ThinNames → Thin → HostDecl
+hosts_at places n t = record { at = places.nodes 70; entry = name_at (places.nodes 72) n.entry; sink = name_at (places.nodes 74) n.sink }
 
 -- a declaration that is there
 abbrev decl_or : HostDecl → Option HostDecl → HostDecl
 decl_or x None = x
 decl_or x (Some y) = y
 
-module _ (taken : RunsAreTaken) (n : ThinNames) (t : Thin) (defs : Defs) (d : AllApart n) (f : FieldFacts t) (g : Guards n t defs (among t.hosts) (among t.switches)) where
+module _ (taken : RunsAreTaken) (places : Places) (n : ThinNames) (t : Thin) (defs : Defs) (d : AllApart n) (f : FieldFacts t) (g : Guards places n t defs (among t.hosts) (among t.switches)) where
   -- a delivery of the tree is one by the parts
-  delivered : (a : ℕ) (bytes cs : List ℕ) (k b : ℕ) (out : List ℕ) → LastGo (thin_tree n t) defs a bytes cs k b out → ThinDelivers t a bytes cs k b out
+  delivered : (a : ℕ) (bytes cs : List ℕ) (k b : ℕ) (out : List ℕ) → LastGo (thin_tree places n t) defs a bytes cs k b out → ThinDelivers t a bytes cs k b out
   delivered a bytes cs k b out l =
-      let same : l.hosts ≡ hosts_at n t = sym (ap (decl_or l.hosts) l.hosts_are) in
-      let walk : Walk (thin_world n t defs) (2 * k + 1) (entry_loc n a) l.packet cs (sink_loc n b) l.sent =
-      subst (λ h. Walk (thin_world n t defs) (2 * k + 1) (entry_at h a) l.packet cs (sink_at h b) l.sent) same l.walks in
-      let r = walked taken n t defs (among t.hosts) (among t.switches) d f g k a b l.packet l.sent cs walk in
+      let same : l.hosts ≡ hosts_at places n t = sym (ap (decl_or l.hosts) l.hosts_are) in
+      let walk : Walk (thin_world places n t defs) (2 * k + 1) (entry_loc n a) l.packet cs (sink_loc n b) l.sent =
+      subst (λ h. Walk (thin_world places n t defs) (2 * k + 1) (entry_at h a) l.packet cs (sink_at h b) l.sent) same l.walks in
+      let r = walked taken places n t defs (among t.hosts) (among t.switches) d f g k a b l.packet l.sent cs walk in
       record {
         packet = l.packet;
         payload = l.payload;
-        enters = subst (λ x. enter x bytes ≡ Some (l.packet, l.payload)) (same_layout n t) l.enters;
+        enters = subst (λ x. enter x bytes ≡ Some (l.packet, l.payload)) (same_layout places n t) l.enters;
         from_host = known_part (among t.hosts) a r.1.from;
         in_at = place_port t a r.1.in_at;
         chosen = ap (option_map (port_of t)) r.1.read ∙ ap (λ p. Some p) r.2;
@@ -253,11 +255,11 @@ module _ (taken : RunsAreTaken) (n : ThinNames) (t : Thin) (defs : Defs) (d : Al
         to_host = subst (λ p. has_number p t.hosts ≡ true) r.2 (known_part (among t.hosts) (port_of t r.0) r.1.to);
         no_choices = r.4;
         visited = r.1.visited;
-        leaves = l.leaves ∙ ap₂ (λ x p. leave x p l.payload) (same_layout n t) r.3;
+        leaves = l.leaves ∙ ap₂ (λ x p. leave x p l.payload) (same_layout places n t) r.3;
       }
 
   -- a delivery by the parts is one of the tree
-  delivers : (a : ℕ) (bytes cs : List ℕ) (k b : ℕ) (out : List ℕ) → ThinDelivers t a bytes cs k b out → LastGo (thin_tree n t) defs a bytes cs k b out
+  delivers : (a : ℕ) (bytes cs : List ℕ) (k b : ℕ) (out : List ℕ) → ThinDelivers t a bytes cs k b out → LastGo (thin_tree places n t) defs a bytes cs k b out
   delivers a bytes cs k b out h =
       let v = mapped (port_of t) (tested_number t h.packet) b h.chosen in
       let to_port : has_port t (port_of t v.0) ≡ true = subst (λ p. has_port t p ≡ true) (sym v.2) h.out_at in
@@ -271,30 +273,40 @@ module _ (taken : RunsAreTaken) (n : ThinNames) (t : Thin) (defs : Defs) (d : Al
         visited = h.visited;
       } in
       record {
-        hosts = hosts_at n t;
+        hosts = hosts_at places n t;
         packet = h.packet;
         payload = h.payload;
         sent = h.packet;
         hosts_are = refl;
-        enters = subst (λ x. enter x bytes ≡ Some (h.packet, h.payload)) (sym (same_layout n t)) h.enters;
+        enters = subst (λ x. enter x bytes ≡ Some (h.packet, h.payload)) (sym (same_layout places n t)) h.enters;
         walks =
-            subst (λ c. Walk (thin_world n t defs) (2 * k + 1) (entry_loc n a) h.packet c (sink_loc n b) h.packet) (sym h.no_choices)
-            (walks taken n t defs (among t.hosts) (among t.switches) d f g k a b h.packet v.0 through v.2);
-        leaves = h.leaves ∙ ap (λ x. leave x h.packet h.payload) (sym (same_layout n t));
+            subst (λ c. Walk (thin_world places n t defs) (2 * k + 1) (entry_loc n a) h.packet c (sink_loc n b) h.packet) (sym h.no_choices)
+            (walks taken places n t defs (among t.hosts) (among t.switches) d f g k a b h.packet v.0 through v.2);
+        leaves = h.leaves ∙ ap (λ x. leave x h.packet h.payload) (sym (same_layout places n t));
       }
 
--- the guards of thin texts, by the lists of their numbers
-pub guards_of : (design defs : List ℕ) (t : Thin) (h : AreThin design defs t) → Guards h.names t (thin_defs h.names t h.entries) (among t.hosts) (among t.switches)
-guards_of design defs t h = record {
-  host = λ x. host_guard_gives design defs h.names t h.entries h.design_is h.defs_are x ∙ ap (λ b. Some (truth b)) (sym (h.hosts.exactly x));
-  switch = λ x. switch_guard_gives design defs h.names t h.entries h.design_is h.defs_are x ∙ ap (λ b. Some (truth b)) (sym (h.switches.exactly x));
-}
+-- ---- thin designs and definitions
+
+-- what the definitions define for the tree of the parts
+abbrev pub defs_in : {design : Design} {defs : DefsText} {t : Thin} → AreThin design defs t → Defs
+defs_in {design} {defs} {t} h = defs_of (thin_tree h.design_is.places h.names t) (thin_entries h.defs_are.places h.entries)
+
+-- the guards, by the lists of their numbers
+pub guards_of : (design : Design) (defs : DefsText) (t : Thin) (h : AreThin design defs t) → Guards h.design_is.places h.names t (defs_in h) (among t.hosts) (among t.switches)
+guards_of design defs t h =
+    let d = names_apart h.names h.design_is.names in
+    record {
+      host = λ x. host_gives h.design_is.places h.defs_are.places h.names t h.entries d h.defs_are.fit x ∙ ap (λ b. Some (truth b)) (sym (h.hosts.exactly x));
+      switch = λ x. switch_gives h.design_is.places h.defs_are.places h.names t h.entries d h.defs_are.fit x ∙ ap (λ b. Some (truth b)) (sym (h.switches.exactly x));
+    }
 
 -- both ways
-pub thin_delivers : (taken : RunsAreTaken) (design defs : List ℕ) (t : Thin) (h : AreThin design defs t) (a : ℕ) (bytes cs : List ℕ) (k b : ℕ) (out : List ℕ)
-    → LastGo (thin_tree h.names t) (thin_defs h.names t h.entries) a bytes cs k b out ↔ ThinDelivers t a bytes cs k b out
+pub thin_delivers : (taken : RunsAreTaken) (design : Design) (defs : DefsText) (t : Thin) (h : AreThin design defs t) (a : ℕ) (bytes cs : List ℕ) (k b : ℕ) (out : List ℕ)
+    → LastGo design (defs_of design defs) a bytes cs k b out ↔ ThinDelivers t a bytes cs k b out
 thin_delivers taken design defs t h a bytes cs k b out =
+    let places : Places = h.design_is.places in
     let d = names_apart h.names h.design_is.names in
     let f = field_facts t h.design_is.fields h.design_is.numbers in
     let g = guards_of design defs t h in
-    (delivered taken h.names t (thin_defs h.names t h.entries) d f g a bytes cs k b out, delivers taken h.names t (thin_defs h.names t h.entries) d f g a bytes cs k b out)
+    of_trees (λ x y. LastGo x (defs_of x y) a bytes cs k b out ↔ ThinDelivers t a bytes cs k b out) h.design_is.tree h.defs_are.tree
+    (delivered taken places h.names t (defs_in h) d f g a bytes cs k b out, delivers taken places h.names t (defs_in h) d f g a bytes cs k b out)

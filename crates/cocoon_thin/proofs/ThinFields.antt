@@ -1,5 +1,5 @@
 -- What the fields of a thin design keep, and that the tested field is found by its name.
-use Rattle.std.specs.Prelude.{◌≡◌, ℕ, zero, suc, ◌+◌, ◌<◌, ◌≤◌, ◌%◌, ◌==◌, ◌&&◌, ◌||◌, Bool, true, false, not, nat_le, List, [], ◌∷◌, length, map, if◌then◌else◌, Option, Some, None, is_some, option_map, refl}
+use Rattle.std.specs.Prelude.{◌≡◌, ℕ, zero, suc, ◌<◌, ◌≤◌, ◌%◌, ◌==◌, ◌&&◌, ◌||◌, Bool, true, false, not, nat_le, List, [], ◌∷◌, length, map, if◌then◌else◌, Option, Some, None, is_some, option_map, refl}
 use Rattle.std.proofs.Common.{◌∙◌, ap, ap₂, arith}
 use Rattle.std.proofs.lemmas.Bool.{and_parts, or_parts, not-true, ltb-true, leb-true}
 use Rattle.cocoon_num.specs.Tree.{Name, Param}
@@ -8,7 +8,7 @@ use Rattle.cocoon_num.specs.Lists.{each, is_one_of, all_distinct}
 use Rattle.cocoon_num.specs.Packets.{total}
 use Rattle.cocoon_thin.specs.declared.parts.ThinField.{ThinField}
 use Rattle.cocoon_thin.specs.declared.parts.Thin.{Thin}
-use Rattle.cocoon_thin.specs.Thin.{field_name, field_width, fields_fit, numbers_fit}
+use Rattle.cocoon_thin.specs.ThinParts.{field_name, field_width, fields_fit, numbers_fit}
 use Rattle.cocoon_types.specs.Design.{widths_of}
 use Rattle.cocoon_types.specs.Rules.{unless, has_name, repeated, param_names, wide_params}
 use Rattle.cocoon_thin.specs.ThinTree.{name_at, fields_from}
@@ -30,16 +30,16 @@ not_among (f ∷ fs) zero x h e = (or_parts (same_name f.name x) _ e).0
 not_among (f ∷ fs) (suc i) x h e = not_among fs i x (omega (arith, h)) (or_parts (same_name f.name x) _ e).1
 
 -- the field that is found by the name of the field i is that field
-pub field_found : (fs : List ThinField) (at i : ℕ) → i < length fs → all_distinct (map name_of fs) ≡ true
+pub field_found : (fs : List ThinField) (at : ℕ → ℕ) (i : ℕ) → i < length fs → all_distinct (map name_of fs) ≡ true
     → option_map (λ (p : Param). p.width) (named param_name (field_name fs i) (fields_from at fs)) ≡ Some (field_width fs i)
 field_found [] at i h e = absurd (omega (arith, h))
 field_found (f ∷ fs) at zero h e =
-    ap (λ o. option_map (λ (p : Param). p.width) o) (named_here param_name f.name (record { name = name_at at f.name; width = f.width }) (fields_from (at + 7) fs) (same_name-refl f.name))
+    ap (λ o. option_map (λ (p : Param). p.width) o) (named_here param_name f.name (record { name = name_at (at 0) f.name; width = f.width }) (fields_from (λ k. at (suc k)) fs) (same_name-refl f.name))
 field_found (f ∷ fs) at (suc i) h e =
     let p = and_parts (not (is_one_of (map name_of fs) f.name)) (all_distinct (map name_of fs)) e in
     let other : same_name (field_name fs i) f.name ≡ false = not_among fs i f.name (omega (arith, h)) (not-true _ p.0) in
-    ap (λ o. option_map (λ (p : Param). p.width) o) (named_next param_name (field_name fs i) (record { name = name_at at f.name; width = f.width }) (fields_from (at + 7) fs) other refl)
-    ∙ field_found fs (at + 7) i (omega (arith, h)) p.1
+    ap (λ o. option_map (λ (p : Param). p.width) o) (named_next param_name (field_name fs i) (record { name = name_at (at 0) f.name; width = f.width }) (fields_from (λ k. at (suc k)) fs) other refl)
+    ∙ field_found fs (λ k. at (suc k)) i (omega (arith, h)) p.1
 
 -- what is found among some parameters is one of their names
 has_step : (b c : Bool) (p : Param) (o : Option Param) → c ≡ is_some o → (b || c) ≡ is_some (if b then Some p else o)
@@ -57,24 +57,24 @@ some_mapped None w h = absurd cc
 some_mapped (Some p) w h = refl
 
 -- so the tested field is among the fields
-pub field_has : (fs : List ThinField) (at i : ℕ) → i < length fs → all_distinct (map name_of fs) ≡ true → has_name (field_name fs i) (param_names (fields_from at fs)) ≡ true
+pub field_has : (fs : List ThinField) (at : ℕ → ℕ) (i : ℕ) → i < length fs → all_distinct (map name_of fs) ≡ true → has_name (field_name fs i) (param_names (fields_from at fs)) ≡ true
 field_has fs at i h e = has_found (fields_from at fs) (field_name fs i) ∙ some_mapped _ _ (field_found fs at i h e)
 
 -- ---- names, widths
 
 -- a name that is not among the fields is none of their parameters' names
 -- no name stands twice, where those seen so far are none of these
-seen_not : (fs : List ThinField) (at : ℕ) (seen : List Name) → all_distinct (map name_of fs) ≡ true
+seen_not : (fs : List ThinField) (at : ℕ → ℕ) (seen : List Name) → all_distinct (map name_of fs) ≡ true
     → ((i : ℕ) → i < length fs → has_name (field_name fs i) seen ≡ false) → repeated seen (param_names (fields_from at fs)) ≡ []
 seen_not [] at seen e h = refl
 seen_not (f ∷ fs) at seen e h =
     let p = and_parts (not (is_one_of (map name_of fs) f.name)) (all_distinct (map name_of fs)) e in
-    joined (ap (λ b. unless (not b) at) (h 0 (omega arith)))
-    (seen_not fs (at + 7) (name_at at f.name ∷ seen) p.1
+    joined (ap (λ b. unless (not b) (at 0)) (h 0 (omega arith)))
+    (seen_not fs (λ k. at (suc k)) (name_at (at 0) f.name ∷ seen) p.1
     (λ i l. ap₂ (λ a b. a || b) (not_among fs i f.name l (not-true _ p.0)) (h (suc i) (omega (arith, l)))))
 
 -- no field stands twice
-pub none_twice : (fs : List ThinField) (at : ℕ) → all_distinct (map name_of fs) ≡ true → repeated [] (param_names (fields_from at fs)) ≡ []
+pub none_twice : (fs : List ThinField) (at : ℕ → ℕ) → all_distinct (map name_of fs) ≡ true → repeated [] (param_names (fields_from at fs)) ≡ []
 none_twice fs at e = seen_not fs at [] e (λ i l. refl)
 
 -- the width of a field is 1 to 64
@@ -82,16 +82,16 @@ abbrev pub narrow : ThinField → Bool
 narrow f = nat_le 1 f.width && nat_le f.width 64
 
 -- so no field is too wide
-pub none_wide : (fs : List ThinField) (at : ℕ) → each narrow fs ≡ true → wide_params (fields_from at fs) ≡ []
+pub none_wide : (fs : List ThinField) (at : ℕ → ℕ) → each narrow fs ≡ true → wide_params (fields_from at fs) ≡ []
 none_wide [] at e = refl
 none_wide (f ∷ fs) at e =
     let p = and_parts (narrow f) (each narrow fs) e in
-    joined (ap (λ b. unless b at) p.0) (none_wide fs (at + 7) p.1)
+    joined (ap (λ b. unless b (at 0)) p.0) (none_wide fs (λ k. at (suc k)) p.1)
 
 -- the widths of the tree are those of the fields
-pub widths_are : (fs : List ThinField) (at : ℕ) → widths_of (fields_from at fs) ≡ map (λ (f : ThinField). f.width) fs
+pub widths_are : (fs : List ThinField) (at : ℕ → ℕ) → widths_of (fields_from at fs) ≡ map (λ (f : ThinField). f.width) fs
 widths_are [] at = refl
-widths_are (f ∷ fs) at = ap (λ ws. f.width ∷ ws) (widths_are fs (at + 7))
+widths_are (f ∷ fs) at = ap (λ ws. f.width ∷ ws) (widths_are fs (λ k. at (suc k)))
 
 -- ---- all
 

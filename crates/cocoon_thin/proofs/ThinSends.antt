@@ -1,17 +1,17 @@
 -- The statements and declarations of a thin design break no rule.
-use Rattle.std.specs.Prelude.{◌≡◌, ℕ, ◌+◌, ◌==◌, ◌||◌, Bool, true, false, not, List, [], ◌∷◌, ◌++◌, length, Option, Some, None, is_some, refl}
+use Rattle.std.specs.Prelude.{◌≡◌, ℕ, ◌==◌, ◌||◌, Bool, true, false, not, List, [], ◌∷◌, ◌++◌, length, Option, Some, None, is_some, refl}
 use Rattle.std.proofs.Common.{◌∙◌, ap, ap₂}
 use Rattle.cocoon_num.specs.Tree.{Name, Expr, name, lit, Exprs, send, if_, Block, Role, a_role, place}
 use Rattle.cocoon_num.specs.Sorts.{bits_sort, truth_sort}
 use Rattle.cocoon_thin.specs.declared.parts.Thin.{Thin}
-use Rattle.cocoon_thin.specs.Thin.{ThinNames}
+use Rattle.cocoon_thin.specs.ThinParts.{ThinNames}
 use Rattle.cocoon_types.specs.Design.{role_at, widths_of}
 use Rattle.cocoon_types.specs.Typing.{Scope, StmtSite, DeclSite, sort_of, all_stmts, decl_sites, params_of}
 use Rattle.cocoon_types.specs.Rules.{unless, unless_named, where_, repeated, param_names, bound_again, unknown_in_stmt, unknown_role_in_stmt, unknown_role_in_decl, wide_in_stmt, wide_params, wide_result, wrong_in_stmt, wrong_result, not_bool_in_stmt, not_bool_in_decl, wrong_count_in_stmt, is_other, first_role, role_widths, wrong_args, count_of}
-use Rattle.cocoon_thin.specs.ThinTree.{name_at, field_test, send_out_at, two_values, one_value, thin_tree}
+use Rattle.cocoon_thin.specs.ThinTree.{Places, name_at, field_test, send_out_at, two_values, one_value, thin_tree}
 use Rattle.cocoon_thin.proofs.NameFacts.{AllApart}
 use Rattle.cocoon_thin.proofs.NoFaults.{Every}
-use Rattle.cocoon_thin.proofs.ThinScope.{end_of, scope_of, host_vars, switch_vars, entry_of, into_of, out_of, sink_of, entry_is, into_is, out_is, sink_is, first_sink, first_into, first_out}
+use Rattle.cocoon_thin.proofs.ThinScope.{scope_of, host_vars, switch_vars, entry_of, into_of, out_of, sink_of, entry_is, into_is, out_is, sink_is, first_sink, first_into, first_out}
 use Rattle.cocoon_thin.proofs.ThinFields.{FieldFacts}
 use Rattle.cocoon_thin.proofs.ThinTyped.{Wide, host_scope, switch_scope, host_wide, switch_wide, port_wide, host_call_true, guard_true, test_true}
 
@@ -76,31 +76,31 @@ fine_if s at e a b h = record {
   counted = refl;
 }
 
-module _ (n : ThinNames) (t : Thin) (d : AllApart n) (f : FieldFacts t) where
+module _ (places : Places) (n : ThinNames) (t : Thin) (d : AllApart n) (f : FieldFacts t) where
   -- send OUT[SWITCH, 16wPORT];
-  out_sent : (at k i m port : ℕ) → FineStmt (record { scope = switch_scope n t 80 87 true; s = send at (name_at k n.out) (two_values (name i n.switch) (lit m 16 port)) })
+  out_sent : (at k i m port : ℕ) → FineStmt (record { scope = switch_scope places n t 80 87 true; s = send at (name_at k n.out) (two_values (name i n.switch) (lit m 16 port)) })
   out_sent at k i m port =
-      fine_send (switch_scope n t 80 87 true) at (name_at k n.out) (two_values (name i n.switch) (lit m 16 port)) (out_of n t) (out_of n t) (out_is n t d) (first_out n t d) refl
-      (two_args (switch_scope n t 80 87 true) (name i n.switch) (lit m 16 port) (switch_wide n t d f 80 87 i true) refl)
+      fine_send (switch_scope places n t 80 87 true) at (name_at k n.out) (two_values (name i n.switch) (lit m 16 port)) (out_of places n t) (out_of places n t) (out_is places n t d) (first_out places n t d) refl
+      (two_args (switch_scope places n t 80 87 true) (name i n.switch) (lit m 16 port) (switch_wide places n t d f 80 87 i true) refl)
 
   -- all statements, in the order of the text
-  pub stmts_fine : Every FineStmt (all_stmts (thin_tree n t))
+  pub stmts_fine : Every FineStmt (all_stmts (thin_tree places n t))
   stmts_fine =
-      let b : ℕ = end_of t in
-      let entry : Scope = host_scope n t 31 true in
-      let into : Scope = switch_scope n t 80 87 true in
-      let out : Scope = switch_scope n t 140 147 true in (
-        fine_send entry (b + 45) (name_at (b + 46) n.into) (two_values (lit (b + 48) 16 t.entry_switch) (name (b + 50) n.host)) (into_of n t) (into_of n t) (into_is n t d) (first_into n t d) refl
-            (two_args entry (lit (b + 48) 16 t.entry_switch) (name (b + 50) n.host) refl (host_wide n t d f 31 (b + 50) true)),
+      let at : ℕ → ℕ = places.nodes in
+      let entry : Scope = host_scope places n t 31 true in
+      let into : Scope = switch_scope places n t 80 87 true in
+      let out : Scope = switch_scope places n t 140 147 true in (
+        fine_send entry (at 45) (name_at (at 46) n.into) (two_values (lit (at 48) 16 t.entry_switch) (name (at 50) n.host)) (into_of places n t) (into_of places n t) (into_is places n t d) (first_into places n t d) refl
+            (two_args entry (lit (at 48) 16 t.entry_switch) (name (at 50) n.host) refl (host_wide places n t d f 31 (at 50) true)),
         (
-          fine_if into (b + 105) (field_test b t) (send_out_at b 116 n t.first_port) (send_out_at b 127 n t.other_port) (test_true n t d f 80 87 b),
+          fine_if into (at 105) (field_test at t) (send_out_at at 116 n t.first_port) (send_out_at at 127 n t.other_port) (test_true places n t d f 80 87 at),
           (
-            out_sent (b + 116) (b + 117) (b + 119) (b + 121) t.first_port,
+            out_sent (at 116) (at 117) (at 119) (at 121) t.first_port,
             (
-              out_sent (b + 127) (b + 128) (b + 130) (b + 132) t.other_port,
+              out_sent (at 127) (at 128) (at 130) (at 132) t.other_port,
               (
-                fine_send out (b + 165) (name_at (b + 166) n.sink) (one_value (name (b + 168) n.port)) (sink_of n t) (sink_of n t) (sink_is n t d) (first_sink n t d) refl
-                    (one_arg out (name (b + 168) n.port) (port_wide n t d f 140 147 (b + 168) true)),
+                fine_send out (at 165) (name_at (at 166) n.sink) (one_value (name (at 168) n.port)) (sink_of places n t) (sink_of places n t) (sink_is places n t d) (first_sink places n t d) refl
+                    (one_arg out (name (at 168) n.port) (port_wide places n t d f 140 147 (at 168) true)),
                 tt,
               ),
             ),
@@ -113,10 +113,10 @@ module _ (n : ThinNames) (t : Thin) (d : AllApart n) (f : FieldFacts t) where
   variables_fresh k l = ap (λ b. unless (not (b || false)) l ++ []) d.variables.other
 
   -- a switch role whose guard is a truth value
-  switch_decl_fine : (role : Name) (k l : ℕ) (guard : Expr) (body : Option Block) → sort_of (switch_scope n t k l false) guard ≡ Some truth_sort
-      → FineDecl (record { scope = scope_of n t [] false; decl = a_role (record { name = role; params = switch_vars n (end_of t + k) (end_of t + l); guard = guard; body = body }) })
+  switch_decl_fine : (role : Name) (k l : ℕ) (guard : Expr) (body : Option Block) → sort_of (switch_scope places n t k l false) guard ≡ Some truth_sort
+      → FineDecl (record { scope = scope_of places n t [] false; decl = a_role (record { name = role; params = switch_vars n (places.nodes k) (places.nodes l); guard = guard; body = body }) })
   switch_decl_fine role k l guard body h = record {
-    fresh = variables_fresh (end_of t + k) (end_of t + l);
+    fresh = variables_fresh (places.nodes k) (places.nodes l);
     reached = refl;
     narrow = refl;
     result_narrow = refl;
@@ -125,8 +125,8 @@ module _ (n : ThinNames) (t : Thin) (d : AllApart n) (f : FieldFacts t) where
   }
 
   -- a host role whose guard is a truth value
-  host_decl_fine : (role : Name) (k : ℕ) (guard : Expr) (body : Option Block) → sort_of (host_scope n t k false) guard ≡ Some truth_sort
-      → FineDecl (record { scope = scope_of n t [] false; decl = a_role (record { name = role; params = host_vars n (end_of t + k); guard = guard; body = body }) })
+  host_decl_fine : (role : Name) (k : ℕ) (guard : Expr) (body : Option Block) → sort_of (host_scope places n t k false) guard ≡ Some truth_sort
+      → FineDecl (record { scope = scope_of places n t [] false; decl = a_role (record { name = role; params = host_vars n (places.nodes k); guard = guard; body = body }) })
   host_decl_fine role k guard body h = record {
     fresh = refl;
     reached = refl;
@@ -137,33 +137,33 @@ module _ (n : ThinNames) (t : Thin) (d : AllApart n) (f : FieldFacts t) where
   }
 
   -- all declarations, in the order of the text
-  pub decls_fine : Every FineDecl (decl_sites (thin_tree n t))
+  pub decls_fine : Every FineDecl (decl_sites (thin_tree places n t))
   decls_fine =
-      let b : ℕ = end_of t in (
+      let at : ℕ → ℕ = places.nodes in (
         record { fresh = refl; reached = refl; narrow = refl; result_narrow = refl; result_fitting = refl; truths = refl },
         (
           record { fresh = refl; reached = refl; narrow = refl; result_narrow = refl; result_fitting = refl; truths = refl },
           (
-            host_decl_fine (name_at (b + 29) n.entry) 31 (entry_of n t).guard (entry_of n t).body (host_call_true n t d f 31 b 39),
+            host_decl_fine (name_at (at 29) n.entry) 31 (entry_of places n t).guard (entry_of places n t).body (host_call_true places n t d f 31 at 39),
             (
-              host_decl_fine (name_at (b + 55) n.sink) 57 (sink_of n t).guard None (host_call_true n t d f 57 b 65),
+              host_decl_fine (name_at (at 55) n.sink) 57 (sink_of places n t).guard None (host_call_true places n t d f 57 at 65),
               (
                 record {
                   fresh = refl;
-                  reached = ap₂ (λ p q. unless_named (is_some p) (name_at (b + 72) n.entry) ++ unless_named (is_some q) (name_at (b + 74) n.sink)) (entry_is n t d) (sink_is n t d);
+                  reached = ap₂ (λ p q. unless_named (is_some p) (name_at (at 72) n.entry) ++ unless_named (is_some q) (name_at (at 74) n.sink)) (entry_is places n t d) (sink_is places n t d);
                   narrow = refl;
                   result_narrow = refl;
                   result_fitting = refl;
                   truths = refl;
                 },
                 (
-                  switch_decl_fine (name_at (b + 78) n.into) 80 87 (into_of n t).guard (into_of n t).body (guard_true n t d f 80 87 (b + 95) b 95 (b + 100) (b + 100) (b + 102)),
+                  switch_decl_fine (name_at (at 78) n.into) 80 87 (into_of places n t).guard (into_of places n t).body (guard_true places n t d f 80 87 at (at 99) 95 (at 101) (at 100) (at 102)),
                   (
-                    switch_decl_fine (name_at (b + 138) n.out) 140 147 (out_of n t).guard (out_of n t).body (guard_true n t d f 140 147 (b + 155) b 155 (b + 160) (b + 160) (b + 162)),
+                    switch_decl_fine (name_at (at 138) n.out) 140 147 (out_of places n t).guard (out_of places n t).body (guard_true places n t d f 140 147 at (at 159) 155 (at 161) (at 160) (at 162)),
                     (
                       record {
                         fresh = refl;
-                        reached = ap₂ (λ p q. unless_named (is_some p) (name_at (b + 174) n.into) ++ unless_named (is_some q) (name_at (b + 176) n.out)) (into_is n t d) (out_is n t d);
+                        reached = ap₂ (λ p q. unless_named (is_some p) (name_at (at 174) n.into) ++ unless_named (is_some q) (name_at (at 176) n.out)) (into_is places n t d) (out_is places n t d);
                         narrow = refl;
                         result_narrow = refl;
                         result_fitting = refl;

@@ -5,18 +5,21 @@ use Rattle.std.proofs.lemmas.Bool.{and_from, and_parts, ltb-true, lt-ltb}
 use Rattle.cocoon_num.specs.Values.{fits_width}
 use Rattle.cocoon_num.specs.Lists.{has_number}
 use Rattle.cocoon_num.specs.Packets.{Packet, enter, leave}
+use Rattle.cocoon_num.specs.Tree.{Design, DefsText}
 use Rattle.cocoon_thin.specs.declared.parts.Thin.{Thin}
-use Rattle.cocoon_thin.specs.Thin.{ThinNames, AreThin}
-use Rattle.cocoon_types.specs.Tables.{Defs}
-use Rattle.cocoon_types.specs.Runs.{Loc, Go}
-use Rattle.cocoon_thin.specs.ThinTree.{thin_tree, thin_defs}
+use Rattle.cocoon_thin.specs.Thin.{AreThin}
+use Rattle.cocoon_thin.specs.ThinParts.{ThinNames}
+use Rattle.cocoon_types.specs.Tables.{Defs, defs_of}
+use Rattle.cocoon_types.specs.Runs.{Loc, Go, world}
+use Rattle.cocoon_thin.specs.ThinTree.{Places, thin_tree}
 use Rattle.cocoon_thin.specs.ThinRuns.{tested_number, port_of, leaves_at}
 use Rattle.cocoon_thin.specs.ThinVisits.{enters_at, goes_out_at, is_port, ThinStep, VisitRun, ThinVisit}
 use Rattle.cocoon_thin.proofs.NameFacts.{AllApart, names_apart}
 use Rattle.cocoon_thin.proofs.ThinFields.{FieldFacts, field_facts}
 use Rattle.cocoon_types.specs.Taken.{RunsAreTaken, go}
 use Rattle.cocoon_thin.proofs.ThinWalks.{Guards, thin_world, place, next_of, into_goes}
-use Rattle.cocoon_thin.proofs.ThinDelivered.{among, guards_of, mapped, none_behind, same_layout}
+use Rattle.cocoon_thin.proofs.ThinTrees.{of_trees}
+use Rattle.cocoon_thin.proofs.ThinDelivered.{among, defs_in, guards_of, mapped, none_behind, same_layout}
 
 -- a place of a switch is a port that it has
 pub place_is_port : (t : Thin) (s p : ℕ) → place t (among t.switches) s p ≡ true → is_port t s p ≡ true
@@ -68,12 +71,12 @@ let_through n t s port packet cs y true (Some v) e r h = by_place (place t (amon
     by_place true f h = record { in_at = e; v = v; read = r; out_at = f; reached = ap (or_else (goes_out_at n s (port_of t v), packet, cs)) h }
     by_place false f h = absurd (cc h)
 
-module _ (taken : RunsAreTaken) (n : ThinNames) (t : Thin) (defs : Defs) (d : AllApart n) (f : FieldFacts t) (g : Guards n t defs (among t.hosts) (among t.switches)) where
+module _ (taken : RunsAreTaken) (places : Places) (n : ThinNames) (t : Thin) (defs : Defs) (d : AllApart n) (f : FieldFacts t) (g : Guards places n t defs (among t.hosts) (among t.switches)) where
   -- a run of the role is one by the parts
-  stepped : (s port : ℕ) (packet : Packet) (cs : List ℕ) (to : Loc) (sent : Packet) → Go (thin_world n t defs) (enters_at n s port) packet cs to sent → ThinStep n t s port packet cs to sent
+  stepped : (s port : ℕ) (packet : Packet) (cs : List ℕ) (to : Loc) (sent : Packet) → Go (thin_world places n t defs) (enters_at n s port) packet cs to sent → ThinStep n t s port packet cs to sent
   stepped s port packet cs to sent r =
       let l = let_through n t s port packet (cs ++ []) (to, sent, []) (place t (among t.switches) s port) (tested_number t packet) refl refl
-      (sym (into_goes n t defs (among t.hosts) (among t.switches) d f g s port packet (cs ++ [])) ∙ taken.takes (thin_world n t defs) (enters_at n s port) packet cs to sent r []) in
+      (sym (into_goes places n t defs (among t.hosts) (among t.switches) d f g s port packet (cs ++ [])) ∙ taken.takes (thin_world places n t defs) (enters_at n s port) packet cs to sent r []) in
       record {
         in_at = place_is_port t s port l.in_at;
         chosen_port = port_of t l.v;
@@ -85,67 +88,71 @@ module _ (taken : RunsAreTaken) (n : ThinNames) (t : Thin) (defs : Defs) (d : Al
       }
 
   -- and such a run there is
-  steps : (s port : ℕ) (packet : Packet) (to : ℕ) → is_port t s port ≡ true → leaves_at t packet ≡ Some to → is_port t s to ≡ true → Go (thin_world n t defs) (enters_at n s port) packet [] (goes_out_at n s to) packet
+  steps : (s port : ℕ) (packet : Packet) (to : ℕ) → is_port t s port ≡ true → leaves_at t packet ≡ Some to → is_port t s to ≡ true → Go (thin_world places n t defs) (enters_at n s port) packet [] (goes_out_at n s to) packet
   steps s port packet to i c o =
       let v = mapped (port_of t) (tested_number t packet) to c in
       let out_at : place t (among t.switches) s (port_of t v.0) ≡ true = subst (λ p. place t (among t.switches) s p ≡ true) (sym v.2) (port_is_place t s to f o) in
-      let goes : go (thin_world n t defs) (enters_at n s port) packet [] ≡ Some (goes_out_at n s (port_of t v.0), packet, []) =
-      into_goes n t defs (among t.hosts) (among t.switches) d f g s port packet []
+      let goes : go (thin_world places n t defs) (enters_at n s port) packet [] ≡ Some (goes_out_at n s (port_of t v.0), packet, []) =
+      into_goes places n t defs (among t.hosts) (among t.switches) d f g s port packet []
       ∙ ap₂ (λ b o. if b then next_of n t (among t.switches) s packet [] o else None) (port_is_place t s port f i) v.1
       ∙ ap (λ b. if b then Some (goes_out_at n s (port_of t v.0), packet, []) else None) out_at in
-      let u = taken.gives (thin_world n t defs) (enters_at n s port) packet [] (goes_out_at n s (port_of t v.0)) packet [] goes in
-      subst (λ p. Go (thin_world n t defs) (enters_at n s port) packet [] (goes_out_at n s p) packet) v.2
-      (subst (λ cs. Go (thin_world n t defs) (enters_at n s port) packet cs (goes_out_at n s (port_of t v.0)) packet) (none_behind u.0 (sym u.1)) u.2)
+      let u = taken.gives (thin_world places n t defs) (enters_at n s port) packet [] (goes_out_at n s (port_of t v.0)) packet [] goes in
+      subst (λ p. Go (thin_world places n t defs) (enters_at n s port) packet [] (goes_out_at n s p) packet) v.2
+      (subst (λ cs. Go (thin_world places n t defs) (enters_at n s port) packet cs (goes_out_at n s (port_of t v.0)) packet) (none_behind u.0 (sym u.1)) u.2)
 
   -- from the record of its parts
-  takes_step : (s port : ℕ) (packet : Packet) (cs : List ℕ) (to : Loc) (sent : Packet) → ThinStep n t s port packet cs to sent → Go (thin_world n t defs) (enters_at n s port) packet cs to sent
+  takes_step : (s port : ℕ) (packet : Packet) (cs : List ℕ) (to : Loc) (sent : Packet) → ThinStep n t s port packet cs to sent → Go (thin_world places n t defs) (enters_at n s port) packet cs to sent
   takes_step s port packet cs to sent h =
-      subst (λ x. Go (thin_world n t defs) (enters_at n s port) packet cs x sent) (sym h.goes_to)
-      (subst (λ p. Go (thin_world n t defs) (enters_at n s port) packet cs (goes_out_at n s h.chosen_port) p) (sym h.unchanged)
-      (subst (λ c. Go (thin_world n t defs) (enters_at n s port) packet c (goes_out_at n s h.chosen_port) packet) (sym h.no_choices)
+      subst (λ x. Go (thin_world places n t defs) (enters_at n s port) packet cs x sent) (sym h.goes_to)
+      (subst (λ p. Go (thin_world places n t defs) (enters_at n s port) packet cs (goes_out_at n s h.chosen_port) p) (sym h.unchanged)
+      (subst (λ c. Go (thin_world places n t defs) (enters_at n s port) packet c (goes_out_at n s h.chosen_port) packet) (sym h.no_choices)
       (steps s port packet h.chosen_port h.in_at h.chosen h.out_at)))
 
   -- of bytes
-  visited : (s port : ℕ) (bytes cs : List ℕ) (to : ℕ) (out : List ℕ) → VisitRun (thin_tree n t) defs n s port bytes cs to out → ThinVisit t s port bytes cs to out
+  visited : (s port : ℕ) (bytes cs : List ℕ) (to : ℕ) (out : List ℕ) → VisitRun (thin_tree places n t) defs n s port bytes cs to out → ThinVisit t s port bytes cs to out
   visited s port bytes cs to out r =
       let h = stepped s port r.packet cs (goes_out_at n s to) r.sent r.runs in
       let same : h.chosen_port ≡ to = sym (ap (port_or to) h.goes_to) in
       record {
         packet = r.packet;
         payload = r.payload;
-        enters = subst (λ l. enter l bytes ≡ Some (r.packet, r.payload)) (same_layout n t) r.enters;
+        enters = subst (λ l. enter l bytes ≡ Some (r.packet, r.payload)) (same_layout places n t) r.enters;
         in_at = h.in_at;
         chosen = h.chosen ∙ ap (λ p. Some p) same;
         out_at = subst (λ p. is_port t s p ≡ true) same h.out_at;
         no_choices = h.no_choices;
-        leaves = r.leaves ∙ ap₂ (λ l p. leave l p r.payload) (same_layout n t) h.unchanged;
+        leaves = r.leaves ∙ ap₂ (λ l p. leave l p r.payload) (same_layout places n t) h.unchanged;
       }
 
   -- and back
-  visits : (s port : ℕ) (bytes cs : List ℕ) (to : ℕ) (out : List ℕ) → ThinVisit t s port bytes cs to out → VisitRun (thin_tree n t) defs n s port bytes cs to out
+  visits : (s port : ℕ) (bytes cs : List ℕ) (to : ℕ) (out : List ℕ) → ThinVisit t s port bytes cs to out → VisitRun (thin_tree places n t) defs n s port bytes cs to out
   visits s port bytes cs to out h = record {
     packet = h.packet;
     payload = h.payload;
     sent = h.packet;
-    enters = subst (λ l. enter l bytes ≡ Some (h.packet, h.payload)) (sym (same_layout n t)) h.enters;
-    runs = subst (λ c. Go (thin_world n t defs) (enters_at n s port) h.packet c (goes_out_at n s to) h.packet) (sym h.no_choices) (steps s port h.packet to h.in_at h.chosen h.out_at);
-    leaves = h.leaves ∙ ap (λ l. leave l h.packet h.payload) (sym (same_layout n t));
+    enters = subst (λ l. enter l bytes ≡ Some (h.packet, h.payload)) (sym (same_layout places n t)) h.enters;
+    runs = subst (λ c. Go (thin_world places n t defs) (enters_at n s port) h.packet c (goes_out_at n s to) h.packet) (sym h.no_choices) (steps s port h.packet to h.in_at h.chosen h.out_at);
+    leaves = h.leaves ∙ ap (λ l. leave l h.packet h.payload) (sym (same_layout places n t));
   }
 
--- both ways, for thin texts
-pub roles_run : (taken : RunsAreTaken) (design defs : List ℕ) (t : Thin) (h : AreThin design defs t) (s port : ℕ) (packet : Packet) (cs : List ℕ) (to : Loc) (sent : Packet)
-    → Go (thin_world h.names t (thin_defs h.names t h.entries)) (enters_at h.names s port) packet cs to sent ↔ ThinStep h.names t s port packet cs to sent
+-- both ways, for thin designs and definitions
+pub roles_run : (taken : RunsAreTaken) (design : Design) (defs : DefsText) (t : Thin) (h : AreThin design defs t) (s port : ℕ) (packet : Packet) (cs : List ℕ) (to : Loc) (sent : Packet)
+    → Go (world 0 design (defs_of design defs)) (enters_at h.names s port) packet cs to sent ↔ ThinStep h.names t s port packet cs to sent
 roles_run taken design defs t h s port packet cs to sent =
+    let places : Places = h.design_is.places in
     let d = names_apart h.names h.design_is.names in
     let f = field_facts t h.design_is.fields h.design_is.numbers in
     let g = guards_of design defs t h in
-    (stepped taken h.names t (thin_defs h.names t h.entries) d f g s port packet cs to sent, takes_step taken h.names t (thin_defs h.names t h.entries) d f g s port packet cs to sent)
+    of_trees (λ x y. Go (world 0 x (defs_of x y)) (enters_at h.names s port) packet cs to sent ↔ ThinStep h.names t s port packet cs to sent) h.design_is.tree h.defs_are.tree
+    (stepped taken places h.names t (defs_in h) d f g s port packet cs to sent, takes_step taken places h.names t (defs_in h) d f g s port packet cs to sent)
 
 -- the same of bytes
-pub roles_send : (taken : RunsAreTaken) (design defs : List ℕ) (t : Thin) (h : AreThin design defs t) (s port : ℕ) (bytes cs : List ℕ) (to : ℕ) (out : List ℕ)
-    → VisitRun (thin_tree h.names t) (thin_defs h.names t h.entries) h.names s port bytes cs to out ↔ ThinVisit t s port bytes cs to out
+pub roles_send : (taken : RunsAreTaken) (design : Design) (defs : DefsText) (t : Thin) (h : AreThin design defs t) (s port : ℕ) (bytes cs : List ℕ) (to : ℕ) (out : List ℕ)
+    → VisitRun design (defs_of design defs) h.names s port bytes cs to out ↔ ThinVisit t s port bytes cs to out
 roles_send taken design defs t h s port bytes cs to out =
+    let places : Places = h.design_is.places in
     let d = names_apart h.names h.design_is.names in
     let f = field_facts t h.design_is.fields h.design_is.numbers in
     let g = guards_of design defs t h in
-    (visited taken h.names t (thin_defs h.names t h.entries) d f g s port bytes cs to out, visits taken h.names t (thin_defs h.names t h.entries) d f g s port bytes cs to out)
+    of_trees (λ x y. VisitRun x (defs_of x y) h.names s port bytes cs to out ↔ ThinVisit t s port bytes cs to out) h.design_is.tree h.defs_are.tree
+    (visited taken places h.names t (defs_in h) d f g s port bytes cs to out, visits taken places h.names t (defs_in h) d f g s port bytes cs to out)

@@ -1,5 +1,5 @@
 -- The runs of the bodies of a thin design, computed: each goes on exactly where the guards on its way are true.
-use Rattle.std.specs.Prelude.{◌≡◌, ℕ, zero, suc, ◌+◌, ◌<◌, ◌==◌, ◌&&◌, nat_lt, Bool, true, false, not, List, [], ◌∷◌, length, map, slice_get, if◌then◌else◌, Option, Some, None, option_map, option_and_then, refl}
+use Rattle.std.specs.Prelude.{◌≡◌, ℕ, zero, suc, ◌<◌, ◌==◌, ◌&&◌, nat_lt, Bool, true, false, not, List, [], ◌∷◌, length, map, slice_get, if◌then◌else◌, Option, Some, None, option_map, option_and_then, refl}
 use Rattle.std.proofs.Common.{◌∙◌, ap, ap₂, arith}
 use Rattle.std.proofs.lemmas.Bool.{eq-eqb, and_parts, not-true}
 use Rattle.cocoon_num.specs.Values.{Value, number, truth, number_of, fits_width, of_binary, equal, less, and_, with_both}
@@ -9,16 +9,16 @@ use Rattle.cocoon_num.specs.Lists.{is_one_of, all_distinct}
 use Rattle.cocoon_num.specs.Packets.{Packet}
 use Rattle.cocoon_thin.specs.declared.parts.ThinField.{ThinField}
 use Rattle.cocoon_thin.specs.declared.parts.Thin.{Thin}
-use Rattle.cocoon_thin.specs.Thin.{ThinNames, field_name, field_width}
+use Rattle.cocoon_thin.specs.ThinParts.{ThinNames, field_name, field_width}
 use Rattle.cocoon_types.specs.Design.{read_in}
 use Rattle.cocoon_types.specs.Tables.{Defs}
 use Rattle.cocoon_types.specs.Val.{Env, variable, bind, bound, value, then_numbers, apply}
 use Rattle.cocoon_types.specs.Runs.{Loc, World, world, falls, sends}
-use Rattle.cocoon_thin.specs.ThinTree.{name_at, fields_from, call_at, two_values, one_value, one_stmt, send_out_at, field_test, thin_tree}
+use Rattle.cocoon_thin.specs.ThinTree.{Places, name_at, fields_from, call_at, two_values, one_value, one_stmt, send_out_at, field_test, thin_tree}
 use Rattle.cocoon_thin.specs.ThinRuns.{tested_number, port_of}
 use Rattle.cocoon_thin.proofs.NameFacts.{same_name-refl, AllApart}
 use Rattle.cocoon_thin.proofs.ThinFields.{FieldFacts, name_of, not_among}
-use Rattle.cocoon_thin.proofs.ThinScope.{end_of, entry_of, sink_of, into_of, out_of, entry_is, sink_is, into_is, out_is}
+use Rattle.cocoon_thin.proofs.ThinScope.{entry_of, sink_of, into_of, out_of, entry_is, sink_is, into_is, out_is}
 use Rattle.cocoon_types.specs.Taken.{guard_at, run_all, body_go, go, if_true, if_reached, where_true, by_truth, back, go_on, Reached, Ended}
 
 -- a value that is there where a number fits
@@ -33,9 +33,9 @@ only_both true false f k x = refl
 only_both false c f k x = refl
 
 -- what the guards hold: given by what a call of each gives
-pub record Guards (n : ThinNames) (t : Thin) (defs : Defs) (hosts switches : ℕ → Bool) : Type 0 where
-  pub host : (x : ℕ) → apply (thin_tree n t) defs n.host_guard (x ∷ []) ≡ Some (truth (hosts x))
-  pub switch : (x : ℕ) → apply (thin_tree n t) defs n.switch_guard (x ∷ []) ≡ Some (truth (switches x))
+pub record Guards (places : Places) (n : ThinNames) (t : Thin) (defs : Defs) (hosts switches : ℕ → Bool) : Type 0 where
+  pub host : (x : ℕ) → apply (thin_tree places n t) defs n.host_guard (x ∷ []) ≡ Some (truth (hosts x))
+  pub switch : (x : ℕ) → apply (thin_tree places n t) defs n.switch_guard (x ∷ []) ≡ Some (truth (switches x))
 
 -- the variable of a host role
 abbrev host_env : ThinNames → ℕ → Env
@@ -54,8 +54,8 @@ abbrev place_value : Thin → (ℕ → Bool) → ℕ → ℕ → Option Value
 place_value t switches s p = if fits_width 16 s then (if fits_width 16 p then Some (truth (switches s && nat_lt p t.ports)) else None) else None
 
 -- the world of the one level
-abbrev pub thin_world : ThinNames → Thin → Defs → World
-thin_world n t defs = world 0 (thin_tree n t) defs
+abbrev pub thin_world : Places → ThinNames → Thin → Defs → World
+thin_world places n t defs = world 0 (thin_tree places n t) defs
 
 -- where packets of a host begin
 abbrev pub entry_loc : ThinNames → ℕ → Loc
@@ -119,32 +119,32 @@ run_by_host true false r = refl
 run_by_host false b r = refl
 
 -- the body of the entry role
-abbrev entry_block : ThinNames → Thin → Block
-entry_block n t = one_stmt (send (end_of t + 45) (name_at (end_of t + 46) n.into) (two_values (lit (end_of t + 48) 16 t.entry_switch) (name (end_of t + 50) n.host)))
+abbrev entry_block : Places → ThinNames → Thin → Block
+entry_block places n t = one_stmt (send (places.nodes 45) (name_at (places.nodes 46) n.into) (two_values (lit (places.nodes 48) 16 t.entry_switch) (name (places.nodes 50) n.host)))
 
 -- a send to a port
-abbrev send_block : ThinNames → Thin → (k port : ℕ) → Block
-send_block n t k port = send_out_at (end_of t) k n port
+abbrev send_block : Places → ThinNames → Thin → (k port : ℕ) → Block
+send_block places n t k port = send_out_at places.nodes k n port
 
 -- the body of the first switch role
-abbrev into_block : ThinNames → Thin → Block
-into_block n t = one_stmt (if_ (end_of t + 105) (field_test (end_of t) t) (send_block n t 116 t.first_port) (send_block n t 127 t.other_port))
+abbrev into_block : Places → ThinNames → Thin → Block
+into_block places n t = one_stmt (if_ (places.nodes 105) (field_test places.nodes t) (send_block places n t 116 t.first_port) (send_block places n t 127 t.other_port))
 
 -- the body of the second switch role
-abbrev out_block : ThinNames → Thin → Block
-out_block n t = one_stmt (send (end_of t + 165) (name_at (end_of t + 166) n.sink) (one_value (name (end_of t + 168) n.port)))
+abbrev out_block : Places → ThinNames → Thin → Block
+out_block places n t = one_stmt (send (places.nodes 165) (name_at (places.nodes 166) n.sink) (one_value (name (places.nodes 168) n.port)))
 
 -- the field that is read by the name of the field i is the number i
-read_found : (fs : List ThinField) (at i : ℕ) (ns : List ℕ) → i < length fs → all_distinct (map name_of fs) ≡ true
+read_found : (fs : List ThinField) (at : ℕ → ℕ) (i : ℕ) (ns : List ℕ) → i < length fs → all_distinct (map name_of fs) ≡ true
     → read_in (fields_from at fs) ns (field_name fs i) ≡ option_map (number (field_width fs i)) (slice_get ns i)
 read_found [] at i ns h e = absurd (omega (arith, h))
 read_found (f ∷ fs) at i [] h e = refl
-read_found (f ∷ fs) at zero (m ∷ ns) h e = ap (λ b. if b then Some (number f.width m) else read_in (fields_from (at + 7) fs) ns f.name) (same_name-refl f.name)
+read_found (f ∷ fs) at zero (m ∷ ns) h e = ap (λ b. if b then Some (number f.width m) else read_in (fields_from (λ k. at (suc k)) fs) ns f.name) (same_name-refl f.name)
 read_found (f ∷ fs) at (suc i) (m ∷ ns) h e =
     let p = and_parts (not (is_one_of (map name_of fs) f.name)) (all_distinct (map name_of fs)) e in
     let other : same_name (field_name fs i) f.name ≡ false = not_among fs i f.name (omega (arith, h)) (not-true _ p.0) in
-    ap (λ b. if b then Some (number f.width m) else read_in (fields_from (at + 7) fs) ns (field_name fs i)) other
-    ∙ read_found fs (at + 7) i ns (omega (arith, h)) p.1
+    ap (λ b. if b then Some (number f.width m) else read_in (fields_from (λ k. at (suc k)) fs) ns (field_name fs i)) other
+    ∙ read_found fs (λ k. at (suc k)) i ns (omega (arith, h)) p.1
 
 -- an equation of two numbers of one width
 equal_numbers : (w m : ℕ) (o : Option ℕ) → with_both (of_binary equal) (option_map (number w) o) (Some (number w m)) ≡ option_map (λ v. truth (v == m)) o
@@ -185,7 +185,7 @@ by_test : (n : ThinNames) (t : Thin) (switches : ℕ → Bool) (s : ℕ) (packet
 by_test n t switches s packet cs env None = refl
 by_test n t switches s packet cs env (Some v) = by_port n t switches s packet cs env (v == t.literal)
 
-module _ (n : ThinNames) (t : Thin) (defs : Defs) (hosts switches : ℕ → Bool) (d : AllApart n) (f : FieldFacts t) (g : Guards n t defs hosts switches) where
+module _ (places : Places) (n : ThinNames) (t : Thin) (defs : Defs) (hosts switches : ℕ → Bool) (d : AllApart n) (f : FieldFacts t) (g : Guards places n t defs hosts switches) where
   -- variables
   host_is : (x : ℕ) → variable (host_env n x) n.host ≡ Some (number 16 x)
   host_is x = ap (λ b. if b then Some (number 16 x) else None) (same_name-refl n.host)
@@ -199,113 +199,113 @@ module _ (n : ThinNames) (t : Thin) (defs : Defs) (hosts switches : ℕ → Bool
   port_is s p = ap₂ (λ b c. if b then Some (number 16 s) else (if c then Some (number 16 p) else None)) d.variables.other (same_name-refl n.port)
 
   -- guards of hosts
-  host_call : (b k x : ℕ) → value (thin_world n t defs).scope (host_env n x) [] (call_at b k n.host_guard n.host) ≡ Some (truth (hosts x))
-  host_call b k x =
-      ap (λ v. option_and_then (apply (thin_tree n t) defs n.host_guard) (then_numbers (option_and_then number_of v) (Some []))) (host_is x) ∙ g.host x
+  host_call : (at : ℕ → ℕ) (k x : ℕ) → value (thin_world places n t defs).scope (host_env n x) [] (call_at at k n.host_guard n.host) ≡ Some (truth (hosts x))
+  host_call at k x =
+      ap (λ v. option_and_then (apply (thin_tree places n t) defs n.host_guard) (then_numbers (option_and_then number_of v) (Some []))) (host_is x) ∙ g.host x
 
   -- the guard of the entry role
-  entry_guard : (x : ℕ) → guard_at (thin_world n t defs) (entry_loc n x) ≡ host_value hosts x
+  entry_guard : (x : ℕ) → guard_at (thin_world places n t defs) (entry_loc n x) ≡ host_value hosts x
   entry_guard x =
-      guard_found (thin_world n t defs) (entry_loc n x) (entry_of n t) (entry_is n t d)
-      ∙ only_if (fits_width 16 x) (λ env. value (thin_world n t defs).scope env [] (entry_of n t).guard) (host_env n x)
-      ∙ ap (λ v. if fits_width 16 x then v else None) (host_call (end_of t) 39 x)
+      guard_found (thin_world places n t defs) (entry_loc n x) (entry_of places n t) (entry_is places n t d)
+      ∙ only_if (fits_width 16 x) (λ env. value (thin_world places n t defs).scope env [] (entry_of places n t).guard) (host_env n x)
+      ∙ ap (λ v. if fits_width 16 x then v else None) (host_call places.nodes 39 x)
 
   -- the guard of the sink
-  sink_guard : (x : ℕ) → guard_at (thin_world n t defs) (sink_loc n x) ≡ host_value hosts x
+  sink_guard : (x : ℕ) → guard_at (thin_world places n t defs) (sink_loc n x) ≡ host_value hosts x
   sink_guard x =
-      guard_found (thin_world n t defs) (sink_loc n x) (sink_of n t) (sink_is n t d)
-      ∙ only_if (fits_width 16 x) (λ env. value (thin_world n t defs).scope env [] (sink_of n t).guard) (host_env n x)
-      ∙ ap (λ v. if fits_width 16 x then v else None) (host_call (end_of t) 65 x)
+      guard_found (thin_world places n t defs) (sink_loc n x) (sink_of places n t) (sink_is places n t d)
+      ∙ only_if (fits_width 16 x) (λ env. value (thin_world places n t defs).scope env [] (sink_of places n t).guard) (host_env n x)
+      ∙ ap (λ v. if fits_width 16 x then v else None) (host_call places.nodes 65 x)
 
   -- guards of switches
-  switch_call : (b k i j s p : ℕ) → value (thin_world n t defs).scope (switch_env n s p) [] (binary i and_ (call_at b k n.switch_guard n.switch) (binary j less (name j n.port) (lit i 16 t.ports))) ≡ Some (truth (switches s && nat_lt p t.ports))
-  switch_call b k i j s p =
+  switch_call : (at : ℕ → ℕ) (k i j s p : ℕ) → value (thin_world places n t defs).scope (switch_env n s p) [] (binary i and_ (call_at at k n.switch_guard n.switch) (binary j less (name j n.port) (lit i 16 t.ports))) ≡ Some (truth (switches s && nat_lt p t.ports))
+  switch_call at k i j s p =
       ap₂ (λ u v. with_both (of_binary and_) u (with_both (of_binary less) v (Some (number 16 t.ports))))
-      (ap (λ v. option_and_then (apply (thin_tree n t) defs n.switch_guard) (then_numbers (option_and_then number_of v) (Some []))) (switch_is s p) ∙ g.switch s) (port_is s p)
+      (ap (λ v. option_and_then (apply (thin_tree places n t) defs n.switch_guard) (then_numbers (option_and_then number_of v) (Some []))) (switch_is s p) ∙ g.switch s) (port_is s p)
 
   -- the guard of the first switch role
-  into_guard : (s p : ℕ) → guard_at (thin_world n t defs) (into_loc n s p) ≡ place_value t switches s p
+  into_guard : (s p : ℕ) → guard_at (thin_world places n t defs) (into_loc n s p) ≡ place_value t switches s p
   into_guard s p =
-      guard_found (thin_world n t defs) (into_loc n s p) (into_of n t) (into_is n t d)
-      ∙ only_both (fits_width 16 s) (fits_width 16 p) (λ env. value (thin_world n t defs).scope env [] (into_of n t).guard) (bound n.switch (number 16 s)) (record { name = n.port; value = number 16 p } ∷ [])
-      ∙ ap (λ v. if fits_width 16 s then (if fits_width 16 p then v else None) else None) (switch_call (end_of t) 95 0 0 s p)
+      guard_found (thin_world places n t defs) (into_loc n s p) (into_of places n t) (into_is places n t d)
+      ∙ only_both (fits_width 16 s) (fits_width 16 p) (λ env. value (thin_world places n t defs).scope env [] (into_of places n t).guard) (bound n.switch (number 16 s)) (record { name = n.port; value = number 16 p } ∷ [])
+      ∙ ap (λ v. if fits_width 16 s then (if fits_width 16 p then v else None) else None) (switch_call places.nodes 95 0 0 s p)
 
   -- the guard of the second switch role
-  out_guard : (s p : ℕ) → guard_at (thin_world n t defs) (out_loc n s p) ≡ place_value t switches s p
+  out_guard : (s p : ℕ) → guard_at (thin_world places n t defs) (out_loc n s p) ≡ place_value t switches s p
   out_guard s p =
-      guard_found (thin_world n t defs) (out_loc n s p) (out_of n t) (out_is n t d)
-      ∙ only_both (fits_width 16 s) (fits_width 16 p) (λ env. value (thin_world n t defs).scope env [] (out_of n t).guard) (bound n.switch (number 16 s)) (record { name = n.port; value = number 16 p } ∷ [])
-      ∙ ap (λ v. if fits_width 16 s then (if fits_width 16 p then v else None) else None) (switch_call (end_of t) 155 0 0 s p)
+      guard_found (thin_world places n t defs) (out_loc n s p) (out_of places n t) (out_is places n t d)
+      ∙ only_both (fits_width 16 s) (fits_width 16 p) (λ env. value (thin_world places n t defs).scope env [] (out_of places n t).guard) (bound n.switch (number 16 s)) (record { name = n.port; value = number 16 p } ∷ [])
+      ∙ ap (λ v. if fits_width 16 s then (if fits_width 16 p then v else None) else None) (switch_call places.nodes 155 0 0 s p)
 
   -- the entry role's body
-  entry_sends : (a : ℕ) (packet : Packet) (cs : List ℕ) → run_all (thin_world n t defs) (entry_block n t) (host_env n a) packet cs
+  entry_sends : (a : ℕ) (packet : Packet) (cs : List ℕ) → run_all (thin_world places n t defs) (entry_block places n t) (host_env n a) packet cs
       ≡ go_on (where_true (place_value t switches t.entry_switch a) (Some (sends (into_loc n t.entry_switch a) packet, cs))) ends_there
   entry_sends a packet cs =
-      ap (λ v. go_on (option_and_then (λ ns. where_true (guard_at (thin_world n t defs) (record { role = n.into; values = ns })) (Some (sends (record { role = n.into; values = ns }) packet, cs)))
+      ap (λ v. go_on (option_and_then (λ ns. where_true (guard_at (thin_world places n t defs) (record { role = n.into; values = ns })) (Some (sends (record { role = n.into; values = ns }) packet, cs)))
       (then_numbers (Some t.entry_switch) (then_numbers (option_and_then number_of v) (Some [])))) ends_there) (host_is a)
       ∙ ap (λ v. go_on (where_true v (Some (sends (into_loc n t.entry_switch a) packet, cs))) ends_there) (into_guard t.entry_switch a)
 
   -- where a packet goes from a host
-  pub entry_goes : (a : ℕ) (packet : Packet) (cs : List ℕ) → go (thin_world n t defs) (entry_loc n a) packet cs
+  pub entry_goes : (a : ℕ) (packet : Packet) (cs : List ℕ) → go (thin_world places n t defs) (entry_loc n a) packet cs
       ≡ (if known_host hosts a then (if place t switches t.entry_switch a then Some (into_loc n t.entry_switch a, packet, cs) else None) else None)
   entry_goes a packet cs =
-      body_found (thin_world n t defs) (entry_loc n a) (entry_of n t) (entry_block n t) (host_value hosts a) packet cs (entry_is n t d) refl (entry_guard a)
+      body_found (thin_world places n t defs) (entry_loc n a) (entry_of places n t) (entry_block places n t) (host_value hosts a) packet cs (entry_is places n t d) refl (entry_guard a)
       ∙ ap (λ r. if_true (host_value hosts a) r)
-      (only_if (fits_width 16 a) (λ env. if_reached (run_all (thin_world n t defs) (entry_block n t) env packet cs)) (host_env n a)
+      (only_if (fits_width 16 a) (λ env. if_reached (run_all (thin_world places n t defs) (entry_block places n t) env packet cs)) (host_env n a)
       ∙ ap (λ l. if fits_width 16 a then if_reached l else None) (entry_sends a packet cs)
       ∙ ap (λ r. if fits_width 16 a then r else None) (sent_by_place (fits_width 16 t.entry_switch) (fits_width 16 a) (switches t.entry_switch && nat_lt a t.ports) (into_loc n t.entry_switch a) packet cs))
       ∙ run_by_host (fits_width 16 a) (hosts a) (if place t switches t.entry_switch a then Some (into_loc n t.entry_switch a, packet, cs) else None)
 
   -- the test of the field
-  test_value : (env : Env) (packet : Packet) → value (thin_world n t defs).scope env packet (field_test (end_of t) t) ≡ option_map (λ v. truth (v == t.literal)) (tested_number t packet)
+  test_value : (env : Env) (packet : Packet) → value (thin_world places n t defs).scope env packet (field_test places.nodes t) ≡ option_map (λ v. truth (v == t.literal)) (tested_number t packet)
   test_value env [] = refl
   test_value env (ns ∷ packet) =
-      ap (λ b. with_both (of_binary equal) (if b then read_in (fields_from 5 t.fields) ns (field_name t.fields t.tested) else None) (Some (number (field_width t.fields t.tested) t.literal))) (same_name-refl t.header)
-      ∙ ap (λ o. with_both (of_binary equal) o (Some (number (field_width t.fields t.tested) t.literal))) (read_found t.fields 5 t.tested ns f.tested f.distinct)
+      ap (λ b. with_both (of_binary equal) (if b then read_in (fields_from places.fields t.fields) ns (field_name t.fields t.tested) else None) (Some (number (field_width t.fields t.tested) t.literal))) (same_name-refl t.header)
+      ∙ ap (λ o. with_both (of_binary equal) o (Some (number (field_width t.fields t.tested) t.literal))) (read_found t.fields places.fields t.tested ns f.tested f.distinct)
       ∙ equal_numbers (field_width t.fields t.tested) t.literal (slice_get ns t.tested)
 
   -- a send to a port of the own switch
-  out_sends : (k port s p : ℕ) (packet : Packet) (cs : List ℕ) → run_all (thin_world n t defs) (send_block n t k port) (switch_env n s p) packet cs
+  out_sends : (k port s p : ℕ) (packet : Packet) (cs : List ℕ) → run_all (thin_world places n t defs) (send_block places n t k port) (switch_env n s p) packet cs
       ≡ go_on (where_true (place_value t switches s port) (Some (sends (out_loc n s port) packet, cs))) ends_there
   out_sends k port s p packet cs =
-      ap (λ v. go_on (option_and_then (λ ns. where_true (guard_at (thin_world n t defs) (record { role = n.out; values = ns })) (Some (sends (record { role = n.out; values = ns }) packet, cs)))
+      ap (λ v. go_on (option_and_then (λ ns. where_true (guard_at (thin_world places n t defs) (record { role = n.out; values = ns })) (Some (sends (record { role = n.out; values = ns }) packet, cs)))
       (then_numbers (option_and_then number_of v) (then_numbers (Some port) (Some [])))) ends_there) (switch_is s p)
       ∙ ap (λ v. go_on (where_true v (Some (sends (out_loc n s port) packet, cs))) ends_there) (out_guard s port)
 
   -- where the first switch role sends it
-  into_sends : (s p : ℕ) (packet : Packet) (cs : List ℕ) → if_reached (run_all (thin_world n t defs) (into_block n t) (switch_env n s p) packet cs)
+  into_sends : (s p : ℕ) (packet : Packet) (cs : List ℕ) → if_reached (run_all (thin_world places n t defs) (into_block places n t) (switch_env n s p) packet cs)
       ≡ next_of n t switches s packet cs (tested_number t packet)
   into_sends s p packet cs =
-      ap₂ (λ u v. if_reached (go_on (back (switch_env n s p) (by_truth (value (thin_world n t defs).scope (switch_env n s p) packet (field_test (end_of t) t)) u v)) ends_there))
+      ap₂ (λ u v. if_reached (go_on (back (switch_env n s p) (by_truth (value (thin_world places n t defs).scope (switch_env n s p) packet (field_test places.nodes t)) u v)) ends_there))
       (out_sends 116 t.first_port s p packet cs) (out_sends 127 t.other_port s p packet cs)
       ∙ ap (λ v. if_reached (go_on (back (switch_env n s p) (by_truth v (sent_to n t switches s t.first_port packet cs) (sent_to n t switches s t.other_port packet cs))) ends_there)) (test_value (switch_env n s p) packet)
       ∙ by_test n t switches s packet cs (switch_env n s p) (tested_number t packet)
 
   -- where a packet goes from the port at which it entered
-  pub into_goes : (s p : ℕ) (packet : Packet) (cs : List ℕ) → go (thin_world n t defs) (into_loc n s p) packet cs
+  pub into_goes : (s p : ℕ) (packet : Packet) (cs : List ℕ) → go (thin_world places n t defs) (into_loc n s p) packet cs
       ≡ (if place t switches s p then next_of n t switches s packet cs (tested_number t packet) else None)
   into_goes s p packet cs =
-      body_found (thin_world n t defs) (into_loc n s p) (into_of n t) (into_block n t) (place_value t switches s p) packet cs (into_is n t d) refl (into_guard s p)
+      body_found (thin_world places n t defs) (into_loc n s p) (into_of places n t) (into_block places n t) (place_value t switches s p) packet cs (into_is places n t d) refl (into_guard s p)
       ∙ ap (λ r. if_true (place_value t switches s p) r)
-      (only_both (fits_width 16 s) (fits_width 16 p) (λ env. if_reached (run_all (thin_world n t defs) (into_block n t) env packet cs)) (bound n.switch (number 16 s)) (record { name = n.port; value = number 16 p } ∷ [])
+      (only_both (fits_width 16 s) (fits_width 16 p) (λ env. if_reached (run_all (thin_world places n t defs) (into_block places n t) env packet cs)) (bound n.switch (number 16 s)) (record { name = n.port; value = number 16 p } ∷ [])
       ∙ ap (λ r. if fits_width 16 s then (if fits_width 16 p then r else None) else None) (into_sends s p packet cs))
       ∙ run_by_place (fits_width 16 s) (fits_width 16 p) (switches s && nat_lt p t.ports) (next_of n t switches s packet cs (tested_number t packet))
 
   -- the way to the host
-  sink_sends : (s p : ℕ) (packet : Packet) (cs : List ℕ) → run_all (thin_world n t defs) (out_block n t) (switch_env n s p) packet cs
+  sink_sends : (s p : ℕ) (packet : Packet) (cs : List ℕ) → run_all (thin_world places n t defs) (out_block places n t) (switch_env n s p) packet cs
       ≡ go_on (where_true (host_value hosts p) (Some (sends (sink_loc n p) packet, cs))) ends_there
   sink_sends s p packet cs =
-      ap (λ v. go_on (option_and_then (λ ns. where_true (guard_at (thin_world n t defs) (record { role = n.sink; values = ns })) (Some (sends (record { role = n.sink; values = ns }) packet, cs)))
+      ap (λ v. go_on (option_and_then (λ ns. where_true (guard_at (thin_world places n t defs) (record { role = n.sink; values = ns })) (Some (sends (record { role = n.sink; values = ns }) packet, cs)))
       (then_numbers (option_and_then number_of v) (Some []))) ends_there) (port_is s p)
       ∙ ap (λ v. go_on (where_true v (Some (sends (sink_loc n p) packet, cs))) ends_there) (sink_guard p)
 
   -- where a packet goes from the port at which it left
-  pub out_goes : (s p : ℕ) (packet : Packet) (cs : List ℕ) → go (thin_world n t defs) (out_loc n s p) packet cs
+  pub out_goes : (s p : ℕ) (packet : Packet) (cs : List ℕ) → go (thin_world places n t defs) (out_loc n s p) packet cs
       ≡ (if place t switches s p then (if known_host hosts p then Some (sink_loc n p, packet, cs) else None) else None)
   out_goes s p packet cs =
-      body_found (thin_world n t defs) (out_loc n s p) (out_of n t) (out_block n t) (place_value t switches s p) packet cs (out_is n t d) refl (out_guard s p)
+      body_found (thin_world places n t defs) (out_loc n s p) (out_of places n t) (out_block places n t) (place_value t switches s p) packet cs (out_is places n t d) refl (out_guard s p)
       ∙ ap (λ r. if_true (place_value t switches s p) r)
-      (only_both (fits_width 16 s) (fits_width 16 p) (λ env. if_reached (run_all (thin_world n t defs) (out_block n t) env packet cs)) (bound n.switch (number 16 s)) (record { name = n.port; value = number 16 p } ∷ [])
+      (only_both (fits_width 16 s) (fits_width 16 p) (λ env. if_reached (run_all (thin_world places n t defs) (out_block places n t) env packet cs)) (bound n.switch (number 16 s)) (record { name = n.port; value = number 16 p } ∷ [])
       ∙ ap (λ r. if fits_width 16 s then (if fits_width 16 p then if_reached r else None) else None) (sink_sends s p packet cs)
       ∙ ap (λ r. if fits_width 16 s then (if fits_width 16 p then r else None) else None) (sent_by_host (fits_width 16 p) (hosts p) (sink_loc n p) packet cs))
       ∙ run_by_place (fits_width 16 s) (fits_width 16 p) (switches s && nat_lt p t.ports) (if known_host hosts p then Some (sink_loc n p, packet, cs) else None)

@@ -5,18 +5,21 @@ use Rattle.std.proofs.lemmas.Bool.{and_from, and_parts}
 use Rattle.cocoon_num.specs.Values.{fits_width}
 use Rattle.cocoon_num.specs.Lists.{has_number}
 use Rattle.cocoon_num.specs.Packets.{Packet}
+use Rattle.cocoon_num.specs.Tree.{Design, DefsText}
 use Rattle.cocoon_thin.specs.declared.parts.Thin.{Thin}
-use Rattle.cocoon_thin.specs.Thin.{ThinNames, AreThin}
-use Rattle.cocoon_types.specs.Tables.{Defs}
-use Rattle.cocoon_types.specs.Runs.{Loc, World, Go}
-use Rattle.cocoon_thin.specs.ThinTree.{thin_defs}
+use Rattle.cocoon_thin.specs.Thin.{AreThin}
+use Rattle.cocoon_thin.specs.ThinParts.{ThinNames}
+use Rattle.cocoon_types.specs.Tables.{Defs, defs_of}
+use Rattle.cocoon_types.specs.Runs.{Loc, World, Go, world}
+use Rattle.cocoon_thin.specs.ThinTree.{Places}
 use Rattle.cocoon_thin.specs.ThinVisits.{enters_at, goes_out_at}
 use Rattle.cocoon_thin.specs.ThinWires.{begins_at, ends_at, ThinEnters, ThinExits}
 use Rattle.cocoon_thin.proofs.NameFacts.{AllApart, names_apart}
 use Rattle.cocoon_thin.proofs.ThinFields.{FieldFacts, field_facts}
 use Rattle.cocoon_types.specs.Taken.{RunsAreTaken, go}
 use Rattle.cocoon_thin.proofs.ThinWalks.{Guards, thin_world, place, known_host, entry_goes, out_goes}
-use Rattle.cocoon_thin.proofs.ThinDelivered.{among, guards_of, none_behind}
+use Rattle.cocoon_thin.proofs.ThinTrees.{of_trees}
+use Rattle.cocoon_thin.proofs.ThinDelivered.{among, defs_in, guards_of, none_behind}
 use Rattle.cocoon_thin.proofs.ThinVisited.{place_is_port, port_is_place}
 
 -- what both tests let through
@@ -42,12 +45,12 @@ runs_with_none taken w from to packet goes =
     let u = taken.gives w from packet [] to packet [] goes in
     subst (λ cs. Go w from packet cs to packet) (none_behind u.0 (sym u.1)) u.2
 
-module _ (taken : RunsAreTaken) (n : ThinNames) (t : Thin) (defs : Defs) (d : AllApart n) (f : FieldFacts t) (g : Guards n t defs (among t.hosts) (among t.switches)) where
+module _ (taken : RunsAreTaken) (places : Places) (n : ThinNames) (t : Thin) (defs : Defs) (d : AllApart n) (f : FieldFacts t) (g : Guards places n t defs (among t.hosts) (among t.switches)) where
   -- a run of the entry role is one by the parts
-  entered : (a : ℕ) (packet : Packet) (cs : List ℕ) (to : Loc) (sent : Packet) → Go (thin_world n t defs) (begins_at n a) packet cs to sent → ThinEnters n t a packet cs to sent
+  entered : (a : ℕ) (packet : Packet) (cs : List ℕ) (to : Loc) (sent : Packet) → Go (thin_world places n t defs) (begins_at n a) packet cs to sent → ThinEnters n t a packet cs to sent
   entered a packet cs to sent r =
       let l = let_through (known_host (among t.hosts) a) (place t (among t.switches) t.entry_switch a) (enters_at n t.entry_switch a) packet (cs ++ []) (to, sent, [])
-      (sym (entry_goes n t defs (among t.hosts) (among t.switches) d f g a packet (cs ++ [])) ∙ taken.takes (thin_world n t defs) (begins_at n a) packet cs to sent r []) in
+      (sym (entry_goes places n t defs (among t.hosts) (among t.switches) d f g a packet (cs ++ [])) ∙ taken.takes (thin_world places n t defs) (begins_at n a) packet cs to sent r []) in
       record {
         from_host = (and_parts (fits_width 16 a) (has_number a t.hosts) l.first).1;
         in_at = place_is_port t t.entry_switch a l.second;
@@ -61,22 +64,22 @@ module _ (taken : RunsAreTaken) (n : ThinNames) (t : Thin) (defs : Defs) (d : Al
   fits s p h = (and_parts (fits_width 16 p) _ (and_parts (fits_width 16 s) _ h).1).0
 
   -- and such a run there is
-  enters : (a : ℕ) (packet : Packet) (cs : List ℕ) (to : Loc) (sent : Packet) → ThinEnters n t a packet cs to sent → Go (thin_world n t defs) (begins_at n a) packet cs to sent
+  enters : (a : ℕ) (packet : Packet) (cs : List ℕ) (to : Loc) (sent : Packet) → ThinEnters n t a packet cs to sent → Go (thin_world places n t defs) (begins_at n a) packet cs to sent
   enters a packet cs to sent h =
       let in_at : place t (among t.switches) t.entry_switch a ≡ true = port_is_place t t.entry_switch a f h.in_at in
-      let goes : go (thin_world n t defs) (begins_at n a) packet [] ≡ Some (enters_at n t.entry_switch a, packet, []) =
-      entry_goes n t defs (among t.hosts) (among t.switches) d f g a packet []
+      let goes : go (thin_world places n t defs) (begins_at n a) packet [] ≡ Some (enters_at n t.entry_switch a, packet, []) =
+      entry_goes places n t defs (among t.hosts) (among t.switches) d f g a packet []
       ∙ ap₂ (λ b c. if b then (if c then Some (enters_at n t.entry_switch a, packet, []) else None) else None) (and_from _ _ (fits t.entry_switch a in_at) h.from_host) in_at in
-      subst (λ x. Go (thin_world n t defs) (begins_at n a) packet cs x sent) (sym h.goes_to)
-      (subst (λ p. Go (thin_world n t defs) (begins_at n a) packet cs (enters_at n t.entry_switch a) p) (sym h.unchanged)
-      (subst (λ c. Go (thin_world n t defs) (begins_at n a) packet c (enters_at n t.entry_switch a) packet) (sym h.no_choices)
-      (runs_with_none taken (thin_world n t defs) (begins_at n a) (enters_at n t.entry_switch a) packet goes)))
+      subst (λ x. Go (thin_world places n t defs) (begins_at n a) packet cs x sent) (sym h.goes_to)
+      (subst (λ p. Go (thin_world places n t defs) (begins_at n a) packet cs (enters_at n t.entry_switch a) p) (sym h.unchanged)
+      (subst (λ c. Go (thin_world places n t defs) (begins_at n a) packet c (enters_at n t.entry_switch a) packet) (sym h.no_choices)
+      (runs_with_none taken (thin_world places n t defs) (begins_at n a) (enters_at n t.entry_switch a) packet goes)))
 
   -- a run of the egress role is one by the parts
-  left : (s p : ℕ) (packet : Packet) (cs : List ℕ) (to : Loc) (sent : Packet) → Go (thin_world n t defs) (goes_out_at n s p) packet cs to sent → ThinExits n t s p packet cs to sent
+  left : (s p : ℕ) (packet : Packet) (cs : List ℕ) (to : Loc) (sent : Packet) → Go (thin_world places n t defs) (goes_out_at n s p) packet cs to sent → ThinExits n t s p packet cs to sent
   left s p packet cs to sent r =
       let l = let_through (place t (among t.switches) s p) (known_host (among t.hosts) p) (ends_at n p) packet (cs ++ []) (to, sent, [])
-      (sym (out_goes n t defs (among t.hosts) (among t.switches) d f g s p packet (cs ++ [])) ∙ taken.takes (thin_world n t defs) (goes_out_at n s p) packet cs to sent r []) in
+      (sym (out_goes places n t defs (among t.hosts) (among t.switches) d f g s p packet (cs ++ [])) ∙ taken.takes (thin_world places n t defs) (goes_out_at n s p) packet cs to sent r []) in
       record {
         out_at = place_is_port t s p l.first;
         to_host = (and_parts (fits_width 16 p) (has_number p t.hosts) l.second).1;
@@ -86,31 +89,35 @@ module _ (taken : RunsAreTaken) (n : ThinNames) (t : Thin) (defs : Defs) (d : Al
       }
 
   -- and such a run there is
-  exits : (s p : ℕ) (packet : Packet) (cs : List ℕ) (to : Loc) (sent : Packet) → ThinExits n t s p packet cs to sent → Go (thin_world n t defs) (goes_out_at n s p) packet cs to sent
+  exits : (s p : ℕ) (packet : Packet) (cs : List ℕ) (to : Loc) (sent : Packet) → ThinExits n t s p packet cs to sent → Go (thin_world places n t defs) (goes_out_at n s p) packet cs to sent
   exits s p packet cs to sent h =
       let out_at : place t (among t.switches) s p ≡ true = port_is_place t s p f h.out_at in
-      let goes : go (thin_world n t defs) (goes_out_at n s p) packet [] ≡ Some (ends_at n p, packet, []) =
-      out_goes n t defs (among t.hosts) (among t.switches) d f g s p packet []
+      let goes : go (thin_world places n t defs) (goes_out_at n s p) packet [] ≡ Some (ends_at n p, packet, []) =
+      out_goes places n t defs (among t.hosts) (among t.switches) d f g s p packet []
       ∙ ap₂ (λ b c. if b then (if c then Some (ends_at n p, packet, []) else None) else None) out_at (and_from _ _ (fits s p out_at) h.to_host) in
-      subst (λ x. Go (thin_world n t defs) (goes_out_at n s p) packet cs x sent) (sym h.goes_to)
-      (subst (λ q. Go (thin_world n t defs) (goes_out_at n s p) packet cs (ends_at n p) q) (sym h.unchanged)
-      (subst (λ c. Go (thin_world n t defs) (goes_out_at n s p) packet c (ends_at n p) packet) (sym h.no_choices)
-      (runs_with_none taken (thin_world n t defs) (goes_out_at n s p) (ends_at n p) packet goes)))
+      subst (λ x. Go (thin_world places n t defs) (goes_out_at n s p) packet cs x sent) (sym h.goes_to)
+      (subst (λ q. Go (thin_world places n t defs) (goes_out_at n s p) packet cs (ends_at n p) q) (sym h.unchanged)
+      (subst (λ c. Go (thin_world places n t defs) (goes_out_at n s p) packet c (ends_at n p) packet) (sym h.no_choices)
+      (runs_with_none taken (thin_world places n t defs) (goes_out_at n s p) (ends_at n p) packet goes)))
 
--- both ways, for thin texts
-pub entries_run : (taken : RunsAreTaken) (design defs : List ℕ) (t : Thin) (h : AreThin design defs t) (a : ℕ) (packet : Packet) (cs : List ℕ) (to : Loc) (sent : Packet)
-    → Go (thin_world h.names t (thin_defs h.names t h.entries)) (begins_at h.names a) packet cs to sent ↔ ThinEnters h.names t a packet cs to sent
+-- both ways, for thin designs and definitions
+pub entries_run : (taken : RunsAreTaken) (design : Design) (defs : DefsText) (t : Thin) (h : AreThin design defs t) (a : ℕ) (packet : Packet) (cs : List ℕ) (to : Loc) (sent : Packet)
+    → Go (world 0 design (defs_of design defs)) (begins_at h.names a) packet cs to sent ↔ ThinEnters h.names t a packet cs to sent
 entries_run taken design defs t h a packet cs to sent =
+    let places : Places = h.design_is.places in
     let d = names_apart h.names h.design_is.names in
     let f = field_facts t h.design_is.fields h.design_is.numbers in
     let g = guards_of design defs t h in
-    (entered taken h.names t (thin_defs h.names t h.entries) d f g a packet cs to sent, enters taken h.names t (thin_defs h.names t h.entries) d f g a packet cs to sent)
+    of_trees (λ x y. Go (world 0 x (defs_of x y)) (begins_at h.names a) packet cs to sent ↔ ThinEnters h.names t a packet cs to sent) h.design_is.tree h.defs_are.tree
+    (entered taken places h.names t (defs_in h) d f g a packet cs to sent, enters taken places h.names t (defs_in h) d f g a packet cs to sent)
 
 -- the same of the way out
-pub exits_run : (taken : RunsAreTaken) (design defs : List ℕ) (t : Thin) (h : AreThin design defs t) (s p : ℕ) (packet : Packet) (cs : List ℕ) (to : Loc) (sent : Packet)
-    → Go (thin_world h.names t (thin_defs h.names t h.entries)) (goes_out_at h.names s p) packet cs to sent ↔ ThinExits h.names t s p packet cs to sent
+pub exits_run : (taken : RunsAreTaken) (design : Design) (defs : DefsText) (t : Thin) (h : AreThin design defs t) (s p : ℕ) (packet : Packet) (cs : List ℕ) (to : Loc) (sent : Packet)
+    → Go (world 0 design (defs_of design defs)) (goes_out_at h.names s p) packet cs to sent ↔ ThinExits h.names t s p packet cs to sent
 exits_run taken design defs t h s p packet cs to sent =
+    let places : Places = h.design_is.places in
     let d = names_apart h.names h.design_is.names in
     let f = field_facts t h.design_is.fields h.design_is.numbers in
     let g = guards_of design defs t h in
-    (left taken h.names t (thin_defs h.names t h.entries) d f g s p packet cs to sent, exits taken h.names t (thin_defs h.names t h.entries) d f g s p packet cs to sent)
+    of_trees (λ x y. Go (world 0 x (defs_of x y)) (goes_out_at h.names s p) packet cs to sent ↔ ThinExits h.names t s p packet cs to sent) h.design_is.tree h.defs_are.tree
+    (left taken places h.names t (defs_in h) d f g s p packet cs to sent, exits taken places h.names t (defs_in h) d f g s p packet cs to sent)

@@ -39,9 +39,9 @@ pub sort_name : (s : Scope) (at : ℕ) (x : List ℕ) (w : ℕ) → var_width s 
 sort_name s at x w h = ap (λ o. option_map bits_sort o) h
 
 -- a call of a function of one number of 16 bits
-module _ (s : Scope) (at b k : ℕ) (f : Name) (variable : List ℕ) (a : Expr) where
-  pub fine_call : function_named s f.text ≡ Some (guard_at b k f.text variable) → is_some (named (λ (d : FunctionDecl). d.name) f.text s.before) ≡ true
-      → sort_of s a ≡ Some (bits_sort 16) → Fine (at_scope s (call at f (one_value a)))
+module _ (s : Scope) (i : ℕ) (at : ℕ → ℕ) (k : ℕ) (f : Name) (variable : List ℕ) (a : Expr) where
+  pub fine_call : function_named s f.text ≡ Some (guard_at at k f.text variable) → is_some (named (λ (d : FunctionDecl). d.name) f.text s.before) ≡ true
+      → sort_of s a ≡ Some (bits_sort 16) → Fine (at_scope s (call i f (one_value a)))
   fine_call h before typed = record {
     known = ap (λ o. unless_named (is_some o) f) h;
     not_late = ap₂ (λ o p. unless_named (is_none o || p) f) h before;
@@ -58,7 +58,7 @@ module _ (s : Scope) (at b k : ℕ) (f : Name) (variable : List ℕ) (a : Expr) 
   }
 
   -- its type
-  pub sort_call : function_named s f.text ≡ Some (guard_at b k f.text variable) → sort_of s a ≡ Some (bits_sort 16) → sort_of s (call at f (one_value a)) ≡ Some truth_sort
+  pub sort_call : function_named s f.text ≡ Some (guard_at at k f.text variable) → sort_of s a ≡ Some (bits_sort 16) → sort_of s (call i f (one_value a)) ≡ Some truth_sort
   sort_call h typed = ap₂ (λ o q. call_sort o (q ∷ [])) h typed
 
 -- a comparison of two numbers of one width

@@ -1,7 +1,7 @@
 -- A thin design of one field with its definitions: hosts 0 to 3 at switch 1, and two ports that a packet may leave at.
 use Rattle.std.specs.Prelude.{ℕ, true, List, [], ◌∷◌, codes}
 use Rattle.cocoon_thin.specs.declared.parts.Thin.{Thin}
-use Rattle.cocoon_thin.specs.Thin.{ThinNames, ThinEntry, its_default, its_row}
+use Rattle.cocoon_thin.specs.ThinParts.{ThinNames, ThinEntry, its_default, its_row}
 
 -- the text of the design
 abbrev pub example_design : List ℕ

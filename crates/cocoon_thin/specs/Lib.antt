@@ -1,8 +1,12 @@
-pub mod Follow
 pub mod Read
 pub mod Thin
+pub mod ThinParts
 pub mod ThinTree
 pub mod ThinRuns
 pub mod ThinVisits
 pub mod ThinWires
+pub mod Views
+pub mod Roles
+pub mod Outlines
+pub mod Entries
 pub mod ExampleThin

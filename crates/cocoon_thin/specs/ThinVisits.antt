@@ -9,7 +9,7 @@ use Rattle.cocoon_thin.specs.declared.parts.Thin.{Thin}
 use Rattle.cocoon_types.specs.Design.{layout}
 use Rattle.cocoon_types.specs.Tables.{Defs}
 use Rattle.cocoon_types.specs.Runs.{Loc, world, Go}
-use Rattle.cocoon_thin.specs.Thin.{ThinNames}
+use Rattle.cocoon_thin.specs.ThinParts.{ThinNames}
 use Rattle.cocoon_thin.specs.ThinRuns.{thin_layout, leaves_at}
 
 -- where a packet enters a switch

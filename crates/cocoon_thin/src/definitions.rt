@@ -1,185 +1,88 @@
-//! Thin definitions. As with a design, the entries are read from their places first, and all tokens are compared
-//! afterwards.
-ghost use Rattle.std.specs.Prelude.{List, ℕ, ◌≡◌, ◌+◌, ◌<◌, ◌^◌, ◌&&◌, ◌∷◌, [], Err, IfOk, OnOk, flat_map, if◌then◌else◌, length, map};
+//! Thin definitions.
+ghost use Rattle.std.specs.Prelude.{◌≡◌, ◌∷◌, [], IfOk, map, option_map};
 ghost use Rattle.cocoon_num.specs.Lists.{each, is_one_of};
-ghost use Rattle.cocoon_thin.specs.Follow.{after_all, kinds_at};
-ghost use Rattle.cocoon_thin.specs.Read as spec;
+ghost use Rattle.cocoon_syntax.specs.TreeOf as tree;
+ghost use Rattle.cocoon_syntax.specs.TreeOf.{pattern_of};
+ghost use Rattle.cocoon_thin.specs.Entries as spec;
 ghost use Rattle.cocoon_thin.specs.Read.{entries_of, entry_of, names_of};
-ghost use Rattle.cocoon_thin.specs.Thin as thin;
-ghost use Rattle.cocoon_thin.specs.Thin.{HasTokens, IsThinDefs, ThinEntry, entry_tokens, function_of, truth_tokens};
+ghost use Rattle.cocoon_thin.specs.ThinParts as thin;
+ghost use Rattle.cocoon_thin.specs.ThinParts.{function_of};
 
-use crate::cursor::Cursor;
 use crate::entry::Entry;
-use crate::kinds::is_same;
-use crate::names::Names;
-use crate::places::{after, begins_with_keyword, is_keyword_at, literal_at, name_at};
-use crate::tokens::{Stop, plain_tokens};
-use cocoon_lex::{Keyword, Token};
+use crate::names::{Names, is_same};
+use crate::views::WIDTH;
 use cocoon_num::{NoMemory, Text};
+use cocoon_syntax::{Const, DefsText, Entry as EntryTree, Pattern};
 use std::alloc::Global;
-
-// how many tokens a default and a row have, and the places of their parts
-const DEFAULT_SIZE: usize = 5;
-
-const ROW_SIZE: usize = 8;
-
-const FUNCTION: usize = 1;
-
-const NUMBER: usize = 3;
-
-const TRUTH: usize = 6;
 
 /// The most rows of a function.
 const MOST_ROWS: usize = 64;
 
-/// The entries of thin definitions for a design of these names.
-pub fn read_definitions(alloc: Global, text: &[u8], names: &Names) -> Result<Vec<Entry>, Stop>
-    requires { length text.now < 2 ^ 32 }
-    ensures ok { IfOk result (λ v. IsThinDefs text.now (names_of names.now) (entries_of v.items)) }
-    ensures not_thin { result ≡ Err Stop.NotThin → (entries : List ThinEntry) → ¬ IsThinDefs text.now (names_of names.now) entries }
-{
-    match plain_tokens(alloc, text) {
-        Ok(tokens) => definitions_of(alloc, text, tokens.as_slice(), names),
-        Err(stop) => Err(stop),
-    }
-}
-
-/// The entries of the thin definitions that have these tokens.
-fn definitions_of(
+/// The entries of definitions, if they are thin ones for a design of these names.
+pub fn read_definitions(
     alloc: Global,
-    text: &[u8],
-    tokens: &[Token],
+    defs: &DefsText,
     names: &Names,
-) -> Result<Vec<Entry>, Stop>
-    requires { HasTokens text.now (kinds_at text.now tokens.now) }
-    ensures ok { IfOk result (λ v. IsThinDefs text.now (names_of names.now) (entries_of v.items)) }
-    ensures not_thin { result ≡ Err Stop.NotThin → (entries : List ThinEntry) → ¬ IsThinDefs text.now (names_of names.now) entries }
+) -> Result<Option<Vec<Entry>>, NoMemory>
+    ensures { IfOk result (λ entries. option_map (λ v. entries_of v.items) entries ≡ spec.definitions_in (names_of names.now) (tree.entries_of defs.now)) }
 {
-    let entries = entries_in(alloc, text, tokens)?;
-    if are_thin(alloc, text, tokens, entries.as_slice(), names)? {
-        Ok(entries)
-    } else {
-        Err(Stop::NotThin)
+    match entries_in(alloc, &defs.entries)? {
+        Some(entries) if entries_fit(entries.as_slice(), names) => Ok(Some(entries)),
+        _ => Ok(None),
     }
-}
-
-fn are_thin(
-    alloc: Global,
-    text: &[u8],
-    tokens: &[Token],
-    entries: &[Entry],
-    names: &Names,
-) -> Result<bool, NoMemory>
-    ensures { IfOk result (λ are. are ≡ (spec.has_entries (kinds_at text.now tokens.now) (entries_of entries.now) && thin.entries_fit (names_of names.now) (entries_of entries.now))) }
-{
-    let are_these = has_entries(alloc, text, tokens, entries)?;
-    Ok(are_these && entries_fit(entries, names))
 }
 
 // ---- reading
 
-/// What stands at the places of entries, one after another.
-fn entries_in(alloc: Global, text: &[u8], tokens: &[Token]) -> Result<Vec<Entry>, NoMemory>
-    ensures { IfOk result (λ v. entries_of v.items ≡ spec.entries_from 0 (kinds_at text.now tokens.now)) }
+/// The entries, if each is a thin one.
+fn entries_in(alloc: Global, entries: &[EntryTree]) -> Result<Option<Vec<Entry>>, NoMemory>
+    ensures { IfOk result (λ found. option_map (λ v. entries_of v.items) found ≡ spec.entries_in (map tree.entry_of entries.now)) }
 {
-    let mut entries = Vec::new(alloc);
-    let mut rest = tokens;
-    while begins_with_keyword(rest) {
-        entries.push(entry_in(alloc, text, rest)?)?;
-        rest = after(rest, entry_size(rest));
-    }
-    Ok(entries)
-}
-
-fn entry_in(alloc: Global, text: &[u8], tokens: &[Token]) -> Result<Entry, NoMemory>
-    ensures { IfOk result (λ e. entry_of e ≡ spec.entry_in (kinds_at text.now tokens.now)) }
-{
-    let function = Text::from(alloc, name_at(text, tokens, FUNCTION))?;
-    if is_keyword_at(tokens, 0, Keyword::Default) {
-        Ok(Entry::Default(function))
-    } else {
-        let number = literal_at(tokens, NUMBER, 16) as u16;
-        let holds = is_keyword_at(tokens, TRUTH, Keyword::True);
-        Ok(Entry::Row(function, number, holds))
-    }
-}
-
-/// How many tokens the entry has.
-fn entry_size(tokens: &[Token]) -> usize
-    ensures size { (text : List ℕ) → result ≡ spec.entry_size (kinds_at text tokens.now) }
-    ensures some { 0 < result }
-{
-    if is_keyword_at(tokens, 0, Keyword::Default) {
-        DEFAULT_SIZE
-    } else {
-        ROW_SIZE
-    }
-}
-
-// ---- comparing
-
-/// Whether the tokens are those of these entries.
-fn has_entries(
-    alloc: Global,
-    text: &[u8],
-    tokens: &[Token],
-    entries: &[Entry],
-) -> Result<bool, NoMemory>
-    ensures { IfOk result (λ has. has ≡ spec.has_entries (kinds_at text.now tokens.now) (entries_of entries.now)) }
-{
-    let mut cursor = Cursor::new(alloc, text, tokens);
-    ask_entries(&mut cursor, entries)?;
-    cursor.end();
-    Ok(cursor.is_done())
-}
-
-fn ask_entries(cursor: &mut Cursor, entries: &[Entry]) -> Result<(), NoMemory>
-    ensures { OnOk result (cursor.new ≡ after_all (flat_map entry_tokens (entries_of entries.now)) cursor.old) }
-{
+    let mut found = Vec::new(alloc);
     for entry in entries {
-        ask_entry(cursor, entry)?;
+        match entry_in(alloc, entry)? {
+            Some(entry) => found.push(entry)?,
+            None => return Ok(None),
+        }
     }
-    Ok(())
+    Ok(Some(found))
 }
 
-fn ask_entry(cursor: &mut Cursor, entry: &Entry) -> Result<(), NoMemory>
-    ensures { OnOk result (cursor.new ≡ after_all (entry_tokens (entry_of entry.now)) cursor.old) }
+fn entry_in(alloc: Global, entry: &EntryTree) -> Result<Option<Entry>, NoMemory>
+    ensures { IfOk result (λ found. option_map entry_of found ≡ spec.entry_in (tree.entry_of entry.now)) }
 {
     match entry {
-        Entry::Default(function) => ask_default(cursor, function),
-        Entry::Row(function, number, holds) => ask_row(cursor, function, *number, *holds),
+        EntryTree::Default(function, Const::Truth(false)) => {
+            let function = Text::from(alloc, function.text.bytes())?;
+            Ok(Some(Entry::Default(function)))
+        }
+        EntryTree::Define(function, patterns, Const::Truth(holds)) => match only_number(patterns) {
+            Some(number) => {
+                let function = Text::from(alloc, function.text.bytes())?;
+                Ok(Some(Entry::Row(function, number, *holds)))
+            }
+            None => Ok(None),
+        },
+        _ => Ok(None),
     }
 }
 
-fn ask_default(cursor: &mut Cursor, function: &Text) -> Result<(), NoMemory>
-    ensures { OnOk result (cursor.new ≡ after_all (entry_tokens (thin.its_default function.now)) cursor.old) }
+/// The number of a literal of 16 bits, if it is all there is.
+fn only_number(patterns: &[Pattern]) -> Option<u16>
+    ensures { result ≡ spec.only_number (map pattern_of patterns.now) }
 {
-    cursor.said("default")?;
-    cursor.name(function.bytes());
-    cursor.said("= false;")?;
-    Ok(())
+    match patterns {
+        [only] => short_literal(only),
+        _ => None,
+    }
 }
 
-fn ask_row(cursor: &mut Cursor, function: &Text, number: u16, holds: bool) -> Result<(), NoMemory>
-    ensures { OnOk result (cursor.new ≡ after_all (entry_tokens (thin.its_row function.now number holds)) cursor.old) }
+fn short_literal(pattern: &Pattern) -> Option<u16>
+    ensures { result ≡ spec.short_literal (pattern_of pattern.now) }
 {
-    cursor.said("define")?;
-    cursor.name(function.bytes());
-    cursor.said("(")?;
-    cursor.literal(16, u64::from(number));
-    cursor.said(") =")?;
-    ask_truth(cursor, holds)?;
-    cursor.said(";")?;
-    Ok(())
-}
-
-fn ask_truth(cursor: &mut Cursor, holds: bool) -> Result<(), NoMemory>
-    ensures { OnOk result (cursor.new ≡ after_all (truth_tokens holds) cursor.old) }
-{
-    if holds {
-        cursor.said("true")
-    } else {
-        cursor.said("false")
+    match pattern {
+        Pattern::Literal(bits) if bits.width == WIDTH => Some(bits.value as u16),
+        _ => None,
     }
 }
 
@@ -190,8 +93,8 @@ fn entries_fit(entries: &[Entry], names: &Names) -> bool
     ensures { result ≡ thin.entries_fit (names_of names.now) (entries_of entries.now) }
 {
     are_of_guards(entries, names)
-        && are_enough(entries, names.host_guard.bytes())
-        && are_enough(entries, names.switch_guard.bytes())
+        && has_entries(entries, names.host_guard.bytes())
+        && has_entries(entries, names.switch_guard.bytes())
 }
 
 fn are_of_guards(entries: &[Entry], names: &Names) -> bool
@@ -213,7 +116,7 @@ fn is_of_guard(entry: &Entry, names: &Names) -> bool
 }
 
 /// Whether a function has one default, and not too many rows.
-fn are_enough(entries: &[Entry], function: &[u8]) -> bool
+fn has_entries(entries: &[Entry], function: &[u8]) -> bool
     ensures { result ≡ thin.has_entries (entries_of entries.now) function.now }
 {
     default_count(entries, function) == 1 && row_count(entries, function) <= MOST_ROWS

@@ -1,233 +1,158 @@
-//! Thin designs. A text is one exactly where its tokens are those of the parts that stand at their places in it: so
-//! the parts are read first, each from its place, and all tokens are compared afterwards.
-ghost use Rattle.std.specs.Prelude.{All, List as Items, ℕ, ◌≡◌, ◌<◌, ◌^◌, ◌&&◌, Err, IfOk, length};
-ghost use Rattle.cocoon_lex.specs.Kinds.{IsSpelled};
-ghost use Rattle.cocoon_thin.specs.Follow.{kinds_at};
-ghost use Rattle.cocoon_thin.specs.Read as spec;
-ghost use Rattle.cocoon_thin.specs.Read.{field_names, names_of};
-ghost use Rattle.cocoon_thin.specs.Thin.{HasTokens, HasWords, IsThinDesign, ThinDesign};
+//! Thin designs. The names are read from where they stand first, and then the whole design is compared with them.
+ghost use Rattle.std.specs.Prelude.{◌≡◌, ◌≤◌, ◌<◌, ◌^◌, true, IfOk, IfSome, IsTrue, map, option_map};
+ghost use Rattle.cocoon_syntax.specs.TreeOf.{design_of, host_of, param_of, switch_of};
+ghost use Rattle.cocoon_thin.specs.Outlines as spec;
+ghost use Rattle.cocoon_thin.specs.Read.{declarations_of, names_of, outline_of};
+ghost use Rattle.cocoon_thin.specs.ThinParts.{field_width, fields_fit};
 
-use crate::comparing::ask_design;
-use crate::cursor::Cursor;
-use crate::fits::{MOST_FIELDS, fields_fit, names_fit, numbers_fit};
-use crate::kinds::is_same;
-use crate::names::Names;
+use crate::declarations::{Declarations, find_declarations};
+use crate::fits::{WIDEST_FIELD, fields_fit, names_fit};
+use crate::names::{Names, is_same};
 use crate::parts::{Thin, ThinField};
-use crate::places::{after, begins_with_name, literal_at, name_at, plain_at};
-use crate::tokens::{Stop, plain_tokens};
-use cocoon_lex::Token;
+use crate::roles::{choice_of, entry_switch, is_guard, is_out, is_sink};
+use crate::trees::Outline;
+use crate::views::{first_variable, second_variable};
 use cocoon_num::{List, NoMemory, Text};
+use cocoon_syntax::{Design, HostDecl, Param, SwitchDecl};
 use std::alloc::Global;
 
-// the places of the header's name and of the fields among all tokens, and how many tokens a field has
-const HEADER: usize = 3;
+/// The most ports of a switch.
+const MOST_PORTS: u32 = 256;
 
-const FIELDS: usize = 5;
-
-const FIELD_SIZE: usize = 7;
-
-// the place of the width among the tokens of a field
-const WIDTH: usize = 4;
-
-// the places of the parts among the tokens after the fields
-const HOST_GUARD: usize = 3;
-
-const HOST: usize = 5;
-
-const SWITCH_GUARD: usize = 16;
-
-const SWITCH: usize = 18;
-
-const ENTRY: usize = 29;
-
-const INTO: usize = 46;
-
-const ENTRY_SWITCH: usize = 48;
-
-const SINK: usize = 55;
-
-const PORT: usize = 87;
-
-const PORTS: usize = 102;
-
-const TESTED: usize = 111;
-
-const LITERAL: usize = 113;
-
-const OUT: usize = 117;
-
-const FIRST_PORT: usize = 121;
-
-const OTHER_PORT: usize = 132;
-
-/// A thin design: its names and its parts, but for hosts and switches, of which there are none yet.
-#[derive(Drop)]
-pub struct Design {
-    pub names: Names,
-    pub parts: Thin,
-}
-
-/// The thin design that a text is.
-pub fn read_design(alloc: Global, text: &[u8]) -> Result<Design, Stop>
-    requires { length text.now < 2 ^ 32 }
-    ensures ok { IfOk result (λ d. IsThinDesign text.now (names_of d.names) d.parts) }
-    ensures words { IfOk result (λ d. HasWords d.parts) }
-    ensures not_thin { result ≡ Err Stop.NotThin → ¬ ThinDesign text.now }
+/// The names and parts of a design, if it is thin.
+pub fn read_design(alloc: Global, design: &Design) -> Result<Option<Outline>, NoMemory>
+    ensures outline { IfOk result (λ o. option_map outline_of o ≡ spec.outline_in (design_of design.now)) }
+    ensures literal { IfOk result (λ o. IfSome o (λ outline. outline.parts.literal < 2 ^ field_width outline.parts.fields outline.parts.tested)) }
 {
-    match plain_tokens(alloc, text) {
-        Ok(tokens) => design_of(alloc, text, tokens.as_slice()),
-        Err(stop) => Err(stop),
+    match find_declarations(design) {
+        Some(found) => read_declarations(alloc, &found),
+        None => Ok(None),
     }
 }
 
-/// The thin design that has these tokens.
-fn design_of(alloc: Global, text: &[u8], tokens: &[Token]) -> Result<Design, Stop>
-    requires tokens { HasTokens text.now (kinds_at text.now tokens.now) }
-    requires names { All (IsSpelled text.now) tokens.now }
-    ensures ok { IfOk result (λ d. IsThinDesign text.now (names_of d.names) d.parts) }
-    ensures words { IfOk result (λ d. HasWords d.parts) }
-    ensures not_thin { result ≡ Err Stop.NotThin → ¬ ThinDesign text.now }
+fn read_declarations(alloc: Global, found: &Declarations) -> Result<Option<Outline>, NoMemory>
+    ensures outline { IfOk result (λ o. option_map outline_of o ≡ spec.outline_of (declarations_of found.now)) }
+    ensures literal { IfOk result (λ o. IfSome o (λ outline. outline.parts.literal < 2 ^ field_width outline.parts.fields outline.parts.tested)) }
 {
-    let design = design_in(alloc, text, tokens)?;
-    if is_thin(alloc, text, tokens, &design)? {
-        Ok(design)
-    } else {
-        Err(Stop::NotThin)
+    let names = names_in(alloc, found)?;
+    let Some(fields) = fields_in(alloc, &found.header.fields)? else {
+        return Ok(None);
+    };
+    if !names_fit(&names) || !fields_fit(fields.as_slice()) || !agree(&names, found) {
+        return Ok(None);
     }
-}
-
-fn is_thin(alloc: Global, text: &[u8], tokens: &[Token], design: &Design) -> Result<bool, NoMemory>
-    ensures { IfOk result (λ is. is ≡ (spec.has_design (kinds_at text.now tokens.now) (names_of design.now.names) design.now.parts && spec.design_fits (names_of design.now.names) design.now.parts)) }
-{
-    let is_it = is_design(alloc, text, tokens, design)?;
-    Ok(is_it && fits(design))
-}
-
-fn fits(design: &Design) -> bool
-    ensures { result ≡ spec.design_fits (names_of design.now.names) design.now.parts }
-{
-    names_fit(&design.names)
-        && fields_fit(design.parts.fields.items())
-        && numbers_fit(&design.parts)
+    match parts_in(alloc, &names, fields, found)? {
+        Some(parts) => Ok(Some(Outline { names, parts })),
+        None => Ok(None),
+    }
 }
 
 // ---- reading
 
-/// What stands at the places of a design's parts.
-fn design_in(alloc: Global, text: &[u8], tokens: &[Token]) -> Result<Design, NoMemory>
-    ensures names { IfOk result (λ d. names_of d.names ≡ spec.design_names (kinds_at text.now tokens.now)) }
-    ensures parts { IfOk result (λ d. d.parts ≡ spec.design_parts (kinds_at text.now tokens.now)) }
-{
-    let header = Text::from(alloc, name_at(text, tokens, HEADER))?;
-    let from_fields = after(tokens, FIELDS);
-    let fields = fields_in(alloc, text, from_fields)?;
-    let rest = after_fields(from_fields);
-    let names = names_in(alloc, text, rest)?;
-    let parts = parts_in(alloc, text, header, fields, rest);
-    Ok(Design { names, parts })
-}
-
-fn fields_in(alloc: Global, text: &[u8], tokens: &[Token]) -> Result<Vec<ThinField>, NoMemory>
-    ensures { IfOk result (λ v. v.items ≡ spec.fields_from 0 (kinds_at text.now tokens.now)) }
-{
-    let mut fields = Vec::new(alloc);
-    let mut rest = tokens;
-    while begins_with_name(rest) {
-        fields.push(field_in(alloc, text, rest)?)?;
-        rest = after(rest, FIELD_SIZE);
-    }
-    Ok(fields)
-}
-
-fn field_in(alloc: Global, text: &[u8], tokens: &[Token]) -> Result<ThinField, NoMemory>
-    ensures { IfOk result (λ f. f ≡ spec.field_in (kinds_at text.now tokens.now)) }
-{
-    let name = Text::from(alloc, name_at(text, tokens, 0))?;
-    let width = plain_at(tokens, WIDTH, 64) as u8;
-    Ok(ThinField { name, width })
-}
-
-/// The tokens after the fields.
-fn after_fields<'a>(tokens: &'a [Token]) -> &'a [Token]
-    ensures { (text : Items ℕ) → kinds_at text result.now ≡ spec.after_fields 0 (kinds_at text tokens.now) }
-{
-    let mut rest = tokens;
-    while begins_with_name(rest) {
-        rest = after(rest, FIELD_SIZE);
-    }
-    rest
-}
-
-fn copy_name(alloc: Global, text: &[u8], tokens: &[Token], place: usize) -> Result<Text, NoMemory>
-    ensures { IfOk result (λ t. t ≡ spec.word_at (kinds_at text.now tokens.now) place) }
-{
-    Text::from(alloc, name_at(text, tokens, place))
-}
-
-fn names_in(alloc: Global, text: &[u8], tokens: &[Token]) -> Result<Names, NoMemory>
-    ensures { IfOk result (λ n. names_of n ≡ spec.names_in (kinds_at text.now tokens.now)) }
+fn names_in(alloc: Global, found: &Declarations) -> Result<Names, NoMemory>
+    ensures { IfOk result (λ n. names_of n ≡ spec.names_in (declarations_of found.now)) }
 {
     Ok(Names {
-        host_guard: copy_name(alloc, text, tokens, HOST_GUARD)?,
-        switch_guard: copy_name(alloc, text, tokens, SWITCH_GUARD)?,
-        entry: copy_name(alloc, text, tokens, ENTRY)?,
-        sink: copy_name(alloc, text, tokens, SINK)?,
-        into: copy_name(alloc, text, tokens, INTO)?,
-        out: copy_name(alloc, text, tokens, OUT)?,
-        host: copy_name(alloc, text, tokens, HOST)?,
-        switch: copy_name(alloc, text, tokens, SWITCH)?,
-        port: copy_name(alloc, text, tokens, PORT)?,
+        host_guard: Text::from(alloc, found.host_guard.name.text.bytes())?,
+        switch_guard: Text::from(alloc, found.switch_guard.name.text.bytes())?,
+        entry: Text::from(alloc, found.entry.name.text.bytes())?,
+        sink: Text::from(alloc, found.sink.name.text.bytes())?,
+        into: Text::from(alloc, found.into.name.text.bytes())?,
+        out: Text::from(alloc, found.out.name.text.bytes())?,
+        host: Text::from(alloc, first_variable(&found.host_guard.params))?,
+        switch: Text::from(alloc, first_variable(&found.switch_guard.params))?,
+        port: Text::from(alloc, second_variable(&found.into.params))?,
     })
 }
 
-fn parts_in(
-    alloc: Global,
-    text: &[u8],
-    header: Text,
-    fields: Vec<ThinField>,
-    tokens: &[Token],
-) -> Thin
-    ensures { result ≡ spec.parts_in header fields.items (kinds_at text.now tokens.now) }
+/// The fields, if none is too wide.
+fn fields_in(alloc: Global, params: &[Param]) -> Result<Option<Vec<ThinField>>, NoMemory>
+    ensures { IfOk result (λ fields. option_map (λ v. v.items) fields ≡ spec.fields_in (map param_of params.now)) }
 {
-    let tested = position(fields.as_slice(), name_at(text, tokens, TESTED));
-    Thin {
-        header,
-        tested: tested.min(MOST_FIELDS) as u32,
-        fields: List::from(fields),
-        literal: literal_at(tokens, LITERAL, 64) as u64,
-        entry_switch: literal_at(tokens, ENTRY_SWITCH, 16) as u16,
-        first_port: literal_at(tokens, FIRST_PORT, 16) as u16,
-        other_port: literal_at(tokens, OTHER_PORT, 16) as u16,
-        ports: literal_at(tokens, PORTS, 16) as u16,
-        hosts: List::from(Vec::new(alloc)),
-        switches: List::from(Vec::new(alloc)),
-    }
-}
-
-/// The index of the first field of this name, or how many fields there are.
-fn position(fields: &[ThinField], name: &[u8]) -> usize
-    ensures { result ≡ spec.position name.now (field_names fields.now) }
-{
-    for (i, field) in fields.iter().enumerate() {
-        if is_same(name, field.name.bytes()) {
-            return i;
+    let mut fields = Vec::new(alloc);
+    for param in params {
+        match field_in(alloc, param)? {
+            Some(field) => fields.push(field)?,
+            None => return Ok(None),
         }
     }
-    fields.len()
+    Ok(Some(fields))
+}
+
+fn field_in(alloc: Global, param: &Param) -> Result<Option<ThinField>, NoMemory>
+    ensures { IfOk result (λ field. field ≡ spec.field_in (param_of param.now)) }
+{
+    if param.width > u32::from(WIDEST_FIELD) {
+        return Ok(None);
+    }
+    Ok(Some(ThinField {
+        name: Text::from(alloc, param.name.text.bytes())?,
+        width: param.width as u8,
+    }))
+}
+
+/// The parts, if the entry and the ingress role are as they should be.
+fn parts_in(
+    alloc: Global,
+    names: &Names,
+    fields: Vec<ThinField>,
+    found: &Declarations,
+) -> Result<Option<Thin>, NoMemory>
+    requires fit { IsTrue (fields_fit fields.items) }
+    requires small { found.now.switches.now.ports ≤ 256 }
+    ensures value { IfOk result (λ parts. parts ≡ spec.parts_in (names_of names.now) fields.items (declarations_of found.now)) }
+    ensures literal { IfOk result (λ parts. IfSome parts (λ t. t.literal < 2 ^ field_width t.fields t.tested)) }
+{
+    let header = &found.header.name.text;
+    let ports = found.switches.ports;
+    let Some(entry_switch) = entry_switch(found.entry, names) else {
+        return Ok(None);
+    };
+    let Some(choice) = choice_of(found.into, names, ports, header, fields.as_slice()) else {
+        return Ok(None);
+    };
+    Ok(Some(Thin {
+        header: Text::from(alloc, header.bytes())?,
+        fields: List::from(fields),
+        tested: choice.tested,
+        literal: choice.literal,
+        entry_switch,
+        first_port: choice.first_port,
+        other_port: choice.other_port,
+        ports: ports as u16,
+        hosts: List::from(Vec::new(alloc)),
+        switches: List::from(Vec::new(alloc)),
+    }))
 }
 
 // ---- comparing
 
-/// Whether the tokens are those of a design.
-fn is_design(
-    alloc: Global,
-    text: &[u8],
-    tokens: &[Token],
-    design: &Design,
-) -> Result<bool, NoMemory>
-    ensures { IfOk result (λ is. is ≡ spec.has_design (kinds_at text.now tokens.now) (names_of design.now.names) design.now.parts) }
+/// Whether the declarations are as they should be, but for the entry and the ingress role.
+fn agree(names: &Names, found: &Declarations) -> bool
+    ensures value { result ≡ spec.agree (names_of names.now) (declarations_of found.now) }
+    ensures small { result ≡ true → found.now.switches.now.ports ≤ 256 }
 {
-    let mut cursor = Cursor::new(alloc, text, tokens);
-    ask_design(&mut cursor, &design.names, &design.parts)?;
-    Ok(cursor.is_done())
+    is_guard(found.host_guard, &names.host)
+        && is_guard(found.switch_guard, &names.switch)
+        && is_sink(found.sink, names)
+        && are_hosts(found.hosts, names)
+        && is_out(found.out, names, found.switches.ports)
+        && are_switches(found.switches, names)
+}
+
+fn are_hosts(hosts: &HostDecl, names: &Names) -> bool
+    ensures { result ≡ spec.are_hosts (names_of names.now) (host_of hosts.now) }
+{
+    is_same(names.entry.bytes(), hosts.entry.text.bytes())
+        && is_same(names.sink.bytes(), hosts.sink.text.bytes())
+}
+
+fn are_switches(switches: &SwitchDecl, names: &Names) -> bool
+    ensures value { result ≡ spec.are_switches (names_of names.now) (switch_of switches.now) }
+    ensures small { result ≡ true → switches.now.ports ≤ 256 }
+{
+    is_same(names.into.bytes(), switches.into.text.bytes())
+        && is_same(names.out.bytes(), switches.out.text.bytes())
+        && 1 <= switches.ports
+        && switches.ports <= MOST_PORTS
 }

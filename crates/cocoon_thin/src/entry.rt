@@ -2,9 +2,9 @@
 ghost use Rattle.std.specs.Prelude.{List, ◌≡◌, ◌+◌, ◌∷◌, if◌then◌else◌};
 ghost use Rattle.cocoon_num.specs.Names.{same_name};
 ghost use Rattle.cocoon_thin.specs.Read.{entry_of};
-ghost use Rattle.cocoon_thin.specs.Thin.{ThinEntry, default_count, function_of, row_count};
+ghost use Rattle.cocoon_thin.specs.ThinParts.{ThinEntry, default_count, function_of, row_count};
 
-use crate::kinds::is_same;
+use crate::names::is_same;
 use cocoon_num::Text;
 
 /// An entry of thin definitions.

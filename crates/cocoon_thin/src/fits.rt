@@ -3,14 +3,16 @@ ghost use Rattle.std.specs.Prelude.{◌≡◌, ◌≤◌, ◌∷◌, ◌&&◌, [
 ghost use Rattle.cocoon_num.specs.Lists.{all_distinct, each, is_one_of};
 ghost use Rattle.cocoon_num.specs.Packets.{total};
 ghost use Rattle.cocoon_thin.specs.Read.{field_names, field_widths, names_of};
-ghost use Rattle.cocoon_thin.specs.Thin as spec;
+ghost use Rattle.cocoon_thin.specs.ThinParts as spec;
 
-use crate::kinds::is_same;
-use crate::names::Names;
-use crate::parts::{Thin, ThinField};
+use crate::names::{Names, is_same};
+use crate::parts::ThinField;
 
 /// The most fields of a header.
-pub const MOST_FIELDS: usize = 64;
+const MOST_FIELDS: usize = 64;
+
+/// The most bits of a field.
+pub const WIDEST_FIELD: u8 = 64;
 
 /// Whether names that stand in one scope are distinct.
 pub fn names_fit(names: &Names) -> bool
@@ -51,7 +53,7 @@ fn widths_fit(fields: &[ThinField]) -> bool
     ensures { result ≡ each (λ f. nat_le 1 f.width && nat_le f.width 64) fields.now }
 {
     for field in fields {
-        if field.width < 1 || field.width > 64 {
+        if field.width < 1 || field.width > WIDEST_FIELD {
             return false;
         }
     }
@@ -91,11 +93,4 @@ fn has_field(fields: &[ThinField], name: &[u8]) -> bool
         }
     }
     false
-}
-
-/// Whether one of the fields is tested, and there are 1 to 256 ports.
-pub fn numbers_fit(thin: &Thin) -> bool
-    ensures { result ≡ spec.numbers_fit thin.now }
-{
-    (thin.tested as usize) < thin.fields.items().len() && 1 <= thin.ports && thin.ports <= 256
 }

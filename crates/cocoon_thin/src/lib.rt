@@ -1,23 +1,20 @@
-//! The texts of designs and definitions that `compile` takes today: thin ones, and what they mean.
+//! Thin designs: the designs and definitions that `compile` takes today, found in their trees, and what they mean.
 #![tactic(auto)]
 
-mod comparing;
-mod cursor;
+mod declarations;
 mod definitions;
 mod design;
 mod entry;
 mod fits;
-mod kinds;
 pub mod meaning;
-mod names;
+pub mod names;
 pub mod parts;
-mod places;
-#[cfg(test)]
-mod tests;
-pub mod texts;
-mod tokens;
+mod roles;
+pub mod trees;
 mod values;
+mod views;
 pub mod visits;
 
+pub use names::Names;
 pub use parts::{Thin, ThinField};
-pub use texts::{ThinFault, thin};
+pub use trees::{Outline, ThinFault, thin_definitions, thin_design};

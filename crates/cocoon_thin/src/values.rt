@@ -3,10 +3,10 @@ ghost use Rattle.std.specs.Prelude.{List, ℕ, ◌∷◌, ◌≡◌, ◌≤◌, 
 ghost use Rattle.cocoon_num.specs.Lists.{ascend, has_number};
 ghost use Rattle.cocoon_thin.specs.Read as spec;
 ghost use Rattle.cocoon_thin.specs.Read.{entries_of, entry_of};
-ghost use Rattle.cocoon_thin.specs.Thin.{AreTrueAt, ThinEntry};
+ghost use Rattle.cocoon_thin.specs.ThinParts.{AreTrueAt, ThinEntry};
 
 use crate::entry::Entry;
-use crate::kinds::is_same;
+use crate::names::is_same;
 use cocoon_num::NoMemory;
 use std::alloc::Global;
 

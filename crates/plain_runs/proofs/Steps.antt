@@ -4,7 +4,7 @@ use Rattle.std.proofs.Common.{sym, ◌∙◌, subst}
 use Rattle.cocoon_num.specs.Packets.{Packet}
 use Rattle.cocoon_thin.specs.declared.parts.Thin.{Thin}
 use Rattle.cocoon_types.specs.Runs.{Loc}
-use Rattle.cocoon_thin.specs.Thin.{ThinNames}
+use Rattle.cocoon_thin.specs.ThinParts.{ThinNames}
 use Rattle.cocoon_thin.specs.ThinRuns.{leaves_at}
 use Rattle.cocoon_thin.specs.ThinVisits.{goes_out_at, is_port, ThinStep}
 use Rattle.plain_runs.specs.Role.{GoesTo, kept, step_of}

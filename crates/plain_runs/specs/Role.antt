@@ -3,7 +3,7 @@ use Rattle.std.specs.Prelude.{◌≡◌, ℕ, List, [], ◌∷◌, if◌then◌e
 use Rattle.cocoon_num.specs.Packets.{Packet}
 use Rattle.cocoon_thin.specs.declared.parts.Thin.{Thin}
 use Rattle.cocoon_types.specs.Runs.{Loc}
-use Rattle.cocoon_thin.specs.Thin.{ThinNames}
+use Rattle.cocoon_thin.specs.ThinParts.{ThinNames}
 use Rattle.cocoon_thin.specs.ThinRuns.{leaves_at}
 use Rattle.cocoon_thin.specs.ThinVisits.{goes_out_at, is_port}
 

@@ -1,33 +1,14 @@
 //! A table of cases over packets, visits and runs of the ingress role. The answers were worked by hand.
+ghost use Rattle.std.specs.Prelude.{◌≡◌, IfOk};
+ghost use Rattle.cocoon_thin.specs.ExampleThin.{example_thin};
+
 use crate::{Packet, enter, go, is_layout, is_plain, leave, visit};
 use cocoon_num::{Bits, List, NoMemory, Text};
-use cocoon_thin::{Thin, thin};
+use cocoon_thin::{Thin, ThinField};
 use p4_emit::{Control, P4Binary, P4Expr, P4Field, P4Header, P4Stmt, Program};
 use std::alloc::Global;
 use std::process::Abort;
 use std::test::Fail;
-
-const DESIGN: &str = "packet { header e { tag: bit<8>; } }
-function h(a: bit<16>): bool;
-function g(s: bit<16>): bool;
-role Out[a: bit<16>] | h(a) = { send SwIn[16w1, a]; }
-role In[a: bit<16>] | h(a);
-host (Out, In);
-role SwIn[s: bit<16>, p: bit<16>] | g(s) and p < 16w4 = {
-  if (pkt.e.tag == 8w1) { send SwOut[s, 16w1]; } else { send SwOut[s, 16w2]; }
-}
-role SwOut[s: bit<16>, p: bit<16>] | g(s) and p < 16w4 = { send In[p]; }
-switch (SwIn, SwOut) ports 4;
-";
-
-const DEFS: &str = "default h = false;
-default g = false;
-define h(16w0) = true;
-define h(16w1) = true;
-define h(16w2) = true;
-define h(16w3) = true;
-define g(16w1) = true;
-";
 
 /// One header with fields of these widths.
 fn layout(alloc: Global, widths: &[u8]) -> Result<Vec<List<u8>>, NoMemory> {
@@ -163,6 +144,28 @@ fn visits_by_a_wide_field(rt: HostRuntime) -> Result<(), Fail> {
     Ok(())
 }
 
+/// The parts of the example, whose texts are proved to be thin.
+fn example(alloc: Global) -> Result<Thin, NoMemory>
+    ensures { IfOk result (λ thin. thin ≡ example_thin) }
+{
+    let tag = ThinField {
+        name: Text::from(alloc, b"tag")?,
+        width: 8,
+    };
+    Ok(Thin {
+        header: Text::from(alloc, b"e")?,
+        fields: List::from(vec![in alloc; tag]?),
+        tested: 0,
+        literal: 1,
+        entry_switch: 1,
+        first_port: 1,
+        other_port: 2,
+        ports: 4,
+        hosts: List::from(vec![in alloc; 0, 1, 2, 3]?),
+        switches: List::from(vec![in alloc; 1]?),
+    })
+}
+
 /// Asserts to which port of the switch the ingress role leads of bytes that enter at a port of it.
 fn assert_go(
     rt: &impl Abort,
@@ -185,7 +188,7 @@ fn assert_go(
 #[test]
 fn goes_by_a_byte(rt: HostRuntime) -> Result<(), Fail> {
     let alloc = rt.alloc();
-    let thin = thin(alloc, DESIGN.as_bytes(), DEFS.as_bytes())?;
+    let thin = example(alloc)?;
     for port in 0..4 {
         assert_go(&rt, alloc, &thin, (1, port), &[1], Some(1))?;
         assert_go(&rt, alloc, &thin, (1, port), &[2], Some(2))?;

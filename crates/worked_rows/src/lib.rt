@@ -23,4 +23,6 @@ mod replaced;
 #[cfg(test)]
 mod texts;
 #[cfg(test)]
+mod words;
+#[cfg(test)]
 mod written;

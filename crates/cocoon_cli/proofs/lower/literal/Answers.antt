@@ -1,5 +1,5 @@
 use Rattle.std.proofs.Common.{◌≤◌, arith}
-use Rattle.cocoon_thin.specs.Thin.{field_width}
+use Rattle.cocoon_thin.specs.ThinParts.{field_width}
 use Rattle.cocoon_cli.proofs.Lowerable.{wide, narrow}
 use Rattle.cocoon_cli.proofs.lower.literal.Goals as goal
 

@@ -1,7 +1,7 @@
 use Rattle.std.proofs.Common.{◌≡◌, [], ◌∷◌, drop}
 use Rattle.cocoon_num.specs.Lists.{each, is_one_of}
 use Rattle.cocoon_thin.specs.Read.{entries_of}
-use Rattle.cocoon_thin.specs.Thin.{ThinEntry, function_of}
+use Rattle.cocoon_thin.specs.ThinParts.{ThinEntry, function_of}
 use Rattle.cocoon_thin.proofs.definitions.are_of_guards.Given as goal
 
 abbrev pub invariant-loop-entry : goal.invariant-loop-entry

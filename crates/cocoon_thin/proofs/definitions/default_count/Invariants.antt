@@ -1,6 +1,6 @@
 use Rattle.std.proofs.Common.{◌≡◌, ◌≤◌, ◌+◌, drop}
 use Rattle.cocoon_thin.specs.Read.{entries_of}
-use Rattle.cocoon_thin.specs.Thin.{default_count}
+use Rattle.cocoon_thin.specs.ThinParts.{default_count}
 use Rattle.cocoon_thin.proofs.definitions.default_count.Given as goal
 
 abbrev pub invariant-loop-entry : goal.invariant-loop-entry

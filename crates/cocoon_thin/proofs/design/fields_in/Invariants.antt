@@ -1,10 +1,7 @@
-use Rattle.std.proofs.Common.{◌≡◌, ◌++◌, length}
-use Rattle.cocoon_thin.specs.Follow.{kinds_at}
-use Rattle.cocoon_thin.specs.Read.{fields_from}
+use Rattle.std.proofs.Common.{◌≡◌, ◌++◌, drop, map, option_map}
+use Rattle.cocoon_syntax.specs.TreeOf.{param_of}
+use Rattle.cocoon_thin.specs.Outlines.{fields_in}
 use Rattle.cocoon_thin.proofs.design.fields_in.Given as goal
 
-abbrev pub invariant-loop-rest : goal.invariant-loop-rest
-invariant-loop-rest l = l.fields.items ++ fields_from 0 (kinds_at l.text l.rest) ≡ fields_from 0 (kinds_at l.text l.tokens)
-
-abbrev pub decreases-loop-rest : goal.decreases-loop-rest
-decreases-loop-rest l = length l.rest
+abbrev pub invariant-loop-param : goal.invariant-loop-param
+invariant-loop-param l = option_map (λ fs. l.fields.items ++ fs) (fields_in (map param_of (drop l.param-index l.params))) ≡ fields_in (map param_of l.params)

@@ -1,6 +1,6 @@
 use Rattle.std.proofs.Common.{◌≡◌, ◌++◌, List, length}
 use Rattle.cocoon_thin.specs.Read.{entries_of}
-use Rattle.cocoon_thin.specs.Thin.{AreTrueAt}
+use Rattle.cocoon_thin.specs.ThinParts.{AreTrueAt}
 use Rattle.cocoon_thin.specs.declared.entry.Entry.{Entry}
 use Rattle.cocoon_thin.proofs.values.true_numbers.Given as goal
 
