@@ -1,28 +1,17 @@
 -- Why `compile` refuses, put together from its steps.
-use Rattle.std.proofs.Common.{◌≡◌, ℕ, List, Option, Some, None, Result, Ok, Err, IsErrAnd, refl, sym, ap, subst, ◌∙◌}
+use Rattle.std.proofs.Common.{◌≡◌, ℕ, List, Option, Result, Ok, Err, IsErrAnd, refl, sym, ap, subst, ◌∙◌}
 use Rattle.cocoon_io.specs.Files.{Files}
-use Rattle.cocoon_io.specs.Told.{ReadAnswers}
-use Rattle.cocoon_io.specs.declared.folder.FolderFault.{FolderFault}
-use Rattle.cocoon_io.specs.declared.folder.FolderFault.TheVariants.{Failed, TooLong as TooLongFile}
 use Rattle.cocoon_thin.specs.declared.parts.Thin.{Thin}
 use Rattle.cocoon_thin.specs.Thin.{ThinTexts}
 use Rattle.cocoon_cli.specs.declared.refusal.Refusal.{Refusal}
-use Rattle.cocoon_cli.specs.declared.refusal.Refusal.TheVariants.{Design, Definitions, ReadFault, TooLong, NoMemory}
+use Rattle.cocoon_cli.specs.declared.refusal.Refusal.TheVariants.{Design, Definitions, TooLong, NoMemory}
 use Rattle.cocoon_cli.specs.declared.refusal.Totals.{Totals}
 use Rattle.cocoon_cli.specs.declared.refusal.Flaw.TheVariants.{NotYet}
 use Rattle.cocoon_cli.specs.Flaws.{DefsFlaw}
 use Rattle.cocoon_cli.specs.Bundle.{NamedFile, bundle, with_files, SomeWritten, AllFit}
 use Rattle.cocoon_cli.specs.Causes.{Gives, NotRead, Inputs, NotMade, NotWritten, Makes, Refuses, Compiles, no_defs, not_made, not_written, design_most, defs_most, totals_of}
-use Rattle.cocoon_cli.specs.NetOf.{IsDefsFlaw, IsReadRefusal, IsThinRefusal, MadeTooLong}
+use Rattle.cocoon_cli.specs.NetOf.{IsDefsFlaw, IsThinRefusal, MadeTooLong}
 use Rattle.cocoon_cli.specs.Readable.{Readable}
-
--- a read that failed
-pub read_cause : (told : Option Files) (name : List ℕ) (most : ℕ) (fault : FolderFault) (r : Refusal) → ReadAnswers told name most (Err fault) → IsReadRefusal name most fault r → NotRead told name most r
-read_cause told name most fault NoMemory a e = tt
-read_cause told name most Failed (ReadFault file) a e = e
-read_cause None name most (TooLongFile n) (TooLong file m) a e = (e.0, e.1, tt)
-read_cause (Some files) name most (TooLongFile n) (TooLong file m) a e = (e.0, e.1, (a.1, a.2, a.3))
-read_cause told name most fault r a e = absurd e
 
 -- definitions that are not taken yet
 pub not_yet : (d e x y : List ℕ) (r : Refusal) → IsDefsFlaw e NotYet r → DefsFlaw x y NotYet → IsThinRefusal d e x y r

@@ -22,19 +22,10 @@ use Rattle.cocoon_cli.specs.declared.status.Status.TheVariants.{Language, Broken
 use Rattle.cocoon_cli.specs.Bundle.{NamedFile}
 use Rattle.cocoon_cli.specs.Causes.{Gives, NotRead, Inputs, NotMade, NotWritten, Refuses, no_design, no_defs, not_made, not_written, Compiles, FindsOf, design_most, defs_most}
 use Rattle.cocoon_cli.specs.Command.{Command, compile}
-use Rattle.cocoon_cli.specs.Flaws.{IsThinText, AreThinTexts, DesignFlaw, DefsFlaw}
+use Rattle.cocoon_cli.specs.Flaws.{IsThinText, AreThinTexts, DesignFlaw, DefsFlaw, OneFlaw}
 use Rattle.cocoon_cli.specs.Report.{Says, whole, front, no_memory, front_of_no_memory, flaw_report, status_of, refusal_status, report_of}
 use Rattle.cocoon_cli.specs.Run.{Yields, to_read_fault, to_write_fault, to_no_memory, DesignHas, DefsHave, IsTold, FlawOf}
 use Rattle.cocoon_cli.proofs.TellingFlaws.{IsSmall, one_flaw_report}
-
--- ---- what is known of flaws
-
--- a text has one flaw, and is then not thin
-pub record OneFlaw : Type 0 where
-  pub designs : (design : List ℕ) (f g : Flaw) → DesignFlaw design f → DesignFlaw design g → f ≡ g
-  pub definitions : (design defs : List ℕ) (f g : Flaw) → DefsFlaw design defs f → DefsFlaw design defs g → f ≡ g
-  pub no_design : (design : List ℕ) (f : Flaw) → DesignFlaw design f → ¬ IsThinText design
-  pub no_definitions : (design defs : List ℕ) (f : Flaw) → DefsFlaw design defs f → IsThinText design × (¬ AreThinTexts design defs)
 
 -- ---- places are small
 
@@ -83,9 +74,6 @@ one_pair files d e x y x' y' i j =
     let a : Some x ≡ Some x' = sym i.design_is.0 ∙ j.design_is.0 in
     let b : Some y ≡ Some y' = sym i.defs_are.0 ∙ j.defs_are.0 in
     record { design = cc; defs = cc }
-
-same_design : (files : Files) (d x x' : List ℕ) → Gives (Some files) d design_most x → Gives (Some files) d design_most x' → x ≡ x'
-same_design files d x x' g h = let a : Some x ≡ Some x' = sym g.0 ∙ h.0 in cc
 
 -- what was found, with its line, or what every answer yields to
 abbrev Answers : Status → List ℕ → Result Totals Refusal → Type 0

@@ -6,7 +6,6 @@ use Rattle.cocoon_io.specs.Files.{Files}
 use Rattle.cocoon_io.specs.Told.{appended, Rose}
 use Rattle.cocoon_thin.specs.declared.parts.Thin.{Thin}
 use Rattle.cocoon_thin.specs.Thin.{ThinTexts}
-use Rattle.cocoon_cli.specs.declared.refusal.Flaw.{Flaw}
 use Rattle.cocoon_cli.specs.declared.refusal.Refusal.{Refusal}
 use Rattle.cocoon_cli.specs.declared.refusal.Refusal.TheVariants as refusal
 use Rattle.cocoon_cli.specs.declared.refusal.Totals.{Totals}
@@ -15,11 +14,11 @@ use Rattle.cocoon_cli.specs.declared.status.Status.TheVariants.{Done, Usage, Lan
 use Rattle.cocoon_cli.specs.Command.{Command, compile}
 use Rattle.cocoon_cli.specs.Bundle.{NamedFile, bundle, with_files, AllFit, SomeExceeds, made_most}
 use Rattle.cocoon_cli.specs.Causes.{Gives, Lacks, Exceeds, NotRead, Inputs, NotMade, NotWritten, Makes, Refuses, no_design, no_defs, not_made, not_written, Compiles, FindsOf, design_most, defs_most}
-use Rattle.cocoon_cli.specs.Flaws.{IsThinText, AreThinTexts, DesignFlaw, DefsFlaw}
+use Rattle.cocoon_cli.specs.Flaws.{IsThinText, AreThinTexts, OneFlaw}
 use Rattle.cocoon_cli.specs.NetOf.{FaultRose, ReadFaultRose}
 use Rattle.cocoon_cli.specs.Report.{Says, whole, front, no_memory, front_of_no_memory, Puts, all, a_front, nothing, status_of, refusal_status, report_of, no_memory_line}
 use Rattle.cocoon_cli.specs.Run as spec
-use Rattle.cocoon_cli.specs.Run.{Stage, missing, long, there, stage_of, Verdict, a_file_missing, a_file_too_long, not_thin, not_thin_defs, all_good, JudgesTexts, JudgesStages, Judges, verdict_status, Yields, to_read_fault, to_write_fault, to_no_memory, ExactOf, Exactly, UsageOf, UsageExactly, WritesOf, Writes, SomeOf, Leaves, MayWrite, done, failed, HasFault}
+use Rattle.cocoon_cli.specs.Run.{Stage, missing, long, there, stage_of, Verdict, a_file_missing, a_file_too_long, not_thin, not_thin_defs, all_good, JudgesTexts, JudgesStages, Judges, verdict_status, Yields, to_read_fault, to_write_fault, to_no_memory, ExactOf, UsageOf, WritesOf, SomeOf, MayWrite, done, failed, HasFault}
 
 -- ---- what was said
 
@@ -84,38 +83,31 @@ defs_judged files d e o x r g h = absurd h
 texts : (files : Files) (d e o x y : List ℕ) (v : Verdict) → Inputs (Some files) d e x y → JudgesTexts o x y v → Judges files d e o v
 texts files d e o x y v i h = by_stages files d e o (there x) (there y) v (gives files d design_most x i.design_is) (gives files e defs_most y i.defs_are) h
 
--- a text with a flaw is not thin
-abbrev pub NoDesign : Type 0
-NoDesign = (design : List ℕ) (f : Flaw) → DesignFlaw design f → ¬ IsThinText design
-
-abbrev pub NoDefinitions : Type 0
-NoDefinitions = (design defs : List ℕ) (f : Flaw) → DefsFlaw design defs f → IsThinText design × (¬ AreThinTexts design defs)
-
-made_judged : NoDesign → NoDefinitions → (files : Files) (d e o x y : List ℕ) (r : Refusal) → Inputs (Some files) d e x y → NotMade d e o x y r → Judged files d e o (refusal_status r)
-made_judged flawed flawed_defs files d e o x y (refusal.Design file flaw) i h = inr (not_thin, texts files d e o x y not_thin i (flawed x flaw h.1), refl)
-made_judged flawed flawed_defs files d e o x y (refusal.Definitions file flaw) i h = inr (not_thin_defs, texts files d e o x y not_thin_defs i (flawed_defs x y flaw h.1), refl)
-made_judged flawed flawed_defs files d e o x y (refusal.TooLong file n) i h = inr (a_file_too_long, texts files d e o x y a_file_too_long i (h.1, h.2, _, h.3), refl)
-made_judged flawed flawed_defs files d e o x y refusal.NoMemory i h = inl (to_no_memory refl)
-made_judged flawed flawed_defs files d e o x y r i h = absurd h
+made_judged : OneFlaw → (files : Files) (d e o x y : List ℕ) (r : Refusal) → Inputs (Some files) d e x y → NotMade d e o x y r → Judged files d e o (refusal_status r)
+made_judged one files d e o x y (refusal.Design file flaw) i h = inr (not_thin, texts files d e o x y not_thin i (one.no_design x flaw h.1), refl)
+made_judged one files d e o x y (refusal.Definitions file flaw) i h = inr (not_thin_defs, texts files d e o x y not_thin_defs i (one.no_definitions x y flaw h.1), refl)
+made_judged one files d e o x y (refusal.TooLong file n) i h = inr (a_file_too_long, texts files d e o x y a_file_too_long i (h.1, h.2, _, h.3), refl)
+made_judged one files d e o x y refusal.NoMemory i h = inl (to_no_memory refl)
+made_judged one files d e o x y r i h = absurd h
 
 written_judged : (files : Files) (d e o : List ℕ) (fs : List NamedFile) (r : Refusal) → NotWritten fs r → Judged files d e o (refusal_status r)
 written_judged files d e o fs (refusal.WriteFault file) h = inl (to_write_fault refl)
 written_judged files d e o fs refusal.NoMemory h = inl (to_no_memory refl)
 written_judged files d e o fs r h = absurd h
 
-refused_judged : NoDesign → NoDefinitions → (files : Files) (d e o : List ℕ) (r : Refusal) (now : Option Files) → Refuses (Some files) d e o r now → Judged files d e o (refusal_status r)
-refused_judged flawed flawed_defs files d e o r now (no_design same h) = design_judged files d e o r h
-refused_judged flawed flawed_defs files d e o r now (no_defs x same g h) = defs_judged files d e o x r g h
-refused_judged flawed flawed_defs files d e o r now (not_made x y same i h) = made_judged flawed flawed_defs files d e o x y r i h
-refused_judged flawed flawed_defs files d e o r now (not_written fs totals m w h) = written_judged files d e o fs r h
+refused_judged : OneFlaw → (files : Files) (d e o : List ℕ) (r : Refusal) (now : Option Files) → Refuses (Some files) d e o r now → Judged files d e o (refusal_status r)
+refused_judged one files d e o r now (no_design same h) = design_judged files d e o r h
+refused_judged one files d e o r now (no_defs x same g h) = defs_judged files d e o x r g h
+refused_judged one files d e o r now (not_made x y same i h) = made_judged one files d e o x y r i h
+refused_judged one files d e o r now (not_written fs totals m w h) = written_judged files d e o fs r h
 
 -- what is made is good
 good : (files : Files) (d e o : List ℕ) (fs : List NamedFile) (totals : Totals) → Makes (Some files) d e o fs totals → Judges files d e o all_good
 good files d e o fs totals m = texts files d e o m.design m.defs all_good m.inputs (m.parts, m.thin, subst AllFit m.files_are m.fit)
 
-found_judged : NoDesign → NoDefinitions → (files : Files) (d e o : List ℕ) (found : Result Totals Refusal) (now : Option Files) → Compiles (Some files) d e o found now → Judged files d e o (status_of found)
-found_judged flawed flawed_defs files d e o (Ok totals) now h = inr (all_good, good files d e o h.0 totals h.1, refl)
-found_judged flawed flawed_defs files d e o (Err r) now h = refused_judged flawed flawed_defs files d e o r now h
+found_judged : OneFlaw → (files : Files) (d e o : List ℕ) (found : Result Totals Refusal) (now : Option Files) → Compiles (Some files) d e o found now → Judged files d e o (status_of found)
+found_judged one files d e o (Ok totals) now h = inr (all_good, good files d e o h.0 totals h.1, refl)
+found_judged one files d e o (Err r) now h = refused_judged one files d e o r now h
 
 said_judged : {sink_failed : Type 0} (files : Files) (d e o : List ℕ) (found : Result Totals Refusal) (old new : Option (List ℕ)) (s : Status) → Judged files d e o (status_of found) → Says sink_failed found old new s → Judged files d e o s
 said_judged files d e o found old new s h (whole q n) = subst (λ (x : Status). Judged files d e o x) (sym q) h
@@ -234,10 +226,10 @@ not_judging s (inl e) = ap judging e
 not_judging s (inr (inl e)) = ap judging e
 not_judging s (inr (inr e)) = ap judging e
 
-pub exact_of : {sink_failed : Type 0} → OneReading → NoDesign → NoDefinitions → (c : Option Command) (told : Option Files) (found : Result Totals Refusal) (now : Option Files) (old new : Option (List ℕ)) (v : Verdict) (s : Status) → FindsOf c told found now → Says sink_failed found old new s → ExactOf c told v s
-exact_of one flawed flawed_defs None told found now old new v s h k = λ e. other v s (not_judging s (no_command found old new s h.0 k)) e
-exact_of one flawed flawed_defs (Some (compile d e o)) None found now old new v s h k = tt
-exact_of one flawed flawed_defs (Some (compile d e o)) (Some files) found now old new v s h k = exact_by one files d e o v s (said_judged files d e o found old new s (found_judged flawed flawed_defs files d e o found now h) k)
+pub exact_of : {sink_failed : Type 0} → OneReading → OneFlaw → (c : Option Command) (told : Option Files) (found : Result Totals Refusal) (now : Option Files) (old new : Option (List ℕ)) (v : Verdict) (s : Status) → FindsOf c told found now → Says sink_failed found old new s → ExactOf c told v s
+exact_of reading one None told found now old new v s h k = λ e. other v s (not_judging s (no_command found old new s h.0 k)) e
+exact_of reading one (Some (compile d e o)) None found now old new v s h k = tt
+exact_of reading one (Some (compile d e o)) (Some files) found now old new v s h k = exact_by reading files d e o v s (said_judged files d e o found old new s (found_judged one files d e o found now h) k)
 
 -- ---- usage
 

@@ -14,7 +14,7 @@ use Rattle.cocoon_text.specs.declared.fault.TextFault.{TextFault}
 use Rattle.cocoon_text.specs.declared.fault.FaultKind.TheVariants.{BadByte, BadNumber, OpenComment, Unexpected, TooDeep}
 use Rattle.cocoon_cli.specs.declared.refusal.Flaw.{Flaw}
 use Rattle.cocoon_cli.specs.declared.refusal.Flaw.TheVariants.{Fault, NotYet}
-use Rattle.cocoon_cli.specs.Report.{line_of, column_of, word_of, flaw_report}
+use Rattle.cocoon_cli.specs.Report.{flaw_line, flaw_column, flaw_word, flaw_report}
 
 -- two pieces without a mark, each with the mark behind it
 cut_at : (clear : ℕ → Bool) (mark : ℕ) → (clear mark ≡ true → ⊥) → (xs ys r s : List ℕ) → each clear xs ≡ true → each clear ys ≡ true → xs ++ (mark ∷ r) ≡ ys ++ (mark ∷ s) → (xs ≡ ys) × (r ≡ s)
@@ -64,7 +64,7 @@ one_place l c k d w v hl hc hk hd e =
 
 -- a flaw whose place has numbers of 64 bits
 abbrev pub IsSmall : Flaw → Type 0
-IsSmall flaw = (line_of flaw < 2 ^ 64) × (column_of flaw < 2 ^ 64)
+IsSmall flaw = (flaw_line flaw < 2 ^ 64) × (flaw_column flaw < 2 ^ 64)
 
 -- names that do not compare alike are two
 two_names : (x y : List ℕ) → same_name x y ≡ false → same_name x x ≡ true → x ≡ y → ⊥
@@ -111,7 +111,7 @@ same_fault : (f g : TextFault) → f.kind ≡ g.kind → f.line ≡ g.line → f
 unfolding fault_of
 same_fault f g k l c = ap (λ x. fault_of x f.line f.column) k ∙ ap (λ x. fault_of g.kind x f.column) l ∙ ap (fault_of g.kind g.line) c
 
-one_told : (f g : Flaw) → line_of f ≡ line_of g → column_of f ≡ column_of g → word_of f ≡ word_of g → f ≡ g
+one_told : (f g : Flaw) → flaw_line f ≡ flaw_line g → flaw_column f ≡ flaw_column g → flaw_word f ≡ flaw_word g → f ≡ g
 one_told (Fault f) (Fault g) l c w = ap Fault (same_fault f g (one_kind f.kind g.kind w) l c)
 one_told (Fault f) NotYet l c w = absurd (no_kind f.kind w)
 one_told NotYet (Fault g) l c w = absurd (no_kind g.kind (sym w))
@@ -124,5 +124,5 @@ one_flaw_report front file f g hf hg e =
     let after_blank = append_cancel_left (codes " ") _ _ after_front in
     let after_file = append_cancel_left file _ _ after_blank in
     let places = append_cancel_left (codes " ") _ _ after_file in
-    let told = one_place (line_of f) (column_of f) (line_of g) (column_of g) (word_of f) (word_of g) hf.0 hf.1 hg.0 hg.1 places in
+    let told = one_place (flaw_line f) (flaw_column f) (flaw_line g) (flaw_column g) (flaw_word f) (flaw_word g) hf.0 hf.1 hg.0 hg.1 places in
     one_told f g told.0 told.1.0 told.1.1

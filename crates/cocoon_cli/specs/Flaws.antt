@@ -1,5 +1,5 @@
 -- What is wrong with the texts of a design and of its definitions. It follows "Statuses" in docs/FORMATS.md.
-use Rattle.std.specs.Prelude.{ℕ, List}
+use Rattle.std.specs.Prelude.{◌≡◌, ℕ, List}
 use Rattle.cocoon_num.specs.Tree.{Design, DefsText}
 use Rattle.cocoon_num.specs.Reads.{Reads, ReadsDefs, BeginsDesign, BeginsDefs}
 use Rattle.cocoon_text.specs.TextFaults.{FirstFault}
@@ -24,3 +24,10 @@ DesignFlaw design NotYet = (tree : Design) × Reads design tree × (¬ ThinDesig
 abbrev pub DefsFlaw : (design defs : List ℕ) → Flaw → Type 0
 DefsFlaw design defs (Fault f) = IsThinText design × FirstFault BeginsDefs defs f
 DefsFlaw design defs NotYet = (tree : Design) × (entries : DefsText) × Reads design tree × ReadsDefs defs entries × ThinDesign tree × (¬ ThinDefs tree entries)
+
+-- A design or definitions have one flaw at most, and none where they are thin.
+pub record OneFlaw : Type 0 where
+  pub designs : (design : List ℕ) (f g : Flaw) → DesignFlaw design f → DesignFlaw design g → f ≡ g
+  pub definitions : (design defs : List ℕ) (f g : Flaw) → DefsFlaw design defs f → DefsFlaw design defs g → f ≡ g
+  pub no_design : (design : List ℕ) (f : Flaw) → DesignFlaw design f → ¬ IsThinText design
+  pub no_definitions : (design defs : List ℕ) (f : Flaw) → DefsFlaw design defs f → IsThinText design × (¬ AreThinTexts design defs)

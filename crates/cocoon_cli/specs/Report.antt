@@ -18,23 +18,23 @@ line_with front name back = front ++ (name ++ back)
 -- ---- what is wrong with a text
 
 -- the line of its place
-abbrev pub line_of : Flaw → ℕ
-line_of (Fault f) = f.line
-line_of NotYet = 1
+abbrev pub flaw_line : Flaw → ℕ
+flaw_line (Fault f) = f.line
+flaw_line NotYet = 1
 
 -- the column
-abbrev pub column_of : Flaw → ℕ
-column_of (Fault f) = f.column
-column_of NotYet = 1
+abbrev pub flaw_column : Flaw → ℕ
+flaw_column (Fault f) = f.column
+flaw_column NotYet = 1
 
 -- its word
-abbrev pub word_of : Flaw → List ℕ
-word_of (Fault f) = kind_name f.kind
-word_of NotYet = codes "NotYet"
+abbrev pub flaw_word : Flaw → List ℕ
+flaw_word (Fault f) = kind_name f.kind
+flaw_word NotYet = codes "NotYet"
 
 -- FRONT FILE LINE:COLUMN WORD
 abbrev pub flaw_report : List ℕ → List ℕ → Flaw → List ℕ
-flaw_report front file flaw = front ++ (codes " " ++ (file ++ (codes " " ++ (decimal (line_of flaw) ++ (codes ":" ++ (decimal (column_of flaw) ++ (codes " " ++ (word_of flaw ++ codes "\n"))))))))
+flaw_report front file flaw = front ++ (codes " " ++ (file ++ (codes " " ++ (decimal (flaw_line flaw) ++ (codes ":" ++ (decimal (flaw_column flaw) ++ (codes " " ++ (flaw_word flaw ++ codes "\n"))))))))
 
 -- ---- all lines
 

@@ -63,7 +63,8 @@ abbrev pub stage_of : ℕ → Option (List ℕ) → Stage
 stage_of most None = missing
 stage_of most (Some bytes) = if nat_lt most (length bytes) then long else there bytes
 
--- what is found of two files: one is missing or too long, the design or the definitions are not thin, or all is good
+-- what is found of two files: one is missing, one of them or a file made of them is too long, the design or the definitions
+-- are not thin, or all is good
 pub data Verdict : Type 0 where
   a_file_missing a_file_too_long not_thin not_thin_defs all_good : Verdict
 

@@ -1,5 +1,5 @@
 //! The files of a bundle: all of them are made, and then they are written, the file of the network last.
-ghost use Rattle.std.specs.Prelude.{◌≡◌, ◌≤◌, ◌++◌, IfErr, IfOk, OnErr, OnOk, codes, map, string_bytes};
+ghost use Rattle.std.specs.Prelude.{◌≡◌, ◌≤◌, ◌++◌, IfErr, IfOk, OnErr, OnOk, map, string_bytes};
 ghost use Rattle.cocoon_cli.specs.Bundle as spec;
 ghost use Rattle.cocoon_cli.specs.Causes.{NotWritten, totals_of};
 ghost use Rattle.cocoon_cli.specs.Lowered.{thin_program};

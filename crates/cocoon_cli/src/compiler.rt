@@ -7,7 +7,7 @@ ghost use Rattle.cocoon_cli.specs.Readable.{Readable};
 
 use crate::bundle::{self, BundleFile};
 use crate::refusal::{Refusal, Totals};
-use crate::texts::parts;
+use crate::texts::find_parts;
 use crate::words::Compile;
 use cocoon_io::{Folder, FolderFault};
 use cocoon_thin::Thin;
@@ -32,8 +32,9 @@ fn read_refusal(alloc: Global, name: &str, most: u64, fault: &FolderFault) -> Re
     }
 }
 
-/// The bytes of a file that was read, if they are not too many.
-fn short(alloc: Global, name: &str, most: u64, bytes: Vec<u8>) -> Result<Vec<u8>, Refusal>
+/// The bytes of a file that was read, if they are not too many. A folder that tells nothing of its files may give more than
+/// it was asked for.
+fn within_limit(alloc: Global, name: &str, most: u64, bytes: Vec<u8>) -> Result<Vec<u8>, Refusal>
     ensures ok { IfOk result (λ v. (v.items ≡ bytes.items) × (length v.items ≤ most)) }
     ensures err { IfErr result (IsTooLong name.now most bytes.items) }
 {
@@ -55,7 +56,7 @@ fn read<F: Folder>(alloc: Global, folder: &mut F, name: &str, most: u64) -> Resu
     ensures writes { F.write_faults folder.new ≡ F.write_faults folder.old }
 {
     match folder.read(alloc, name, most) {
-        Ok(Some(bytes)) => short(alloc, name, most, bytes),
+        Ok(Some(bytes)) => within_limit(alloc, name, most, bytes),
         Ok(None) => Err(Refusal::NoFile(String::from_str(alloc, name)?)),
         Err(fault) => Err(read_refusal(alloc, name, most, &fault)),
     }
@@ -73,15 +74,15 @@ pub fn compile<F: Folder>(
 {
     let design = read(alloc, folder, names.design, DESIGN_MOST)?;
     let defs = read(alloc, folder, names.defs, DEFS_MOST)?;
-    let parts = parts(alloc, names, &design, &defs)?;
+    let parts = find_parts(alloc, names, &design, &defs)?;
     let totals = bundle::totals(alloc, &parts)?;
-    let files = made(alloc, names, &design, &parts)?;
+    let files = make_files(alloc, names, &design, &parts)?;
     bundle::write(alloc, folder, &files)?;
     Ok(totals)
 }
 
 /// The files of the bundle, each with at most the bytes that it may have.
-fn made(
+fn make_files(
     alloc: Global,
     names: &Compile<'_>,
     design: &[u8],

@@ -1,7 +1,6 @@
 //! What two texts are, and what is wrong with them, is one thing. The functions do nothing; their contracts are the laws.
 ghost use Rattle.std.specs.Prelude.{◌≡◌, List, ℕ};
-ghost use Rattle.cocoon_cli.specs.Flaws.{AreThinTexts, DefsFlaw, DesignFlaw, IsThinText};
-ghost use Rattle.cocoon_cli.specs.declared.refusal.Flaw.{Flaw};
+ghost use Rattle.cocoon_cli.specs.Flaws.{OneFlaw};
 ghost use Rattle.cocoon_thin.specs.Thin.{ThinTexts};
 ghost use Rattle.cocoon_thin.specs.declared.parts.Thin.{Thin};
 
@@ -20,10 +19,7 @@ pub fn one_reading()
 
 /// A design or definitions have one flaw at most, and none where they are thin.
 pub fn one_flaw()
-    ensures designs { (design : List ℕ) (f g : Flaw) → DesignFlaw design f → DesignFlaw design g → f ≡ g }
-    ensures definitions { (design defs : List ℕ) (f g : Flaw) → DefsFlaw design defs f → DefsFlaw design defs g → f ≡ g }
-    ensures no_design { (design : List ℕ) (f : Flaw) → DesignFlaw design f → ¬ IsThinText design }
-    ensures no_definitions { (design defs : List ℕ) (f : Flaw) → DefsFlaw design defs f → IsThinText design × (¬ AreThinTexts design defs) }
+    ensures { OneFlaw }
 {
     one_tree();
     one_definitions_tree();

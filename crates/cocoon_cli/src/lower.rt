@@ -1,5 +1,5 @@
 //! From a thin design to its network: the program of the switches, the attachments of hosts, and the links.
-ghost use Rattle.std.specs.Prelude.{◌≡◌, ◌<◌, ◌++◌, [], IfOk, List as Items, OnOk, codes, length, map, ℕ};
+ghost use Rattle.std.specs.Prelude.{◌≡◌, ◌<◌, ◌++◌, [], IfOk, OnOk, codes, length, map};
 ghost use Rattle.p4_emit.specs.P4Reads.{P4Reads};
 ghost use Rattle.p4_emit.specs.Printed.{printed};
 ghost use Rattle.p4_emit.specs.Program.{block_of, control_of, field_of, header_of, program_of, stmt_of};

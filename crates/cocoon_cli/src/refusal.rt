@@ -1,6 +1,6 @@
 //! What a command found: totals, or why it stopped.
 ghost use Rattle.std.specs.Prelude.{◌≡◌, Err};
-ghost use Rattle.cocoon_cli.specs.Report.{column_of, line_of, refusal_status, status_of, word_of};
+ghost use Rattle.cocoon_cli.specs.Report.{flaw_column, flaw_line, refusal_status, status_of, flaw_word};
 
 use crate::status::Status;
 use cocoon_num::NoMemory;
@@ -19,7 +19,7 @@ pub enum Flaw {
 impl Flaw {
     /// The line of its place, from 1.
     pub fn line(&self) -> u32
-        ensures { result ≡ line_of self.now }
+        ensures { result ≡ flaw_line self.now }
     {
         match self {
             Flaw::Fault(fault) => fault.line,
@@ -29,7 +29,7 @@ impl Flaw {
 
     /// The column of its place, in bytes from 1.
     pub fn column(&self) -> u32
-        ensures { result ≡ column_of self.now }
+        ensures { result ≡ flaw_column self.now }
     {
         match self {
             Flaw::Fault(fault) => fault.column,
@@ -39,7 +39,7 @@ impl Flaw {
 
     /// The word of a report.
     pub fn word(&self) -> &'static str
-        ensures { result.now ≡ word_of self.now }
+        ensures { result.now ≡ flaw_word self.now }
     {
         match self {
             Flaw::Fault(fault) => fault.kind.name(),
@@ -87,7 +87,7 @@ impl From<AllocError> for Refusal {
     }
 }
 
-/// How many of each thing a compiled network has.
+/// How many of each thing a compiled network has. Hosts at no port count, too.
 #[derive(Clone, Copy, Debug, Drop, PartialEq, Eq)]
 pub struct Totals {
     pub switches: u64,

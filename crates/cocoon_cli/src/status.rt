@@ -2,7 +2,7 @@
 ghost use Rattle.std.specs.Prelude.{◌≡◌};
 ghost use Rattle.cocoon_cli.specs.Run.{number_of};
 
-/// How a command ended. The program ends with its number.
+/// How a command ended, as "Statuses" in docs/FORMATS.md lists it. The program ends with its number.
 #[derive(Clone, Copy, Debug, Drop, PartialEq, Eq)]
 pub enum Status {
     Done,

@@ -1,5 +1,5 @@
 //! The texts of a design and its definitions: their trees, and the parts of these.
-ghost use Rattle.std.specs.Prelude.{◌≡◌, ◌<◌, ◌^◌, IfErr, IfOk, IsTrue, length};
+ghost use Rattle.std.specs.Prelude.{◌<◌, ◌^◌, IfErr, IfOk, IsTrue, length};
 ghost use Rattle.cocoon_num.specs.Reads.{Reads, ReadsDefs};
 ghost use Rattle.cocoon_syntax.specs.TreeOf.{design_of, entries_of};
 ghost use Rattle.cocoon_text.specs.TextFaults.{has_words};
@@ -35,7 +35,7 @@ fn defs_refusal(alloc: Global, name: &str, flaw: Flaw) -> Refusal
 }
 
 /// The tree of a design.
-fn tree(alloc: Global, name: &str, text: &[u8]) -> Result<Design, Refusal>
+fn read_tree(alloc: Global, name: &str, text: &[u8]) -> Result<Design, Refusal>
     requires { length text.now < 2 ^ 31 }
     ensures reads { IfOk result (λ d. Reads text.now (design_of d)) }
     ensures words { IfOk result (λ d. IsTrue (has_words (design_of d))) }
@@ -49,12 +49,12 @@ fn tree(alloc: Global, name: &str, text: &[u8]) -> Result<Design, Refusal>
 }
 
 /// The names and parts of a thin design.
-fn outline(alloc: Global, name: &str, text: &[u8]) -> Result<Outline, Refusal>
+fn find_outline(alloc: Global, name: &str, text: &[u8]) -> Result<Outline, Refusal>
     requires { length text.now < 2 ^ 31 }
     ensures ok { IfOk result (λ o. IsOutline text.now (names_of o.names) o.parts) }
     ensures refused { IfErr result (IsDesignRefusal name.now text.now) }
 {
-    let tree = tree(alloc, name, text)?;
+    let tree = read_tree(alloc, name, text)?;
     match thin_design(alloc, &tree) {
         Ok(outline) => Ok(outline),
         Err(ThinFault::NotThin) => Err(design_refusal(alloc, name, Flaw::NotYet)),
@@ -63,7 +63,7 @@ fn outline(alloc: Global, name: &str, text: &[u8]) -> Result<Outline, Refusal>
 }
 
 /// The tree of definitions.
-fn entries(alloc: Global, name: &str, text: &[u8]) -> Result<DefsText, Refusal>
+fn read_entries(alloc: Global, name: &str, text: &[u8]) -> Result<DefsText, Refusal>
     requires { length text.now < 2 ^ 31 }
     ensures reads { IfOk result (λ d. ReadsDefs text.now (entries_of d)) }
     ensures refused { IfErr result (IsEntriesRefusal name.now text.now) }
@@ -76,7 +76,7 @@ fn entries(alloc: Global, name: &str, text: &[u8]) -> Result<DefsText, Refusal>
 }
 
 /// The parts of the two texts, or what is told of them. The design is judged first.
-pub fn parts(
+pub fn find_parts(
     alloc: Global,
     names: &Compile<'_>,
     design: &[u8],
@@ -88,8 +88,8 @@ pub fn parts(
     ensures lowerable { IfOk result IsLowerable }
     ensures refused { IfErr result (IsThinRefusal names.now.design.now names.now.defs.now design.now defs.now) }
 {
-    let outline = outline(alloc, names.design, design)?;
-    let entries = entries(alloc, names.defs, defs)?;
+    let outline = find_outline(alloc, names.design, design)?;
+    let entries = read_entries(alloc, names.defs, defs)?;
     match thin_definitions(alloc, outline, &entries) {
         Ok(parts) => Ok(parts),
         Err(ThinFault::NotThin) => Err(defs_refusal(alloc, names.defs, Flaw::NotYet)),

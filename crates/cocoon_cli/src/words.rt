@@ -10,11 +10,13 @@ use clap::{Arg, ArgAction, ArgMatches, Command};
 use cocoon_num::NoMemory;
 use std::alloc::Global;
 
-/// The names of the positions.
+/// The position of the file of the design.
 const DESIGN: &str = "DESIGN";
 
+/// That of the definitions.
 const DEFS: &str = "DEFS";
 
+/// That of the name of the bundle.
 const OUT: &str = "OUT";
 
 /// The names that `compile` is given.

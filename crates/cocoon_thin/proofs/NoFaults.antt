@@ -18,10 +18,6 @@ pub every_none : {A : Type 0} (P : A → Type 0) (f : A → List ℕ) → ((x : 
 every_none P f h [] e = refl
 every_none P f h (x ∷ xs) e = joined (h x e.0) (every_none P f h xs e.1)
 
--- the same with a proof for each element
-pub none_each : {A : Type 0} (f : A → List ℕ) (xs : List A) → Every (λ x. f x ≡ []) xs → flat_map f xs ≡ []
-none_each f xs e = every_none (λ x. f x ≡ []) f (λ x h. h) xs e
-
 -- ---- look-ups by a name
 
 -- the first is the one

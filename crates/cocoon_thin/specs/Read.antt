@@ -1,4 +1,4 @@
--- What the values of the code stand for, and what stands in the tree of a thin design.
+-- What the values of the code stand for, and what is one.
 use Rattle.std.specs.Prelude.{ℕ, ◌≡◌, suc, ◌==◌, nat_lt, Bool, false, List, [], ◌∷◌, map, if◌then◌else◌, Option, Some, None}
 use Rattle.cocoon_num.specs.Tree.{Design, DefsText}
 use Rattle.cocoon_thin.specs.Thin.{AreThin, IsThinDesign}

@@ -1,5 +1,4 @@
--- The trees of thin designs and thin definitions. It follows the section "Thin designs" of docs/LANGUAGE.md. A thin design
--- has one level and one header, which is not optional, and rows have one version.
+-- The trees of thin designs and thin definitions. It follows the section "Thin designs" of docs/LANGUAGE.md.
 --
 -- The places of nodes are free. Each node has a number that is its own alone, and `places` is asked for it.
 use Rattle.std.specs.Prelude.{ℕ, suc, ◌+◌, false, List, [], ◌∷◌, Some, None, Option}

@@ -19,7 +19,7 @@ use std::alloc::Global;
 const MOST_ROWS: usize = 64;
 
 /// The entries of definitions, if they are thin ones for a design of these names.
-pub fn read_definitions(
+pub fn find_entries(
     alloc: Global,
     defs: &DefsText,
     names: &Names,

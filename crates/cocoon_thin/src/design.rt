@@ -20,7 +20,7 @@ use std::alloc::Global;
 const MOST_PORTS: u32 = 256;
 
 /// The names and parts of a design, if it is thin.
-pub fn read_design(alloc: Global, design: &Design) -> Result<Option<Outline>, NoMemory>
+pub fn find_outline(alloc: Global, design: &Design) -> Result<Option<Outline>, NoMemory>
     ensures outline { IfOk result (λ o. option_map outline_of o ≡ spec.outline_in (design_of design.now)) }
     ensures literal { IfOk result (λ o. IfSome o (λ outline. outline.parts.literal < 2 ^ field_width outline.parts.fields outline.parts.tested)) }
 {

@@ -1,6 +1,5 @@
 //! Entries of thin definitions.
 ghost use Rattle.std.specs.Prelude.{List, ◌≡◌, ◌+◌, ◌∷◌, if◌then◌else◌};
-ghost use Rattle.cocoon_num.specs.Names.{same_name};
 ghost use Rattle.cocoon_thin.specs.Read.{entry_of};
 ghost use Rattle.cocoon_thin.specs.ThinParts.{ThinEntry, default_count, function_of, row_count};
 

@@ -1,5 +1,5 @@
 //! The functions and roles of a thin design.
-ghost use Rattle.std.specs.Prelude.{◌≡◌, ◌<◌, ◌^◌, IfSome, IsTrue, length, map, option_map};
+ghost use Rattle.std.specs.Prelude.{◌≡◌, ◌<◌, ◌^◌, IfSome, IsTrue, length, map};
 ghost use Rattle.cocoon_syntax.specs.TreeOf.{block_of, expr_of, function_of, role_of, stmt_of};
 ghost use Rattle.cocoon_thin.specs.Read.{names_of};
 ghost use Rattle.cocoon_thin.specs.Roles as spec;

@@ -1,5 +1,5 @@
 //! The thin parts of trees.
-ghost use Rattle.std.specs.Prelude.{List as Items, ◌≡◌, ◌<◌, ◌^◌, Err, IfOk};
+ghost use Rattle.std.specs.Prelude.{◌≡◌, ◌<◌, ◌^◌, Err, IfOk};
 ghost use Rattle.cocoon_num.specs.Tree as tree;
 ghost use Rattle.cocoon_syntax.specs.TreeOf.{design_of, entries_of};
 ghost use Rattle.cocoon_thin.specs.Read as spec;
@@ -7,8 +7,8 @@ ghost use Rattle.cocoon_thin.specs.Read.{OneThinDesign, OneThinReading, bare, na
 ghost use Rattle.cocoon_thin.specs.Thin.{AreThin, IsThinDesign, ThinDefs, ThinDesign};
 ghost use Rattle.cocoon_thin.specs.ThinParts.{AreTrueAt, HasWords, field_width};
 
-use crate::definitions::read_definitions;
-use crate::design::read_design;
+use crate::definitions::find_entries;
+use crate::design::find_outline;
 use crate::entry::Entry;
 use crate::names::Names;
 use crate::parts::Thin;
@@ -20,6 +20,7 @@ use std::alloc::Global;
 /// Why a tree has no thin parts.
 #[derive(Clone, Copy, Debug, Drop, PartialEq, Eq)]
 pub enum ThinFault {
+    /// The tree is no thin design, or not thin definitions for the one that was found.
     NotThin,
     NoMemory,
 }
@@ -48,7 +49,7 @@ pub fn thin_design(alloc: Global, design: &Design) -> Result<Outline, ThinFault>
     ensures literal { IfOk result (λ o. o.parts.literal < 2 ^ field_width o.parts.fields o.parts.tested) }
     ensures not_thin { result ≡ Err ThinFault.NotThin → ¬ ThinDesign (design_of design.now) }
 {
-    read_design(alloc, design)?.ok_or(ThinFault::NotThin)
+    find_outline(alloc, design)?.ok_or(ThinFault::NotThin)
 }
 
 /// The parts of each thin design of that outline with these definitions, if they are thin.
@@ -57,7 +58,7 @@ pub fn thin_definitions(alloc: Global, outline: Outline, defs: &DefsText) -> Res
     ensures words { HasWords outline.parts → IfOk result HasWords }
     ensures not_thin { result ≡ Err ThinFault.NotThin → (design : tree.Design) → IsThinDesign design (names_of outline.names) outline.parts → ¬ ThinDefs design (entries_of defs.now) }
 {
-    match read_definitions(alloc, defs, &outline.names)? {
+    match find_entries(alloc, defs, &outline.names)? {
         Some(entries) => Ok(with_values(alloc, outline, entries.as_slice())?),
         None => Err(ThinFault::NotThin),
     }

@@ -22,10 +22,10 @@ const TOO_LONG: usize = 0x8000_0000;
 
 /// As what the words ask to read.
 fn grammar(words: &[String]) -> Option<Grammar> {
-    if words.len() != 2 {
+    let [_, word] = words else {
         return None;
-    }
-    match words.get(1)?.as_str() {
+    };
+    match word.as_str() {
         "design" => Some(Grammar::Design),
         "defs" => Some(Grammar::Definitions),
         _ => None,

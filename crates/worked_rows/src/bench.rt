@@ -1,5 +1,5 @@
 //! A folder with the texts in it, and what a command leaves there.
-use crate::texts::{BUNDLE, DEFINITIONS, DESIGN, NO_DEFAULT, REFINED};
+use crate::texts::{BUNDLE, DEFINITIONS, DESIGN, NO_DEFAULT, REFINED, REFINED_DEFINITIONS};
 use cocoon_cli::run;
 use cocoon_io::{MemFolder, MemSink};
 use cocoon_num::NoMemory;
@@ -24,6 +24,9 @@ pub fn folder(alloc: Global, failing: Vec<u64>) -> Result<MemFolder, NoMemory> {
     folder.place_file("c.ccn", DESIGN.as_bytes())?;
     folder.place_file("c.defs", DEFINITIONS.as_bytes())?;
     folder.place_file("m.ccn", REFINED.as_bytes())?;
+    folder.place_file("m.defs", REFINED_DEFINITIONS.as_bytes())?;
+    folder.place_file("empty.ccn", b"")?;
+    folder.place_file("empty.defs", b"")?;
     folder.place_file("no-default.defs", NO_DEFAULT.as_bytes())?;
     Ok(folder)
 }
@@ -74,6 +77,58 @@ pub fn assert_report(
     Ok(())
 }
 
+/// Compiles `c.ccn` and `c.defs` as they stand in the folder, and gives the number of the status and the report.
+pub fn report(alloc: Global, folder: &mut MemFolder) -> Result<(u8, String), NoMemory> {
+    let mut sink = MemSink::new(alloc, Vec::new(alloc));
+    let status = status(alloc, &COMPILE, folder, &mut sink)?;
+    let report = std::str::from_utf8(sink.bytes()).unwrap_or_default();
+    Ok((status, String::from_str(alloc, report)?))
+}
+
+/// Compiles them, and asserts the number of the status and the report. What is tried is told where they are others.
+pub fn assert_tried(
+    rt: &impl Abort,
+    alloc: Global,
+    folder: &mut MemFolder,
+    wanted: (u8, &str),
+    tried: &str,
+) -> Result<(), NoMemory> {
+    let (status, report) = report(alloc, folder)?;
+    assert_eq!(rt; report.as_str(), wanted.1, "{tried}");
+    assert_eq!(rt; status, wanted.0, "{tried}");
+    Ok(())
+}
+
+/// Asserts why `compile` refuses a design.
+pub fn assert_design(
+    rt: &impl Abort,
+    alloc: Global,
+    text: &str,
+    wanted: &str,
+) -> Result<(), NoMemory> {
+    let mut folder = folder(alloc, Vec::new(alloc))?;
+    folder.place_file("c.ccn", text.as_bytes())?;
+    let report = format!(in alloc; "language c.ccn {wanted}\n")?;
+    assert_tried(rt, alloc, &mut folder, (3, &report), text)?;
+    assert_none(rt, &folder);
+    Ok(())
+}
+
+/// Asserts why `compile` refuses definitions of the first design.
+pub fn assert_definitions(
+    rt: &impl Abort,
+    alloc: Global,
+    text: &str,
+    wanted: &str,
+) -> Result<(), NoMemory> {
+    let mut folder = folder(alloc, Vec::new(alloc))?;
+    folder.place_file("c.defs", text.as_bytes())?;
+    let report = format!(in alloc; "definitions c.defs {wanted}\n")?;
+    assert_tried(rt, alloc, &mut folder, (4, &report), text)?;
+    assert_none(rt, &folder);
+    Ok(())
+}
+
 /// Asserts that so many files of the bundle `one` are written, and the others are of the older one.
 pub fn assert_written(rt: &impl Abort, folder: &MemFolder, count: usize) {
     for (place, (name, text)) in BUNDLE.into_iter().enumerate() {
@@ -94,7 +149,7 @@ pub fn written(folder: &MemFolder) -> usize {
 }
 
 /// Asserts that a file has these bytes.
-fn assert_file(rt: &impl Abort, folder: &MemFolder, name: &str, wanted: &str) {
+pub fn assert_file(rt: &impl Abort, folder: &MemFolder, name: &str, wanted: &str) {
     let bytes = folder.file(name).unwrap_or_default();
     assert_eq!(rt; bytes, wanted.as_bytes(), "{name}");
 }

@@ -1,90 +1,133 @@
 //! Texts that are cut off: each proper front of a design, and of its definitions.
-use crate::bench::{COMPILE, COMPILED, folder, status};
+use crate::bench::{COMPILED, assert_tried, folder};
+use crate::edits::{behind, is_word};
 use crate::texts::{DEFINITIONS, DESIGN};
-use cocoon_io::{MemFolder, MemSink};
 use cocoon_num::NoMemory;
 use std::alloc::Global;
-use std::process::Abort;
 use std::test::Fail;
 
-const NOT_A_DESIGN: (u8, &str) = (3, "language c.ccn 1:1 NotYet\n");
-
-const NOT_DEFINITIONS: (u8, &str) = (4, "definitions c.defs 1:1 NotYet\n");
-
-/// The last entry of each front of the definitions that is thin, with its report. The one switch comes last, and a
-/// link needs a switch.
-const THIN_FRONTS: [(&str, &str); 6] = [
-    (
-        "default g = false;",
-        "compiled switches 0 hosts 0 links 0 obligations 0\n",
-    ),
-    (
-        "define h(16w0) = true;",
-        "compiled switches 0 hosts 1 links 0 obligations 0\n",
-    ),
-    (
-        "define h(16w1) = true;",
-        "compiled switches 0 hosts 2 links 0 obligations 0\n",
-    ),
-    (
-        "define h(16w2) = true;",
-        "compiled switches 0 hosts 3 links 0 obligations 0\n",
-    ),
-    (
-        "define h(16w3) = true;",
-        "compiled switches 0 hosts 4 links 0 obligations 0\n",
-    ),
-    (
-        "define g(16w1) = true;",
-        "compiled switches 1 hosts 4 links 4 obligations 0\n",
-    ),
+/// Words, and beginnings of literals, in whose place no name and no plain number may stand. What is left of one that is
+/// cut off is such a name or number, and so it is the first fault. In the place of the word `pkt` a name may stand, and
+/// what is left of a name is a name.
+const WORDS: [&str; 19] = [
+    "packet", "header", "bit", "function", "bool", "role", "send", "host", "and", "if", "else",
+    "switch", "ports", "default", "define", "true", "false", "16w", "8w",
 ];
 
-/// What a front of the definitions comes to. It is thin where it ends behind a whole entry, or behind the line feed
-/// after it, and has both defaults.
-fn wanted_of_definitions(front: &[u8]) -> (u8, &'static str) {
-    let entries = front.strip_suffix(b"\n").unwrap_or(front);
-    for (last, report) in THIN_FRONTS {
-        if entries.ends_with(last.as_bytes()) {
-            return (0, report);
+/// Whether one of the words stands at the beginning of a text.
+fn begins_with_word(text: &[u8]) -> bool {
+    for word in WORDS {
+        if text.starts_with(word.as_bytes()) {
+            return true;
         }
     }
-    NOT_DEFINITIONS
+    false
 }
 
-/// What a front of the design comes to. It is thin where only the last line feed is missing.
-fn wanted_of_design(front: &[u8]) -> (u8, &'static str) {
-    if front.ends_with(b"ports 4;") {
-        (0, COMPILED)
-    } else {
-        NOT_A_DESIGN
+/// Where the run of letters, digits and `_` at the end of a text begins.
+fn run_start(text: &[u8]) -> usize {
+    let mut start = 0;
+    for (place, byte) in text.iter().enumerate() {
+        if !is_word(*byte) {
+            start = place.saturating_add(1);
+        }
+    }
+    start
+}
+
+/// Where a front that is not whole has its first fault, and which. It is the end, or what is cut off there: a number
+/// with a width and no value, a word, or the mark `==`.
+fn fault(text: &str, length: usize) -> (usize, &'static str) {
+    let front = text.as_bytes().get(..length).unwrap_or_default();
+    let rest = text.as_bytes().get(length..).unwrap_or_default();
+    if front.ends_with(b"=") && rest.starts_with(b"=") {
+        return (length.saturating_sub(1), "Unexpected");
+    }
+    let start = run_start(front);
+    let run = text.as_bytes().get(start..).unwrap_or_default();
+    let is_cut = rest.first().is_some_and(|next| is_word(*next));
+    if !is_cut || !begins_with_word(run) {
+        return (length, "Unexpected");
+    }
+    match front.get(start..).unwrap_or_default() {
+        b"16w" | b"8w" => (start, "BadNumber"),
+        _ => (start, "Unexpected"),
     }
 }
 
-/// Compiles a front of so many bytes, and asserts the number of the status and the report.
-fn assert_front(
-    rt: &impl Abort,
-    alloc: Global,
-    folder: &mut MemFolder,
-    length: usize,
-    wanted: (u8, &str),
-) -> Result<(), NoMemory> {
-    let mut sink = MemSink::new(alloc, Vec::new(alloc));
-    let status = status(alloc, &COMPILE, folder, &mut sink)?;
-    assert_eq!(rt; sink.bytes(), wanted.1.as_bytes(), "{length} bytes");
-    assert_eq!(rt; status, wanted.0, "{length} bytes");
-    Ok(())
+/// The line and column, and the name, of the first fault of a front that is not whole.
+fn told(alloc: Global, text: &str, length: usize) -> Result<String, NoMemory> {
+    let (place, kind) = fault(text, length);
+    let (line, column) = behind(text.as_bytes().get(..place).unwrap_or_default());
+    Ok(format!(in alloc; "{line}:{column} {kind}")?)
+}
+
+/// Whether a line ends behind a front.
+fn ends_line(text: &str, length: usize) -> bool {
+    let front = text.as_bytes().get(..length).unwrap_or_default();
+    let rest = text.as_bytes().get(length..).unwrap_or_default();
+    front.ends_with(b"\n") || rest.starts_with(b"\n")
+}
+
+/// What a front of the design comes to. Only the last line feed may be missing. A declaration ends with each line but
+/// the two lines of the role with the test, and a design may end there.
+fn wanted_of_design(alloc: Global, length: usize) -> Result<(u8, String), NoMemory> {
+    let front = DESIGN.get(..length).unwrap_or_default().trim_end();
+    if front.ends_with("ports 4;") {
+        return Ok((0, String::from_str(alloc, COMPILED)?));
+    }
+    let is_within = front.ends_with("16w4 = {") || front.ends_with("16w2]; }");
+    let fault = if ends_line(DESIGN, length) && !is_within {
+        String::from_str(alloc, "1:1 NotYet")?
+    } else {
+        told(alloc, DESIGN, length)?
+    };
+    Ok((3, format!(in alloc; "language c.ccn {fault}\n")?))
+}
+
+/// The last entry of each front of the definitions that is thin, with its counts. The one switch comes last, and a link
+/// needs a switch.
+const THIN_FRONTS: [(&str, &str); 6] = [
+    ("default g = false;", "switches 0 hosts 0 links 0"),
+    ("define h(16w0) = true;", "switches 0 hosts 1 links 0"),
+    ("define h(16w1) = true;", "switches 0 hosts 2 links 0"),
+    ("define h(16w2) = true;", "switches 0 hosts 3 links 0"),
+    ("define h(16w3) = true;", "switches 0 hosts 4 links 0"),
+    ("define g(16w1) = true;", "switches 1 hosts 4 links 4"),
+];
+
+/// The counts of a thin front of the definitions. It ends behind a whole entry, and has both defaults.
+fn counts(front: &str) -> Option<&'static str> {
+    for (last, counts) in THIN_FRONTS {
+        if front.ends_with(last) {
+            return Some(counts);
+        }
+    }
+    None
+}
+
+/// What a front of the definitions comes to. An entry ends with each line, and no entry at all reads, too.
+fn wanted_of_definitions(alloc: Global, length: usize) -> Result<(u8, String), NoMemory> {
+    let front = DEFINITIONS.get(..length).unwrap_or_default().trim_end();
+    if let Some(counts) = counts(front) {
+        return Ok((0, format!(in alloc; "compiled {counts} obligations 0\n")?));
+    }
+    let fault = if length == 0 || ends_line(DEFINITIONS, length) {
+        String::from_str(alloc, "1:1 NotYet")?
+    } else {
+        told(alloc, DEFINITIONS, length)?
+    };
+    Ok((4, format!(in alloc; "definitions c.defs {fault}\n")?))
 }
 
 #[test]
 fn every_front_of_a_design(rt: HostRuntime) -> Result<(), Fail> {
     let mut folder = folder(rt.alloc(), Vec::new(rt.alloc()))?;
-    let mut front = Vec::new(rt.alloc());
-    for byte in DESIGN.bytes() {
-        folder.place_file("c.ccn", &front)?;
-        let wanted = wanted_of_design(&front);
-        assert_front(&rt, rt.alloc(), &mut folder, front.len(), wanted)?;
-        front.push(byte)?;
+    for (length, _) in DESIGN.bytes().enumerate() {
+        let front = DESIGN.get(..length).unwrap_or_default();
+        let (status, report) = wanted_of_design(rt.alloc(), length)?;
+        folder.place_file("c.ccn", front.as_bytes())?;
+        assert_tried(&rt, rt.alloc(), &mut folder, (status, &report), front)?;
     }
     Ok(())
 }
@@ -92,12 +135,11 @@ fn every_front_of_a_design(rt: HostRuntime) -> Result<(), Fail> {
 #[test]
 fn every_front_of_definitions(rt: HostRuntime) -> Result<(), Fail> {
     let mut folder = folder(rt.alloc(), Vec::new(rt.alloc()))?;
-    let mut front = Vec::new(rt.alloc());
-    for byte in DEFINITIONS.bytes() {
-        folder.place_file("c.defs", &front)?;
-        let wanted = wanted_of_definitions(&front);
-        assert_front(&rt, rt.alloc(), &mut folder, front.len(), wanted)?;
-        front.push(byte)?;
+    for (length, _) in DEFINITIONS.bytes().enumerate() {
+        let front = DEFINITIONS.get(..length).unwrap_or_default();
+        let (status, report) = wanted_of_definitions(rt.alloc(), length)?;
+        folder.place_file("c.defs", front.as_bytes())?;
+        assert_tried(&rt, rt.alloc(), &mut folder, (status, &report), front)?;
     }
     Ok(())
 }

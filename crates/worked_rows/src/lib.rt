@@ -7,6 +7,10 @@
 #[cfg(test)]
 mod bench;
 #[cfg(test)]
+mod depth;
+#[cfg(test)]
+mod edits;
+#[cfg(test)]
 mod faults;
 #[cfg(test)]
 mod fronts;
@@ -17,11 +21,19 @@ mod memory;
 #[cfg(test)]
 mod names;
 #[cfg(test)]
+mod not_yet;
+#[cfg(test)]
+mod order;
+#[cfg(test)]
 mod refusals;
 #[cfg(test)]
 mod replaced;
 #[cfg(test)]
+mod spelled;
+#[cfg(test)]
 mod texts;
+#[cfg(test)]
+mod unread;
 #[cfg(test)]
 mod words;
 #[cfg(test)]

@@ -45,7 +45,7 @@ fn refuses_files_by_name(rt: HostRuntime) -> Result<(), Fail> {
 fn refuses_a_long_design(rt: HostRuntime) -> Result<(), Fail> {
     let mut folder = folder(rt.alloc(), Vec::new(rt.alloc()))?;
     for (length, status, report) in [
-        (1_048_576, 3, "language c.ccn 1:1 NotYet\n"),
+        (1_048_576, 3, "language c.ccn 1:1048577 Unexpected\n"),
         (1_048_577, 10, "limit file c.ccn over 1048576\n"),
     ] {
         let long = vec![in rt.alloc(); b' '; length]?;

@@ -61,6 +61,24 @@ refine HostOut within 3 {
 }
 ";
 
+/// Its definitions.
+pub const REFINED_DEFINITIONS: &str = "default cHost = false;
+define cHost(32w167772161) = true;
+define cHost(32w167772162) = true;
+default acl = false;
+define acl(32w167772161, 32w167772162) = true;
+default sw = false;
+define sw(16w1) = true;
+default swOf = 16w0;
+define swOf(32w167772161) = 16w1;
+define swOf(32w167772162) = 16w1;
+default portOf = 16w0;
+define portOf(32w167772162) = 16w1;
+default hostAt = 32w0;
+define hostAt(16w1, 16w0) = 32w167772161;
+define hostAt(16w1, 16w1) = 32w167772162;
+";
+
 /// The program of switch 1.
 pub const PROGRAM: &str = "#include <core.p4>
 parser CocoonParser<H, M>(packet_in b, out H h, inout M m);
@@ -115,6 +133,9 @@ CocoonSwitch(Prs(), Ing(), Egr(), Dep()) main;
 
 /// The rows of a program with no table and no group.
 pub const ROWS: &str = r#"{"groups":[],"tables":[]}"#;
+
+/// The digest of the first design.
+pub const DESIGN_DIGEST: &str = "7e058e1bac69fcdac8ff0809f4df524e35ab352603fc49c62ad890cf063da8a1";
 
 /// The network, with the digests of the design, the program and the rows as `sha256sum` gives them.
 pub const NETWORK: &str =

@@ -8,19 +8,19 @@ pub returns-clause-usage : goal.returns-clause-usage
 returns-clause-usage g c = usage_of _ _ c.find-found.result _ _ _ c.tell.result c.find-found.ensures.found c.tell.ensures
 
 pub returns-clause-no_file : goal.returns-clause-no_file
-returns-clause-no_file g c = exact_of c.one_reading.ensures c.one_flaw.ensures.no_design c.one_flaw.ensures.no_definitions _ _ c.find-found.result _ _ _ _ c.tell.result c.find-found.ensures.found c.tell.ensures
+returns-clause-no_file g c = exact_of c.one_reading.ensures c.one_flaw.ensures _ _ c.find-found.result _ _ _ _ c.tell.result c.find-found.ensures.found c.tell.ensures
 
 pub returns-clause-limit : goal.returns-clause-limit
-returns-clause-limit g c = exact_of c.one_reading.ensures c.one_flaw.ensures.no_design c.one_flaw.ensures.no_definitions _ _ c.find-found.result _ _ _ _ c.tell.result c.find-found.ensures.found c.tell.ensures
+returns-clause-limit g c = exact_of c.one_reading.ensures c.one_flaw.ensures _ _ c.find-found.result _ _ _ _ c.tell.result c.find-found.ensures.found c.tell.ensures
 
 pub returns-clause-language : goal.returns-clause-language
-returns-clause-language g c = exact_of c.one_reading.ensures c.one_flaw.ensures.no_design c.one_flaw.ensures.no_definitions _ _ c.find-found.result _ _ _ _ c.tell.result c.find-found.ensures.found c.tell.ensures
+returns-clause-language g c = exact_of c.one_reading.ensures c.one_flaw.ensures _ _ c.find-found.result _ _ _ _ c.tell.result c.find-found.ensures.found c.tell.ensures
 
 pub returns-clause-broken : goal.returns-clause-broken
-returns-clause-broken g c = exact_of c.one_reading.ensures c.one_flaw.ensures.no_design c.one_flaw.ensures.no_definitions _ _ c.find-found.result _ _ _ _ c.tell.result c.find-found.ensures.found c.tell.ensures
+returns-clause-broken g c = exact_of c.one_reading.ensures c.one_flaw.ensures _ _ c.find-found.result _ _ _ _ c.tell.result c.find-found.ensures.found c.tell.ensures
 
 pub returns-clause-done : goal.returns-clause-done
-returns-clause-done g c = exact_of c.one_reading.ensures c.one_flaw.ensures.no_design c.one_flaw.ensures.no_definitions _ _ c.find-found.result _ _ _ _ c.tell.result c.find-found.ensures.found c.tell.ensures
+returns-clause-done g c = exact_of c.one_reading.ensures c.one_flaw.ensures _ _ c.find-found.result _ _ _ _ c.tell.result c.find-found.ensures.found c.tell.ensures
 
 pub returns-clause-read_fault : goal.returns-clause-read_fault
 returns-clause-read_fault g c = read_fault_of _ _ _ c.find-found.result _ _ c.tell.result c.find-found.ensures.read_failed c.tell.ensures
@@ -52,30 +52,24 @@ returns-clause-write_fault g c = write_fault_of _ _ _ c.find-found.result _ _ c.
 
 pub returns-clause-bad_byte : goal.returns-clause-bad_byte
 returns-clause-bad_byte g c line column line_fits column_fits =
-    flaw_of (record { designs = c.one_flaw.ensures.designs; definitions = c.one_flaw.ensures.definitions; no_design = c.one_flaw.ensures.no_design; no_definitions = c.one_flaw.ensures.no_definitions })
-    _ _ c.find-found.result _ _ _ _ c.tell.result (omega (arith, line_fits), omega (arith, column_fits)) c.find-found.ensures.found c.tell.ensures
+    flaw_of c.one_flaw.ensures _ _ c.find-found.result _ _ _ _ c.tell.result (omega (arith, line_fits), omega (arith, column_fits)) c.find-found.ensures.found c.tell.ensures
 
 pub returns-clause-bad_number : goal.returns-clause-bad_number
 returns-clause-bad_number g c line column line_fits column_fits =
-    flaw_of (record { designs = c.one_flaw.ensures.designs; definitions = c.one_flaw.ensures.definitions; no_design = c.one_flaw.ensures.no_design; no_definitions = c.one_flaw.ensures.no_definitions })
-    _ _ c.find-found.result _ _ _ _ c.tell.result (omega (arith, line_fits), omega (arith, column_fits)) c.find-found.ensures.found c.tell.ensures
+    flaw_of c.one_flaw.ensures _ _ c.find-found.result _ _ _ _ c.tell.result (omega (arith, line_fits), omega (arith, column_fits)) c.find-found.ensures.found c.tell.ensures
 
 pub returns-clause-open_comment : goal.returns-clause-open_comment
 returns-clause-open_comment g c line column line_fits column_fits =
-    flaw_of (record { designs = c.one_flaw.ensures.designs; definitions = c.one_flaw.ensures.definitions; no_design = c.one_flaw.ensures.no_design; no_definitions = c.one_flaw.ensures.no_definitions })
-    _ _ c.find-found.result _ _ _ _ c.tell.result (omega (arith, line_fits), omega (arith, column_fits)) c.find-found.ensures.found c.tell.ensures
+    flaw_of c.one_flaw.ensures _ _ c.find-found.result _ _ _ _ c.tell.result (omega (arith, line_fits), omega (arith, column_fits)) c.find-found.ensures.found c.tell.ensures
 
 pub returns-clause-unexpected : goal.returns-clause-unexpected
 returns-clause-unexpected g c line column line_fits column_fits =
-    flaw_of (record { designs = c.one_flaw.ensures.designs; definitions = c.one_flaw.ensures.definitions; no_design = c.one_flaw.ensures.no_design; no_definitions = c.one_flaw.ensures.no_definitions })
-    _ _ c.find-found.result _ _ _ _ c.tell.result (omega (arith, line_fits), omega (arith, column_fits)) c.find-found.ensures.found c.tell.ensures
+    flaw_of c.one_flaw.ensures _ _ c.find-found.result _ _ _ _ c.tell.result (omega (arith, line_fits), omega (arith, column_fits)) c.find-found.ensures.found c.tell.ensures
 
 pub returns-clause-too_deep : goal.returns-clause-too_deep
 returns-clause-too_deep g c line column line_fits column_fits =
-    flaw_of (record { designs = c.one_flaw.ensures.designs; definitions = c.one_flaw.ensures.definitions; no_design = c.one_flaw.ensures.no_design; no_definitions = c.one_flaw.ensures.no_definitions })
-    _ _ c.find-found.result _ _ _ _ c.tell.result (omega (arith, line_fits), omega (arith, column_fits)) c.find-found.ensures.found c.tell.ensures
+    flaw_of c.one_flaw.ensures _ _ c.find-found.result _ _ _ _ c.tell.result (omega (arith, line_fits), omega (arith, column_fits)) c.find-found.ensures.found c.tell.ensures
 
 pub returns-clause-not_yet : goal.returns-clause-not_yet
 returns-clause-not_yet g c =
-    flaw_of (record { designs = c.one_flaw.ensures.designs; definitions = c.one_flaw.ensures.definitions; no_design = c.one_flaw.ensures.no_design; no_definitions = c.one_flaw.ensures.no_definitions })
-    _ _ c.find-found.result _ _ _ _ c.tell.result (omega arith, omega arith) c.find-found.ensures.found c.tell.ensures
+    flaw_of c.one_flaw.ensures _ _ c.find-found.result _ _ _ _ c.tell.result (omega arith, omega arith) c.find-found.ensures.found c.tell.ensures

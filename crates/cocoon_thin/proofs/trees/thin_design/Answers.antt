@@ -27,7 +27,7 @@ never design (Some x) h e d = absurd cc
 pub returns-clause-ok : goal.returns-clause-ok
 returns-clause-ok c =
     subst (λ (r : Result Outline ThinFault). IfOk r (λ (x : Outline). IsThinDesign (design_of c.args.design.now) (names_of x.names) x.parts)) (sym c.ok_or.ensures.value)
-    (found (design_of c.args.design.now) c.in_ok-read_design.field-0 c.in_ok-read_design.ensures.outline)
+    (found (design_of c.args.design.now) c.in_ok-find_outline.field-0 c.in_ok-find_outline.ensures.outline)
 
 pub returns-clause-not_thin : goal.returns-clause-not_thin
-returns-clause-not_thin c e = never (design_of c.args.design.now) c.in_ok-read_design.field-0 c.in_ok-read_design.ensures.outline (sym c.ok_or.ensures.value ∙ e)
+returns-clause-not_thin c e = never (design_of c.args.design.now) c.in_ok-find_outline.field-0 c.in_ok-find_outline.ensures.outline (sym c.ok_or.ensures.value ∙ e)

@@ -2,7 +2,7 @@ use Rattle.std.proofs.Common.{ap, ◌∙◌}
 use Rattle.std.specs.Prelude.{Err}
 use Rattle.cocoon_syntax.specs.TreeOf.{entries_of}
 use Rattle.cocoon_cli.proofs.Compiling.{not_yet}
-use Rattle.cocoon_cli.proofs.texts.parts.Goals as goal
+use Rattle.cocoon_cli.proofs.texts.find_parts.Goals as goal
 
 pub returns-in-Ok-clause-lowerable : goal.returns-in-Ok-clause-lowerable
 returns-in-Ok-clause-lowerable c =

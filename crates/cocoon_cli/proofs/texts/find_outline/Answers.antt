@@ -1,6 +1,6 @@
 use Rattle.cocoon_syntax.specs.TreeOf.{design_of}
 use Rattle.cocoon_cli.proofs.Outlines.{words_of}
-use Rattle.cocoon_cli.proofs.texts.outline.Goals as goal
+use Rattle.cocoon_cli.proofs.texts.find_outline.Goals as goal
 
 pub returns-in-Ok-clause-ok : goal.returns-in-Ok-clause-ok
 returns-in-Ok-clause-ok c = record {
