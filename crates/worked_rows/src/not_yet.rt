@@ -4,7 +4,7 @@ use crate::edits::{Edit, edited};
 use crate::texts::{DEFINITIONS, DESIGN};
 use std::test::Fail;
 
-const NUMBERS: [&[Edit]; 19] = [
+const NUMBERS: [&[Edit]; 27] = [
     &[("ports 4", "ports 5")],
     &[("< 16w4 = {\n", "< 16w5 = {\n")],
     &[("< 16w4 = { send", "< 16w3 = { send")],
@@ -22,12 +22,16 @@ const NUMBERS: [&[Edit]; 19] = [
         ("< 16w4 = {\n", "< 8w4 = {\n"),
         ("< 16w4 = { send", "< 8w4 = { send"),
     ],
+    &[("ports 4", "ports 65540")],
     &[("bit<8>", "bit<7>")],
+    &[("bit<8>", "bit<264>")],
     &[("bit<8>", "bit<16>")],
     &[("bit<8>", "bit<7>"), ("8w1", "7w1")],
     &[("bit<8>", "bit<8>; id: bit<12>")],
     &[("bit<8>", "bit<8>; id: bit<0>")],
     &[("bit<8>", "bit<8>; id: bit<72>")],
+    &[("bit<8>", "bit<8>; id: bit<65>; no: bit<7>")],
+    &[("bit<8>", "bit<8>; id: bit<4294967288>")],
     &[("8w1)", "16w1)")],
     &[("SwIn[16w1", "SwIn[8w1")],
     &[("s, 16w1", "s, 15w1")],
@@ -38,11 +42,15 @@ const NUMBERS: [&[Edit]; 19] = [
         ("Out[a: bit<16>]", "Out[a: bit<8>]"),
         ("In[a: bit<16>]", "In[a: bit<8>]"),
     ],
+    &[("h(a: bit<16>)", "h(a: bit<272>)")],
+    &[("g(s: bit<16>)", "g(s: bit<8>)")],
+    &[("In[a: bit<16>]", "In[a: bit<65552>]")],
     &[("p: bit<16>", "p: bit<17>")],
+    &[("SwOut[s: bit<16>", "SwOut[s: bit<15>")],
 ];
 
 /// Names that are not used alike, or that stand for two things of one scope.
-const NAMES: [&[Edit]; 25] = [
+const NAMES: [&[Edit]; 31] = [
     &[("In[a: bit<16>] | h(a)", "In[b: bit<16>] | h(b)")],
     &[("h(a: bit<16>)", "h(b: bit<16>)")],
     &[("g(s: bit<16>)", "g(t: bit<16>)")],
@@ -68,6 +76,8 @@ const NAMES: [&[Edit]; 25] = [
     &[("pkt.e.tag", "pkt.e.tug")],
     &[("pkt.e.tag", "pkt.f.tag")],
     &[("bit<8>", "bit<8>; tag: bit<8>")],
+    &[("bit<8>", "bit<8>; id: bit<8>; tag: bit<8>")],
+    &[("bit<8>", "bit<8>; id: bit<8>; id: bit<8>")],
     &[
         ("function g", "function h"),
         ("| g(s)", "| h(s)"),
@@ -83,6 +93,28 @@ const NAMES: [&[Edit]; 25] = [
         ("send SwOut", "send SwIn"),
         ("role SwOut", "role SwIn"),
         ("(SwIn, SwOut)", "(SwIn, SwIn)"),
+    ],
+    &[
+        ("send SwIn", "send Out"),
+        ("role SwIn", "role Out"),
+        ("(SwIn, SwOut)", "(Out, SwOut)"),
+    ],
+    &[
+        ("send SwIn", "send In"),
+        ("role SwIn", "role In"),
+        ("(SwIn, SwOut)", "(In, SwOut)"),
+    ],
+    &[
+        ("send SwOut", "send Out"),
+        ("send SwOut", "send Out"),
+        ("role SwOut", "role Out"),
+        ("(SwIn, SwOut)", "(SwIn, Out)"),
+    ],
+    &[
+        ("send SwOut", "send In"),
+        ("send SwOut", "send In"),
+        ("role SwOut", "role In"),
+        ("(SwIn, SwOut)", "(SwIn, In)"),
     ],
     &[("(Out, In)", "(In, Out)")],
     &[("(Out, In)", "(Out, Sink)")],
@@ -100,7 +132,7 @@ const NAMES: [&[Edit]; 25] = [
 ];
 
 /// Declarations that are added, left out, or stand in another order or form.
-const DECLARATIONS: [&[Edit]; 22] = [
+const DECLARATIONS: [&[Edit]; 23] = [
     &[("host (Out, In);", "host (Out, In);\nhost (Out, In);")],
     &[("host (Out, In);\n", "")],
     &[(
@@ -127,6 +159,7 @@ const DECLARATIONS: [&[Edit]; 22] = [
         "host (Out, In);\nrole In[a: bit<16>] | h(a);",
     )],
     &[("h(a: bit<16>): bool", "h(a: bit<16>): bool = true")],
+    &[("g(s: bit<16>): bool", "g(s: bit<16>): bool = true")],
     &[("h(a: bit<16>): bool", "h(a: bit<16>): bit<1>")],
     &[("h(a: bit<16>)", "h(a: bit<16>, b: bit<16>)")],
     &[("In[a: bit<16>]", "In[a: bit<16>, b: bit<16>]")],
@@ -167,7 +200,7 @@ const STATEMENTS: [&[Edit]; 21] = [
     &[("s, 16w1", "16w1, 16w1")],
 ];
 
-const EXPRESSIONS: [&[Edit]; 25] = [
+const EXPRESSIONS: [&[Edit]; 27] = [
     &[("g(s) and", "true and g(s) and")],
     &[("g(s) and p", "g(s) and true and p")],
     &[("g(s) and p < 16w4", "p < 16w4 and g(s)")],
@@ -189,6 +222,8 @@ const EXPRESSIONS: [&[Edit]; 25] = [
     &[("| h(a);", "| true;")],
     &[("| h(a);", "| h(a) and h(a);")],
     &[("h(a);", "h(a, a);")],
+    &[("g(s) and", "g(s, s) and")],
+    &[("h(a) =", "h =")],
     &[("h(a);", "h(16w1);")],
     &[("In[p]", "In[p + 16w0]")],
     &[("s, 16w1", "s, (true ? 16w1 : 16w1)")],
