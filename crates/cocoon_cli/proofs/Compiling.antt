@@ -1,75 +1,353 @@
--- Why `compile` refuses, put together from its steps.
-use Rattle.std.proofs.Common.{◌≡◌, ℕ, List, Option, Result, Ok, Err, IsErrAnd, refl, sym, ap, subst, ◌∙◌}
+-- What `compile` did, put together from its parts.
+use Rattle.std.proofs.Common.{◌≡◌, ◌≤◌, ◌<◌, ℕ, zero, suc, List, [], ◌∷◌, length, replicate, Option, Some, None, Result, Ok, Err, IsErrAnd, refl, sym, ap, subst, ◌∙◌, inl, inr, arith}
 use Rattle.cocoon_io.specs.Files.{Files}
-use Rattle.cocoon_thin.specs.declared.parts.Thin.{Thin}
-use Rattle.cocoon_thin.specs.Thin.{ThinTexts}
+use Rattle.cocoon_num.specs.Tree as tree
+use Rattle.p4_ir.specs.NetTree.{NetData}
+use Rattle.net_bundle.specs.Bundle.{bundle}
+use Rattle.net_bundle.specs.Writing.{AllFit, HoldsTold, NotWritten, SomeWritten, StopsAt, most_of, with_files}
+use Rattle.net_bundle.specs.declared.fault.BundleFault.{BundleFault}
+use Rattle.net_bundle.specs.declared.fault.BundleFault.TheVariants as fault
+use Rattle.cocoon_cli.specs.declared.files.CommandFile.{CommandFile}
+use Rattle.cocoon_cli.specs.declared.files.CommandFile.TheVariants.{Design, Definitions, Bundle}
+use Rattle.cocoon_cli.specs.declared.refusal.Flaw.TheVariants.{Fault, NotYet}
 use Rattle.cocoon_cli.specs.declared.refusal.Refusal.{Refusal}
-use Rattle.cocoon_cli.specs.declared.refusal.Refusal.TheVariants.{Design, Definitions, TooLong, NoMemory}
-use Rattle.cocoon_cli.specs.declared.refusal.Totals.{Totals}
-use Rattle.cocoon_cli.specs.declared.refusal.Flaw.TheVariants.{NotYet}
-use Rattle.cocoon_cli.specs.Flaws.{DefsFlaw}
-use Rattle.cocoon_cli.specs.Bundle.{NamedFile, bundle, with_files, SomeWritten, AllFit}
-use Rattle.cocoon_cli.specs.Causes.{Gives, NotRead, Inputs, NotMade, NotWritten, Makes, Refuses, Compiles, no_defs, not_made, not_written, design_most, defs_most, totals_of}
-use Rattle.cocoon_cli.specs.NetOf.{IsDefsFlaw, IsThinRefusal, MadeTooLong}
-use Rattle.cocoon_cli.specs.Readable.{Readable}
+use Rattle.cocoon_cli.specs.declared.refusal.Refusal.TheVariants as refusal
+use Rattle.cocoon_cli.specs.declared.report.Report.{Report}
+use Rattle.cocoon_cli.specs.declared.report.Report.TheVariants.{Compiled}
+use Rattle.cocoon_cli.specs.Command.{Command, compile}
+use Rattle.cocoon_cli.specs.Leaves.{LeavesRefused, MayWriteFiles}
+use Rattle.cocoon_cli.specs.Reading.{Gives, Lacks, Exceeds, NotGiven, unwritten}
+use Rattle.cocoon_cli.specs.Run.{told_inputs, InputsAre, Did}
+use Rattle.cocoon_cli.specs.Steps.{Inputs, Step, is_there, is_within, design_reads, design_accepted, definitions_read, definitions_accepted, bundle_within, bundle_written, design_most, definitions_most, DesignIs, DefinitionsAre, Makes, MakesFiles, totals_of, AnswersFrom, Answers}
+use Rattle.cocoon_cli.specs.Texts.{ReadsAccepted, LowersTexts, NotLowered}
 
--- definitions that are not taken yet
-pub not_yet : (d e x y : List ℕ) (r : Refusal) → IsDefsFlaw e NotYet r → DefsFlaw x y NotYet → IsThinRefusal d e x y r
-not_yet d e x y (Definitions file flaw) h k = (h.0, subst (DefsFlaw x y) (sym h.1) k)
-not_yet d e x y NoMemory h k = tt
-not_yet d e x y r h k = absurd h
+-- ---- what is read
 
-thin_not_made : (d e o x y : List ℕ) (r : Refusal) → IsThinRefusal d e x y r → NotMade d e o x y r
-thin_not_made d e o x y (Design file flaw) h = h
-thin_not_made d e o x y (Definitions file flaw) h = h
-thin_not_made d e o x y NoMemory h = tt
-thin_not_made d e o x y r h = absurd h
+-- of a folder that does not tell its files, what it gave
+abbrev by_file : (x y : Option (List ℕ)) → CommandFile → Option (List ℕ)
+by_file x y Design = x
+by_file x y Definitions = y
+by_file x y (Bundle file) = None
 
-long_not_made : (d e o x y : List ℕ) (t : Thin) (r : Refusal) → ThinTexts x y t → MadeTooLong (bundle o x t) r → NotMade d e o x y r
-long_not_made d e o x y t (TooLong file n) h l = (l.0, t, h, l.1)
-long_not_made d e o x y t NoMemory h l = tt
-long_not_made d e o x y t r h l = absurd l
+abbrev pick : Command → Option Files → (x y : Option (List ℕ)) → Inputs
+pick c None x y = by_file x y
+pick c (Some files) x y = told_inputs c files
 
--- the definitions are not read
-pub defs_refused : (a b c : Option Files) (d e o x : List ℕ) (r : Refusal) → b ≡ a → c ≡ b → Gives a d design_most x → NotRead b e defs_most r → Refuses a d e o r c
-defs_refused a b c d e o x r p q g n = no_defs x (q ∙ p) g (subst (λ t. NotRead t e defs_most r) p n)
+picked : (c : Command) (told : Option Files) (x y : Option (List ℕ)) → InputsAre c told (pick c told x y)
+picked c None x y = tt
+picked c (Some files) x y = refl
 
-inputs : (a b : Option Files) (d e x y : List ℕ) → b ≡ a → Gives a d design_most x → Gives b e defs_most y → Inputs a d e x y
-inputs a b d e x y p g h = record { design_is = g; defs_are = subst (λ t. Gives t e defs_most y) p h }
+design_given : (d e o : List ℕ) (told : Option Files) (x : List ℕ) (y : Option (List ℕ)) → Gives told d design_most x → pick (compile d e o) told (Some x) y Design ≡ Some x
+design_given d e o None x y g = refl
+design_given d e o (Some files) x y g = g.0
 
--- the texts are not thin
-pub parts_refused : (a b c : Option Files) (d e o x y : List ℕ) (r : Refusal) → b ≡ a → c ≡ b → Gives a d design_most x → Gives b e defs_most y → IsThinRefusal d e x y r → Refuses a d e o r c
-parts_refused a b c d e o x y r p q g h n = not_made x y (q ∙ p) (inputs a b d e x y p g h) (thin_not_made d e o x y r n)
+defs_given : (d e o : List ℕ) (told : Option Files) (x : Option (List ℕ)) (y : List ℕ) → Gives told e definitions_most y → pick (compile d e o) told x (Some y) Definitions ≡ Some y
+defs_given d e o None x y g = refl
+defs_given d e o (Some files) x y g = g.0
 
--- the bundle is not made
-pub files_refused : (a b c : Option Files) (d e o x y : List ℕ) (t : Thin) (r : Refusal) → b ≡ a → c ≡ b → Gives a d design_most x → Gives b e defs_most y → ThinTexts x y t → MadeTooLong (bundle o x t) r → Refuses a d e o r c
-files_refused a b c d e o x y t r p q g h n l = not_made x y (q ∙ p) (inputs a b d e x y p g h) (long_not_made d e o x y t r n l)
+design_lacking : (d e o : List ℕ) (told : Option Files) (y : Option (List ℕ)) → Lacks told d → pick (compile d e o) told None y Design ≡ None
+design_lacking d e o None y h = refl
+design_lacking d e o (Some files) y h = h
 
--- the bundle is not wholly written
-pub write_refused : (a b c now : Option Files) (d e o x y : List ℕ) (t : Thin) (fs : List NamedFile) (r : Refusal) → b ≡ a → c ≡ b → Gives a d design_most x → Gives b e defs_most y → ThinTexts x y t
-    → fs ≡ bundle o x t → AllFit fs → Readable x t → SomeWritten fs c now → NotWritten fs r → Refuses a d e o r now
-write_refused a b c now d e o x y t fs r p q g h n f fit readable w v =
-    not_written fs (totals_of t)
-    (record { design = x; defs = y; parts = t; inputs = inputs a b d e x y p g h; thin = n; files_are = f; totals_are = refl; fit = fit; readable = readable })
-    (subst (λ (told : Option Files). SomeWritten fs told now) (q ∙ p) w) v
+defs_lacking : (d e o : List ℕ) (told : Option Files) (x : Option (List ℕ)) → Lacks told e → pick (compile d e o) told x None Definitions ≡ None
+defs_lacking d e o None x h = refl
+defs_lacking d e o (Some files) x h = h
+
+-- bytes that are one more than so many
+abbrev more : ℕ → List ℕ
+more most = replicate (suc most) 0
+
+length_more : (n : ℕ) → length (replicate {A = ℕ} n 0) ≡ n
+length_more zero = refl
+length_more (suc n) = ap suc (length_more n)
+
+more_long : (n : ℕ) → n < length {A = ℕ} (more n)
+more_long n = let e : length {A = ℕ} (more n) ≡ suc n = length_more (suc n) in omega arith
+
+-- a file with more bytes than it may have
+record Long (o : Option (List ℕ)) (most : ℕ) : Type 0 where
+  bytes : List ℕ
+  are : o ≡ Some bytes
+  long : most < length bytes
+
+design_long : (d e o : List ℕ) (told : Option Files) (y : Option (List ℕ)) → Exceeds told d design_most → Long (pick (compile d e o) told (Some (more design_most)) y Design) design_most
+design_long d e o None y h = record { bytes = more design_most; are = refl; long = more_long design_most }
+design_long d e o (Some files) y h = record { bytes = h.0; are = h.1; long = h.2 }
+
+defs_long : (d e o : List ℕ) (told : Option Files) (x : Option (List ℕ)) → Exceeds told e definitions_most → Long (pick (compile d e o) told x (Some (more definitions_most)) Definitions) definitions_most
+defs_long d e o None x h = record { bytes = more definitions_most; are = refl; long = more_long definitions_most }
+defs_long d e o (Some files) x h = record { bytes = h.0; are = h.1; long = h.2 }
+
+-- ---- the steps
+
+-- the steps from the definitions on, and from the texts on
+abbrev later : List Step
+later = design_reads ∷ design_accepted ∷ definitions_read ∷ definitions_accepted ∷ bundle_within ∷ bundle_written ∷ []
+
+abbrev second : List Step
+second = is_there Definitions ∷ is_within Definitions definitions_most ∷ later
+
+after_design : (d e o : List ℕ) (i : Inputs) (x : List ℕ) (found : Result Report Refusal) → i Design ≡ Some x → length x ≤ design_most
+    → AnswersFrom (compile d e o) i second found → Answers (compile d e o) i found
+after_design d e o i x found p l rest = inr (inr ((x, p), inr ((x, p, l), rest)))
+
+after_both : (d e o : List ℕ) (i : Inputs) (x y : List ℕ) (found : Result Report Refusal) → i Design ≡ Some x → length x ≤ design_most → i Definitions ≡ Some y → length y ≤ definitions_most
+    → AnswersFrom (compile d e o) i later found → Answers (compile d e o) i found
+after_both d e o i x y found p l q m rest = after_design d e o i x found p l (inr ((y, q), inr ((y, q, m), rest)))
 
 -- a refusal that is passed on
-pub passed_on : (told : Option Files) (d e o : List ℕ) (now : Option Files) (found : Result Totals Refusal) (r : Refusal) → IsErrAnd found (λ x. x ≡ r) → Refuses told d e o r now → Compiles told d e o found now
-passed_on told d e o now (Ok totals) r h k = absurd h
-passed_on told d e o now (Err x) r h k = subst (λ (y : Refusal). Refuses told d e o y now) (sym h) k
+pub passed : (c : Command) (was is : Option Files) (found : Result Report Refusal) (r : Refusal) → IsErrAnd found (λ x. x ≡ r) → Did c was is (Err r) → Did c was is found
+passed c was is (Ok report) r h k = absurd h
+passed c was is (Err x) r h k = subst (λ (y : Refusal). Did c was is (Err y)) (sym h) k
 
--- what is known of some bytes is known of the same bytes
-pub same_texts : (x y x' y' : List ℕ) (t : Thin) → x' ≡ x → y' ≡ y → ThinTexts x' y' t → ThinTexts x y t
-same_texts x y x' y' t p q h = subst (λ (b : List ℕ). ThinTexts x b t) q (subst (λ (a : List ℕ). ThinTexts a y' t) p h)
+-- ---- files that are not read
 
-pub same_refusal : (d e x y x' y' : List ℕ) (r : Refusal) → x' ≡ x → y' ≡ y → IsThinRefusal d e x' y' r → IsThinRefusal d e x y r
-same_refusal d e x y x' y' r p q h = subst (λ (b : List ℕ). IsThinRefusal d e x b r) q (subst (λ (a : List ℕ). IsThinRefusal d e a y' r) p h)
+pub design_refused : (d e o : List ℕ) (was is : Option Files) (r : Refusal) → is ≡ was → NotGiven was d Design design_most r → Did (compile d e o) was is (Err r)
+design_refused d e o was is (refusal.NoFile f) same h = record {
+  inputs = pick (compile d e o) was None None;
+  inputs_are = picked (compile d e o) was None None;
+  answers = inr (inl (refusal.NoFile Design, inl (design_lacking d e o was None h.1, refl), ap (λ f. Err (refusal.NoFile f)) h.0));
+  leaves = same;
+}
+design_refused d e o was is (refusal.TooLong f n) same h =
+    let l = design_long d e o was None h.2 in record {
+      inputs = pick (compile d e o) was (Some (more design_most)) None;
+      inputs_are = picked (compile d e o) was (Some (more design_most)) None;
+      answers = inr (inr (
+        (l.bytes, l.are),
+        inl (
+          refusal.TooLong Design design_most,
+          inl (l.bytes, l.are, l.long, refl),
+          ap (λ g. Err (refusal.TooLong g n)) h.0 ∙ ap (λ m. Err (refusal.TooLong Design m)) h.1,
+        ),
+      ));
+      leaves = same;
+    }
+design_refused d e o was is (refusal.ReadFault f) same h = record {
+  inputs = pick (compile d e o) was None None;
+  inputs_are = picked (compile d e o) was None None;
+  answers = inr (inl (refusal.ReadFault Design, inr refl, ap (λ f. Err (refusal.ReadFault f)) h));
+  leaves = same;
+}
+design_refused d e o was is refusal.NoMemory same h = record {
+  inputs = pick (compile d e o) was None None;
+  inputs_are = picked (compile d e o) was None None;
+  answers = inl refl;
+  leaves = inl same;
+}
+design_refused d e o was is r same h = absurd h
 
-pub same_length : (o x x' : List ℕ) (t : Thin) (r : Refusal) → x' ≡ x → MadeTooLong (bundle o x' t) r → MadeTooLong (bundle o x t) r
-same_length o x x' t r p h = subst (λ (a : List ℕ). MadeTooLong (bundle o a t) r) p h
+pub defs_refused : (d e o : List ℕ) (was is : Option Files) (x : List ℕ) (r : Refusal) → is ≡ was → Gives was d design_most x → length x ≤ design_most → NotGiven was e Definitions definitions_most r → Did (compile d e o) was is (Err r)
+defs_refused d e o was is x (refusal.NoFile f) same g l h =
+    let c = compile d e o in
+    let i = pick c was (Some x) None in record {
+      inputs = i;
+      inputs_are = picked c was (Some x) None;
+      answers = after_design d e o i x (Err (refusal.NoFile f)) (design_given d e o was x None g) l
+          (inl (refusal.NoFile Definitions, inl (defs_lacking d e o was (Some x) h.1, refl), ap (λ f. Err (refusal.NoFile f)) h.0));
+      leaves = same;
+    }
+defs_refused d e o was is x (refusal.TooLong f n) same g l h =
+    let c = compile d e o in
+    let y = Some (more definitions_most) in
+    let i = pick c was (Some x) y in
+    let long = defs_long d e o was (Some x) h.2 in record {
+      inputs = i;
+      inputs_are = picked c was (Some x) y;
+      answers = after_design d e o i x (Err (refusal.TooLong f n)) (design_given d e o was x y g) l
+          (inr (
+            (long.bytes, long.are),
+            inl (
+              refusal.TooLong Definitions definitions_most,
+              inl (long.bytes, long.are, long.long, refl),
+              ap (λ g. Err (refusal.TooLong g n)) h.0 ∙ ap (λ m. Err (refusal.TooLong Definitions m)) h.1,
+            ),
+          ));
+      leaves = same;
+    }
+defs_refused d e o was is x (refusal.ReadFault f) same g l h =
+    let c = compile d e o in
+    let i = pick c was (Some x) None in record {
+      inputs = i;
+      inputs_are = picked c was (Some x) None;
+      answers = after_design d e o i x (Err (refusal.ReadFault f)) (design_given d e o was x None g) l
+          (inl (refusal.ReadFault Definitions, inr refl, ap (λ f. Err (refusal.ReadFault f)) h));
+      leaves = same;
+    }
+defs_refused d e o was is x refusal.NoMemory same g l h = record {
+  inputs = pick (compile d e o) was None None;
+  inputs_are = picked (compile d e o) was None None;
+  answers = inl refl;
+  leaves = inl same;
+}
+defs_refused d e o was is x r same g l h = absurd h
 
--- the bundle is wholly written
-pub wholly_written : (a b c now : Option Files) (d e o x y : List ℕ) (t : Thin) (fs : List NamedFile) (totals : Totals) → b ≡ a → c ≡ b → Gives a d design_most x → Gives b e defs_most y → ThinTexts x y t
-    → fs ≡ bundle o x t → AllFit fs → Readable x t → totals ≡ totals_of t → now ≡ with_files fs c → (gs : List NamedFile) × Makes a d e o gs totals × (now ≡ with_files gs a)
-wholly_written a b c now d e o x y t fs totals p q g h n f fit readable same w =
-    (fs, record { design = x; defs = y; parts = t; inputs = inputs a b d e x y p g h; thin = n; files_are = f; totals_are = same; fit = fit; readable = readable }, w ∙ ap (with_files fs) (q ∙ p))
+-- ---- texts of which no network is made
+
+-- both files were given
+pub record Given (was : Option Files) (d e x y : List ℕ) : Type 0 where
+  pub design : Gives was d design_most x
+  pub design_short : length x ≤ design_most
+  pub defs : Gives was e definitions_most y
+  pub defs_short : length y ≤ definitions_most
+
+-- the second was read where the first left the folder as it was
+pub given : (was mid : Option Files) (d e x y : List ℕ) → mid ≡ was → Gives was d design_most x → length x ≤ design_most → Gives mid e definitions_most y → length y ≤ definitions_most → Given was d e x y
+given was mid d e x y same g l h m = record { design = g; design_short = l; defs = subst (λ (told : Option Files). Gives told e definitions_most y) same h; defs_short = m }
+
+-- what holds of some bytes holds of the same bytes
+pub moved : (P : List ℕ → List ℕ → Type 0) (x y x' y' : List ℕ) → x' ≡ x → y' ≡ y → P x' y' → P x y
+moved P x y x' y' p q h = subst (λ (b : List ℕ). P x b) q (subst (λ (a : List ℕ). P a y') p h)
+
+-- so this is read of them
+abbrev both : (d e o : List ℕ) (was : Option Files) (x y : List ℕ) → Inputs
+both d e o was x y = pick (compile d e o) was (Some x) (Some y)
+
+both_are : (d e o : List ℕ) (was : Option Files) (x y : List ℕ) → InputsAre (compile d e o) was (both d e o was x y)
+both_are d e o was x y = picked (compile d e o) was (Some x) (Some y)
+
+both_design : (d e o : List ℕ) (was : Option Files) (x y : List ℕ) → Given was d e x y → both d e o was x y Design ≡ Some x
+both_design d e o was x y g = design_given d e o was x (Some y) g.design
+
+both_defs : (d e o : List ℕ) (was : Option Files) (x y : List ℕ) → Given was d e x y → both d e o was x y Definitions ≡ Some y
+both_defs d e o was x y g = defs_given d e o was (Some x) y g.defs
+
+answers_both : (d e o : List ℕ) (was : Option Files) (x y : List ℕ) (found : Result Report Refusal) → Given was d e x y
+    → AnswersFrom (compile d e o) (both d e o was x y) later found → Answers (compile d e o) (both d e o was x y) found
+answers_both d e o was x y found g rest =
+    after_both d e o (both d e o was x y) x y found (both_design d e o was x y g) g.design_short (both_defs d e o was x y g) g.defs_short rest
+
+abbrev is_design : (d e o : List ℕ) (was : Option Files) (x y : List ℕ) (t : tree.Design) → Given was d e x y → ReadsAccepted x t → DesignIs (both d e o was x y) t
+is_design d e o was x y t g h = record { text = x; is = both_design d e o was x y g; reads = h.reads }
+
+texts_answer : (d e o : List ℕ) (was : Option Files) (x y : List ℕ) (r : Refusal) → Given was d e x y → NotLowered x y r → Answers (compile d e o) (both d e o was x y) (Err r)
+texts_answer d e o was x y (refusal.Language (Fault f)) g h =
+    answers_both d e o was x y _ g (inl (refusal.Language (Fault f), inl (x, f, both_design d e o was x y g, h, refl), refl))
+texts_answer d e o was x y (refusal.Language NotYet) g h =
+    let t : DesignIs (both d e o was x y) h.0 = record { text = x; is = both_design d e o was x y g; reads = h.1 } in
+    answers_both d e o was x y _ g (inr ((h.0, t), inl (refusal.Language NotYet, inl (h.0, t, h.2, refl), refl)))
+texts_answer d e o was x y (refusal.Definitions (Fault f)) g h =
+    let t = is_design d e o was x y h.0 g h.1 in
+    answers_both d e o was x y _ g (inr (
+      (h.0, t),
+      inr (
+        (h.0, t, h.1.accepts),
+        inl (refusal.Definitions (Fault f), inl (y, f, both_defs d e o was x y g, h.2, refl), refl),
+      ),
+    ))
+texts_answer d e o was x y (refusal.Definitions NotYet) g h =
+    let t = is_design d e o was x y h.0 g h.2 in
+    let u : DefinitionsAre (both d e o was x y) h.1 = record { text = y; are = both_defs d e o was x y g; read = h.3 } in
+    answers_both d e o was x y _ g (inr (
+      (h.0, t),
+      inr (
+        (h.0, t, h.2.accepts),
+        inr (
+          (h.1, u),
+          inl (refusal.Definitions NotYet, inl (h.0, h.1, t, u, h.4, refl), refl),
+        ),
+      ),
+    ))
+texts_answer d e o was x y refusal.NoMemory g h = inl refl
+texts_answer d e o was x y r g h = absurd h
+
+pub texts_refused : (d e o : List ℕ) (was is : Option Files) (x y : List ℕ) (r : Refusal) → is ≡ was → Given was d e x y → NotLowered x y r → Did (compile d e o) was is (Err r)
+texts_refused d e o was is x y r same g h = record {
+  inputs = both d e o was x y;
+  inputs_are = both_are d e o was x y;
+  answers = texts_answer d e o was x y r g h;
+  leaves = leaves r h;
+}
+  where
+    leaves : (r : Refusal) → NotLowered x y r → LeavesRefused (compile d e o) (both d e o was x y) was is r
+    leaves (refusal.Language f) h = same
+    leaves (refusal.Definitions f) h = same
+    leaves refusal.NoMemory h = inl same
+    leaves r h = absurd h
+
+-- ---- a network that is made
+
+abbrev makes : (d e o : List ℕ) (was : Option Files) (x y : List ℕ) (net : NetData) → Given was d e x y → LowersTexts x y net → Makes (both d e o was x y) net
+makes d e o was x y net g h = record {
+  design = h.tree;
+  defs = h.entries;
+  design_is = record { text = x; is = both_design d e o was x y g; reads = h.design_reads };
+  defs_are = record { text = y; are = both_defs d e o was x y g; read = h.defs_read };
+  lowers = h.lowers;
+}
+
+abbrev makes_files : (d e o : List ℕ) (was : Option Files) (x y : List ℕ) (net : NetData) → Given was d e x y → LowersTexts x y net → MakesFiles (both d e o was x y) (bundle x net None)
+makes_files d e o was x y net g h = record { net = net; makes = makes d e o was x y net g h; files_are = refl }
+
+-- the steps up to the bundle are good
+answers_made : (d e o : List ℕ) (was : Option Files) (x y : List ℕ) (net : NetData) (found : Result Report Refusal) → Given was d e x y → LowersTexts x y net
+    → AnswersFrom (compile d e o) (both d e o was x y) (bundle_within ∷ bundle_written ∷ []) found → Answers (compile d e o) (both d e o was x y) found
+answers_made d e o was x y net found g h rest =
+    let m = makes d e o was x y net g h in
+    answers_both d e o was x y found g (inr ((h.tree, m.design_is), inr ((h.tree, m.design_is, h.accepts), inr ((h.entries, m.defs_are), inr ((net, m), rest)))))
+
+-- and all of them, where the files fit
+may_write : (d e o : List ℕ) (was : Option Files) (x y : List ℕ) (net : NetData) → Given was d e x y → LowersTexts x y net → AllFit (bundle x net None)
+    → MayWriteFiles (compile d e o) (both d e o was x y) (bundle x net None)
+may_write d e o was x y net g h fit =
+    let m = makes d e o was x y net g h in
+    let fs = makes_files d e o was x y net g h in
+    let design = both_design d e o was x y g in
+    let defs = both_defs d e o was x y g in record {
+      good = ((x, design), ((x, design, g.design_short), ((y, defs), ((y, defs, g.defs_short), ((h.tree, m.design_is), ((h.tree, m.design_is, h.accepts), ((h.entries, m.defs_are), ((net, m), ((bundle x net None, fs, fit), (tt, tt))))))))));
+      makes = fs;
+      fit = fit;
+    }
+
+-- why a bundle was not written
+pub write_refused : (d e o : List ℕ) (was mid is : Option Files) (x y : List ℕ) (net : NetData) (f : BundleFault) → mid ≡ was → Given was d e x y → LowersTexts x y net
+    → NotWritten o (bundle x net None) mid is f → Did (compile d e o) was is (Err (unwritten f))
+write_refused d e o was mid is x y net (fault.Folder file cause) same g h n =
+    let fs = makes_files d e o was x y net g h in record {
+      inputs = both d e o was x y;
+      inputs_are = both_are d e o was x y;
+      answers = answers_made d e o was x y net _ g h (inr ((bundle x net None, fs, n.0), inl (refusal.WriteFault (Bundle file), inr (file, refl), refl)));
+      leaves = (bundle x net None, may_write d e o was x y net g h n.0, subst (λ (told : Option Files). StopsAt o (bundle x net None) file told is) same n.2);
+    }
+write_refused d e o was mid is x y net (fault.Limit file) same g h n =
+    let fs = makes_files d e o was x y net g h in record {
+      inputs = both d e o was x y;
+      inputs_are = both_are d e o was x y;
+      answers = answers_made d e o was x y net _ g h (inl (refusal.TooLong (Bundle file) (most_of file), inl (bundle x net None, file, fs, n.0, refl), refl));
+      leaves = n.1 ∙ same;
+    }
+write_refused d e o was mid is x y net fault.NoMemory same g h (inl n) = record {
+  inputs = both d e o was x y;
+  inputs_are = both_are d e o was x y;
+  answers = inl refl;
+  leaves = inl (n ∙ same);
+}
+write_refused d e o was mid is x y net fault.NoMemory same g h (inr n) = record {
+  inputs = both d e o was x y;
+  inputs_are = both_are d e o was x y;
+  answers = inl refl;
+  leaves = inr (bundle x net None, may_write d e o was x y net g h n.0, subst (λ (told : Option Files). SomeWritten o (bundle x net None) told is) same n.1);
+}
+
+-- the bundle was written
+pub done : (d e o : List ℕ) (was mid is : Option Files) (x y : List ℕ) (net : NetData) (report : Report) → mid ≡ was → Given was d e x y → LowersTexts x y net
+    → is ≡ with_files o (bundle x net None) mid → AllFit (bundle x net None) → report ≡ Compiled (totals_of net) → Did (compile d e o) was is (Ok report)
+done d e o was mid is x y net (Compiled totals) same g h w fit r =
+    let fs = makes_files d e o was x y net g h in record {
+      inputs = both d e o was x y;
+      inputs_are = both_are d e o was x y;
+      answers = answers_made d e o was x y net _ g h (inr ((bundle x net None, fs, fit), inr (tt, (net, makes d e o was x y net g h, same_totals r))));
+      leaves = (bundle x net None, may_write d e o was x y net g h fit, w ∙ ap (with_files o (bundle x net None)) same);
+    }
+  where
+    same_totals : Compiled totals ≡ Compiled (totals_of net) → totals ≡ totals_of net
+    same_totals r = cc
+
+-- ---- the same bytes
+
+pub same_refused : (o x x' : List ℕ) (net : NetData) (was is : Option Files) (f : BundleFault) → x' ≡ x → NotWritten o (bundle x' net None) was is f → NotWritten o (bundle x net None) was is f
+same_refused o x x' net was is f e h = subst (λ (b : List ℕ). NotWritten o (bundle b net None) was is f) e h
+
+pub same_held : (o x x' : List ℕ) (net : NetData) (was mid is : Option Files) → x' ≡ x → mid ≡ was → HoldsTold mid is o x' net None → HoldsTold was is o x net None
+same_held o x x' net was mid is e same h =
+    subst (λ (b : List ℕ). HoldsTold was is o b net None) e (subst (λ (told : Option Files). HoldsTold told is o x' net None) same h)

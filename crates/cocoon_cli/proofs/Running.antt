@@ -1,383 +1,332 @@
--- What the top call promises, put together from what was found and what was said.
-use Rattle.std.proofs.Common.{◌≡◌, ◌⊎◌, ℕ, ◌<◌, ◌≤◌, List, [], ◌∷◌, length, take, Bool, true, false, nat_lt, Option, Some, None, Result, Ok, Err, IfErr, refl, sym, ap, subst, ◌∙◌, inl, inr, arith}
-use Rattle.std.specs.FinMap.{get}
-use Rattle.std.proofs.lemmas.Bool.Decides.{nat_tests}
+-- What the top call keeps, put together from what a command did and what was said.
+use Rattle.std.proofs.Common.{◌≡◌, ◌⊎◌, ℕ, ◌+◌, List, [], ◌∷◌, length, take, Option, Some, None, Result, Ok, Err, IfOk, refl, sym, ap, subst, ◌∙◌, inl, inr}
 use Rattle.cocoon_io.specs.Files.{Files}
-use Rattle.cocoon_io.specs.Told.{appended, Rose}
-use Rattle.cocoon_thin.specs.declared.parts.Thin.{Thin}
-use Rattle.cocoon_thin.specs.Thin.{ThinTexts}
+use Rattle.cocoon_io.specs.Told.{appended}
+use Rattle.net_bundle.specs.Bundle.{MadeFile}
+use Rattle.net_bundle.specs.declared.file.BundleFile.{BundleFile}
+use Rattle.net_bundle.specs.Writing.{SomeWritten, StopsAt, with_files}
+use Rattle.cocoon_cli.specs.declared.files.CommandFile.{CommandFile}
+use Rattle.cocoon_cli.specs.declared.files.CommandFile.TheVariants.{Design, Definitions, Bundle as BundleOf}
 use Rattle.cocoon_cli.specs.declared.refusal.Refusal.{Refusal}
 use Rattle.cocoon_cli.specs.declared.refusal.Refusal.TheVariants as refusal
-use Rattle.cocoon_cli.specs.declared.refusal.Totals.{Totals}
+use Rattle.cocoon_cli.specs.declared.report.Report.{Report}
 use Rattle.cocoon_cli.specs.declared.status.Status.{Status}
 use Rattle.cocoon_cli.specs.declared.status.Status.TheVariants.{Done, Usage, Language, Broken, ReadFault, WriteFault, Limit, NoMemory, NoFile}
-use Rattle.cocoon_cli.specs.Command.{Command, compile}
-use Rattle.cocoon_cli.specs.Bundle.{NamedFile, bundle, with_files, AllFit, SomeExceeds, made_most}
-use Rattle.cocoon_cli.specs.Causes.{Gives, Lacks, Exceeds, NotRead, Inputs, NotMade, NotWritten, Makes, Refuses, no_design, no_defs, not_made, not_written, Compiles, FindsOf, design_most, defs_most}
-use Rattle.cocoon_cli.specs.Flaws.{IsThinText, AreThinTexts, OneFlaw}
-use Rattle.cocoon_cli.specs.NetOf.{FaultRose, ReadFaultRose}
-use Rattle.cocoon_cli.specs.Report.{Says, whole, front, no_memory, front_of_no_memory, Puts, all, a_front, nothing, status_of, refusal_status, report_of, no_memory_line}
-use Rattle.cocoon_cli.specs.Run as spec
-use Rattle.cocoon_cli.specs.Run.{Stage, missing, long, there, stage_of, Verdict, a_file_missing, a_file_too_long, not_thin, not_thin_defs, all_good, JudgesTexts, JudgesStages, Judges, verdict_status, Yields, to_read_fault, to_write_fault, to_no_memory, ExactOf, UsageOf, WritesOf, SomeOf, MayWrite, done, failed, HasFault}
+use Rattle.cocoon_cli.specs.Command.{Command, command, compile}
+use Rattle.cocoon_cli.specs.Headline.{CompiledOf}
+use Rattle.cocoon_cli.specs.Leaves.{Leaves, LeavesSome}
+use Rattle.cocoon_cli.specs.Report.{Finding, Puts, all, a_front, nothing, Says, finding_of, no_memory, usage}
+use Rattle.cocoon_cli.specs.Run.{Call, Counted, Count, told_inputs, InputsAre, Did, HasFault, Ran, RanOf, IsFinding, Yields, to_read_fault, to_write_fault, to_no_memory, Found, FoundOf, DoneOf, LeavesOf, MayWrite, done, failed, UsageOf, Keeps}
+use Rattle.cocoon_cli.specs.Run as run
+use Rattle.cocoon_cli.specs.Steps.{Inputs, Step, is_there, is_within, design_reads, design_accepted, definitions_read, definitions_accepted, bundle_within, bundle_written, Reports, FindsFrom, Finds, Stops, AnswersFrom, steps}
 
 -- ---- what was said
 
--- a report that is put
-pub put_report : {sink_failed : Type 0} (found : Result Totals Refusal) (old new : Option (List ℕ)) (s : Status) → Puts sink_failed (report_of found) (status_of found) old new s → Says sink_failed found old new s
-put_report found old new s (all e n) = whole e n
-put_report found old new s (a_front e rose n) = front e rose n
-put_report found old new s (nothing e n) = no_memory e (inl n)
+-- the finding was said, or the answer yields
+said : (call : Call) (f : Finding) → Says (Counted call.puts) f call.told_before call.told_after call.status → IsFinding call f ⊎ Yields call
+said call f (inl (all e n)) = inl (e, n)
+said call f (inl (a_front e rose n)) = inr (to_write_fault e (inr rose))
+said call f (inl (nothing e n)) = inr (to_no_memory e)
+said call f (inr (all e n)) = inr (to_no_memory e)
+said call f (inr (a_front e rose n)) = inr (to_write_fault e (inr rose))
+said call f (inr (nothing e n)) = inr (to_no_memory e)
 
--- the same, of equal bytes and an equal status
-pub put_as : {sink_failed : Type 0} (found : Result Totals Refusal) (bytes : List ℕ) (before : Status) (old new : Option (List ℕ)) (s : Status) → bytes ≡ report_of found → before ≡ status_of found → Puts sink_failed bytes before old new s → Says sink_failed found old new s
-put_as {sink_failed} found bytes before old new s p q h =
-    put_report found old new s (subst (λ (b : List ℕ). Puts sink_failed b (status_of found) old new s) p (subst (λ (t : Status). Puts sink_failed bytes t old new s) q h))
+-- ---- what was found
 
--- the line for want of memory, where the report was not made
-pub put_line : {sink_failed : Type 0} (found : Result Totals Refusal) (old new : Option (List ℕ)) (s : Status) → Puts sink_failed no_memory_line NoMemory old new s → Says sink_failed found old new s
-put_line found old new s (all e n) = no_memory e (inr n)
-put_line found old new s (a_front e rose n) = front_of_no_memory e rose n
-put_line found old new s (nothing e n) = no_memory e (inl n)
+-- a fault of the folder
+abbrev IsFault : Result Report Refusal → Type 0
+IsFault found = ((file : CommandFile) × (found ≡ Err (refusal.ReadFault file))) ⊎ ((file : CommandFile) × (found ≡ Err (refusal.WriteFault file)))
 
--- ---- what was judged
+stopped : (i : Inputs) (s : Step) (r : Refusal) (found : Result Report Refusal) → Stops i s r → found ≡ Err r → IsFault found
+stopped i (is_there file) r found h e = inl (file, e ∙ ap Err h)
+stopped i (is_within file most) r found h e = absurd h
+stopped i design_reads r found h e = absurd h
+stopped i design_accepted r found h e = absurd h
+stopped i definitions_read r found h e = absurd h
+stopped i definitions_accepted r found h e = absurd h
+stopped i bundle_within r found h e = absurd h
+stopped i bundle_written r found h e = inr (BundleOf h.0, e ∙ ap Err h.1)
 
--- the answer yields, or is that of a verdict
-abbrev pub Judged : Files → List ℕ → List ℕ → List ℕ → Status → Type 0
-Judged files d e o s = Yields s ⊎ ((v : Verdict) × Judges files d e o v × (s ≡ verdict_status v))
+finds_or_stops : (c : Command) (i : Inputs) (ss : List Step) (found : Result Report Refusal) → AnswersFrom c i ss found → FindsFrom c i ss found ⊎ IsFault found
+finds_or_stops c i [] found h = inl h
+finds_or_stops c i (s ∷ ss) found (inl (r, inl h, e)) = inl (inl (r, h, e))
+finds_or_stops c i (s ∷ ss) found (inl (r, inr h, e)) = inr (stopped i s r found h e)
+finds_or_stops c i (s ∷ ss) found (inr (g, h)) = elim (finds_or_stops c i ss found h) [
+  | inl f ↦ inl (inr (g, f))
+  | inr f ↦ inr f
+]
 
-long_stage : (most : ℕ) (bytes : List ℕ) → most < length bytes → stage_of most (Some bytes) ≡ long
-long_stage most bytes h = let t : nat_lt most (length bytes) ≡ true = grind (arith, nat_tests) in rw t refl
+-- a fault of the folder is one to which the answer yields
+fault_yields : (c : Command) (call : Call) (found : Result Report Refusal) → IsFault found → HasFault call.reads call.writes found → IsFinding call (finding_of c found) → Yields call
+fault_yields c call found (inl (file, e)) h f =
+    to_read_fault (f.0 ∙ ap (λ (x : Result Report Refusal). (finding_of c x).status) e) (subst (λ (x : Result Report Refusal). HasFault call.reads call.writes x) e h)
+fault_yields c call found (inr (file, e)) h f =
+    to_write_fault (f.0 ∙ ap (λ (x : Result Report Refusal). (finding_of c x).status) e) (inl (subst (λ (x : Result Report Refusal). HasFault call.reads call.writes x) e h))
 
-there_stage : (most : ℕ) (bytes : List ℕ) → length bytes ≤ most → stage_of most (Some bytes) ≡ there bytes
-there_stage most bytes h = let t : nat_lt most (length bytes) ≡ false = grind (arith, nat_tests) in rw t refl
+-- a command finds one thing
+abbrev pub OneFinding : Type 0
+OneFinding = (c : Command) (i : Inputs) (found other : Result Report Refusal) → Finds c i found → Finds c i other → other ≡ found
 
--- stages that are known
-lacks : (files : Files) (name : List ℕ) (most : ℕ) → Lacks (Some files) name → stage_of most (get files name) ≡ missing
-lacks files name most h = ap (stage_of most) h
+found_told : OneFinding → (c : Command) (files : Files) (call : Call) (found : Result Report Refusal) → Did c (Some files) call.is found → HasFault call.reads call.writes found
+    → Says (Counted call.puts) (finding_of c found) call.told_before call.told_after call.status → ((f : Found c files) × IsFinding call (finding_of c f.found)) ⊎ Yields call
+found_told one c files call found did faults says = elim (said call (finding_of c found) says) [
+  | inr y ↦ inr y
+  | inl f ↦ elim did.answers [
+    | inl memory ↦ inr (to_no_memory (f.0 ∙ ap (λ (x : Result Report Refusal). (finding_of c x).status) memory))
+    | inr answers ↦ elim (finds_or_stops c did.inputs (steps c) found answers) [
+      | inl finds ↦
+          let here : Finds c (told_inputs c files) found = subst (λ (i : Inputs). Finds c i found) did.inputs_are finds in
+          inl (record { found = found; finds = here; one = λ other h. one c (told_inputs c files) found other here h }, f)
+      | inr fault ↦ inr (fault_yields c call found fault faults f)
+    ]
+  ]
+]
 
-exceeds : (files : Files) (name : List ℕ) (most : ℕ) → Exceeds (Some files) name most → stage_of most (get files name) ≡ long
-exceeds files name most h = ap (stage_of most) h.1 ∙ long_stage most h.0 h.2
+found_of : OneFinding → (c : Option Command) (call : Call) → RanOf c call → FoundOf c call.was call
+found_of one None call h = said call usage h.1
+found_of one (Some c) call h = told call.was h.did
+  where
+    told : (was : Option Files) → Did c was call.is h.found → FoundOf (Some c) was call
+    told None did = tt
+    told (Some files) did = found_told one c files call h.found did h.faults h.says
 
-gives : (files : Files) (name : List ℕ) (most : ℕ) (bytes : List ℕ) → Gives (Some files) name most bytes → stage_of most (get files name) ≡ there bytes
-gives files name most bytes h = ap (stage_of most) h.0 ∙ there_stage most bytes h.1
+-- ---- statuses
 
--- what is judged by known stages
-by_stages : (files : Files) (d e o : List ℕ) (s t : Stage) (v : Verdict) → stage_of design_most (get files d) ≡ s → stage_of defs_most (get files e) ≡ t → JudgesStages o s t v → Judges files d e o v
-by_stages files d e o s t v p q h =
-    subst (λ (x : Stage). JudgesStages o x (stage_of defs_most (get files e)) v) (sym p) (subst (λ (y : Stage). JudgesStages o s y v) (sym q) h)
+abbrev pub IsEnding : Status → Type 0
+IsEnding s = (s ≡ WriteFault) ⊎ (s ≡ NoMemory)
 
-design_judged : (files : Files) (d e o : List ℕ) (r : Refusal) → NotRead (Some files) d design_most r → Judged files d e o (refusal_status r)
-design_judged files d e o (refusal.NoFile file) h = inr (a_file_missing, by_stages files d e o missing (stage_of defs_most (get files e)) a_file_missing (lacks files d design_most h.1) refl refl, refl)
-design_judged files d e o (refusal.TooLong file n) h = inr (a_file_too_long, by_stages files d e o long (stage_of defs_most (get files e)) a_file_too_long (exceeds files d design_most h.2) refl refl, refl)
-design_judged files d e o (refusal.ReadFault file) h = inl (to_read_fault refl)
-design_judged files d e o refusal.NoMemory h = inl (to_no_memory refl)
-design_judged files d e o r h = absurd h
+-- the status is that of the finding, or one of the ends of a put
+ends : (call : Call) (f : Finding) → Says (Counted call.puts) f call.told_before call.told_after call.status → (call.status ≡ f.status) ⊎ IsEnding call.status
+ends call f (inl (all e n)) = inl e
+ends call f (inl (a_front e rose n)) = inr (inl e)
+ends call f (inl (nothing e n)) = inr (inr e)
+ends call f (inr (all e n)) = inr (inr e)
+ends call f (inr (a_front e rose n)) = inr (inl e)
+ends call f (inr (nothing e n)) = inr (inr e)
 
-defs_judged : (files : Files) (d e o x : List ℕ) (r : Refusal) → Gives (Some files) d design_most x → NotRead (Some files) e defs_most r → Judged files d e o (refusal_status r)
-defs_judged files d e o x (refusal.NoFile file) g h = inr (a_file_missing, by_stages files d e o (there x) missing a_file_missing (gives files d design_most x g) (lacks files e defs_most h.1) refl, refl)
-defs_judged files d e o x (refusal.TooLong file n) g h = inr (a_file_too_long, by_stages files d e o (there x) long a_file_too_long (gives files d design_most x g) (exceeds files e defs_most h.2) refl, refl)
-defs_judged files d e o x (refusal.ReadFault file) g h = inl (to_read_fault refl)
-defs_judged files d e o x refusal.NoMemory g h = inl (to_no_memory refl)
-defs_judged files d e o x r g h = absurd h
+never_usage : (c : Command) (found : Result Report Refusal) → (finding_of c found).status ≡ Usage → ⊥
+never_usage c (Ok report) e = cc
+never_usage c (Err (refusal.Language f)) e = cc
+never_usage c (Err (refusal.Definitions f)) e = cc
+never_usage c (Err (refusal.ReadFault f)) e = cc
+never_usage c (Err (refusal.WriteFault f)) e = cc
+never_usage c (Err (refusal.TooLong f n)) e = cc
+never_usage c (Err refusal.NoMemory) e = cc
+never_usage c (Err (refusal.NoFile f)) e = cc
 
-texts : (files : Files) (d e o x y : List ℕ) (v : Verdict) → Inputs (Some files) d e x y → JudgesTexts o x y v → Judges files d e o v
-texts files d e o x y v i h = by_stages files d e o (there x) (there y) v (gives files d design_most x i.design_is) (gives files e defs_most y i.defs_are) h
+usage_of : (c : Option Command) (call : Call) → RanOf c call → UsageOf c call.status
+usage_of None call h = ends call usage h.1
+usage_of (Some c) call h = λ u. elim (ends call (finding_of c h.found) h.says) [
+  | inl e ↦ never_usage c h.found (sym e ∙ u)
+  | inr (inl e) ↦ let no : ◌≡◌ {A = Status} WriteFault Usage = sym e ∙ u in cc
+  | inr (inr e) ↦ let no : ◌≡◌ {A = Status} NoMemory Usage = sym e ∙ u in cc
+]
 
-made_judged : OneFlaw → (files : Files) (d e o x y : List ℕ) (r : Refusal) → Inputs (Some files) d e x y → NotMade d e o x y r → Judged files d e o (refusal_status r)
-made_judged one files d e o x y (refusal.Design file flaw) i h = inr (not_thin, texts files d e o x y not_thin i (one.no_design x flaw h.1), refl)
-made_judged one files d e o x y (refusal.Definitions file flaw) i h = inr (not_thin_defs, texts files d e o x y not_thin_defs i (one.no_definitions x y flaw h.1), refl)
-made_judged one files d e o x y (refusal.TooLong file n) i h = inr (a_file_too_long, texts files d e o x y a_file_too_long i (h.1, h.2, _, h.3), refl)
-made_judged one files d e o x y refusal.NoMemory i h = inl (to_no_memory refl)
-made_judged one files d e o x y r i h = absurd h
+-- a command whose finding has the status of a read fault was stopped by one
+is_read_fault : (c : Command) (reads writes : Count) (found : Result Report Refusal) → HasFault reads writes found → (finding_of c found).status ≡ ReadFault → Counted reads
+is_read_fault c reads writes (Ok report) h e = cc
+is_read_fault c reads writes (Err (refusal.Language f)) h e = cc
+is_read_fault c reads writes (Err (refusal.Definitions f)) h e = cc
+is_read_fault c reads writes (Err (refusal.ReadFault f)) h e = h
+is_read_fault c reads writes (Err (refusal.WriteFault f)) h e = cc
+is_read_fault c reads writes (Err (refusal.TooLong f n)) h e = cc
+is_read_fault c reads writes (Err refusal.NoMemory) h e = cc
+is_read_fault c reads writes (Err (refusal.NoFile f)) h e = cc
 
-written_judged : (files : Files) (d e o : List ℕ) (fs : List NamedFile) (r : Refusal) → NotWritten fs r → Judged files d e o (refusal_status r)
-written_judged files d e o fs (refusal.WriteFault file) h = inl (to_write_fault refl)
-written_judged files d e o fs refusal.NoMemory h = inl (to_no_memory refl)
-written_judged files d e o fs r h = absurd h
+is_write_fault : (c : Command) (reads writes : Count) (found : Result Report Refusal) → HasFault reads writes found → (finding_of c found).status ≡ WriteFault → Counted writes
+is_write_fault c reads writes (Ok report) h e = cc
+is_write_fault c reads writes (Err (refusal.Language f)) h e = cc
+is_write_fault c reads writes (Err (refusal.Definitions f)) h e = cc
+is_write_fault c reads writes (Err (refusal.ReadFault f)) h e = cc
+is_write_fault c reads writes (Err (refusal.WriteFault f)) h e = h
+is_write_fault c reads writes (Err (refusal.TooLong f n)) h e = cc
+is_write_fault c reads writes (Err refusal.NoMemory) h e = cc
+is_write_fault c reads writes (Err (refusal.NoFile f)) h e = cc
 
-refused_judged : OneFlaw → (files : Files) (d e o : List ℕ) (r : Refusal) (now : Option Files) → Refuses (Some files) d e o r now → Judged files d e o (refusal_status r)
-refused_judged one files d e o r now (no_design same h) = design_judged files d e o r h
-refused_judged one files d e o r now (no_defs x same g h) = defs_judged files d e o x r g h
-refused_judged one files d e o r now (not_made x y same i h) = made_judged one files d e o x y r i h
-refused_judged one files d e o r now (not_written fs totals m w h) = written_judged files d e o fs r h
+read_fault_of : (c : Option Command) (call : Call) → RanOf c call → call.status ≡ ReadFault → Counted call.reads
+read_fault_of None call h r = elim (ends call usage h.1) [
+  | inl e ↦ let no : ◌≡◌ {A = Status} Usage ReadFault = sym e ∙ r in cc
+  | inr (inl e) ↦ let no : ◌≡◌ {A = Status} WriteFault ReadFault = sym e ∙ r in cc
+  | inr (inr e) ↦ let no : ◌≡◌ {A = Status} NoMemory ReadFault = sym e ∙ r in cc
+]
+read_fault_of (Some c) call h r = elim (ends call (finding_of c h.found) h.says) [
+  | inl e ↦ is_read_fault c call.reads call.writes h.found h.faults (sym e ∙ r)
+  | inr (inl e) ↦ let no : ◌≡◌ {A = Status} WriteFault ReadFault = sym e ∙ r in cc
+  | inr (inr e) ↦ let no : ◌≡◌ {A = Status} NoMemory ReadFault = sym e ∙ r in cc
+]
 
--- what is made is good
-good : (files : Files) (d e o : List ℕ) (fs : List NamedFile) (totals : Totals) → Makes (Some files) d e o fs totals → Judges files d e o all_good
-good files d e o fs totals m = texts files d e o m.design m.defs all_good m.inputs (m.parts, m.thin, subst AllFit m.files_are m.fit)
+-- a write fault that is no fault of the folder is one of the sink
+sink_fault : (call : Call) (f : Finding) → Says (Counted call.puts) f call.told_before call.told_after call.status → call.status ≡ WriteFault → (f.status ≡ WriteFault) ⊎ Counted call.puts
+sink_fault call f (inl (all e n)) w = inl (sym e ∙ w)
+sink_fault call f (inl (a_front e rose n)) w = inr rose
+sink_fault call f (inl (nothing e n)) w = let no : ◌≡◌ {A = Status} NoMemory WriteFault = sym e ∙ w in cc
+sink_fault call f (inr (all e n)) w = let no : ◌≡◌ {A = Status} NoMemory WriteFault = sym e ∙ w in cc
+sink_fault call f (inr (a_front e rose n)) w = inr rose
+sink_fault call f (inr (nothing e n)) w = let no : ◌≡◌ {A = Status} NoMemory WriteFault = sym e ∙ w in cc
 
-found_judged : OneFlaw → (files : Files) (d e o : List ℕ) (found : Result Totals Refusal) (now : Option Files) → Compiles (Some files) d e o found now → Judged files d e o (status_of found)
-found_judged one files d e o (Ok totals) now h = inr (all_good, good files d e o h.0 totals h.1, refl)
-found_judged one files d e o (Err r) now h = refused_judged one files d e o r now h
-
-said_judged : {sink_failed : Type 0} (files : Files) (d e o : List ℕ) (found : Result Totals Refusal) (old new : Option (List ℕ)) (s : Status) → Judged files d e o (status_of found) → Says sink_failed found old new s → Judged files d e o s
-said_judged files d e o found old new s h (whole q n) = subst (λ (x : Status). Judged files d e o x) (sym q) h
-said_judged files d e o found old new s h (front q rose n) = inl (to_write_fault q)
-said_judged files d e o found old new s h (no_memory q n) = inl (to_no_memory q)
-said_judged files d e o found old new s h (front_of_no_memory q rose n) = inl (to_write_fault q)
-
--- ---- one verdict
-
--- two thin texts have one reading
-abbrev pub OneReading : Type 0
-OneReading = (design defs : List ℕ) (t u : Thin) → ThinTexts design defs t → ThinTexts design defs u → t ≡ u
-
-thin_design : (x y : List ℕ) (t : Thin) → ThinTexts x y t → IsThinText x
-thin_design x y t h = (h.tree, h.design_reads, (h.are_thin.names, t, h.are_thin.design_is))
-
-thin_defs : (x y : List ℕ) (t : Thin) → ThinTexts x y t → AreThinTexts x y
-thin_defs x y t h = (h.tree, h.entries, h.design_reads, h.defs_read, (h.are_thin.names, t, h.are_thin.entries, h.are_thin.design_is, h.are_thin.defs_are))
-
-never_both : (fs : List NamedFile) (name : List ℕ) → AllFit fs → SomeExceeds fs name → ⊥
-never_both [] name a h = h
-never_both (f ∷ fs) name a (inl h) = let l : length f.bytes ≤ made_most = a.0 in let m : made_most < length f.bytes = h.1 in omega arith
-never_both (f ∷ fs) name a (inr h) = never_both fs name a.1 h
-
-never_made : OneReading → (o x y : List ℕ) (t u : Thin) (name : List ℕ) → ThinTexts x y t → ThinTexts x y u → AllFit (bundle o x t) → SomeExceeds (bundle o x u) name → ⊥
-never_made one o x y t u name a b fit h = never_both (bundle o x u) name (subst (λ (w : Thin). AllFit (bundle o x w)) (one x y t u a b) fit) h
-
-texts_agree : OneReading → (o x y : List ℕ) (v w : Verdict) → JudgesTexts o x y v → JudgesTexts o x y w → v ≡ w
-texts_agree one o x y a_file_missing w h k = absurd h
-texts_agree one o x y a_file_too_long a_file_missing h k = absurd k
-texts_agree one o x y a_file_too_long a_file_too_long h k = refl
-texts_agree one o x y a_file_too_long not_thin h k = absurd (k (thin_design x y h.0 h.1))
-texts_agree one o x y a_file_too_long not_thin_defs h k = absurd (k.1 (thin_defs x y h.0 h.1))
-texts_agree one o x y a_file_too_long all_good h k = absurd (never_made one o x y k.0 h.0 h.2 k.1 h.1 k.2 h.3)
-texts_agree one o x y not_thin a_file_missing h k = absurd k
-texts_agree one o x y not_thin a_file_too_long h k = absurd (h (thin_design x y k.0 k.1))
-texts_agree one o x y not_thin not_thin h k = refl
-texts_agree one o x y not_thin not_thin_defs h k = absurd (h k.0)
-texts_agree one o x y not_thin all_good h k = absurd (h (thin_design x y k.0 k.1))
-texts_agree one o x y not_thin_defs a_file_missing h k = absurd k
-texts_agree one o x y not_thin_defs a_file_too_long h k = absurd (h.1 (thin_defs x y k.0 k.1))
-texts_agree one o x y not_thin_defs not_thin h k = absurd (k h.0)
-texts_agree one o x y not_thin_defs not_thin_defs h k = refl
-texts_agree one o x y not_thin_defs all_good h k = absurd (h.1 (thin_defs x y k.0 k.1))
-texts_agree one o x y all_good a_file_missing h k = absurd k
-texts_agree one o x y all_good a_file_too_long h k = absurd (never_made one o x y h.0 k.0 k.2 h.1 k.1 h.2 k.3)
-texts_agree one o x y all_good not_thin h k = absurd (k (thin_design x y h.0 h.1))
-texts_agree one o x y all_good not_thin_defs h k = absurd (k.1 (thin_defs x y h.0 h.1))
-texts_agree one o x y all_good all_good h k = refl
-
-stages_agree : OneReading → (o : List ℕ) (s t : Stage) (v w : Verdict) → JudgesStages o s t v → JudgesStages o s t w → v ≡ w
-stages_agree one o missing t v w h k = h ∙ sym k
-stages_agree one o long t v w h k = h ∙ sym k
-stages_agree one o (there x) missing v w h k = h ∙ sym k
-stages_agree one o (there x) long v w h k = h ∙ sym k
-stages_agree one o (there x) (there y) v w h k = texts_agree one o x y v w h k
-
--- ---- exact causes
-
--- the verdict of a status
-back : Status → Verdict
-back NoFile = a_file_missing
-back Limit = a_file_too_long
-back Language = not_thin
-back Broken = not_thin_defs
-back _ = all_good
-
-back_again : (v : Verdict) → back (verdict_status v) ≡ v
-unfolding back
-back_again a_file_missing = refl
-back_again a_file_too_long = refl
-back_again not_thin = refl
-back_again not_thin_defs = refl
-back_again all_good = refl
-
--- whether a status is that of a verdict
-abbrev judging : Status → Bool
-judging NoFile = true
-judging Limit = true
-judging Language = true
-judging Broken = true
-judging Done = true
-judging _ = false
-
-verdict_judging : (v : Verdict) → judging (verdict_status v) ≡ true
-verdict_judging a_file_missing = refl
-verdict_judging a_file_too_long = refl
-verdict_judging not_thin = refl
-verdict_judging not_thin_defs = refl
-verdict_judging all_good = refl
-
-other : (v : Verdict) (s : Status) → judging s ≡ false → s ≡ verdict_status v → ⊥
-other v s f e = let no : false ≡ true = sym f ∙ ap judging e ∙ verdict_judging v in cc
-
-yields_other : (s : Status) → Yields s → judging s ≡ false
-yields_other s (to_read_fault e) = ap judging e
-yields_other s (to_write_fault e) = ap judging e
-yields_other s (to_no_memory e) = ap judging e
-
-exact_by : OneReading → (files : Files) (d e o : List ℕ) (v : Verdict) (s : Status) → Judged files d e o s → ((s ≡ verdict_status v) → Judges files d e o v) × (Judges files d e o v → (s ≡ verdict_status v) ⊎ Yields s)
-exact_by one files d e o v s (inl y) = (λ h. absurd (other v s (yields_other s y) h), λ j. inr y)
-exact_by one files d e o v s (inr (w, j, p)) = (
-  λ h. subst (λ (x : Verdict). Judges files d e o x) (sym (back_again w) ∙ ap back (sym p ∙ h) ∙ back_again v) j,
-  λ k. inl (p ∙ ap verdict_status (stages_agree one o _ _ w v j k)),
-)
-
-no_command : {sink_failed : Type 0} (found : Result Totals Refusal) (old new : Option (List ℕ)) (s : Status) → (found ≡ Err refusal.Usage) ⊎ (found ≡ Err refusal.NoMemory) → Says sink_failed found old new s → (s ≡ Usage) ⊎ ((s ≡ WriteFault) ⊎ (s ≡ NoMemory))
-no_command found old new s (inl u) (whole e n) = inl (e ∙ ap status_of u)
-no_command found old new s (inr u) (whole e n) = inr (inr (e ∙ ap status_of u))
-no_command found old new s u (front e rose n) = inr (inl e)
-no_command found old new s u (no_memory e n) = inr (inr e)
-no_command found old new s u (front_of_no_memory e rose n) = inr (inl e)
-
-not_judging : (s : Status) → (s ≡ Usage) ⊎ ((s ≡ WriteFault) ⊎ (s ≡ NoMemory)) → judging s ≡ false
-not_judging s (inl e) = ap judging e
-not_judging s (inr (inl e)) = ap judging e
-not_judging s (inr (inr e)) = ap judging e
-
-pub exact_of : {sink_failed : Type 0} → OneReading → OneFlaw → (c : Option Command) (told : Option Files) (found : Result Totals Refusal) (now : Option Files) (old new : Option (List ℕ)) (v : Verdict) (s : Status) → FindsOf c told found now → Says sink_failed found old new s → ExactOf c told v s
-exact_of reading one None told found now old new v s h k = λ e. other v s (not_judging s (no_command found old new s h.0 k)) e
-exact_of reading one (Some (compile d e o)) None found now old new v s h k = tt
-exact_of reading one (Some (compile d e o)) (Some files) found now old new v s h k = exact_by reading files d e o v s (said_judged files d e o found old new s (found_judged one files d e o found now h) k)
-
--- ---- usage
-
-abbrev refusing : Refusal → Bool
-refusing refusal.Usage = false
-refusing _ = true
-
-refuses_something : (told : Option Files) (d e o : List ℕ) (r : Refusal) (now : Option Files) → Refuses told d e o r now → refusing r ≡ true
-refuses_something told d e o refusal.Usage now (no_design same h) = absurd h
-refuses_something told d e o refusal.Usage now (no_defs x same g h) = absurd h
-refuses_something told d e o refusal.Usage now (not_made x y same i h) = absurd h
-refuses_something told d e o refusal.Usage now (not_written fs totals m w h) = absurd h
-refuses_something told d e o r now h = refl
-
--- a refusal that is not of the words has another status
-not_usage : (r : Refusal) → refusing r ≡ true → refusal_status r ≡ Usage → ⊥
-not_usage refusal.Usage h e = cc
-not_usage (refusal.Design f w) h e = cc
-not_usage (refusal.Definitions f w) h e = cc
-not_usage (refusal.ReadFault f) h e = cc
-not_usage (refusal.WriteFault f) h e = cc
-not_usage (refusal.TooLong f n) h e = cc
-not_usage refusal.NoMemory h e = cc
-not_usage (refusal.NoFile f) h e = cc
-
-found_usage : (told : Option Files) (d e o : List ℕ) (found : Result Totals Refusal) (now : Option Files) → Compiles told d e o found now → status_of found ≡ Usage → ⊥
-found_usage told d e o (Ok totals) now h k = cc
-found_usage told d e o (Err r) now h k = not_usage r (refuses_something told d e o r now h) k
-
-said_usage : {sink_failed : Type 0} (found : Result Totals Refusal) (old new : Option (List ℕ)) (s : Status) → (status_of found ≡ Usage → ⊥) → Says sink_failed found old new s → s ≡ Usage → ⊥
-said_usage found old new s h (whole e n) k = h (sym e ∙ k)
-said_usage found old new s h (front e rose n) k = cc
-said_usage found old new s h (no_memory e n) k = cc
-said_usage found old new s h (front_of_no_memory e rose n) k = cc
-
-pub usage_of : {sink_failed : Type 0} (c : Option Command) (told : Option Files) (found : Result Totals Refusal) (now : Option Files) (old new : Option (List ℕ)) (s : Status) → FindsOf c told found now → Says sink_failed found old new s → UsageOf c s
-usage_of None told found now old new s h k = no_command found old new s h.0 k
-usage_of (Some (compile d e o)) told found now old new s h k = λ q. said_usage found old new s (found_usage told d e o found now h) k q
-
--- ---- read faults
-
-read_rose : (last : Option ℕ) (old new : ℕ) (found : Result Totals Refusal) → IfErr found (ReadFaultRose last old new) → status_of found ≡ ReadFault → Rose last old new
-read_rose last old new (Ok totals) h e = cc
-read_rose last old new (Err (refusal.ReadFault f)) h e = h
-read_rose last old new (Err refusal.Usage) h e = cc
-read_rose last old new (Err (refusal.Design f v)) h e = cc
-read_rose last old new (Err (refusal.Definitions f w)) h e = cc
-read_rose last old new (Err (refusal.WriteFault f)) h e = cc
-read_rose last old new (Err (refusal.TooLong f n)) h e = cc
-read_rose last old new (Err refusal.NoMemory) h e = cc
-read_rose last old new (Err (refusal.NoFile f)) h e = cc
-
-pub read_fault_of : {sink_failed : Type 0} (last : Option ℕ) (old new : ℕ) (found : Result Totals Refusal) (before after : Option (List ℕ)) (s : Status) → IfErr found (ReadFaultRose last old new) → Says sink_failed found before after s → s ≡ ReadFault → Rose last old new
-read_fault_of last old new found before after s h (whole q n) e = read_rose last old new found h (sym q ∙ e)
-read_fault_of last old new found before after s h (front q rose n) e = cc
-read_fault_of last old new found before after s h (no_memory q n) e = cc
-read_fault_of last old new found before after s h (front_of_no_memory q rose n) e = cc
+write_fault_of : (c : Option Command) (call : Call) → RanOf c call → call.status ≡ WriteFault → Counted call.writes ⊎ Counted call.puts
+write_fault_of None call h w = elim (sink_fault call usage h.1 w) [
+  | inl e ↦ let no : ◌≡◌ {A = Status} Usage WriteFault = e in cc
+  | inr rose ↦ inr rose
+]
+write_fault_of (Some c) call h w = elim (sink_fault call (finding_of c h.found) h.says w) [
+  | inl e ↦ inl (is_write_fault c call.reads call.writes h.found h.faults e)
+  | inr rose ↦ inr rose
+]
 
 -- ---- what is left
 
-refusal_not_done : (r : Refusal) → refusal_status r ≡ Done → ⊥
-refusal_not_done refusal.Usage e = cc
-refusal_not_done (refusal.Design f w) e = cc
-refusal_not_done (refusal.Definitions f w) e = cc
-refusal_not_done (refusal.ReadFault f) e = cc
-refusal_not_done (refusal.WriteFault f) e = cc
-refusal_not_done (refusal.TooLong f n) e = cc
-refusal_not_done refusal.NoMemory e = cc
-refusal_not_done (refusal.NoFile f) e = cc
+reports_from : (c : Command) (i : Inputs) (ss : List Step) (report : Report) → AnswersFrom c i ss (Ok report) → Reports c i report
+reports_from c i [] report h = h
+reports_from c i (s ∷ ss) report (inl (r, h, e)) = cc
+reports_from c i (s ∷ ss) report (inr (g, h)) = reports_from c i ss report h
 
-done_writes : (c : Option Command) (told : Option Files) (found : Result Totals Refusal) (now : Option Files) (old new : Option (List ℕ)) → FindsOf c told found now → status_of found ≡ Done → new ≡ appended old (report_of found) → WritesOf c told now old new
-done_writes None told found now old new (inl u, same) e n = let no : status_of found ≡ Usage = ap status_of u in cc
-done_writes None told found now old new (inr u, same) e n = let no : status_of found ≡ NoMemory = ap status_of u in cc
-done_writes (Some (compile d x o)) told (Ok totals) now old new h e n = (h.0, totals, h.1, h.2, n)
-done_writes (Some (compile d x o)) told (Err r) now old new h e n = absurd (refusal_not_done r e)
+done_ok : (c : Command) (call : Call) (found : Result Report Refusal) → Did c call.was call.is found → (finding_of c found).status ≡ Done → call.told_after ≡ appended call.told_before (finding_of c found).report → DoneOf (Some c) call
+done_ok c call (Ok report) did d n = elim did.answers [
+  | inl memory ↦ cc
+  | inr answers ↦ (did.inputs, report, did.inputs_are, reports_from c did.inputs (steps c) report answers, did.leaves, n)
+]
+done_ok c call (Err (refusal.Language f)) did d n = cc
+done_ok c call (Err (refusal.Definitions f)) did d n = cc
+done_ok c call (Err (refusal.ReadFault f)) did d n = cc
+done_ok c call (Err (refusal.WriteFault f)) did d n = cc
+done_ok c call (Err (refusal.TooLong f m)) did d n = cc
+done_ok c call (Err refusal.NoMemory) did d n = cc
+done_ok c call (Err (refusal.NoFile f)) did d n = cc
 
-pub writes_of : {sink_failed : Type 0} (c : Option Command) (told : Option Files) (found : Result Totals Refusal) (now : Option Files) (old new : Option (List ℕ)) (s : Status) → FindsOf c told found now → Says sink_failed found old new s → s ≡ Done → WritesOf c told now old new
-writes_of c told found now old new s h (whole q n) e = done_writes c told found now old new h (sym q ∙ e) n
-writes_of c told found now old new s h (front q rose n) e = let no : WriteFault ≡ Done = sym q ∙ e in cc
-writes_of c told found now old new s h (no_memory q n) e = let no : NoMemory ≡ Done = sym q ∙ e in cc
-writes_of c told found now old new s h (front_of_no_memory q rose n) e = let no : WriteFault ≡ Done = sym q ∙ e in cc
+-- with status 0 the whole finding was said
+done_said : (call : Call) (f : Finding) → Says (Counted call.puts) f call.told_before call.told_after call.status → call.status ≡ Done → (f.status ≡ Done) × (call.told_after ≡ appended call.told_before f.report)
+done_said call f (inl (all e n)) d = (sym e ∙ d, n)
+done_said call f (inl (a_front e rose n)) d = let no : ◌≡◌ {A = Status} WriteFault Done = sym e ∙ d in cc
+done_said call f (inl (nothing e n)) d = let no : ◌≡◌ {A = Status} NoMemory Done = sym e ∙ d in cc
+done_said call f (inr (all e n)) d = let no : ◌≡◌ {A = Status} NoMemory Done = sym e ∙ d in cc
+done_said call f (inr (a_front e rose n)) d = let no : ◌≡◌ {A = Status} WriteFault Done = sym e ∙ d in cc
+done_said call f (inr (nothing e n)) d = let no : ◌≡◌ {A = Status} NoMemory Done = sym e ∙ d in cc
 
-not_written_may : (fs : List NamedFile) (r : Refusal) (s : Status) → NotWritten fs r → s ≡ refusal_status r → MayWrite s
-not_written_may fs (refusal.WriteFault f) s h e = failed e
-not_written_may fs refusal.NoMemory s h e = spec.no_memory e
-not_written_may fs r s h e = absurd h
+writes_of : (c : Option Command) (call : Call) → RanOf c call → call.status ≡ Done → DoneOf c call
+writes_of None call h d = let no : ◌≡◌ {A = Status} Usage Done = (done_said call usage h.1 d).0 in cc
+writes_of (Some c) call h d =
+    let s = done_said call (finding_of c h.found) h.says d in
+    done_ok c call h.found h.did s.0 s.1
 
-refused_same : (told : Option Files) (d x o : List ℕ) (r : Refusal) (now : Option Files) (s : Status) → Refuses told d x o r now → s ≡ refusal_status r → MayWrite s ⊎ (now ≡ told)
-refused_same told d x o r now s (no_design same h) e = inr same
-refused_same told d x o r now s (no_defs y same g h) e = inr same
-refused_same told d x o r now s (not_made y z same i h) e = inr same
-refused_same told d x o r now s (not_written fs totals m w h) e = inl (not_written_may fs r s h e)
+-- a refusal that wrote nothing, or a status that may have
+same_or_writes : (c : Command) (i : Inputs) (was is : Option Files) (found : Result Report Refusal) → Leaves c i was is found → MayWrite (finding_of c found).status ⊎ (is ≡ was)
+same_or_writes (compile d e o) i was is (Ok report) h = inl (done refl)
+same_or_writes (compile d e o) i was is (Err (refusal.Language f)) h = inr h
+same_or_writes (compile d e o) i was is (Err (refusal.Definitions f)) h = inr h
+same_or_writes (compile d e o) i was is (Err (refusal.ReadFault f)) h = inr h
+same_or_writes (compile d e o) i was is (Err (refusal.WriteFault f)) h = inl (failed refl)
+same_or_writes (compile d e o) i was is (Err (refusal.TooLong f n)) h = inr h
+same_or_writes (compile d e o) i was is (Err refusal.NoMemory) h = inl (run.no_memory refl)
+same_or_writes (compile d e o) i was is (Err (refusal.NoFile f)) h = inr h
 
-found_same : (c : Option Command) (told : Option Files) (found : Result Totals Refusal) (now : Option Files) (s : Status) → FindsOf c told found now → s ≡ status_of found → MayWrite s ⊎ (now ≡ told)
-found_same None told found now s h e = inr h.1
-found_same (Some (compile d x o)) told (Ok totals) now s h e = inl (done e)
-found_same (Some (compile d x o)) told (Err r) now s h e = refused_same told d x o r now s h e
+ending_writes : (s : Status) → IsEnding s → MayWrite s
+ending_writes s (inl e) = failed e
+ending_writes s (inr e) = run.no_memory e
 
-pub same_of : {sink_failed : Type 0} (c : Option Command) (told : Option Files) (found : Result Totals Refusal) (now : Option Files) (old new : Option (List ℕ)) (s : Status) → FindsOf c told found now → Says sink_failed found old new s → MayWrite s ⊎ (now ≡ told)
-same_of c told found now old new s h (whole q n) = found_same c told found now s h q
-same_of c told found now old new s h (front q rose n) = inl (failed q)
-same_of c told found now old new s h (no_memory q n) = inl (spec.no_memory q)
-same_of c told found now old new s h (front_of_no_memory q rose n) = inl (failed q)
+same_of : (c : Option Command) (call : Call) → RanOf c call → MayWrite call.status ⊎ (call.is ≡ call.was)
+same_of None call h = inr h.0
+same_of (Some c) call h = elim (ends call (finding_of c h.found) h.says) [
+  | inr e ↦ inl (ending_writes call.status e)
+  | inl e ↦ elim (same_or_writes c h.did.inputs call.was call.is h.found h.did.leaves) [
+    | inl m ↦ inl (subst MayWrite (sym e) m)
+    | inr s ↦ inr s
+  ]
+]
 
-all_taken : (fs : List NamedFile) → take (length fs) fs ≡ fs
-all_taken [] = refl
-all_taken (f ∷ fs) = ap (λ (gs : List NamedFile). f ∷ gs) (all_taken fs)
+take_all : (fs : List MadeFile) → take (length fs) fs ≡ fs
+take_all [] = refl
+take_all (f ∷ fs) = ap (λ gs. f ∷ gs) (take_all fs)
 
-refused_leaves : (told : Option Files) (d x o : List ℕ) (r : Refusal) (now : Option Files) → Refuses told d x o r now → (now ≡ told) ⊎ SomeOf (Some (compile d x o)) told now
-refused_leaves told d x o r now (no_design same h) = inl same
-refused_leaves told d x o r now (no_defs y same g h) = inl same
-refused_leaves told d x o r now (not_made y z same i h) = inl same
-refused_leaves told d x o r now (not_written fs totals m w h) = inr (fs, totals, m, w)
+stopped_some : (o : List ℕ) (fs : List MadeFile) (file : BundleFile) (was is : Option Files) → StopsAt o fs file was is → SomeWritten o fs was is
+stopped_some o fs file was is h = elim h.left [
+  | inl e ↦ (h.index, e)
+  | inr e ↦ (h.index + 1, e)
+]
 
-pub leaves_of : (c : Option Command) (told : Option Files) (found : Result Totals Refusal) (now : Option Files) → FindsOf c told found now → (now ≡ told) ⊎ SomeOf c told now
-leaves_of None told found now h = inl h.1
-leaves_of (Some (compile d x o)) told (Ok totals) now h = inr (h.0, totals, h.1, (length h.0, h.2 ∙ ap (λ (fs : List NamedFile). with_files fs told) (sym (all_taken h.0))))
-leaves_of (Some (compile d x o)) told (Err r) now h = refused_leaves told d x o r now h
+leaves_some : (c : Command) (i : Inputs) (was is : Option Files) (found : Result Report Refusal) → Leaves c i was is found → LeavesSome c i was is
+leaves_some (compile d e o) i was is (Ok report) (fs, m, w) = inr (fs, m, (length fs, w ∙ ap (λ gs. with_files o gs was) (sym (take_all fs))))
+leaves_some (compile d e o) i was is (Err (refusal.Language f)) h = inl h
+leaves_some (compile d e o) i was is (Err (refusal.Definitions f)) h = inl h
+leaves_some (compile d e o) i was is (Err (refusal.ReadFault f)) h = inl h
+leaves_some (compile d e o) i was is (Err (refusal.WriteFault Design)) h = inl h
+leaves_some (compile d e o) i was is (Err (refusal.WriteFault Definitions)) h = inl h
+leaves_some (compile d e o) i was is (Err (refusal.WriteFault (BundleOf file))) (fs, m, s) = inr (fs, m, stopped_some o fs file was is s)
+leaves_some (compile d e o) i was is (Err (refusal.TooLong f n)) h = inl h
+leaves_some (compile d e o) i was is (Err refusal.NoMemory) h = h
+leaves_some (compile d e o) i was is (Err (refusal.NoFile f)) h = inl h
 
--- ---- faults
+leaves_of : (c : Option Command) (call : Call) → RanOf c call → LeavesOf c call
+leaves_of None call h = h.0
+leaves_of (Some c) call h = (h.did.inputs, h.did.inputs_are, leaves_some c h.did.inputs call.was call.is h.found h.did.leaves)
 
--- a found fault of a read or a write is counted
-pub has_fault : (read_last write_last : Option ℕ) (r r' w w' : ℕ) (found : Result Totals Refusal) → IfErr found (ReadFaultRose read_last r r') → IfErr found (FaultRose write_last w w') → HasFault (Rose read_last r r') (Rose write_last w w') found
-has_fault read_last write_last r r' w w' (Ok totals) h k = tt
-has_fault read_last write_last r r' w w' (Err (refusal.ReadFault file)) h k = h
-has_fault read_last write_last r r' w w' (Err (refusal.WriteFault file)) h k = k
-has_fault read_last write_last r r' w w' (Err refusal.Usage) h k = tt
-has_fault read_last write_last r r' w w' (Err (refusal.Design file flaw)) h k = tt
-has_fault read_last write_last r r' w w' (Err (refusal.Definitions file flaw)) h k = tt
-has_fault read_last write_last r r' w w' (Err (refusal.TooLong file n)) h k = tt
-has_fault read_last write_last r r' w w' (Err refusal.NoMemory) h k = tt
-has_fault read_last write_last r r' w w' (Err (refusal.NoFile file)) h k = tt
+-- ---- want of memory while the words are read
 
--- a found fault of a write, by its status
-found_fault : (last : Option ℕ) (old new : ℕ) (found : Result Totals Refusal) → IfErr found (FaultRose last old new) → status_of found ≡ WriteFault → Rose last old new
-found_fault last old new (Ok totals) h e = cc
-found_fault last old new (Err (refusal.WriteFault file)) h e = h
-found_fault last old new (Err (refusal.ReadFault file)) h e = cc
-found_fault last old new (Err refusal.Usage) h e = cc
-found_fault last old new (Err (refusal.Design file w)) h e = cc
-found_fault last old new (Err (refusal.Definitions file w)) h e = cc
-found_fault last old new (Err (refusal.TooLong file n)) h e = cc
-found_fault last old new (Err refusal.NoMemory) h e = cc
-found_fault last old new (Err (refusal.NoFile file)) h e = cc
+abbrev any_inputs : Command → Option Files → Inputs
+any_inputs c None = λ file. None
+any_inputs c (Some files) = told_inputs c files
 
--- a write fault is one of the folder or one of the sink
-pub write_fault_of : {sink_failed : Type 0} (last : Option ℕ) (old new : ℕ) (found : Result Totals Refusal) (before after : Option (List ℕ)) (s : Status) → IfErr found (FaultRose last old new) → Says sink_failed found before after s → s ≡ WriteFault → Rose last old new ⊎ sink_failed
-write_fault_of last old new found before after s h (whole q n) e = inl (found_fault last old new found h (sym q ∙ e))
-write_fault_of last old new found before after s h (front q rose n) e = inr rose
-write_fault_of last old new found before after s h (no_memory q n) e = cc
-write_fault_of last old new found before after s h (front_of_no_memory q rose n) e = inr rose
+any_are : (c : Command) (told : Option Files) → InputsAre c told (any_inputs c told)
+any_are c None = tt
+any_are c (Some files) = refl
+
+leaves_same : (c : Command) (i : Inputs) (was is : Option Files) → is ≡ was → Leaves c i was is (Err refusal.NoMemory)
+leaves_same (compile d e o) i was is same = inl same
+
+pub memory_ran : (c : Option Command) (call : Call) → call.is ≡ call.was → Puts (Counted call.puts) no_memory call.told_before call.told_after call.status → RanOf c call
+memory_ran None call same p = (same, inr p)
+memory_ran (Some c) call same p = record {
+  found = Err refusal.NoMemory;
+  did = record {
+    inputs = any_inputs c call.was;
+    inputs_are = any_are c call.was;
+    answers = inl refl;
+    leaves = leaves_same c (any_inputs c call.was) call.was call.is same;
+  };
+  faults = tt;
+  says = inr p;
+}
+
+-- ---- the main promise
+
+-- status 0 comes only of a command that reported
+pub headline_of : (c : Command) (call : Call) (found : Result Report Refusal) → Says (Counted call.puts) (finding_of c found) call.told_before call.told_after call.status → IfOk found (λ r. CompiledOf (Some c) call.was call.is) → call.status ≡ Done → CompiledOf (Some c) call.was call.is
+headline_of c call (Ok report) says h d = h
+headline_of c call (Err (refusal.Language f)) says h d = let e : ◌≡◌ {A = Status} Language Done = (done_said call _ says d).0 in cc
+headline_of c call (Err (refusal.Definitions f)) says h d = let e : ◌≡◌ {A = Status} Broken Done = (done_said call _ says d).0 in cc
+headline_of c call (Err (refusal.ReadFault f)) says h d = let e : ◌≡◌ {A = Status} ReadFault Done = (done_said call _ says d).0 in cc
+headline_of c call (Err (refusal.WriteFault f)) says h d = let e : ◌≡◌ {A = Status} WriteFault Done = (done_said call _ says d).0 in cc
+headline_of c call (Err (refusal.TooLong f n)) says h d = let e : ◌≡◌ {A = Status} Limit Done = (done_said call _ says d).0 in cc
+headline_of c call (Err refusal.NoMemory) says h d = let e : ◌≡◌ {A = Status} NoMemory Done = (done_said call _ says d).0 in cc
+headline_of c call (Err (refusal.NoFile f)) says h d = let e : ◌≡◌ {A = Status} NoFile Done = (done_said call _ says d).0 in cc
+
+-- ---- all of it
+
+keeps : OneFinding → (call : Call) → RanOf (command call.words) call → Keeps call
+keeps one call h = record {
+  ran = h;
+  usage = usage_of (command call.words) call h;
+  found = found_of one (command call.words) call h;
+  read_fault = read_fault_of (command call.words) call h;
+  write_fault = write_fault_of (command call.words) call h;
+  done_leaves = writes_of (command call.words) call h;
+  unchanged = same_of (command call.words) call h;
+  leaves = leaves_of (command call.words) call h;
+}
+
+-- the same of the command that was read of the words
+pub keeps_of : OneFinding → (c : Option Command) (call : Call) → c ≡ command call.words → RanOf c call → Keeps call
+keeps_of one c call e h = keeps one call (subst (λ (d : Option Command). RanOf d call) e h)
+
+pub keeps_memory : OneFinding → (call : Call) → call.is ≡ call.was → Puts (Counted call.puts) no_memory call.told_before call.told_after call.status → Keeps call
+keeps_memory one call same p = keeps one call (memory_ran (command call.words) call same p)
+
+-- the main promise of the command that was read of the words
+pub headline_given : (c : Command) (o : Option Command) (was is : Option Files) → Some c ≡ o → CompiledOf (Some c) was is → CompiledOf o was is
+headline_given c o was is e h = subst (λ (d : Option Command). CompiledOf d was is) e h
+
+-- status 0 is no status of other findings
+pub not_done : (call : Call) (f : Finding) → Puts (Counted call.puts) f call.told_before call.told_after call.status → (f.status ≡ Done → ⊥) → call.status ≡ Done → ⊥
+not_done call f (all e n) other d = other (sym e ∙ d)
+not_done call f (a_front e rose n) other d = let differ : ◌≡◌ {A = Status} WriteFault Done = sym e ∙ d in cc
+not_done call f (nothing e n) other d = let differ : ◌≡◌ {A = Status} NoMemory Done = sym e ∙ d in cc

@@ -3,31 +3,19 @@
 -- design's last level delivers under the given definitions; and each such delivery, its port, headers and payload, is
 -- one that the design's topmost specification may make. It is the sentence of the section "The headline" of
 -- docs/PROMISES.md.
-use Rattle.std.specs.Prelude.{◌≡◌, ◌↔◌, ℕ, List, Option, Some, None}
+use Rattle.std.specs.Prelude.{◌≡◌, ℕ, List, Option, Some, None}
 use Rattle.std.specs.FinMap.{get}
 use Rattle.cocoon_num.specs.Tree.{Design, DefsText}
 use Rattle.cocoon_num.specs.Reads.{Reads, ReadsDefs}
 use Rattle.cocoon_io.specs.Files.{Files}
-use Rattle.cocoon_types.specs.Tables.{Defs, defs_of}
+use Rattle.cocoon_types.specs.Tables.{defs_of}
 use Rattle.cocoon_types.specs.Rules.{WellFormed}
 use Rattle.cocoon_types.specs.DefsRules.{DefsFit}
-use Rattle.cocoon_types.specs.Runs.{LastGo, MayMake}
-use Rattle.p4_emit.specs.NetTree.{NetData}
-use Rattle.p4_emit.specs.NetRuns.{NetGo}
-use Rattle.cocoon_cli.specs.Bundle.{digest_of}
+use Rattle.p4_ir.specs.NetTree.{NetData}
+use Rattle.net_bundle.specs.BundleNames.{digest_of}
+use Rattle.net_bundle.specs.Network.{Network, InBundle}
+use Rattle.lower_p4.specs.Delivers.{DeliversExactly, DeliversWithin}
 use Rattle.cocoon_cli.specs.Command.{Command, command, compile}
-use Rattle.cocoon_cli.specs.Network.{Network, InBundle}
-
--- for every host, bytes, choices and number of visits the network delivers what the last level delivers, and nothing
--- where that delivers nothing
-abbrev pub DeliversExactly : NetData → Design → Defs → Type 0
-DeliversExactly net design defs = (a : ℕ) (bytes choices : List ℕ) (visits b : ℕ) (sent : List ℕ) →
-    NetGo net a bytes choices visits b sent ↔ LastGo design defs a bytes choices visits b sent
-
--- each delivery of the network is one that the topmost specification may make
-abbrev pub DeliversWithin : NetData → Design → Defs → Type 0
-DeliversWithin net design defs = (a : ℕ) (bytes choices : List ℕ) (visits b : ℕ) (sent : List ℕ) →
-    NetGo net a bytes choices visits b sent → MayMake design defs a bytes b sent
 
 -- what the files `is` hold after a `compile` of the design and the definitions that stood in the files `was`
 pub record Compiled (was is : Files) (design_name defs_name out : List ℕ) : Type 0 where

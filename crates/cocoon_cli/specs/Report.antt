@@ -1,19 +1,24 @@
--- What a command says of what it found. It follows "Reports" in docs/FORMATS.md.
+-- What a command says of what it found: a status, and the whole report. It follows "Reports" in docs/FORMATS.md.
 use Rattle.std.specs.Prelude.{◌≡◌, ◌⊎◌, ℕ, List, ◌++◌, Option, Result, Ok, Err, codes, decimal}
-use Rattle.std.specs.String.{string_bytes}
 use Rattle.cocoon_io.specs.Told.{appended, AppendsFront}
+use Rattle.cocoon_text.specs.TextFaults.{kind_name}
+use Rattle.cocoon_cli.specs.declared.files.CommandFile.TheVariants.{Design, Definitions}
 use Rattle.cocoon_cli.specs.declared.status.Status.{Status}
 use Rattle.cocoon_cli.specs.declared.status.Status.TheVariants as status
-use Rattle.cocoon_text.specs.TextFaults.{kind_name}
 use Rattle.cocoon_cli.specs.declared.refusal.Flaw.{Flaw}
 use Rattle.cocoon_cli.specs.declared.refusal.Flaw.TheVariants.{Fault, NotYet}
 use Rattle.cocoon_cli.specs.declared.refusal.Refusal.{Refusal}
 use Rattle.cocoon_cli.specs.declared.refusal.Refusal.TheVariants as refusal
-use Rattle.cocoon_cli.specs.declared.refusal.Totals.{Totals}
+use Rattle.cocoon_cli.specs.declared.report.Totals.{Totals}
+use Rattle.cocoon_cli.specs.declared.report.Report.{Report}
+use Rattle.cocoon_cli.specs.declared.report.Report.TheVariants.{Compiled}
+use Rattle.cocoon_cli.specs.Command.{Command}
+use Rattle.cocoon_cli.specs.FileNames.{name_in}
 
--- a line with a name in it
-abbrev pub line_with : List ℕ → List ℕ → List ℕ → List ℕ
-line_with front name back = front ++ (name ++ back)
+-- what a command found, by the status with which it ends and the whole report
+pub record Finding : Type 0 where
+  pub status : Status
+  pub report : List ℕ
 
 -- ---- what is wrong with a text
 
@@ -36,56 +41,70 @@ flaw_word NotYet = codes "NotYet"
 abbrev pub flaw_report : List ℕ → List ℕ → Flaw → List ℕ
 flaw_report front file flaw = front ++ (codes " " ++ (file ++ (codes " " ++ (decimal (flaw_line flaw) ++ (codes ":" ++ (decimal (flaw_column flaw) ++ (codes " " ++ (flaw_word flaw ++ codes "\n"))))))))
 
--- ---- all lines
-
-abbrev pub refusal_line : Refusal → List ℕ
-refusal_line refusal.Usage = codes "usage cocoon check compile update forward step live gen\n"
-refusal_line (refusal.Design file flaw) = flaw_report (codes "language") (string_bytes file) flaw
-refusal_line (refusal.Definitions file flaw) = flaw_report (codes "definitions") (string_bytes file) flaw
-refusal_line (refusal.ReadFault file) = line_with (codes "read fault ") (string_bytes file) (codes "\n")
-refusal_line (refusal.WriteFault file) = line_with (codes "write fault ") (string_bytes file) (codes "\n")
-refusal_line (refusal.TooLong file most) = line_with (codes "limit file ") (string_bytes file) (codes " over " ++ (decimal most ++ codes "\n"))
-refusal_line refusal.NoMemory = codes "no memory\n"
-refusal_line (refusal.NoFile file) = line_with (codes "no file ") (string_bytes file) (codes "\n")
-
-abbrev pub totals_line : Totals → List ℕ
-totals_line t = codes "compiled switches " ++ (decimal t.switches ++ (codes " hosts " ++ (decimal t.hosts ++ (codes " links " ++ (decimal t.links ++ codes " obligations 0\n")))))
-
-abbrev pub report_of : Result Totals Refusal → List ℕ
-report_of (Ok totals) = totals_line totals
-report_of (Err r) = refusal_line r
+-- ---- refusals
 
 abbrev pub refusal_status : Refusal → Status
-refusal_status refusal.Usage = status.Usage
-refusal_status (refusal.Design file flaw) = status.Language
-refusal_status (refusal.Definitions file flaw) = status.Broken
+refusal_status (refusal.Language flaw) = status.Language
+refusal_status (refusal.Definitions flaw) = status.Broken
 refusal_status (refusal.ReadFault file) = status.ReadFault
 refusal_status (refusal.WriteFault file) = status.WriteFault
 refusal_status (refusal.TooLong file most) = status.Limit
 refusal_status refusal.NoMemory = status.NoMemory
 refusal_status (refusal.NoFile file) = status.NoFile
 
-abbrev pub status_of : Result Totals Refusal → Status
-status_of (Ok totals) = status.Done
-status_of (Err r) = refusal_status r
-
--- ---- what was said
-
 abbrev pub no_memory_line : List ℕ
 no_memory_line = codes "no memory\n"
 
--- How a command ends that found this, by what the sink was told: the whole report; a front of it, where the sink
--- failed; or, for want of memory, the line that says so, a front of that where the sink failed, or nothing. What says
--- that the sink failed is a parameter.
-pub data Says (sink_failed : Type 0) (found : Result Totals Refusal) (old new : Option (List ℕ)) : Status → Type 0 where
-  whole : {s : Status} → s ≡ status_of found → new ≡ appended old (report_of found) → Says sink_failed found old new s
-  front : {s : Status} → s ≡ status.WriteFault → sink_failed → AppendsFront old (report_of found) new → Says sink_failed found old new s
-  no_memory : {s : Status} → s ≡ status.NoMemory → (new ≡ old) ⊎ (new ≡ appended old no_memory_line) → Says sink_failed found old new s
-  front_of_no_memory : {s : Status} → s ≡ status.WriteFault → sink_failed → AppendsFront old no_memory_line new → Says sink_failed found old new s
+-- a line that ends with the name of a file
+abbrev pub line_with : List ℕ → List ℕ → List ℕ
+line_with front name = front ++ (name ++ codes "\n")
 
--- What a put of bytes and the status before it give: the status and all the bytes, a write fault and a front of them
--- where the sink failed, or want of memory and nothing.
-pub data Puts (sink_failed : Type 0) (bytes : List ℕ) (before : Status) (old new : Option (List ℕ)) : Status → Type 0 where
-  all : {s : Status} → s ≡ before → new ≡ appended old bytes → Puts sink_failed bytes before old new s
-  a_front : {s : Status} → s ≡ status.WriteFault → sink_failed → AppendsFront old bytes new → Puts sink_failed bytes before old new s
-  nothing : {s : Status} → s ≡ status.NoMemory → new ≡ old → Puts sink_failed bytes before old new s
+abbrev pub refusal_line : Command → Refusal → List ℕ
+refusal_line c (refusal.Language flaw) = flaw_report (codes "language") (name_in c Design) flaw
+refusal_line c (refusal.Definitions flaw) = flaw_report (codes "definitions") (name_in c Definitions) flaw
+refusal_line c (refusal.ReadFault file) = line_with (codes "read fault ") (name_in c file)
+refusal_line c (refusal.WriteFault file) = line_with (codes "write fault ") (name_in c file)
+refusal_line c (refusal.TooLong file most) = codes "limit file " ++ (name_in c file ++ (codes " over " ++ (decimal most ++ codes "\n")))
+refusal_line c refusal.NoMemory = no_memory_line
+refusal_line c (refusal.NoFile file) = line_with (codes "no file ") (name_in c file)
+
+-- ---- reports
+
+abbrev pub totals_line : Totals → List ℕ
+totals_line t = codes "compiled switches " ++ (decimal t.switches ++ (codes " hosts " ++ (decimal t.hosts ++ (codes " links " ++ (decimal t.links ++ codes " obligations 0\n")))))
+
+abbrev pub report_line : Report → List ℕ
+report_line (Compiled totals) = totals_line totals
+
+-- ---- findings
+
+abbrev pub status_of : Result Report Refusal → Status
+status_of (Ok report) = status.Done
+status_of (Err r) = refusal_status r
+
+abbrev pub line_of : Command → Result Report Refusal → List ℕ
+line_of c (Ok report) = report_line report
+line_of c (Err r) = refusal_line c r
+
+abbrev pub finding_of : Command → Result Report Refusal → Finding
+finding_of c found = record { status = status_of found; report = line_of c found }
+
+-- of words that are no command
+abbrev pub usage : Finding
+usage = record { status = status.Usage; report = codes "usage cocoon check compile update forward step live gen\n" }
+
+abbrev pub no_memory : Finding
+no_memory = record { status = status.NoMemory; report = no_memory_line }
+
+-- ---- what was said
+
+-- How a put of a whole report ends: with its status and all its bytes; with a write fault and a front of them, where the sink
+-- failed; or with want of memory and nothing. What says that the sink failed is a parameter.
+pub data Puts (sink_failed : Type 0) (f : Finding) (said said' : Option (List ℕ)) : Status → Type 0 where
+  all : {s : Status} → s ≡ f.status → said' ≡ appended said f.report → Puts sink_failed f said said' s
+  a_front : {s : Status} → s ≡ status.WriteFault → sink_failed → AppendsFront said f.report said' → Puts sink_failed f said said' s
+  nothing : {s : Status} → s ≡ status.NoMemory → said' ≡ said → Puts sink_failed f said said' s
+
+-- what was found is said, or else that there was no memory for it
+abbrev pub Says : (sink_failed : Type 0) → Finding → (said said' : Option (List ℕ)) → Status → Type 0
+Says sink_failed f said said' s = Puts sink_failed f said said' s ⊎ Puts sink_failed no_memory said said' s

@@ -1,23 +1,18 @@
 -- What the top call promises. It follows "Statuses" and "Reports" in docs/FORMATS.md.
-use Rattle.std.specs.Prelude.{◌≡◌, ◌⊎◌, ◌<◌, ◌^◌, ℕ, List, ◌++◌, length, nat_lt, if◌then◌else◌, Option, Some, None, Result, Err, codes}
+use Rattle.std.specs.Prelude.{◌≡◌, ◌⊎◌, ℕ, List, Option, Some, None, Result, Err}
 use Rattle.std.specs.FinMap.{get}
 use Rattle.cocoon_io.specs.Files.{Files}
-use Rattle.cocoon_io.specs.Told.{appended}
-use Rattle.cocoon_thin.specs.declared.parts.Thin.{Thin}
-use Rattle.cocoon_text.specs.declared.fault.FaultKind.{FaultKind}
-use Rattle.cocoon_thin.specs.Thin.{ThinTexts}
-use Rattle.cocoon_cli.specs.declared.refusal.Flaw.{Flaw}
-use Rattle.cocoon_cli.specs.declared.refusal.Flaw.TheVariants.{Fault}
+use Rattle.cocoon_io.specs.Told.{Rose, appended}
 use Rattle.cocoon_cli.specs.declared.refusal.Refusal.{Refusal}
 use Rattle.cocoon_cli.specs.declared.refusal.Refusal.TheVariants as refusal
-use Rattle.cocoon_cli.specs.declared.refusal.Totals.{Totals}
+use Rattle.cocoon_cli.specs.declared.report.Report.{Report}
 use Rattle.cocoon_cli.specs.declared.status.Status.{Status}
 use Rattle.cocoon_cli.specs.declared.status.Status.TheVariants.{Done, Refuted, Usage, Language, Broken, HopBound, Budget, Bundle, ReadFault, WriteFault, Limit, Lines, NoMemory, NoFile}
-use Rattle.cocoon_cli.specs.Command.{Command, command, compile}
-use Rattle.cocoon_cli.specs.Bundle.{NamedFile, bundle, with_files, SomeWritten, AllFit, SomeExceeds}
-use Rattle.cocoon_cli.specs.Causes.{Finds, Inputs, Makes, design_most, defs_most}
-use Rattle.cocoon_cli.specs.Flaws.{IsThinText, AreThinTexts, DesignFlaw, DefsFlaw}
-use Rattle.cocoon_cli.specs.Report.{Says, flaw_report, totals_line}
+use Rattle.cocoon_cli.specs.Command.{Command, command}
+use Rattle.cocoon_cli.specs.FileNames.{name_in}
+use Rattle.cocoon_cli.specs.Leaves.{Leaves, LeavesBundle, LeavesSome}
+use Rattle.cocoon_cli.specs.Report.{Finding, Says, finding_of, report_line, usage}
+use Rattle.cocoon_cli.specs.Steps.{Inputs, Answers, Finds, Reports}
 
 -- the number of a status
 abbrev pub number_of : Status → ℕ
@@ -36,146 +31,131 @@ number_of Lines = 11
 number_of NoMemory = 12
 number_of NoFile = 13
 
--- ---- the whole call
+-- ---- one call
 
--- A refusal that speaks of a fault of the folder comes only where that fault is counted.
-abbrev pub HasFault : (read_failed write_failed : Type 0) → Result Totals Refusal → Type 0
-HasFault read_failed write_failed (Err (refusal.ReadFault file)) = read_failed
-HasFault read_failed write_failed (Err (refusal.WriteFault file)) = write_failed
-HasFault read_failed write_failed found = Unit {0}
+-- a count of faults before and after a call, and its last value, if it has one
+pub record Count : Type 0 where
+  pub last : Option ℕ
+  pub before : ℕ
+  pub after : ℕ
 
--- The words found something, with what the folder then holds, and it was said, with what the sink was told. What says
--- that a read, a write or the sink failed are parameters.
-pub record Ran (read_failed write_failed sink_failed : Type 0) (words : List (List ℕ)) (told told' : Option Files) (said said' : Option (List ℕ)) (result : Status) : Type 0 where
-  pub found : Result Totals Refusal
-  pub finds : Finds words told found told'
-  pub faults : HasFault read_failed write_failed found
-  pub says : Says sink_failed found said said' result
+abbrev pub count : Option ℕ → (before after : ℕ) → Count
+count last before after = record { last = last; before = before; after = after }
 
--- ---- exact causes, over told files
+-- a fault was counted
+abbrev pub Counted : Count → Type 0
+Counted count = Rose count.last count.before count.after
 
--- a file that is read: not there, longer than it may be, or there with these bytes
-pub data Stage : Type 0 where
-  missing long : Stage
-  there : (bytes : List ℕ) → Stage
+-- a call: its words, what the folder told before and after it, what the sink was told before and after it, the counts of
+-- faults of reads, writes and puts, and the answer
+pub record Call : Type 0 where
+  pub words : List (List ℕ)
+  pub was : Option Files
+  pub is : Option Files
+  pub told_before : Option (List ℕ)
+  pub told_after : Option (List ℕ)
+  pub reads : Count
+  pub writes : Count
+  pub puts : Count
+  pub status : Status
 
-abbrev pub stage_of : ℕ → Option (List ℕ) → Stage
-stage_of most None = missing
-stage_of most (Some bytes) = if nat_lt most (length bytes) then long else there bytes
+-- ---- what a command did
 
--- what is found of two files: one is missing, one of them or a file made of them is too long, the design or the definitions
--- are not thin, or all is good
-pub data Verdict : Type 0 where
-  a_file_missing a_file_too_long not_thin not_thin_defs all_good : Verdict
+-- what the told files have under the names of a command's files
+abbrev pub told_inputs : Command → Files → Inputs
+told_inputs c files = λ file. get files (name_in c file)
 
--- what is found of two texts
-abbrev pub JudgesTexts : (out design defs : List ℕ) → Verdict → Type 0
-JudgesTexts out design defs a_file_missing = ⊥
-JudgesTexts out design defs a_file_too_long = (t : Thin) × ThinTexts design defs t × (name : List ℕ) × SomeExceeds (bundle out design t) name
-JudgesTexts out design defs not_thin = ¬ IsThinText design
-JudgesTexts out design defs not_thin_defs = IsThinText design × (¬ AreThinTexts design defs)
-JudgesTexts out design defs all_good = (t : Thin) × ThinTexts design defs t × AllFit (bundle out design t)
+-- this is read of the files; of a folder that does not tell them it may be anything
+abbrev pub InputsAre : Command → Option Files → Inputs → Type 0
+InputsAre c None inputs = Unit {0}
+InputsAre c (Some files) inputs = inputs ≡ told_inputs c files
 
--- the design is read first
-abbrev pub JudgesStages : List ℕ → Stage → Stage → Verdict → Type 0
-JudgesStages out missing defs v = v ≡ a_file_missing
-JudgesStages out long defs v = v ≡ a_file_too_long
-JudgesStages out (there design) missing v = v ≡ a_file_missing
-JudgesStages out (there design) long v = v ≡ a_file_too_long
-JudgesStages out (there design) (there defs) v = JudgesTexts out design defs v
+-- a command answered this by what it read, and left this in the folder
+pub record Did (c : Command) (was is : Option Files) (found : Result Report Refusal) : Type 0 where
+  pub inputs : Inputs
+  pub inputs_are : InputsAre c was inputs
+  pub answers : Answers c inputs found
+  pub leaves : Leaves c inputs was is found
 
--- this is found of the files of these names
-abbrev pub Judges : Files → (design defs out : List ℕ) → Verdict → Type 0
-Judges files design defs out v = JudgesStages out (stage_of design_most (get files design)) (stage_of defs_most (get files defs)) v
+-- a refusal that speaks of a fault of the folder comes only where that fault was counted
+abbrev pub HasFault : (reads writes : Count) → Result Report Refusal → Type 0
+HasFault reads writes (Err (refusal.ReadFault file)) = Counted reads
+HasFault reads writes (Err (refusal.WriteFault file)) = Counted writes
+HasFault reads writes found = Unit {0}
 
-abbrev pub verdict_status : Verdict → Status
-verdict_status a_file_missing = NoFile
-verdict_status a_file_too_long = Limit
-verdict_status not_thin = Language
-verdict_status not_thin_defs = Broken
-verdict_status all_good = Done
+-- a command found something, and that was said
+pub record Ran (c : Command) (call : Call) : Type 0 where
+  pub found : Result Report Refusal
+  pub did : Did c call.was call.is found
+  pub faults : HasFault call.reads call.writes found
+  pub says : Says (Counted call.puts) (finding_of c found) call.told_before call.told_after call.status
 
--- a fault of the folder or the sink, or want of memory, to which every answer yields
-pub data Yields : Status → Type 0 where
-  to_read_fault : {s : Status} → s ≡ ReadFault → Yields s
-  to_write_fault : {s : Status} → s ≡ WriteFault → Yields s
-  to_no_memory : {s : Status} → s ≡ NoMemory → Yields s
+-- words that are no command touch no file, and the usage line is said
+abbrev pub RanOf : Option Command → Call → Type 0
+RanOf None call = (call.is ≡ call.was) × Says (Counted call.puts) usage call.told_before call.told_after call.status
+RanOf (Some c) call = Ran c call
 
-abbrev pub ExactOf : Option Command → Option Files → Verdict → Status → Type 0
-ExactOf None told v result = (result ≡ verdict_status v) → ⊥
-ExactOf (Some (compile design defs out)) None v result = Unit {0}
-ExactOf (Some (compile design defs out)) (Some files) v result =
-    ((result ≡ verdict_status v) → Judges files design defs out v)
-    × (Judges files design defs out v → (result ≡ verdict_status v) ⊎ Yields result)
+-- ---- the finding
 
--- the status of a verdict comes exactly where the words are a `compile` and the told files are judged so
-abbrev pub Exactly : List (List ℕ) → Option Files → Verdict → Status → Type 0
-Exactly words told v result = ExactOf (command words) told v result
+-- the status and the whole line are those of the finding
+abbrev pub IsFinding : Call → Finding → Type 0
+IsFinding call f = (call.status ≡ f.status) × (call.told_after ≡ appended call.told_before f.report)
 
-abbrev pub UsageOf : Option Command → Status → Type 0
-UsageOf None result = (result ≡ Usage) ⊎ ((result ≡ WriteFault) ⊎ (result ≡ NoMemory))
-UsageOf (Some c) result = (result ≡ Usage) → ⊥
+-- the answer yields to a fault that was counted, or to want of memory
+pub data Yields (call : Call) : Type 0 where
+  to_read_fault : call.status ≡ ReadFault → Counted call.reads → Yields call
+  to_write_fault : call.status ≡ WriteFault → Counted call.writes ⊎ Counted call.puts → Yields call
+  to_no_memory : call.status ≡ NoMemory → Yields call
 
--- the words are no command exactly where the answer is `Usage`, which yields to the sink and to want of memory
-abbrev pub UsageExactly : List (List ℕ) → Status → Type 0
-UsageExactly words result = UsageOf (command words) result
+-- what a command finds over told files, and it finds one thing at most
+pub record Found (c : Command) (files : Files) : Type 0 where
+  pub found : Result Report Refusal
+  pub finds : Finds c (told_inputs c files) found
+  pub one : (other : Result Report Refusal) → Finds c (told_inputs c files) other → other ≡ found
 
--- ---- exact flaws, over told files
-
--- the design has this flaw
-abbrev pub DesignHas : Files → (design defs : List ℕ) → Flaw → Type 0
-DesignHas files design_name defs_name flaw = (design defs : List ℕ) × Inputs (Some files) design_name defs_name design defs × DesignFlaw design flaw
-
--- the definitions have this flaw, and the design has none
-abbrev pub DefsHave : Files → (design defs : List ℕ) → Flaw → Type 0
-DefsHave files design_name defs_name flaw = (design defs : List ℕ) × Inputs (Some files) design_name defs_name design defs × DefsFlaw design defs flaw
-
--- a sink that tells its bytes was told this line
-abbrev pub IsTold : Option (List ℕ) → Option (List ℕ) → List ℕ → Type 0
-IsTold None said' line = ⊥
-IsTold (Some said) said' line = said' ≡ Some (said ++ line)
-
--- the status and the line come exactly where the cause is there
-abbrev pub ToldExactly : (cause : Type 0) → Status → List ℕ → Option (List ℕ) → Option (List ℕ) → Status → Type 0
-ToldExactly cause status line said said' result =
-    (cause → ((result ≡ status) × (said' ≡ appended said line)) ⊎ Yields result)
-    × (result ≡ status → IsTold said said' line → cause)
-
-abbrev pub FlawOf : Option Command → Option Files → Option (List ℕ) → Option (List ℕ) → Flaw → Status → Type 0
-FlawOf (Some (compile design defs out)) (Some files) said said' flaw result =
-    ToldExactly (DesignHas files design defs flaw) Language (flaw_report (codes "language") design flaw) said said' result
-    × ToldExactly (DefsHave files design defs flaw) Broken (flaw_report (codes "definitions") defs flaw) said said' result
-FlawOf _ _ said said' flaw result = Unit {0}
-
--- a flaw of the design or of the definitions of a `compile` is told exactly where it is there
-abbrev pub FlawExactly : List (List ℕ) → Option Files → Option (List ℕ) → Option (List ℕ) → Flaw → Status → Type 0
-FlawExactly words told said said' flaw result = FlawOf (command words) told said said' flaw result
-
--- and so is each fault of this kind, with its line and column, which have 32 bits
-abbrev pub FaultsExactly : List (List ℕ) → Option Files → Option (List ℕ) → Option (List ℕ) → FaultKind → Status → Type 0
-FaultsExactly words told said said' kind result = (line column : ℕ) → line < 2 ^ 32 → column < 2 ^ 32 → FlawExactly words told said said' (Fault (record { kind = kind; line = line; column = column })) result
+abbrev pub FoundOf : Option Command → Option Files → Call → Type 0
+FoundOf None told call = IsFinding call usage ⊎ Yields call
+FoundOf (Some c) None call = Unit {0}
+FoundOf (Some c) (Some files) call = ((f : Found c files) × IsFinding call (finding_of c f.found)) ⊎ Yields call
 
 -- ---- what is left
 
-abbrev pub WritesOf : Option Command → Option Files → Option Files → Option (List ℕ) → Option (List ℕ) → Type 0
-WritesOf None told told' said said' = ⊥
-WritesOf (Some (compile design defs out)) told told' said said' =
-    (files : List NamedFile) × (totals : Totals) × Makes told design defs out files totals × (told' ≡ with_files files told) × (said' ≡ appended said (totals_line totals))
-
 -- the bundle stands, nothing else was touched, and the whole line was said
-abbrev pub Writes : List (List ℕ) → Option Files → Option Files → Option (List ℕ) → Option (List ℕ) → Type 0
-Writes words told told' said said' = WritesOf (command words) told told' said said'
-
-abbrev pub SomeOf : Option Command → Option Files → Option Files → Type 0
-SomeOf None told told' = ⊥
-SomeOf (Some (compile design defs out)) told told' = (files : List NamedFile) × (totals : Totals) × Makes told design defs out files totals × SomeWritten files told told'
+abbrev pub DoneOf : Option Command → Call → Type 0
+DoneOf None call = ⊥
+DoneOf (Some c) call =
+    (inputs : Inputs) × (report : Report) × InputsAre c call.was inputs × Reports c inputs report
+    × LeavesBundle c inputs call.was call.is × (call.told_after ≡ appended call.told_before (report_line report))
 
 -- the folder is as it was, or holds the first files of the bundle that is written, or all
-abbrev pub Leaves : List (List ℕ) → Option Files → Option Files → Type 0
-Leaves words told told' = (told' ≡ told) ⊎ SomeOf (command words) told told'
+abbrev pub LeavesOf : Option Command → Call → Type 0
+LeavesOf None call = call.is ≡ call.was
+LeavesOf (Some c) call = (inputs : Inputs) × InputsAre c call.was inputs × LeavesSome c inputs call.was call.is
 
 -- only these statuses may leave another folder than there was
 pub data MayWrite : Status → Type 0 where
   done : {s : Status} → s ≡ Done → MayWrite s
   failed : {s : Status} → s ≡ WriteFault → MayWrite s
   no_memory : {s : Status} → s ≡ NoMemory → MayWrite s
+
+-- ---- the whole promise
+
+abbrev pub UsageOf : Option Command → Status → Type 0
+UsageOf None status = (status ≡ Usage) ⊎ ((status ≡ WriteFault) ⊎ (status ≡ NoMemory))
+UsageOf (Some c) status = (status ≡ Usage) → ⊥
+
+-- What a call keeps, one fact a field.
+pub record Keeps (call : Call) : Type 0 where
+  -- every answer has its cause, and the report says it
+  pub ran : RanOf (command call.words) call
+  -- `Usage` comes exactly where the words are no command; it yields to the sink and to want of memory
+  pub usage : UsageOf (command call.words) call.status
+  -- over told files the status and the line are those of the one finding of the words, or the answer yields
+  pub found : FoundOf (command call.words) call.was call
+  -- the status of a fault comes only where a fault was counted
+  pub read_fault : call.status ≡ ReadFault → Counted call.reads
+  pub write_fault : call.status ≡ WriteFault → Counted call.writes ⊎ Counted call.puts
+  -- what is left in the folder and in the sink
+  pub done_leaves : call.status ≡ Done → DoneOf (command call.words) call
+  pub unchanged : MayWrite call.status ⊎ (call.is ≡ call.was)
+  pub leaves : LeavesOf (command call.words) call

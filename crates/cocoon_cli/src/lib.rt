@@ -1,20 +1,15 @@
-//! The commands of `cocoon`: what the words ask for, what the files give, what is written and what is said.
+//! The commands of `cocoon`: what the words ask for, what each command finds, what it leaves, and what is said. Each command
+//! is a module with its own promise, and `run` puts them together. docs/CHANGING.md says how to add one.
 #![tactic(auto)]
 
-pub mod bundle;
-pub mod compiler;
+pub mod compile;
 pub mod driver;
-pub mod example;
-pub mod flaws;
-pub mod json;
-pub mod lower;
-pub mod network;
-mod ranges;
+pub mod files;
+pub mod laws;
 pub mod refusal;
 pub mod report;
 pub mod status;
 pub mod texts;
-pub mod visits;
 pub mod words;
 
 pub use driver::{run, tell_no_memory};

@@ -1,10 +1,12 @@
-//! What a command found: totals, or why it stopped.
-ghost use Rattle.std.specs.Prelude.{◌≡◌, Err};
-ghost use Rattle.cocoon_cli.specs.Report.{flaw_column, flaw_line, refusal_status, status_of, flaw_word};
+//! Why a command stopped.
+ghost use Rattle.std.specs.Prelude.{◌≡◌};
+ghost use Rattle.cocoon_cli.specs.Report.{flaw_column, flaw_line, flaw_word, refusal_status};
 
+use crate::files::CommandFile;
 use crate::status::Status;
 use cocoon_num::NoMemory;
 use cocoon_text::TextFault;
+use net_bundle::BundleFault;
 use std::alloc::AllocError;
 
 /// What is wrong with a text.
@@ -12,7 +14,7 @@ use std::alloc::AllocError;
 pub enum Flaw {
     /// It has no tree, and this is its first fault.
     Fault(TextFault),
-    /// It has a tree, which `compile` does not take yet.
+    /// It has a tree, which the compiler does not take yet.
     NotYet,
 }
 
@@ -48,21 +50,19 @@ impl Flaw {
     }
 }
 
-/// Why a command stopped, with the file that its report names.
-#[derive(Debug, Drop)]
+/// Why a command stopped, with the file that it is about.
+#[derive(Clone, Copy, Debug, Drop, PartialEq, Eq)]
 pub enum Refusal {
-    /// The words are no command.
-    Usage,
     /// The design has this flaw.
-    Design(String, Flaw),
+    Language(Flaw),
     /// The definitions have this flaw.
-    Definitions(String, Flaw),
-    ReadFault(String),
-    WriteFault(String),
+    Definitions(Flaw),
+    ReadFault(CommandFile),
+    WriteFault(CommandFile),
     /// The file has more bytes than this number.
-    TooLong(String, u64),
+    TooLong(CommandFile, u64),
     NoMemory,
-    NoFile(String),
+    NoFile(CommandFile),
 }
 
 impl From<NoMemory> for Refusal {
@@ -87,12 +87,19 @@ impl From<AllocError> for Refusal {
     }
 }
 
-/// How many of each thing a compiled network has. Hosts at no port count, too.
-#[derive(Clone, Copy, Debug, Drop, PartialEq, Eq)]
-pub struct Totals {
-    pub switches: u64,
-    pub hosts: u64,
-    pub links: u64,
+impl From<BundleFault> for Refusal {
+    ghost use Rattle.std.specs.Prelude.{◌≡◌};
+    ghost use Rattle.cocoon_cli.specs.Reading.{unwritten};
+
+    ghost from_gives = { λ fault r. r ≡ unwritten fault };
+
+    fn from(fault: BundleFault) -> Refusal {
+        match fault {
+            BundleFault::Folder(file, _) => Refusal::WriteFault(CommandFile::Bundle(file)),
+            BundleFault::Limit(file) => Refusal::TooLong(CommandFile::Bundle(file), file.most()),
+            BundleFault::NoMemory => Refusal::NoMemory,
+        }
+    }
 }
 
 impl Refusal {
@@ -101,24 +108,13 @@ impl Refusal {
         ensures { result ≡ refusal_status self.now }
     {
         match self {
-            Refusal::Usage => Status::Usage,
-            Refusal::Design(_, _) => Status::Language,
-            Refusal::Definitions(_, _) => Status::Broken,
+            Refusal::Language(_) => Status::Language,
+            Refusal::Definitions(_) => Status::Broken,
             Refusal::ReadFault(_) => Status::ReadFault,
             Refusal::WriteFault(_) => Status::WriteFault,
             Refusal::TooLong(_, _) => Status::Limit,
             Refusal::NoMemory => Status::NoMemory,
             Refusal::NoFile(_) => Status::NoFile,
         }
-    }
-}
-
-/// The status with which a command ends that found this.
-pub fn status_of(found: &Result<Totals, Refusal>) -> Status
-    ensures { result ≡ status_of found.now }
-{
-    match found {
-        Ok(_) => Status::Done,
-        Err(refusal) => refusal.status(),
     }
 }

@@ -3,10 +3,11 @@ ghost use Rattle.std.specs.Prelude.{◌≡◌, IfOk, false, map, option_and_then
 ghost use Rattle.clap.specs.Words.{app_of, found_of, rows_of, rule_of, subcommand_rows_of, with_subcommand};
 ghost use Rattle.clap.specs.declared.builder.Command.TheViews.{out-Command};
 ghost use Rattle.cocoon_cli.specs.Command.{command, command_of, compile, compile_of, is_file_name, is_name_byte, matched, name_at};
+ghost use Rattle.cocoon_cli.specs.Stands as stands;
 ghost use Rattle.cocoon_cli.specs.Stated.{cocoon, compile_app, position, with_each};
 
 use clap::error::ErrorKind;
-use clap::{Arg, ArgAction, ArgMatches, Command};
+use clap::{Arg, ArgAction, ArgMatches, Command as Stated};
 use cocoon_num::NoMemory;
 use std::alloc::Global;
 
@@ -18,6 +19,12 @@ const DEFS: &str = "DEFS";
 
 /// That of the name of the bundle.
 const OUT: &str = "OUT";
+
+/// What the words ask for.
+#[derive(Clone, Copy, Debug, Drop)]
+pub enum Command<'w> {
+    Compile(Compile<'w>),
+}
 
 /// The names that `compile` is given.
 #[derive(Clone, Copy, Debug, Drop)]
@@ -41,11 +48,13 @@ fn position<'w>(alloc: Global, id: &'w str) -> Arg<'w>
 /// The command with these positions, in their order.
 fn with_positions<'w>(
     alloc: Global,
-    command: Command<'w>,
+    command: Stated<'w>,
     ids: &[&'w str],
-) -> Result<Command<'w>, NoMemory>
-    ensures app { IfOk result (λ c. app_of c ≡ with_each position (app_of command.entry) (map (λ id. id.now) ids.now)) }
-    ensures local { IfOk result (λ c. (out-Command c).has_globals ≡ (out-Command command.entry).has_globals) }
+) -> Result<Stated<'w>, NoMemory>
+    ensures app { IfOk result (λ c. app_of c
+        ≡ with_each position (app_of command.entry) (map (λ id. id.now) ids.now)) }
+    ensures local { IfOk result (λ c. (out-Command c).has_globals
+        ≡ (out-Command command.entry).has_globals) }
 {
     let mut command = command;
     for id in ids {
@@ -55,32 +64,34 @@ fn with_positions<'w>(
 }
 
 /// The subcommand `compile`.
-fn compile_command<'w>(alloc: Global) -> Result<Command<'w>, NoMemory>
+fn compile_command<'w>(alloc: Global) -> Result<Stated<'w>, NoMemory>
     ensures app { IfOk result (λ c. app_of c ≡ compile_app) }
     ensures local { IfOk result (λ c. (out-Command c).has_globals ≡ false) }
 {
-    with_positions(alloc, Command::new(alloc, "compile"), &[DESIGN, DEFS, OUT])
+    with_positions(alloc, Stated::new(alloc, "compile"), &[DESIGN, DEFS, OUT])
 }
 
 /// The command with one more subcommand.
-fn with_subcommand<'w>(command: Command<'w>, sub: Command<'w>) -> Result<Command<'w>, NoMemory>
+fn with_subcommand<'w>(command: Stated<'w>, sub: Stated<'w>) -> Result<Stated<'w>, NoMemory>
     requires { (out-Command sub).has_globals ≡ false }
-    ensures { IfOk result (λ c. app_of c ≡ with_subcommand (app_of command.entry) (app_of sub.entry).top) }
+    ensures { IfOk result (λ c. app_of c
+        ≡ with_subcommand (app_of command.entry) (app_of sub.entry).top) }
 {
     Ok(command.subcommand(sub)?)
 }
 
 /// The whole command.
-fn stated<'w>(alloc: Global) -> Result<Command<'w>, NoMemory>
+fn stated<'w>(alloc: Global) -> Result<Stated<'w>, NoMemory>
     ensures { IfOk result (λ c. app_of c ≡ cocoon) }
 {
-    let command = Command::new(alloc, "cocoon");
+    let command = Stated::new(alloc, "cocoon");
     with_subcommand(command, compile_command(alloc)?)
 }
 
 /// What the command makes of the words; nothing where it refuses them, or is asked for help.
 fn matches<'w>(alloc: Global, words: &'w [String]) -> Result<Option<ArgMatches<'w>>, NoMemory>
-    ensures { IfOk result (λ m. option_and_then subcommand_rows_of m ≡ matched (map string_bytes words.entry.now)) }
+    ensures { IfOk result (λ m. option_and_then subcommand_rows_of m
+        ≡ matched (map string_bytes words.entry.now)) }
 {
     let command = stated(alloc)?;
     match command.try_get_matches_from(words) {
@@ -112,7 +123,8 @@ fn is_file_name(word: &str) -> bool
 
 /// The word at a position, where it is a name.
 fn name<'w>(matches: &ArgMatches<'w>, position: &str) -> Option<&'w str>
-    ensures { option_map (λ word. word.now) result ≡ name_at position.now (rows_of (found_of matches.now)) }
+    ensures { option_map (λ word. word.now) result
+        ≡ name_at position.now (rows_of (found_of matches.now)) }
 {
     match matches.get_str(position) {
         Some(word) if is_file_name(word) => Some(word),
@@ -122,7 +134,8 @@ fn name<'w>(matches: &ArgMatches<'w>, position: &str) -> Option<&'w str>
 
 /// The names of a `compile`, where each has its form.
 fn compile_of<'w>(matches: &ArgMatches<'w>) -> Option<Compile<'w>>
-    ensures { option_map (λ c. compile c.design.now c.defs.now c.out.now) result ≡ compile_of (rows_of (found_of matches.now)) }
+    ensures { option_map (λ c. compile c.design.now c.defs.now c.out.now) result
+        ≡ compile_of (rows_of (found_of matches.now)) }
 {
     let design = name(matches, DESIGN)?;
     let defs = name(matches, DEFS)?;
@@ -131,19 +144,21 @@ fn compile_of<'w>(matches: &ArgMatches<'w>) -> Option<Compile<'w>>
 }
 
 /// What a subcommand asks for, by its name and its matches.
-fn command_of<'w>(name: &str, matches: &ArgMatches<'w>) -> Option<Compile<'w>>
-    ensures { option_map (λ c. compile c.design.now c.defs.now c.out.now) result ≡ command_of (name.now, rows_of (found_of matches.now)) }
+fn command_of<'w>(name: &str, matches: &ArgMatches<'w>) -> Option<Command<'w>>
+    ensures { option_map stands.stands_for result
+        ≡ command_of (name.now, rows_of (found_of matches.now)) }
 {
     if name == "compile" {
-        compile_of(matches)
+        compile_of(matches).map(Command::Compile)
     } else {
         None
     }
 }
 
 /// What the subcommand that was met asks for.
-fn asked<'w>(matches: &ArgMatches<'w>) -> Option<Compile<'w>>
-    ensures { option_map (λ c. compile c.design.now c.defs.now c.out.now) result ≡ option_and_then command_of (subcommand_rows_of matches.now) }
+fn asked<'w>(matches: &ArgMatches<'w>) -> Option<Command<'w>>
+    ensures { option_map stands.stands_for result
+        ≡ option_and_then command_of (subcommand_rows_of matches.now) }
 {
     match matches.subcommand() {
         Some((name, met)) => command_of(name, met),
@@ -153,8 +168,12 @@ fn asked<'w>(matches: &ArgMatches<'w>) -> Option<Compile<'w>>
 
 /// The command that the words give, the program's name first.
 #[tactic(auto, unfolding(crate::specs::Command::command))]
-pub fn command<'w>(alloc: Global, words: &'w [String]) -> Result<Option<Compile<'w>>, NoMemory>
-    ensures { IfOk result (λ c. option_map (λ n. compile n.design.now n.defs.now n.out.now) c ≡ command (map string_bytes words.entry.now)) }
+pub fn parse_command<'w>(
+    alloc: Global,
+    words: &'w [String],
+) -> Result<Option<Command<'w>>, NoMemory>
+    ensures { IfOk result (λ c. option_map stands.stands_for c
+        ≡ command (map string_bytes words.entry.now)) }
 {
     match matches(alloc, words)? {
         Some(matches) => Ok(asked(&matches)),

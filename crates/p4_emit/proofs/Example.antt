@@ -3,7 +3,7 @@ use Rattle.std.proofs.Common.{◌≡◌, ℕ, List, refl, subst}
 use Rattle.std.specs.Fmt.{digits}
 use Rattle.p4_emit.specs.ExampleP4.{c_program, c_p4}
 use Rattle.p4_emit.specs.ExampleMP4.{m_program, m_p4}
-use Rattle.p4_emit.specs.P4Reads.{P4Reads}
+use Rattle.p4_ir.specs.P4Reads.{P4Reads}
 use Rattle.p4_emit.proofs.WellKinded.{printed_reads}
 use Rattle.p4_emit.specs.Printed.{fixed, header_field_text, header_text, member_text, meta_member_text, extract_text, deparse_text, heads_text, ingress_text, egress_text, key_text, keys_text, action_text, default_text, printed, verdict_text, egress_port_text, if_text, else_text, end_text}
 

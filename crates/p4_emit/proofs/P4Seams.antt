@@ -6,7 +6,7 @@ use Rattle.std.proofs.lemmas.Bool.Decides.{nat_tests}
 use Rattle.cocoon_num.specs.Names.{same_name}
 use Rattle.cocoon_num.specs.Lists.{is_one_of}
 use Rattle.cocoon_num.specs.Tokens.{Kind, word, mark, is_letter, is_word_byte, word_kind}
-use Rattle.p4_emit.specs.P4Text.{p4_lexicon}
+use Rattle.p4_ir.specs.P4Text.{p4_lexicon}
 use Rattle.p4_emit.proofs.Seams as seams
 use Rattle.p4_emit.proofs.Seams.{Seams, all_word_bytes, is_name}
 

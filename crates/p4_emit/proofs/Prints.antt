@@ -3,10 +3,10 @@ use Rattle.std.proofs.Common.{◌≡◌, ℕ, zero, suc, ◌+◌, ◌^◌, ◌�
 use Rattle.std.specs.Prelude.{codes, decimal, slice_get}
 use Rattle.cocoon_num.specs.Values.{UnaryOp, flip, not_, BinaryOp, add, sub, bits_and, bits_or, bits_xor, concat, equal, unequal, less, less_equal, greater, greater_equal, and_, or_, implies}
 use Rattle.cocoon_num.specs.Tokens.{Kind, word, plain, literal, mark}
-use Rattle.p4_emit.specs.P4Tree.{P4Expr, p_lit, p_truth, p_meta, p_field, p_port, p_rid, p_unary, p_binary, p_slice, p_pick, P4Stmt, set_meta, set_header, apply_table, p_if, p_if_else, verdict, egress_port, group, p_return, P4Block, p_done, p_then, P4Field, P4Header, Program}
-use Rattle.p4_emit.specs.P4Kinds.{is_implies}
+use Rattle.p4_ir.specs.P4Tree.{P4Expr, p_lit, p_truth, p_meta, p_field, p_port, p_rid, p_unary, p_binary, p_slice, p_pick, P4Stmt, set_meta, set_header, apply_table, p_if, p_if_else, verdict, egress_port, group, p_return, P4Block, p_done, p_then, P4Field, P4Header, Program}
+use Rattle.p4_ir.specs.P4Kinds.{is_implies}
 use Rattle.std.proofs.lemmas.List.{append-nil}
-use Rattle.p4_emit.specs.P4Text.{said, of_found, table_name, action_name, meta_tokens, field_tokens, expr_tokens, stmt_tokens, block_tokens, unary_mark, binary_mark}
+use Rattle.p4_ir.specs.P4Text.{said, of_found, table_name, action_name, meta_tokens, field_tokens, expr_tokens, stmt_tokens, block_tokens, unary_mark, binary_mark}
 use Rattle.p4_emit.specs.Printed.{new_line, literal_text, found_text, meta_text, field_text, unary_text, binary_text, expr_text, verdict_text, egress_port_text, group_text, if_text, else_text, end_text, stmt_text, block_text}
 use Rattle.p4_emit.proofs.Joins as joins
 use Rattle.p4_emit.proofs.P4Seams.{p4_seams, is_clear, word_spells}

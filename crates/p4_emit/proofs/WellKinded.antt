@@ -6,11 +6,11 @@ use Rattle.cocoon_num.specs.Values.{UnaryOp, flip, not_, BinaryOp, add, sub, bit
 use Rattle.cocoon_num.specs.Names.{same_name}
 use Rattle.cocoon_num.specs.Sorts.{Sort, bits_sort, truth_sort, unary_sort, binary_sort, slice_sort, pick_sort, of_two, of_three, has_sort, one_width, joined_sort, two_truths, same_sort, is_declared_width}
 use Rattle.cocoon_num.specs.Tokens.{is_run, is_letter, is_word_byte, is_shallow}
-use Rattle.p4_emit.specs.P4Tree.{P4Expr, p_lit, p_truth, p_meta, p_field, p_port, p_rid, p_unary, p_binary, p_slice, p_pick, P4Stmt, set_meta, set_header, apply_table, p_if, p_if_else, verdict, egress_port, group, p_return, P4Block, p_done, p_then, P4Field, P4Header, P4Table, Program, field_widths}
-use Rattle.p4_emit.specs.P4Text.{result_width, p4_bounds, program_tokens}
+use Rattle.p4_ir.specs.P4Tree.{P4Expr, p_lit, p_truth, p_meta, p_field, p_port, p_rid, p_unary, p_binary, p_slice, p_pick, P4Stmt, set_meta, set_header, apply_table, p_if, p_if_else, verdict, egress_port, group, p_return, P4Block, p_done, p_then, P4Field, P4Header, P4Table, Program, field_widths}
+use Rattle.p4_ir.specs.P4Text.{result_width, p4_bounds, program_tokens}
 use Rattle.cocoon_num.specs.Lists.{each, has_number, ascend, all_distinct}
-use Rattle.p4_emit.specs.P4Kinds.{is_meta_name, last_is_digit, names_fit, widths_fit, table_fits, tables_fit, numbers_of, Within, sort_if, meta_sort, field_sort, is_implies, p4_sort, sets, is_empty, stmt_fits, block_fits, is_well_kinded}
-use Rattle.p4_emit.specs.P4Reads.{P4Reads}
+use Rattle.p4_ir.specs.P4Kinds.{is_meta_name, last_is_digit, names_fit, widths_fit, table_fits, tables_fit, numbers_of, Within, sort_if, meta_sort, field_sort, is_implies, p4_sort, sets, is_empty, stmt_fits, block_fits, is_well_kinded}
+use Rattle.p4_ir.specs.P4Reads.{P4Reads}
 use Rattle.cocoon_num.specs.Packets.{total}
 use Rattle.p4_emit.specs.Printed.{printed}
 use Rattle.p4_emit.proofs.Seams.{all_word_bytes, is_name}

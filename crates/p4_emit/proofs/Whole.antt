@@ -2,8 +2,8 @@
 use Rattle.std.proofs.Common.{◌≡◌, ℕ, ◌^◌, ◌≤◌, ◌<◌, List, [], ◌∷◌, ◌++◌, Bool, true, false, Ok, refl, pow_pos, ap, sym, ◌∙◌, arith, append_assoc}
 use Rattle.std.specs.Prelude.{codes, flat_map}
 use Rattle.cocoon_num.specs.Tokens.{Kind, word, plain, literal, mark, finish, Token, lex, kinds}
-use Rattle.p4_emit.specs.P4Tree.{P4Field, P4Header, P4Table, Control, Program}
-use Rattle.p4_emit.specs.P4Text.{said, p4_lexicon, meta_tokens, action_name, table_name, architecture, header_tokens, member_tokens, meta_member_tokens, match_kind, result_width, table_tokens, program_tokens, declared, header_name, block_tokens}
+use Rattle.p4_ir.specs.P4Tree.{P4Field, P4Header, P4Table, Control, Program}
+use Rattle.p4_ir.specs.P4Text.{said, p4_lexicon, meta_tokens, action_name, table_name, architecture, header_tokens, member_tokens, meta_member_tokens, match_kind, result_width, table_tokens, program_tokens, declared, header_name, block_tokens}
 use Rattle.p4_emit.specs.declared.print.Fixed.TheVariants.{Architecture}
 use Rattle.p4_emit.specs.Printed.{each_text, fixed as fixed_text, header_field_text, header_text, member_text, meta_member_text, extract_text, deparse_text, kind_text, key_text, keys_text, action_text, default_text, table_text, heads_text, ingress_text, egress_text, printed}
 use Rattle.p4_emit.proofs.Seams.{spells_lexes}

@@ -1,7 +1,7 @@
 -- The program that stands for switch 1 of the design m, its rows and its text.
 use Rattle.std.specs.Prelude.{ℕ, false, List, [], ◌∷◌, codes}
 use Rattle.cocoon_num.specs.Values.{not_, equal, and_}
-use Rattle.p4_emit.specs.P4Tree.{p_lit, p_meta, p_field, p_port, p_unary, p_binary, set_meta, apply_table, p_if, verdict, egress_port, p_return, p_done, p_then, Program, RowsFile}
+use Rattle.p4_ir.specs.P4Tree.{p_lit, p_meta, p_field, p_port, p_unary, p_binary, set_meta, apply_table, p_if, verdict, egress_port, p_return, p_done, p_then, Program, RowsFile}
 
 abbrev pub m_program : Program
 m_program = record {

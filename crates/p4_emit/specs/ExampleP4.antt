@@ -1,7 +1,7 @@
 -- The program that stands for switch 1 of the design c, its rows and its text.
 use Rattle.std.specs.Prelude.{ℕ, List, [], ◌∷◌, codes}
 use Rattle.cocoon_num.specs.Values.{equal}
-use Rattle.p4_emit.specs.P4Tree.{p_lit, p_field, p_binary, p_if_else, verdict, egress_port, p_return, p_done, p_then, Program}
+use Rattle.p4_ir.specs.P4Tree.{p_lit, p_field, p_binary, p_if_else, verdict, egress_port, p_return, p_done, p_then, Program}
 
 abbrev pub c_program : Program
 c_program = record {

@@ -1,11 +1,3 @@
-pub mod P4Tree
-pub mod P4Text
-pub mod P4Kinds
-pub mod P4Reads
-pub mod Program
 pub mod Printed
 pub mod ExampleP4
 pub mod ExampleMP4
-pub mod Switch
-pub mod NetTree
-pub mod NetRuns

@@ -3,8 +3,8 @@
 -- rows are absent.
 use Rattle.std.specs.Prelude.{ℕ, ◌+◌, Bool, true, false, List, [], ◌∷◌, ◌++◌, replicate, slice_get, Option, Some, None, decimal, codes}
 use Rattle.cocoon_num.specs.Values.{UnaryOp, flip, not_, BinaryOp, add, sub, bits_and, bits_or, bits_xor, concat, equal, unequal, less, less_equal, greater, greater_equal, and_, or_, implies}
-use Rattle.p4_emit.specs.P4Tree.{P4Expr, p_lit, p_truth, p_meta, p_field, p_port, p_rid, p_unary, p_binary, p_slice, p_pick, P4Stmt, set_meta, set_header, apply_table, p_if, p_if_else, verdict, egress_port, group, p_return, P4Block, p_done, p_then, P4Field, P4Header, P4Table, Program}
-use Rattle.p4_emit.specs.P4Text.{result_width}
+use Rattle.p4_ir.specs.P4Tree.{P4Expr, p_lit, p_truth, p_meta, p_field, p_port, p_rid, p_unary, p_binary, p_slice, p_pick, P4Stmt, set_meta, set_header, apply_table, p_if, p_if_else, verdict, egress_port, group, p_return, P4Block, p_done, p_then, P4Field, P4Header, P4Table, Program}
+use Rattle.p4_ir.specs.P4Text.{result_width}
 use Rattle.p4_emit.specs.declared.print.Fixed.{Fixed}
 use Rattle.p4_emit.specs.declared.print.Fixed.TheVariants.{Architecture, Headers, Meta, Parser, Ingress, IngressBegin, Egress, EgressBegin, Deparser, Main}
 

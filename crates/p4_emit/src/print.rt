@@ -1,16 +1,14 @@
 //! The text of a program.
 ghost use Rattle.std.specs.Prelude.{◌≡◌, ◌+◌, ◌^◌, ◌<◌, ◌++◌, ◌∷◌, [], IsTrue, OnOk, IfOk, map, decimal, codes};
-ghost use Rattle.p4_emit.specs.P4Kinds.{is_well_kinded};
-ghost use Rattle.p4_emit.specs.P4Reads.{P4Reads};
-ghost use Rattle.p4_emit.specs.P4Text.{result_width, p4_bounds, program_tokens};
+ghost use Rattle.p4_ir.specs.P4Kinds.{is_well_kinded};
+ghost use Rattle.p4_ir.specs.P4Reads.{P4Reads};
+ghost use Rattle.p4_ir.specs.P4Text.{result_width, p4_bounds, program_tokens};
 ghost use Rattle.cocoon_num.specs.Tokens.{is_shallow};
 ghost use Rattle.p4_emit.specs.Printed as spec;
-ghost use Rattle.p4_emit.specs.Program.{expr_of, stmt_of, block_of, field_of, header_of, table_of, control_of, program_of, unary_of, binary_of};
+ghost use Rattle.p4_ir.specs.Program.{expr_of, stmt_of, block_of, field_of, header_of, table_of, control_of, program_of, unary_of, binary_of};
 
-use crate::program::{
-    Control, P4Binary, P4Expr, P4Field, P4Header, P4Stmt, P4Unary, Program, Table,
-};
 use cocoon_num::{NoMemory, Text};
+use p4_ir::{P4Binary, P4Expr, P4Field, P4Header, P4Stmt, P4Unary, Program, Table};
 use std::alloc::Global;
 
 /// The pieces that every program has.

@@ -1,11 +1,12 @@
 //! What no clause says: that `emit` answers while there is memory, and its text for a program that was worked by hand.
 ghost use Rattle.std.specs.Prelude.{◌≡◌, ◌∷◌, [], IfOk, codes, map};
 ghost use Rattle.p4_emit.specs.ExampleP4.{c_program};
-ghost use Rattle.p4_emit.specs.P4Tree as tree;
-ghost use Rattle.p4_emit.specs.Program.{block_of, control_of, field_of, header_of, program_of, stmt_of};
+ghost use Rattle.p4_ir.specs.P4Tree as tree;
+ghost use Rattle.p4_ir.specs.Program.{block_of, control_of, field_of, header_of, program_of, stmt_of};
 
-use crate::{Control, P4Binary, P4Expr, P4Field, P4Header, P4Stmt, Program, emit};
+use crate::emit;
 use cocoon_num::{Bits, List, NoMemory, Text};
+use p4_ir::{Control, P4Binary, P4Expr, P4Field, P4Header, P4Stmt, Program};
 use std::alloc::Global;
 use std::test::Fail;
 

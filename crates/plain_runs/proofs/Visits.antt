@@ -3,8 +3,8 @@ use Rattle.std.specs.Prelude.{◌≡◌, ℕ, ◌==◌, ◌&&◌, Bool, true, fa
 use Rattle.std.proofs.Common.{◌∙◌, ap}
 use Rattle.cocoon_num.specs.Values.{Value, number, truth, number_of, of_binary, with_both, equal}
 use Rattle.cocoon_num.specs.Packets.{Packet, Layout, enter}
-use Rattle.p4_emit.specs.P4Tree.{P4Expr, p_lit, p_truth, p_field, p_port, p_binary, P4Stmt, p_if_else, verdict, egress_port, p_return, P4Block, p_done, p_then, Program, no_rows, program_layout}
-use Rattle.p4_emit.specs.Switch.{Departure, State, Running, Ran, goes_on, returned, p4_value, header_field, numbered, both, p4_run, p4_run_all, choose, then_run, state_of, ingress_of, after_ingress, switch_go}
+use Rattle.p4_ir.specs.P4Tree.{P4Expr, p_lit, p_truth, p_field, p_port, p_binary, P4Stmt, p_if_else, verdict, egress_port, p_return, P4Block, p_done, p_then, Program, no_rows, program_layout}
+use Rattle.p4_ir.specs.Switch.{Departure, State, Running, Ran, goes_on, returned, p4_value, header_field, numbered, both, p4_run, p4_run_all, choose, then_run, state_of, ingress_of, after_ingress, switch_go}
 use Rattle.plain_runs.specs.Ingress as plain
 use Rattle.plain_runs.specs.Plain.{is_plain_expr, is_width_of, has_width, is_plain_stmt, is_plain_block, is_plain}
 use Rattle.plain_runs.specs.declared.switch.Found.{Found}

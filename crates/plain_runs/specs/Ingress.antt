@@ -2,7 +2,7 @@
 -- in no contract of a public call.
 use Rattle.std.specs.Prelude.{ℕ, ◌==◌, ◌<◌, ◌^◌, Bool, true, false, List, [], ◌∷◌, slice_get, if◌then◌else◌, Option, Some, None, option_map, option_and_then}
 use Rattle.cocoon_num.specs.Packets.{Packet, Layout, leave}
-use Rattle.p4_emit.specs.P4Tree.{P4Expr, p_lit, p_truth, p_field, p_port, p_binary, P4Stmt, p_if_else, verdict, egress_port, p_return, P4Block, p_done, p_then}
+use Rattle.p4_ir.specs.P4Tree.{P4Expr, p_lit, p_truth, p_field, p_port, p_binary, P4Stmt, p_if_else, verdict, egress_port, p_return, P4Block, p_done, p_then}
 use Rattle.plain_runs.specs.Plain.{is_equality}
 use Rattle.plain_runs.specs.declared.switch.Found.{Found}
 use Rattle.plain_runs.specs.declared.switch.Found.TheVariants.{Number, Truth}

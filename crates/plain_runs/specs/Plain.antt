@@ -2,7 +2,7 @@
 use Rattle.std.specs.Prelude.{ℕ, ◌==◌, ◌&&◌, Bool, true, false, slice_get, Option, Some, None, option_and_then, IsTrue}
 use Rattle.cocoon_num.specs.Packets.{Layout}
 use Rattle.cocoon_num.specs.Values.{BinaryOp, equal}
-use Rattle.p4_emit.specs.P4Tree.{P4Expr, p_lit, p_truth, p_field, p_port, p_binary, P4Stmt, p_if_else, verdict, egress_port, p_return, P4Block, p_done, p_then, Program, program_layout}
+use Rattle.p4_ir.specs.P4Tree.{P4Expr, p_lit, p_truth, p_field, p_port, p_binary, P4Stmt, p_if_else, verdict, egress_port, p_return, P4Block, p_done, p_then, Program, program_layout}
 use Rattle.plain_runs.specs.Widths.{is_layout}
 
 -- the operator tests whether two values are equal

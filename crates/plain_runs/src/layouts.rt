@@ -2,13 +2,13 @@
 ghost use Rattle.std.specs.Prelude.{◌≡◌, IfOk, map};
 ghost use Rattle.cocoon_num.specs.Lists.{each};
 ghost use Rattle.cocoon_num.specs.Packets as packets;
-ghost use Rattle.p4_emit.specs.P4Tree.{field_widths, program_layout};
-ghost use Rattle.p4_emit.specs.Program.{field_of, program_of};
+ghost use Rattle.p4_ir.specs.P4Tree.{field_widths, program_layout};
+ghost use Rattle.p4_ir.specs.Program.{field_of, program_of};
 ghost use Rattle.cocoon_num.specs.Sorts.{is_declared_width};
 ghost use Rattle.plain_runs.specs.Widths as spec;
 
 use cocoon_num::{List, NoMemory};
-use p4_emit::{P4Field, Program};
+use p4_ir::{P4Field, Program};
 use std::alloc::Global;
 
 /// How many bits the fields have.

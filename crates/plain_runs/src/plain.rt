@@ -1,11 +1,11 @@
 //! Whether a program is plain.
 ghost use Rattle.std.specs.Prelude.{◌≡◌, IfOk, map, option_and_then, slice_get};
-ghost use Rattle.p4_emit.specs.Program.{binary_of, block_of, expr_of, program_of, stmt_of};
+ghost use Rattle.p4_ir.specs.Program.{binary_of, block_of, expr_of, program_of, stmt_of};
 ghost use Rattle.plain_runs.specs.Plain as spec;
 
 use crate::layouts::{is_layout, layout};
 use cocoon_num::{List, NoMemory};
-use p4_emit::{P4Binary, P4Expr, P4Stmt, Program};
+use p4_ir::{P4Binary, P4Expr, P4Stmt, Program};
 use std::alloc::Global;
 
 /// Whether `visit` can be asked about a program.

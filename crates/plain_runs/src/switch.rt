@@ -1,21 +1,21 @@
 //! One visit of a switch that runs a plain program over empty rows.
 ghost use Rattle.std.specs.Prelude.{◌≡◌, IfOk, IfSome, IsTrue, map, option_map};
 ghost use Rattle.cocoon_num.specs.Packets.{PacketFits};
-ghost use Rattle.p4_emit.specs.P4Tree.{field_widths, no_rows, program_layout};
-ghost use Rattle.p4_emit.specs.Program.{binary_of, block_of, expr_of, field_of, program_of, stmt_of};
+ghost use Rattle.p4_ir.specs.P4Tree.{field_widths, no_rows, program_layout};
+ghost use Rattle.p4_ir.specs.Program.{binary_of, block_of, expr_of, field_of, program_of, stmt_of};
 ghost use Rattle.plain_runs.specs.Plain as plain;
 ghost use Rattle.plain_runs.specs.Ingress as spec;
 ghost use Rattle.plain_runs.specs.Ingress.{IsNarrow};
 ghost use Rattle.plain_runs.specs.Plain.{IsPlain};
 ghost use Rattle.plain_runs.specs.Seen.{entered_of, left_of};
 ghost use Rattle.plain_runs.specs.Widths.{is_layout};
-ghost use Rattle.p4_emit.specs.Switch.{switch_go};
+ghost use Rattle.p4_ir.specs.Switch.{switch_go};
 
 use crate::layouts::layout;
 use crate::packet::{Entered, Packet, enter, leave};
 use crate::plain::is_equality;
 use cocoon_num::{List, NoMemory};
-use p4_emit::{P4Binary, P4Expr, P4Field, P4Stmt, Program};
+use p4_ir::{P4Binary, P4Expr, P4Field, P4Stmt, Program};
 use std::alloc::Global;
 
 /// The value of an expression.

@@ -5,7 +5,7 @@ ghost use Rattle.cocoon_thin.specs.ExampleThin.{example_thin};
 use crate::{Packet, enter, go, is_layout, is_plain, leave, visit};
 use cocoon_num::{Bits, List, NoMemory, Text};
 use cocoon_thin::{Thin, ThinField};
-use p4_emit::{Control, P4Binary, P4Expr, P4Field, P4Header, P4Stmt, Program};
+use p4_ir::{Control, P4Binary, P4Expr, P4Field, P4Header, P4Stmt, Program};
 use std::alloc::Global;
 use std::process::Abort;
 use std::test::Fail;

@@ -3,10 +3,10 @@ use Rattle.std.specs.Prelude.{◌≡◌, ℕ, zero, suc, ◌==◌, Bool, true, f
 use Rattle.std.proofs.Common.{sym, ◌∙◌, ap, subst}
 use Rattle.std.proofs.lemmas.Bool.{eqb-true}
 use Rattle.cocoon_num.specs.Packets.{Packet, enter}
-use Rattle.p4_emit.specs.P4Tree.{Program, RowsFile, program_layout}
-use Rattle.p4_emit.specs.Switch.{State, ingress_of, after_ingress, copied, switch_go}
-use Rattle.p4_emit.specs.NetTree.{LinkEnd, to_switch, to_host, SwitchFiles, NetData}
-use Rattle.p4_emit.specs.NetRuns.{switch_at, link_at, attach_at, Onward, Visits, NetGo}
+use Rattle.p4_ir.specs.P4Tree.{Program, RowsFile, program_layout}
+use Rattle.p4_ir.specs.Switch.{State, ingress_of, after_ingress, copied, switch_go}
+use Rattle.p4_ir.specs.NetTree.{LinkEnd, to_switch, to_host, SwitchFiles, NetData}
+use Rattle.p4_ir.specs.NetRuns.{switch_at, link_at, attach_at, Onward, Visits, NetGo}
 use Rattle.text_laws.proofs.NetworkFound.{some_same}
 
 if_taken : {A : Type 0} (b : Bool) (o : Option A) (x : A) → (if b then o else None) ≡ Some x → b ≡ true

@@ -11,3 +11,5 @@ pub mod DeliveryNetwork
 pub mod NetworkFile
 pub mod NetworkRows
 pub mod NetworkReads
+pub mod ExampleNetwork
+pub mod ExampleBundle

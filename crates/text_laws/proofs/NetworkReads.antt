@@ -1,15 +1,15 @@
 -- Each file has one content, which reads as one thing, so the files of a folder give at most one network under a name.
-use Rattle.std.specs.Prelude.{◌≡◌, ℕ, List, [], ◌∷◌, ◌++◌, refl, codes}
+use Rattle.std.specs.Prelude.{◌≡◌, ℕ, List, [], ◌∷◌, ◌++◌, refl}
 use Rattle.std.specs.FinMap.{get}
 use Rattle.std.proofs.Common.{sym, ◌∙◌, ap, ap₂, subst}
 use Rattle.serde_json.specs.Read.{read}
 use Rattle.cocoon_io.specs.Files.{Files}
-use Rattle.p4_emit.specs.P4Tree.{Program, RowsFile}
-use Rattle.p4_emit.specs.P4Reads.{P4Reads}
-use Rattle.p4_emit.specs.NetTree.{Link, HostPort, SwitchFiles, NetData}
-use Rattle.cocoon_cli.specs.NetJson.{KeptDigest, net_data}
-use Rattle.cocoon_cli.specs.Bundle.{program_name, rows_name, file_name}
-use Rattle.cocoon_cli.specs.Network.{rows_data, SwitchReads, SwitchesRead, Network}
+use Rattle.p4_ir.specs.P4Tree.{Program, RowsFile}
+use Rattle.p4_ir.specs.P4Reads.{P4Reads}
+use Rattle.p4_ir.specs.NetTree.{Link, HostPort, SwitchFiles, NetData}
+use Rattle.net_bundle.specs.NetJson.{KeptDigest, net_data, rows_data}
+use Rattle.net_bundle.specs.BundleNames.{program_name, rows_name, net_name, file_name}
+use Rattle.net_bundle.specs.Network.{SwitchReads, SwitchesRead, Network}
 use Rattle.text_laws.proofs.NetworkFile.{file_same}
 use Rattle.text_laws.proofs.NetworkRows.{rows_same}
 use Rattle.text_laws.proofs.NetworkFound.{some_same, found_same}
@@ -56,7 +56,7 @@ net_same m n p s l h =
 
 pub one_network : OneProgram → (files : Files) (out : List ℕ) (m n : NetData) → Network files out m → Network files out n → m ≡ n
 one_network one files out m n a b =
-    let text = some_same (get files (file_name out (codes "net.json"))) a.text b.text a.text_is b.text_is in
+    let text = some_same (get files (file_name out net_name)) a.text b.text a.text_is b.text_is in
     let values = found_same read a.text b.text (net_data a.file) (net_data b.file) text a.json.1 b.json.1 in
     let same = file_same a.file b.file values in
     let reads : SwitchesRead files out a.file.files a.file.switches n.switches =

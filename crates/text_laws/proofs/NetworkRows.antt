@@ -5,9 +5,9 @@ use Rattle.std.proofs.lemmas.Bool.{and_parts, eqb-true}
 use Rattle.serde_json.specs.Data.{Data}
 use Rattle.serde_json.specs.View.{items_of}
 use Rattle.cocoon_num.specs.Lists.{each}
-use Rattle.p4_emit.specs.P4Tree.{KeyRow, TableRows, Group, RowsFile}
-use Rattle.cocoon_cli.specs.NetJson.{number_data, array_data}
-use Rattle.cocoon_cli.specs.Network.{key_data, row_data, table_data, group_data, rows_data, row_numbers_fit, table_numbers_fit, group_numbers_fit, rows_file_fits}
+use Rattle.p4_ir.specs.P4Tree.{KeyRow, TableRows, Group, RowsFile}
+use Rattle.net_bundle.specs.NetJson.{number_data, array_data, key_data, row_data, table_data, group_data, rows_data}
+use Rattle.p4_ir.specs.Loading.{row_numbers_fit, table_numbers_fit, group_numbers_fit, rows_file_fits}
 use Rattle.text_laws.proofs.NetworkFile.{number_same, object_same, member_same, array_same, numbers_same}
 
 -- lists whose things pass a test, where things that do are the same by their values

@@ -6,8 +6,8 @@ use Rattle.std.proofs.lemmas.Fmt.{decimal_is_IsNumeral}
 use Rattle.cocoon_num.specs.Lists.{has_number}
 use Rattle.cocoon_num.specs.Sorts.{Sort, bits_sort, truth_sort, has_sort}
 use Rattle.cocoon_num.specs.Tokens.{Kind, word, mark}
-use Rattle.p4_emit.specs.P4Tree.{P4Expr, P4Stmt, set_meta, set_header, apply_table, p_if, p_if_else, verdict, egress_port, group, p_return, P4Block, p_done, p_then}
-use Rattle.p4_emit.specs.P4Kinds.{Within, meta_sort, field_sort, p4_sort, sets, is_empty, stmt_fits, block_fits}
+use Rattle.p4_ir.specs.P4Tree.{P4Expr, P4Stmt, set_meta, set_header, apply_table, p_if, p_if_else, verdict, egress_port, group, p_return, P4Block, p_done, p_then}
+use Rattle.p4_ir.specs.P4Kinds.{Within, meta_sort, field_sort, p4_sort, sets, is_empty, stmt_fits, block_fits}
 use Rattle.text_laws.proofs.ProgramLists.{Each}
 use Rattle.text_laws.proofs.ProgramReader.{Read, is_mark, is_word, first_is, with_else, by_else, else_of, if_of, set_to, header_stmt, read_expr, size_of, expr_then, read_stmt, then_of, next_of, block_by, read_block, stmt_size, block_size, stmt_then, block_then}
 use Rattle.text_laws.proofs.ProgramReads.{Names, meta_there, meta_read, field_there, field_read, meta_found, field_found, stops, reads_expr}

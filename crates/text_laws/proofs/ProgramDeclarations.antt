@@ -5,9 +5,9 @@ use Rattle.std.proofs.lemmas.Bool.{and_parts, ltb-true}
 use Rattle.std.proofs.lemmas.Fmt.{decimal_injective}
 use Rattle.cocoon_num.specs.Lists.{each}
 use Rattle.cocoon_num.specs.Tokens.{Kind, word, plain, literal, mark}
-use Rattle.p4_emit.specs.P4Tree.{P4Block, P4Field, P4Header, P4Table, Control, Program}
-use Rattle.p4_emit.specs.P4Text.{said, field_name, table_name, action_name, meta_tokens, declared, in_parentheses, in_braces, assignment, block_tokens, header_tokens, meta_member_tokens, match_kind, result_width, table_tokens, control_tokens}
-use Rattle.p4_emit.specs.P4Kinds.{Within, table_fits, numbers_of, block_fits}
+use Rattle.p4_ir.specs.P4Tree.{P4Block, P4Field, P4Header, P4Table, Control, Program}
+use Rattle.p4_ir.specs.P4Text.{said, field_name, table_name, action_name, meta_tokens, declared, in_parentheses, in_braces, assignment, block_tokens, header_tokens, meta_member_tokens, match_kind, result_width, table_tokens, control_tokens}
+use Rattle.p4_ir.specs.P4Kinds.{Within, table_fits, numbers_of, block_fits}
 use Rattle.text_laws.proofs.ProgramLists.{Each, each_of, cancel, same_list}
 use Rattle.text_laws.proofs.ProgramReader.{Read, is_word, first_is, meta_number, read_block, block_size, block_then}
 use Rattle.text_laws.proofs.ProgramSpells.{one_part, meta_spells, block_spells}

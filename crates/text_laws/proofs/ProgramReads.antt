@@ -4,9 +4,9 @@ use Rattle.std.specs.Prelude.{codes, slice_get, option_map, option_and_then}
 use Rattle.cocoon_num.specs.Values.{flip, not_, BinaryOp, add, sub, bits_and, bits_or, bits_xor, concat, equal, unequal, less, less_equal, greater, greater_equal, and_, or_, implies}
 use Rattle.cocoon_num.specs.Sorts.{Sort, bits_sort, unary_sort, binary_sort, slice_sort, pick_sort, of_two, of_three}
 use Rattle.cocoon_num.specs.Tokens.{Kind, word, plain, mark}
-use Rattle.p4_emit.specs.P4Tree.{P4Expr, p_lit, p_truth, p_meta, p_field, p_port, p_rid, p_unary, p_binary, p_slice, p_pick, P4Field, P4Header}
-use Rattle.p4_emit.specs.P4Text.{binary_mark}
-use Rattle.p4_emit.specs.P4Kinds.{Within, is_implies, p4_sort}
+use Rattle.p4_ir.specs.P4Tree.{P4Expr, p_lit, p_truth, p_meta, p_field, p_port, p_rid, p_unary, p_binary, p_slice, p_pick, P4Field, P4Header}
+use Rattle.p4_ir.specs.P4Text.{binary_mark}
+use Rattle.p4_ir.specs.P4Kinds.{Within, is_implies, p4_sort}
 use Rattle.cocoon_num.specs.Lists.{all_distinct}
 use Rattle.text_laws.proofs.ProgramLists.{Each, number_is}
 use Rattle.text_laws.proofs.ProgramReader.{Read, is_mark, plain_of, header_number, meta_number, fields_of, read_field, after_binary, after_of, sliced, closed, arms, after_by, after_first, with_unary, field_expr, read_expr, size_of, meta_then, in_header, field_then, expr_then}

@@ -2,8 +2,8 @@
 use Rattle.std.proofs.Common.{◌≡◌, ℕ, List, [], ◌∷◌, ◌++◌, true, false, Option, Some, None, refl, ap, ◌∙◌, append_assoc}
 use Rattle.std.specs.Prelude.{codes, slice_get}
 use Rattle.cocoon_num.specs.Tokens.{Kind, word, plain, mark}
-use Rattle.p4_emit.specs.P4Tree.{P4Expr, p_lit, p_truth, p_meta, p_field, p_port, p_rid, p_unary, p_binary, p_slice, p_pick, P4Stmt, set_meta, set_header, apply_table, p_if, p_if_else, verdict, egress_port, group, p_return, P4Block, p_done, p_then, P4Field, P4Header, Program}
-use Rattle.p4_emit.specs.P4Text.{said, of_found, header_name, field_name, meta_tokens, field_tokens, unary_mark, binary_mark, expr_tokens, stmt_tokens, block_tokens}
+use Rattle.p4_ir.specs.P4Tree.{P4Expr, p_lit, p_truth, p_meta, p_field, p_port, p_rid, p_unary, p_binary, p_slice, p_pick, P4Stmt, set_meta, set_header, apply_table, p_if, p_if_else, verdict, egress_port, group, p_return, P4Block, p_done, p_then, P4Field, P4Header, Program}
+use Rattle.p4_ir.specs.P4Text.{said, of_found, header_name, field_name, meta_tokens, field_tokens, unary_mark, binary_mark, expr_tokens, stmt_tokens, block_tokens}
 use Rattle.text_laws.proofs.ProgramReader.{meta_then, in_header, field_then, expr_then, stmt_then, block_then}
 
 -- ---- groups

@@ -4,10 +4,10 @@ use Rattle.std.specs.Prelude.{codes}
 use Rattle.std.proofs.lemmas.Bool.{and_parts}
 use Rattle.cocoon_num.specs.Lists.{each, ascend, all_distinct}
 use Rattle.cocoon_num.specs.Tokens.{Kind, word, mark, finish, Token, LexFault, lex, kinds, is_run}
-use Rattle.p4_emit.specs.P4Tree.{P4Field, P4Header, Control, Program}
-use Rattle.p4_emit.specs.P4Text.{p4_lexicon, said, header_name, in_braces, architecture, header_tokens, member_tokens, meta_member_tokens, control_tokens, program_tokens}
-use Rattle.p4_emit.specs.P4Kinds.{is_meta_name, names_fit, widths_fit, table_fits, tables_fit, numbers_of, Within, block_fits, is_well_kinded}
-use Rattle.p4_emit.specs.P4Reads.{P4Reads}
+use Rattle.p4_ir.specs.P4Tree.{P4Field, P4Header, Control, Program}
+use Rattle.p4_ir.specs.P4Text.{p4_lexicon, said, header_name, in_braces, architecture, header_tokens, member_tokens, meta_member_tokens, control_tokens, program_tokens}
+use Rattle.p4_ir.specs.P4Kinds.{is_meta_name, names_fit, widths_fit, table_fits, tables_fit, numbers_of, Within, block_fits, is_well_kinded}
+use Rattle.p4_ir.specs.P4Reads.{P4Reads}
 use Rattle.text_laws.proofs.ProgramLists.{each_of, cancel, cancel_same}
 use Rattle.text_laws.proofs.ProgramSpells.{one_part}
 use Rattle.text_laws.proofs.ProgramReads.{Names}

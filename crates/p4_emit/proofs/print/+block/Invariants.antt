@@ -1,6 +1,6 @@
 use Rattle.std.proofs.Common.{◌≡◌, ◌++◌, drop, map}
 use Rattle.p4_emit.specs.Printed.{block_text}
-use Rattle.p4_emit.specs.Program.{stmt_of, block_of, program_of}
+use Rattle.p4_ir.specs.Program.{stmt_of, block_of, program_of}
 use Rattle.p4_emit.proofs.print.+block.Given as goal
 
 abbrev pub invariant-emit_block-loop-stmt : goal.invariant-emit_block-loop-stmt

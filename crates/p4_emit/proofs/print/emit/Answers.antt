@@ -1,7 +1,7 @@
 use Rattle.std.proofs.Common.{List, ℕ, subst, sym}
 use Rattle.std.proofs.lemmas.Result.{IfOk-weaker}
-use Rattle.p4_emit.specs.P4Reads.{P4Reads}
-use Rattle.p4_emit.specs.Program.{program_of}
+use Rattle.p4_ir.specs.P4Reads.{P4Reads}
+use Rattle.p4_ir.specs.Program.{program_of}
 use Rattle.p4_emit.proofs.WellKinded.{printed_reads}
 use Rattle.p4_emit.proofs.print.emit.Goals as goal
 

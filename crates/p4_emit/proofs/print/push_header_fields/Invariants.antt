@@ -1,6 +1,6 @@
 use Rattle.std.proofs.Common.{◌≡◌, ◌++◌, drop, map}
 use Rattle.p4_emit.specs.Printed.{each_text, header_field_text}
-use Rattle.p4_emit.specs.Program.{field_of}
+use Rattle.p4_ir.specs.Program.{field_of}
 use Rattle.p4_emit.proofs.print.push_header_fields.Given as goal
 
 abbrev pub invariant-loop-field : goal.invariant-loop-field

@@ -1,6 +1,6 @@
 use Rattle.std.proofs.Common.{◌≡◌, ◌++◌, drop}
 use Rattle.p4_emit.specs.Printed.{each_text, key_text}
-use Rattle.p4_emit.specs.Program.{program_of}
+use Rattle.p4_ir.specs.Program.{program_of}
 use Rattle.p4_emit.proofs.print.push_keys.Given as goal
 
 abbrev pub invariant-loop-key : goal.invariant-loop-key

@@ -1,6 +1,6 @@
 use Rattle.std.proofs.Common.{◌≡◌, ◌++◌, drop, map}
 use Rattle.p4_emit.specs.Printed.{each_text, table_text}
-use Rattle.p4_emit.specs.Program.{program_of, table_of}
+use Rattle.p4_ir.specs.Program.{program_of, table_of}
 use Rattle.p4_emit.proofs.print.push_tables.Given as goal
 
 abbrev pub invariant-loop-table : goal.invariant-loop-table

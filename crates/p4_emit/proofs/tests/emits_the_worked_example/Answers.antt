@@ -1,8 +1,8 @@
 use Rattle.std.proofs.Common.{◌≡◌, true, refl, sym, subst}
 use Rattle.cocoon_num.specs.Tokens.{is_shallow}
-use Rattle.p4_emit.specs.P4Kinds.{is_well_kinded}
-use Rattle.p4_emit.specs.P4Text.{p4_bounds, program_tokens}
-use Rattle.p4_emit.specs.P4Tree.{Program}
+use Rattle.p4_ir.specs.P4Kinds.{is_well_kinded}
+use Rattle.p4_ir.specs.P4Text.{p4_bounds, program_tokens}
+use Rattle.p4_ir.specs.P4Tree.{Program}
 use Rattle.p4_emit.proofs.tests.emits_the_worked_example.Goals as goal
 
 pub emit-requires-clause-kinds : goal.emit-requires-clause-kinds

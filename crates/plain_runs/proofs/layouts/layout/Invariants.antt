@@ -1,6 +1,6 @@
 use Rattle.std.proofs.Common.{◌≡◌, map, take}
-use Rattle.p4_emit.specs.P4Tree.{P4Header, field_widths}
-use Rattle.p4_emit.specs.Program.{header_of}
+use Rattle.p4_ir.specs.P4Tree.{P4Header, field_widths}
+use Rattle.p4_ir.specs.Program.{header_of}
 use Rattle.plain_runs.proofs.layouts.layout.Given as goal
 
 abbrev pub invariant-loop-header : goal.invariant-loop-header

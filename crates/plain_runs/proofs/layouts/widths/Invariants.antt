@@ -1,6 +1,6 @@
 use Rattle.std.proofs.Common.{◌≡◌, map, take}
-use Rattle.p4_emit.specs.P4Tree.{field_widths}
-use Rattle.p4_emit.specs.Program.{field_of}
+use Rattle.p4_ir.specs.P4Tree.{field_widths}
+use Rattle.p4_ir.specs.Program.{field_of}
 use Rattle.plain_runs.proofs.layouts.widths.Given as goal
 
 abbrev pub invariant-loop-field : goal.invariant-loop-field

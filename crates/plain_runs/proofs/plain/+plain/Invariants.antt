@@ -1,5 +1,5 @@
 use Rattle.std.proofs.Common.{◌≡◌, drop, map}
-use Rattle.p4_emit.specs.Program.{stmt_of, block_of}
+use Rattle.p4_ir.specs.Program.{stmt_of, block_of}
 use Rattle.plain_runs.specs.Plain.{is_plain_block}
 use Rattle.plain_runs.proofs.plain.+plain.Given as goal
 

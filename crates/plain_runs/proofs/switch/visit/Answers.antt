@@ -1,8 +1,8 @@
 use Rattle.std.proofs.Common.{◌≡◌, ℕ, List, map, Option, Some, option_map, option_and_then, sym, ◌∙◌, ap}
 use Rattle.std.proofs.lemmas.Result.{IfOk-weaker}
 use Rattle.cocoon_num.specs.Packets.{Layout, enter}
-use Rattle.p4_emit.specs.P4Tree.{program_layout}
-use Rattle.p4_emit.specs.Program.{block_of, program_of, stmt_of}
+use Rattle.p4_ir.specs.P4Tree.{program_layout}
+use Rattle.p4_ir.specs.Program.{block_of, program_of, stmt_of}
 use Rattle.plain_runs.specs.Ingress.{passed}
 use Rattle.plain_runs.specs.Seen.{entered_of}
 use Rattle.plain_runs.specs.declared.packet.Entered.{Entered}

@@ -1,0 +1,12 @@
+-- The names of the files of a command. It follows the section "Commands" of README.md and "Bundle files" in docs/FORMATS.md.
+use Rattle.std.specs.Prelude.{ℕ, List}
+use Rattle.net_bundle.specs.Bundle.{whole_name}
+use Rattle.cocoon_cli.specs.declared.files.CommandFile.{CommandFile}
+use Rattle.cocoon_cli.specs.declared.files.CommandFile.TheVariants.{Design, Definitions, Bundle}
+use Rattle.cocoon_cli.specs.Command.{Command, compile}
+
+-- the name of a file of a command
+abbrev pub name_in : Command → CommandFile → List ℕ
+name_in (compile design defs out) Design = design
+name_in (compile design defs out) Definitions = defs
+name_in (compile design defs out) (Bundle file) = whole_name out file

@@ -1,0 +1,14 @@
+pub mod Numbers
+pub mod TestProgram
+pub mod Lowerable
+pub mod ThinVisit
+pub mod ThinLinks
+pub mod ThinNetwork
+pub mod ThinRoles
+pub mod Wired
+pub mod NetMeans
+pub mod ThinLists
+pub mod ThinWiring
+pub mod ThinFits
+pub mod Outlines
+pub mod ThinLowers

@@ -1,0 +1,34 @@
+-- What the compiler takes today, thin designs, and the network that it makes of them. Whatever stands above knows these
+-- words alone. It follows "Thin designs" in docs/LANGUAGE.md and "Lowering and the P4 text" in docs/FORMATS.md.
+use Rattle.std.specs.Prelude.{◌≡◌, ℕ}
+use Rattle.cocoon_num.specs.Tree.{Design, DefsText}
+use Rattle.p4_ir.specs.P4Tree.{Program}
+use Rattle.p4_ir.specs.NetTree.{NetData}
+use Rattle.cocoon_thin.specs.declared.parts.Thin.{Thin}
+use Rattle.cocoon_thin.specs.ThinParts.{ThinNames}
+use Rattle.cocoon_thin.specs.Thin.{IsThinDesign, ThinDesign, ThinDefs, AreThin}
+use Rattle.cocoon_thin.specs.Read.{names_of}
+use Rattle.lower_p4.specs.declared.accepted.Accepted.{Accepted}
+use Rattle.lower_p4.specs.ThinLowered.{thin_program}
+use Rattle.lower_p4.specs.ThinNet.{thin_net}
+
+-- the compiler takes the design
+unfoldable pub Accepts : Design → Type 0
+Accepts design = ThinDesign design
+
+-- it takes these definitions for a design that it takes
+unfoldable pub AcceptsDefs : Design → DefsText → Type 0
+AcceptsDefs design defs = ThinDefs design defs
+
+-- the design is the one that was accepted, places aside
+unfoldable pub IsOf : Accepted → Design → Type 0
+IsOf accepted design = IsThinDesign design (names_of accepted.outline.names) accepted.outline.parts
+
+-- the program that the switch of this number runs, whatever the definitions are
+unfoldable pub RunsProgram : Design → (switch : ℕ) → Program → Type 0
+RunsProgram design switch program =
+    (n : ThinNames) × (t : Thin) × IsThinDesign design n t × (program ≡ thin_program t)
+
+-- the network that the compiler makes of the design and the definitions
+unfoldable pub Lowers : Design → DefsText → NetData → Type 0
+Lowers design defs net = (t : Thin) × AreThin design defs t × (net ≡ thin_net t)

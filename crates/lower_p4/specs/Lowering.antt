@@ -1,0 +1,32 @@
+-- What it is to be a lowering of a design under its definitions. It follows "Lowering and the
+-- P4 text" in docs/FORMATS.md.
+use Rattle.std.specs.Prelude.{ℕ, List, [], ◌∷◌, IsTrue}
+use Rattle.cocoon_num.specs.Tree.{Design, DefsText}
+use Rattle.cocoon_types.specs.Tables.{defs_of}
+use Rattle.cocoon_types.specs.Rules.{WellFormed}
+use Rattle.cocoon_types.specs.DefsRules.{DefsFit}
+use Rattle.p4_ir.specs.P4Tree.{Program}
+use Rattle.p4_ir.specs.NetTree.{SwitchFiles, NetData}
+use Rattle.p4_ir.specs.NetFits.{net_fits}
+use Rattle.lower_p4.specs.Delivers.{DeliversExactly, DeliversWithin}
+use Rattle.lower_p4.specs.Accepts.{RunsProgram}
+
+-- each switch runs the program of its number
+abbrev pub RunPrograms : (ℕ → Program → Type 0) → List SwitchFiles → Type 0
+RunPrograms of_number [] = Unit {0}
+RunPrograms of_number (s ∷ ss) = of_number s.number s.program × RunPrograms of_number ss
+
+-- A network is a lowering of a design under definitions: it delivers exactly what the last level delivers, each switch's
+-- program depends on the design and its number alone, and it can be written as a bundle.
+pub record IsLowering (design : Design) (defs : DefsText) (net : NetData) : Type 0 where
+  pub exact : DeliversExactly net design (defs_of design defs)
+  -- there is one program for each number, by the law `one_lowering`
+  pub programs : RunPrograms (RunsProgram design) net.switches
+  pub writable : IsTrue (net_fits net)
+
+-- What is known of two trees of which a lowering was made: both keep all rules, and what the network delivers the topmost
+-- specification may make.
+pub record IsSound (design : Design) (defs : DefsText) (net : NetData) : Type 0 where
+  pub well_formed : WellFormed design
+  pub defs_fit : DefsFit design defs
+  pub within : DeliversWithin net design (defs_of design defs)

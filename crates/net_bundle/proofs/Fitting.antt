@@ -1,0 +1,40 @@
+-- Switches that fit and are readable, from a place on.
+use Rattle.std.proofs.Common.{◌≡◌, ℕ, ◌+◌, ◌<◌, Bool, true, false, ◌&&◌, IsTrue, List, ◌∷◌, ◌++◌, length, map, drop, slice_index_or, refl, sym, ap, ◌∙◌, subst}
+use Rattle.std.proofs.lemmas.List.{drop_more, append_assoc}
+use Rattle.cocoon_num.specs.Lists.{each}
+use Rattle.p4_emit.specs.Printed.{printed}
+use Rattle.p4_ir.specs.NetFits.{switch_fits}
+use Rattle.p4_ir.specs.NetOf.{switch_of}
+use Rattle.p4_ir.specs.NetTree as net
+use Rattle.p4_ir.specs.P4Reads.{P4Reads}
+use Rattle.p4_ir.specs.declared.network.SwitchFiles.{SwitchFiles}
+use Rattle.net_bundle.specs.Bundle.{MadeFile, rows_text, switch_files, all_switch_files}
+use Rattle.net_bundle.specs.Network.{IsJson}
+use Rattle.net_bundle.specs.Readable.{AllReadable}
+use Rattle.net_bundle.specs.NetJson.{rows_data}
+
+pub split_switch : (ss : List SwitchFiles) (i : ℕ) (s : SwitchFiles) → i < length ss → s ≡ slice_index_or ss i s → map switch_of (drop i ss) ≡ switch_of s ∷ map switch_of (drop (i + 1) ss)
+split_switch ss i s h e = ap (map switch_of) (drop_more ss i s h ∙ ap (λ (r : SwitchFiles). r ∷ drop (i + 1) ss) (sym e))
+
+left_of : (a b : Bool) → IsTrue (a && b) → IsTrue a
+left_of true b h = refl
+left_of false b h = h
+
+right_of : (a b : Bool) → IsTrue (a && b) → IsTrue b
+right_of true b h = h
+right_of false b h = cc
+
+pub fits_first : (s : net.SwitchFiles) (all rest : List net.SwitchFiles) → all ≡ s ∷ rest → IsTrue (each switch_fits all) → IsTrue (switch_fits s)
+fits_first s all rest e h = left_of (switch_fits s) (each switch_fits rest) (subst (λ xs. IsTrue (each switch_fits xs)) e h)
+
+pub fits_rest : (s : net.SwitchFiles) (all rest : List net.SwitchFiles) → all ≡ s ∷ rest → IsTrue (each switch_fits all) → IsTrue (each switch_fits rest)
+fits_rest s all rest e h = right_of (switch_fits s) (each switch_fits rest) (subst (λ xs. IsTrue (each switch_fits xs)) e h)
+
+pub readable_on : (s : net.SwitchFiles) (all rest : List net.SwitchFiles) → all ≡ s ∷ rest → P4Reads (printed s.program) s.program → IsJson (rows_text s.rows) (rows_data s.rows)
+    → AllReadable rest → AllReadable all
+readable_on s all rest e p r a = subst AllReadable (sym e) (p, r, a)
+
+pub files_on : (s : net.SwitchFiles) (all rest whole : List net.SwitchFiles) (before after : List MadeFile) → all ≡ s ∷ rest → after ≡ before ++ switch_files s
+    → before ++ all_switch_files all ≡ all_switch_files whole → after ++ all_switch_files rest ≡ all_switch_files whole
+files_on s all rest whole before after e p h =
+    ap (λ xs. xs ++ all_switch_files rest) p ∙ append_assoc before (switch_files s) (all_switch_files rest) ∙ ap (λ xs. before ++ all_switch_files xs) (sym e) ∙ h

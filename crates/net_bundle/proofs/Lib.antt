@@ -1,0 +1,9 @@
+mod NetValue
+mod RowsValue
+mod Placing
+mod Fitting
+mod ReadingLists
+mod ReadingDigests
+mod ReadingNames
+mod ReadingBack
+mod Held

@@ -1,0 +1,10 @@
+use Rattle.std.proofs.Common.{◌∙◌}
+use Rattle.net_bundle.specs.NetFileOf.{made_of}
+use Rattle.net_bundle.proofs.Placing.{one_stops, one_left}
+use Rattle.net_bundle.proofs.write.write_file.Goals as goal
+
+pub returns-in-Err-clause-refused : goal.returns-in-Err-clause-refused
+returns-in-Err-clause-refused g c =
+    one_stops c.args.out.now (made_of c.args.made.now) _ _ c.in-Err.fault _ c.requires.fit
+    (one_left c.args.out.now (made_of c.args.made.now) _ _ _ _ (c.as_str.ensures.value ∙ c.in_ok-name.ensures) c.deref.ensures.value c.in-Err.ensures.err)
+    c.in-Err.ensures.never_too_long c.fault_at.ensures.failed c.fault_at.ensures.memory

@@ -1,0 +1,78 @@
+-- What the writing of a bundle does to the told files, and why it may stop. It follows "Bundle files" in docs/FORMATS.md.
+use Rattle.std.specs.Prelude.{◌≡◌, ◌⊎◌, ℕ, ◌+◌, ◌≤◌, ◌<◌, List, [], ◌∷◌, length, take, slice_get, Option, Some, None}
+use Rattle.std.specs.FinMap.{get}
+use Rattle.cocoon_io.specs.Files.{Files}
+use Rattle.cocoon_io.specs.Told.{with_file, Rose}
+use Rattle.cocoon_io.specs.declared.folder.FolderFault.TheVariants.{Failed}
+use Rattle.p4_ir.specs.NetTree.{NetData}
+use Rattle.net_bundle.specs.declared.file.BundleFile.{BundleFile}
+use Rattle.net_bundle.specs.declared.file.BundleFile.TheVariants.{Certificates}
+use Rattle.net_bundle.specs.declared.fault.BundleFault.{BundleFault}
+use Rattle.net_bundle.specs.declared.fault.BundleFault.TheVariants.{Folder, Limit, NoMemory}
+use Rattle.net_bundle.specs.BundleNames.{certificates_name, file_name, digest_of}
+use Rattle.net_bundle.specs.Bundle.{MadeFile, whole_name}
+use Rattle.net_bundle.specs.Network.{Network, InBundle}
+
+-- ---- what was put in
+
+-- the told files, with these of the bundle OUT put in one after another
+abbrev pub with_files : (out : List ℕ) → List MadeFile → Option Files → Option Files
+with_files out [] told = told
+with_files out (f ∷ fs) told = with_files out fs (with_file told (whole_name out f.file) f.bytes)
+
+-- the first of these files were put in, or all, and no other was touched
+abbrev pub SomeWritten : (out : List ℕ) → List MadeFile → (was is : Option Files) → Type 0
+SomeWritten out fs was is = (k : ℕ) × (is ≡ with_files out (take k fs) was)
+
+-- The writes stopped at this file: those before it in the order were put in, none after it was, and it may have been.
+pub record StopsAt (out : List ℕ) (fs : List MadeFile) (file : BundleFile) (was is : Option Files) : Type 0 where
+  pub index : ℕ
+  pub at : MadeFile
+  pub at_index : slice_get fs index ≡ Some at
+  pub of_file : at.file ≡ file
+  pub left : (is ≡ with_files out (take index fs) was) ⊎ (is ≡ with_files out (take (index + 1) fs) was)
+
+-- ---- limits
+
+-- a file has at most so many bytes
+abbrev pub most_of : BundleFile → ℕ
+most_of Certificates = 67108864
+most_of _ = 4194304
+
+abbrev pub AllFit : List MadeFile → Type 0
+AllFit [] = Unit {0}
+AllFit (f ∷ fs) = (length f.bytes ≤ most_of f.file) × AllFit fs
+
+-- this is the first file with more bytes
+abbrev pub FirstOver : List MadeFile → BundleFile → Type 0
+FirstOver [] file = ⊥
+FirstOver (f ∷ fs) file = ((f.file ≡ file) × (most_of f.file < length f.bytes)) ⊎ ((length f.bytes ≤ most_of f.file) × FirstOver fs file)
+
+-- ---- answers
+
+-- Why these files were not all written. A limit comes before any write, and a fault of the folder is about a file at which
+-- the writes stopped.
+abbrev pub NotWritten : (out : List ℕ) → List MadeFile → (was is : Option Files) → BundleFault → Type 0
+NotWritten out fs was is (Limit file) = FirstOver fs file × (is ≡ was)
+NotWritten out fs was is (Folder file fault) = AllFit fs × (fault ≡ Failed) × StopsAt out fs file was is
+NotWritten out fs was is NoMemory = (is ≡ was) ⊎ (AllFit fs × SomeWritten out fs was is)
+
+-- A fault of the folder comes only where the count of write faults rose.
+abbrev pub WriteFaultRose : Option ℕ → (old new : ℕ) → BundleFault → Type 0
+WriteFaultRose last old new (Folder file fault) = Rose last old new
+WriteFaultRose last old new _ = Unit {0}
+
+-- ---- what stands in the end
+
+-- The files `is` hold this network of this design, and names outside of the bundle hold what they held in `was`. The name of
+-- the certificates is such a name where none are given; else it holds them, as the list of files says.
+pub record Holds (was is : Files) (out design : List ℕ) (net : NetData) (certificates : Option (List ℕ)) : Type 0 where
+  pub network : Network is out net
+  pub digest : network.file.design ≡ digest_of design
+  pub others_same : (name : List ℕ) → ¬ InBundle out net.switches name → (name ≡ file_name out certificates_name → certificates ≡ None) → get is name ≡ get was name
+
+-- the same of told files
+abbrev pub HoldsTold : (was is : Option Files) → (out design : List ℕ) → NetData → Option (List ℕ) → Type 0
+HoldsTold None is out design net certificates = Unit {0}
+HoldsTold (Some was) None out design net certificates = ⊥
+HoldsTold (Some was) (Some is) out design net certificates = Holds was is out design net certificates

@@ -1,0 +1,15 @@
+//! The files of a bundle: a network is written as the P4 programs and rows of its switches, and one file that names and
+//! joins them. docs/FORMATS.md says what each file holds. All files are made, and tested against their limits, before the
+//! first is written, and the file of the network is written last: so it names a bundle only once that is whole.
+#![tactic(auto)]
+
+pub mod fault;
+pub mod file;
+pub mod make;
+pub mod net_json;
+pub mod rows_json;
+pub mod write;
+
+pub use fault::BundleFault;
+pub use file::BundleFile;
+pub use write::write_bundle;

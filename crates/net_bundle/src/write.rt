@@ -1,0 +1,128 @@
+//! The writing of a bundle.
+ghost use Rattle.std.specs.Prelude.{◌≡◌, ◌≤◌, List, [], ◌∷◌, IfErr, IsTrue, OnOk, map, option_map};
+ghost use Rattle.p4_ir.specs.NetFits.{net_fits};
+ghost use Rattle.p4_ir.specs.NetOf.{net_of};
+ghost use Rattle.net_bundle.specs.Bundle.{bundle};
+ghost use Rattle.net_bundle.specs.NetFileOf.{made_of};
+ghost use Rattle.net_bundle.specs.Writing.{AllFit, FirstOver, HoldsTold, NotWritten, WriteFaultRose, with_files};
+
+use crate::fault::BundleFault;
+use crate::file::BundleFile;
+use crate::make::{MadeFile, make};
+use cocoon_io::{Folder, FolderFault};
+use p4_ir::NetData;
+use std::alloc::Global;
+
+/// Tests that each file has at most the bytes that it may have.
+fn check_lengths(files: &[MadeFile]) -> Result<(), BundleFault>
+    ensures fit { OnOk result (AllFit (map made_of files.now)) }
+    ensures over { IfErr result (λ fault. (file : _) × (fault
+        ≡ BundleFault.Limit file) × FirstOver (map made_of files.now) file) }
+{
+    for made in files {
+        if made.bytes.len() as u64 > made.file.most() {
+            return Err(BundleFault::Limit(made.file));
+        }
+    }
+    Ok(())
+}
+
+/// What a fault of the folder at this file is told as.
+fn fault_at(file: BundleFile, fault: FolderFault) -> BundleFault
+    ensures failed { fault ≡ FolderFault.Failed
+        → result ≡ BundleFault.Folder file FolderFault.Failed }
+    ensures memory { fault ≡ FolderFault.NoMemory → result ≡ BundleFault.NoMemory }
+{
+    match fault {
+        FolderFault::NoMemory => BundleFault::NoMemory,
+        failed => BundleFault::Folder(file, failed),
+    }
+}
+
+/// Writes a file of the bundle `out`.
+fn write_file<F: Folder>(
+    alloc: Global,
+    folder: &mut F,
+    out: &str,
+    made: &MadeFile,
+) -> Result<(), BundleFault>
+    requires fit { AllFit (made_of made.now ∷ []) }
+    ensures written { OnOk result (F.told folder.new
+        ≡ with_files out.now (made_of made.now ∷ []) (F.told folder.old)) }
+    ensures refused { IfErr result (NotWritten out.now
+        (made_of made.now ∷ []) (F.told folder.old) (F.told folder.new)) }
+    ensures failed { IfErr result (WriteFaultRose F.last_write_fault
+        (F.write_faults folder.old) (F.write_faults folder.new)) }
+    ensures reads { F.read_faults folder.new ≡ F.read_faults folder.old }
+    ensures writes { F.write_faults folder.old ≤ F.write_faults folder.new }
+{
+    let name = made.file.whole_name(alloc, out)?;
+    if let Err(fault) = folder.write(alloc, name.as_str(), &made.bytes) {
+        return Err(fault_at(made.file, fault));
+    }
+    Ok(())
+}
+
+/// Writes the files of the bundle `out`, one after another.
+fn write_files<F: Folder>(
+    alloc: Global,
+    folder: &mut F,
+    out: &str,
+    files: &[MadeFile],
+) -> Result<(), BundleFault>
+    requires fit { AllFit (map made_of files.now) }
+    ensures written { OnOk result (F.told folder.new
+        ≡ with_files out.now (map made_of files.now) (F.told folder.old)) }
+    ensures refused { IfErr result (NotWritten out.now
+        (map made_of files.now) (F.told folder.old) (F.told folder.new)) }
+    ensures failed { IfErr result (WriteFaultRose F.last_write_fault
+        (F.write_faults folder.old) (F.write_faults folder.new)) }
+    ensures reads { F.read_faults folder.new ≡ F.read_faults folder.old }
+    ensures writes { F.write_faults folder.old ≤ F.write_faults folder.new }
+{
+    for made in files {
+        write_file(alloc, folder, out, made)?;
+    }
+    Ok(())
+}
+
+/// Writes the bundle `out` of this network of a design: for each switch its program and its rows, then the certificates, if
+/// there are any, and the file of the network last.
+///
+/// All bytes are made before the first write. `Limit` tells the first file that would have too many of them, and then nothing
+/// is written. `Folder` tells the file at which the writes stopped: those before it in that order stand, and none after it was touched.
+/// The network has to be one that can be read back: what that asks is `net_fits`, as docs/FORMATS.md has it under "How a bundle
+/// is read back".
+pub fn write_bundle<F: Folder>(
+    alloc: Global,
+    folder: &mut F,
+    out: &str,
+    net: &NetData,
+    design: &[u8],
+    certificates: Option<&[u8]>,
+) -> Result<(), BundleFault>
+    requires fits { IsTrue (net_fits (net_of net.now)) }
+
+    // the folder then has exactly these files set, and they give the network
+    ensures written { OnOk result (F.told folder.new
+        ≡ with_files out.now
+        (bundle design.now (net_of net.now) (option_map (λ c. c.now) certificates.entry))
+        (F.told folder.old)) }
+    ensures holds { OnOk result (HoldsTold (F.told folder.old) (F.told folder.new)
+        out.now design.now (net_of net.now) (option_map (λ c. c.now) certificates.entry)) }
+    ensures fit { OnOk result (AllFit
+        (bundle design.now (net_of net.now) (option_map (λ c. c.now) certificates.entry))) }
+
+    // any other answer has its cause, and what it leaves
+    ensures refused { IfErr result (NotWritten out.now
+        (bundle design.now (net_of net.now) (option_map (λ c. c.now) certificates.entry))
+        (F.told folder.old) (F.told folder.new)) }
+    ensures failed { IfErr result (WriteFaultRose F.last_write_fault
+        (F.write_faults folder.old) (F.write_faults folder.new)) }
+    ensures reads { F.read_faults folder.new ≡ F.read_faults folder.old }
+    ensures writes { F.write_faults folder.old ≤ F.write_faults folder.new }
+{
+    let files = make(alloc, net, design, certificates)?;
+    check_lengths(&files)?;
+    write_files(alloc, folder, out, &files)
+}

@@ -1,0 +1,11 @@
+pub mod P4Tree
+pub mod P4Text
+pub mod P4Kinds
+pub mod P4Reads
+pub mod Program
+pub mod Switch
+pub mod NetTree
+pub mod NetRuns
+pub mod Loading
+pub mod NetFits
+pub mod NetOf
