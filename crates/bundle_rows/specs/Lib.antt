@@ -1,0 +1,2 @@
+pub mod TwoSwitches
+pub mod Networks
