@@ -1,15 +1,15 @@
-//! The program: the words of the command line, the machine's files and the standard output, given to `run`.
-//!
-//! The process ends with the number of the status that `run` answers.
+//! The program: the words of the command line, the machine's files and the standard output, given
+//! to `run`.
 #![tactic(auto)]
 
 ghost use Rattle.std.specs.Prelude.{◌≡◌};
 ghost use Rattle.std.specs.Process.{exit_status};
-ghost use Rattle.cocoon_cli.specs.Run.{number_of};
+ghost use Rattle.cocoon_cli.specs.Run.{count, status_number};
+ghost use Rattle.cocoon.specs.Exits.{Exits};
 
 use cocoon_cli::{Status, run, tell_no_memory};
-use cocoon_io::{RealFolder, RealOut};
-use cocoon_num::NoMemory;
+use cocoon_io::{Folder, RealFolder, RealOut, Sink};
+use std::alloc::Global;
 use std::env;
 use std::io::{self, ErrorKind};
 use std::process::ExitCode;
@@ -19,30 +19,46 @@ fn collect_words(rt: &HostRuntime) -> io::Result<Vec<String>> {
     Ok(env::args(rt)?.collect(rt.alloc())?)
 }
 
-// The words of the command line. A word that is not UTF-8 is in no command, so the words are then none.
-fn words(rt: &HostRuntime) -> Result<Vec<String>, NoMemory> {
-    match collect_words(rt) {
-        Ok(words) => Ok(words),
-        Err(error) => match error.kind() {
-            ErrorKind::OutOfMemory => Err(NoMemory),
-            _ => Ok(Vec::new(rt.alloc())),
-        },
-    }
-}
-
-// The process ends with the status's number.
-fn exit_code(status: Status) -> ExitCode
-    ensures { exit_status result ≡ number_of status }
+// The process ends with the number of the status.
+fn code_of(status: Status) -> ExitCode
+    ensures { exit_status result ≡ status_number status }
 {
     ExitCode::from(status.number())
+}
+
+// Performs the command of the words, and gives the code that the process ends with. Words that
+// cannot be read, as one that is not UTF-8, are no command.
+fn exit_code<F: Folder, S: Sink>(
+    alloc: Global,
+    words: io::Result<Vec<String>>,
+    folder: &mut F,
+    out: &mut S,
+) -> ExitCode
+    ensures { Exits (F.last_failure folder.new) words
+        (λ ws status. record {
+          words = ws;
+          content_before = F.content folder.old;
+          content_after = F.content folder.new;
+          output_before = S.output out.old;
+          output_after = S.output out.new;
+          reads = count F.last_read_fault (F.read_faults folder.old) (F.read_faults folder.new);
+          writes = count F.last_write_fault (F.write_faults folder.old) (F.write_faults folder.new);
+          puts = count S.last_fault (S.faults out.old) (S.faults out.new);
+          status = status;
+        })
+        result }
+{
+    match words {
+        Ok(words) => code_of(run(alloc, &words, folder, out)),
+        Err(error) => match error.kind() {
+            ErrorKind::OutOfMemory => code_of(tell_no_memory(alloc, out)),
+            _ => code_of(run(alloc, &[], folder, out)),
+        },
+    }
 }
 
 fn main(rt: HostRuntime) -> ExitCode {
     let mut folder = RealFolder::new(&rt);
     let mut out = RealOut::new(&rt);
-    let status = match words(&rt) {
-        Ok(words) => run(rt.alloc(), &words, &mut folder, &mut out),
-        Err(NoMemory) => tell_no_memory(rt.alloc(), &mut out),
-    };
-    exit_code(status)
+    exit_code(rt.alloc(), collect_words(&rt), &mut folder, &mut out)
 }

@@ -1,29 +1,30 @@
--- What `compile` did, put together from its parts.
+-- What `compile` does, put together from its parts.
 use Rattle.std.proofs.Common.{◌≡◌, ◌≤◌, ◌<◌, ℕ, zero, suc, List, [], ◌∷◌, length, replicate, Option, Some, None, Result, Ok, Err, IsErrAnd, refl, sym, ap, subst, ◌∙◌, inl, inr, arith}
 use Rattle.cocoon_io.specs.Files.{Files}
 use Rattle.cocoon_num.specs.Tree as tree
 use Rattle.p4_ir.specs.NetTree.{NetData}
 use Rattle.net_bundle.specs.Bundle.{bundle}
-use Rattle.net_bundle.specs.Writing.{AllFit, HoldsTold, NotWritten, SomeWritten, StopsAt, most_of, with_files}
+use Rattle.net_bundle.specs.Writing.{AllFit, ContentHolds, NamesFailure as BundleNamesFailure, NotWritten, SomeWritten, StopsAt, most_of, with_files}
 use Rattle.net_bundle.specs.declared.fault.BundleFault.{BundleFault}
 use Rattle.net_bundle.specs.declared.fault.BundleFault.TheVariants as fault
 use Rattle.cocoon_cli.specs.declared.files.CommandFile.{CommandFile}
 use Rattle.cocoon_cli.specs.declared.files.CommandFile.TheVariants.{Design, Definitions, Bundle}
-use Rattle.cocoon_cli.specs.declared.refusal.Flaw.TheVariants.{Fault, NotYet}
+use Rattle.cocoon_cli.specs.declared.refusal.InputFault.TheVariants.{NoTree, NotYet}
 use Rattle.cocoon_cli.specs.declared.refusal.Refusal.{Refusal}
 use Rattle.cocoon_cli.specs.declared.refusal.Refusal.TheVariants as refusal
 use Rattle.cocoon_cli.specs.declared.report.Report.{Report}
 use Rattle.cocoon_cli.specs.declared.report.Report.TheVariants.{Compiled}
-use Rattle.cocoon_cli.specs.Command.{Command, compile}
+use Rattle.command_line.specs.Command.{Command, compile}
+use Rattle.cocoon_cli.specs.FileNames.{name_in}
 use Rattle.cocoon_cli.specs.Leaves.{LeavesRefused, MayWriteFiles}
-use Rattle.cocoon_cli.specs.Reading.{Gives, Lacks, Exceeds, NotGiven, unwritten}
-use Rattle.cocoon_cli.specs.Run.{told_inputs, InputsAre, Did}
+use Rattle.cocoon_cli.specs.Reading.{HasFile, LacksFile, HasLongFile, FileNotRead, NamesReadFailure, bundle_refusal}
+use Rattle.cocoon_cli.specs.Run.{inputs_of, InputsAre, NamesFailure, Performs}
 use Rattle.cocoon_cli.specs.Steps.{Inputs, Step, is_there, is_within, design_reads, design_accepted, definitions_read, definitions_accepted, bundle_within, bundle_written, design_most, definitions_most, DesignIs, DefinitionsAre, Makes, MakesFiles, totals_of, AnswersFrom, Answers}
-use Rattle.cocoon_cli.specs.Texts.{ReadsAccepted, LowersTexts, NotLowered}
+use Rattle.cocoon_cli.specs.LowerTexts.{ReadsAccepted, LowersTexts, NotLowered}
 
 -- ---- what is read
 
--- of a folder that does not tell its files, what it gave
+-- of a folder whose content is not known, what it answered
 abbrev by_file : (x y : Option (List ℕ)) → CommandFile → Option (List ℕ)
 by_file x y Design = x
 by_file x y Definitions = y
@@ -31,25 +32,25 @@ by_file x y (Bundle file) = None
 
 abbrev pick : Command → Option Files → (x y : Option (List ℕ)) → Inputs
 pick c None x y = by_file x y
-pick c (Some files) x y = told_inputs c files
+pick c (Some files) x y = inputs_of c files
 
-picked : (c : Command) (told : Option Files) (x y : Option (List ℕ)) → InputsAre c told (pick c told x y)
+picked : (c : Command) (content : Option Files) (x y : Option (List ℕ)) → InputsAre c content (pick c content x y)
 picked c None x y = tt
 picked c (Some files) x y = refl
 
-design_given : (d e o : List ℕ) (told : Option Files) (x : List ℕ) (y : Option (List ℕ)) → Gives told d design_most x → pick (compile d e o) told (Some x) y Design ≡ Some x
-design_given d e o None x y g = refl
-design_given d e o (Some files) x y g = g.0
+design_there : (d e o : List ℕ) (content : Option Files) (x : List ℕ) (y : Option (List ℕ)) → HasFile content d design_most x → pick (compile d e o) content (Some x) y Design ≡ Some x
+design_there d e o None x y g = refl
+design_there d e o (Some files) x y g = g.0
 
-defs_given : (d e o : List ℕ) (told : Option Files) (x : Option (List ℕ)) (y : List ℕ) → Gives told e definitions_most y → pick (compile d e o) told x (Some y) Definitions ≡ Some y
-defs_given d e o None x y g = refl
-defs_given d e o (Some files) x y g = g.0
+defs_there : (d e o : List ℕ) (content : Option Files) (x : Option (List ℕ)) (y : List ℕ) → HasFile content e definitions_most y → pick (compile d e o) content x (Some y) Definitions ≡ Some y
+defs_there d e o None x y g = refl
+defs_there d e o (Some files) x y g = g.0
 
-design_lacking : (d e o : List ℕ) (told : Option Files) (y : Option (List ℕ)) → Lacks told d → pick (compile d e o) told None y Design ≡ None
+design_lacking : (d e o : List ℕ) (content : Option Files) (y : Option (List ℕ)) → LacksFile content d → pick (compile d e o) content None y Design ≡ None
 design_lacking d e o None y h = refl
 design_lacking d e o (Some files) y h = h
 
-defs_lacking : (d e o : List ℕ) (told : Option Files) (x : Option (List ℕ)) → Lacks told e → pick (compile d e o) told x None Definitions ≡ None
+defs_lacking : (d e o : List ℕ) (content : Option Files) (x : Option (List ℕ)) → LacksFile content e → pick (compile d e o) content x None Definitions ≡ None
 defs_lacking d e o None x h = refl
 defs_lacking d e o (Some files) x h = h
 
@@ -70,11 +71,11 @@ record Long (o : Option (List ℕ)) (most : ℕ) : Type 0 where
   are : o ≡ Some bytes
   long : most < length bytes
 
-design_long : (d e o : List ℕ) (told : Option Files) (y : Option (List ℕ)) → Exceeds told d design_most → Long (pick (compile d e o) told (Some (more design_most)) y Design) design_most
+design_long : (d e o : List ℕ) (content : Option Files) (y : Option (List ℕ)) → HasLongFile content d design_most → Long (pick (compile d e o) content (Some (more design_most)) y Design) design_most
 design_long d e o None y h = record { bytes = more design_most; are = refl; long = more_long design_most }
 design_long d e o (Some files) y h = record { bytes = h.0; are = h.1; long = h.2 }
 
-defs_long : (d e o : List ℕ) (told : Option Files) (x : Option (List ℕ)) → Exceeds told e definitions_most → Long (pick (compile d e o) told x (Some (more definitions_most)) Definitions) definitions_most
+defs_long : (d e o : List ℕ) (content : Option Files) (x : Option (List ℕ)) → HasLongFile content e definitions_most → Long (pick (compile d e o) content x (Some (more definitions_most)) Definitions) definitions_most
 defs_long d e o None x h = record { bytes = more definitions_most; are = refl; long = more_long definitions_most }
 defs_long d e o (Some files) x h = record { bytes = h.0; are = h.1; long = h.2 }
 
@@ -87,32 +88,32 @@ later = design_reads ∷ design_accepted ∷ definitions_read ∷ definitions_ac
 abbrev second : List Step
 second = is_there Definitions ∷ is_within Definitions definitions_most ∷ later
 
-after_design : (d e o : List ℕ) (i : Inputs) (x : List ℕ) (found : Result Report Refusal) → i Design ≡ Some x → length x ≤ design_most
-    → AnswersFrom (compile d e o) i second found → Answers (compile d e o) i found
-after_design d e o i x found p l rest = inr (inr ((x, p), inr ((x, p, l), rest)))
+after_design : (d e o : List ℕ) (i : Inputs) (x : List ℕ) (outcome : Result Report Refusal) → i Design ≡ Some x → length x ≤ design_most
+    → AnswersFrom (compile d e o) i second outcome → Answers (compile d e o) i outcome
+after_design d e o i x outcome p l rest = inr (inr ((x, p), inr ((x, p, l), rest)))
 
-after_both : (d e o : List ℕ) (i : Inputs) (x y : List ℕ) (found : Result Report Refusal) → i Design ≡ Some x → length x ≤ design_most → i Definitions ≡ Some y → length y ≤ definitions_most
-    → AnswersFrom (compile d e o) i later found → Answers (compile d e o) i found
-after_both d e o i x y found p l q m rest = after_design d e o i x found p l (inr ((y, q), inr ((y, q, m), rest)))
+after_both : (d e o : List ℕ) (i : Inputs) (x y : List ℕ) (outcome : Result Report Refusal) → i Design ≡ Some x → length x ≤ design_most → i Definitions ≡ Some y → length y ≤ definitions_most
+    → AnswersFrom (compile d e o) i later outcome → Answers (compile d e o) i outcome
+after_both d e o i x y outcome p l q m rest = after_design d e o i x outcome p l (inr ((y, q), inr ((y, q, m), rest)))
 
 -- a refusal that is passed on
-pub passed : (c : Command) (was is : Option Files) (found : Result Report Refusal) (r : Refusal) → IsErrAnd found (λ x. x ≡ r) → Did c was is (Err r) → Did c was is found
-passed c was is (Ok report) r h k = absurd h
-passed c was is (Err x) r h k = subst (λ (y : Refusal). Did c was is (Err y)) (sym h) k
+pub passed : (c : Command) (before after : Option Files) (outcome : Result Report Refusal) (r : Refusal) → IsErrAnd outcome (λ x. x ≡ r) → Performs c before after (Err r) → Performs c before after outcome
+passed c before after (Ok report) r h k = absurd h
+passed c before after (Err x) r h k = subst (λ (y : Refusal). Performs c before after (Err y)) (sym h) k
 
 -- ---- files that are not read
 
-pub design_refused : (d e o : List ℕ) (was is : Option Files) (r : Refusal) → is ≡ was → NotGiven was d Design design_most r → Did (compile d e o) was is (Err r)
-design_refused d e o was is (refusal.NoFile f) same h = record {
-  inputs = pick (compile d e o) was None None;
-  inputs_are = picked (compile d e o) was None None;
-  answers = inr (inl (refusal.NoFile Design, inl (design_lacking d e o was None h.1, refl), ap (λ f. Err (refusal.NoFile f)) h.0));
+pub design_refused : (d e o : List ℕ) (before after : Option Files) (r : Refusal) → after ≡ before → FileNotRead before d Design design_most r → Performs (compile d e o) before after (Err r)
+design_refused d e o before after (refusal.NoFile f) same h = record {
+  inputs = pick (compile d e o) before None None;
+  inputs_are = picked (compile d e o) before None None;
+  answers = inr (inl (refusal.NoFile Design, inl (design_lacking d e o before None h.1, refl), ap (λ f. Err (refusal.NoFile f)) h.0));
   leaves = same;
 }
-design_refused d e o was is (refusal.TooLong f n) same h =
-    let l = design_long d e o was None h.2 in record {
-      inputs = pick (compile d e o) was (Some (more design_most)) None;
-      inputs_are = picked (compile d e o) was (Some (more design_most)) None;
+design_refused d e o before after (refusal.TooLong f n) same h =
+    let l = design_long d e o before None h.2 in record {
+      inputs = pick (compile d e o) before (Some (more design_most)) None;
+      inputs_are = picked (compile d e o) before (Some (more design_most)) None;
       answers = inr (inr (
         (l.bytes, l.are),
         inl (
@@ -123,38 +124,38 @@ design_refused d e o was is (refusal.TooLong f n) same h =
       ));
       leaves = same;
     }
-design_refused d e o was is (refusal.ReadFault f) same h = record {
-  inputs = pick (compile d e o) was None None;
-  inputs_are = picked (compile d e o) was None None;
+design_refused d e o before after (refusal.ReadFault f) same h = record {
+  inputs = pick (compile d e o) before None None;
+  inputs_are = picked (compile d e o) before None None;
   answers = inr (inl (refusal.ReadFault Design, inr refl, ap (λ f. Err (refusal.ReadFault f)) h));
   leaves = same;
 }
-design_refused d e o was is refusal.NoMemory same h = record {
-  inputs = pick (compile d e o) was None None;
-  inputs_are = picked (compile d e o) was None None;
+design_refused d e o before after refusal.NoMemory same h = record {
+  inputs = pick (compile d e o) before None None;
+  inputs_are = picked (compile d e o) before None None;
   answers = inl refl;
   leaves = inl same;
 }
-design_refused d e o was is r same h = absurd h
+design_refused d e o before after r same h = absurd h
 
-pub defs_refused : (d e o : List ℕ) (was is : Option Files) (x : List ℕ) (r : Refusal) → is ≡ was → Gives was d design_most x → length x ≤ design_most → NotGiven was e Definitions definitions_most r → Did (compile d e o) was is (Err r)
-defs_refused d e o was is x (refusal.NoFile f) same g l h =
+pub defs_refused : (d e o : List ℕ) (before after : Option Files) (x : List ℕ) (r : Refusal) → after ≡ before → HasFile before d design_most x → length x ≤ design_most → FileNotRead before e Definitions definitions_most r → Performs (compile d e o) before after (Err r)
+defs_refused d e o before after x (refusal.NoFile f) same g l h =
     let c = compile d e o in
-    let i = pick c was (Some x) None in record {
+    let i = pick c before (Some x) None in record {
       inputs = i;
-      inputs_are = picked c was (Some x) None;
-      answers = after_design d e o i x (Err (refusal.NoFile f)) (design_given d e o was x None g) l
-          (inl (refusal.NoFile Definitions, inl (defs_lacking d e o was (Some x) h.1, refl), ap (λ f. Err (refusal.NoFile f)) h.0));
+      inputs_are = picked c before (Some x) None;
+      answers = after_design d e o i x (Err (refusal.NoFile f)) (design_there d e o before x None g) l
+          (inl (refusal.NoFile Definitions, inl (defs_lacking d e o before (Some x) h.1, refl), ap (λ f. Err (refusal.NoFile f)) h.0));
       leaves = same;
     }
-defs_refused d e o was is x (refusal.TooLong f n) same g l h =
+defs_refused d e o before after x (refusal.TooLong f n) same g l h =
     let c = compile d e o in
     let y = Some (more definitions_most) in
-    let i = pick c was (Some x) y in
-    let long = defs_long d e o was (Some x) h.2 in record {
+    let i = pick c before (Some x) y in
+    let long = defs_long d e o before (Some x) h.2 in record {
       inputs = i;
-      inputs_are = picked c was (Some x) y;
-      answers = after_design d e o i x (Err (refusal.TooLong f n)) (design_given d e o was x y g) l
+      inputs_are = picked c before (Some x) y;
+      answers = after_design d e o i x (Err (refusal.TooLong f n)) (design_there d e o before x y g) l
           (inr (
             (long.bytes, long.are),
             inl (
@@ -165,80 +166,80 @@ defs_refused d e o was is x (refusal.TooLong f n) same g l h =
           ));
       leaves = same;
     }
-defs_refused d e o was is x (refusal.ReadFault f) same g l h =
+defs_refused d e o before after x (refusal.ReadFault f) same g l h =
     let c = compile d e o in
-    let i = pick c was (Some x) None in record {
+    let i = pick c before (Some x) None in record {
       inputs = i;
-      inputs_are = picked c was (Some x) None;
-      answers = after_design d e o i x (Err (refusal.ReadFault f)) (design_given d e o was x None g) l
+      inputs_are = picked c before (Some x) None;
+      answers = after_design d e o i x (Err (refusal.ReadFault f)) (design_there d e o before x None g) l
           (inl (refusal.ReadFault Definitions, inr refl, ap (λ f. Err (refusal.ReadFault f)) h));
       leaves = same;
     }
-defs_refused d e o was is x refusal.NoMemory same g l h = record {
-  inputs = pick (compile d e o) was None None;
-  inputs_are = picked (compile d e o) was None None;
+defs_refused d e o before after x refusal.NoMemory same g l h = record {
+  inputs = pick (compile d e o) before None None;
+  inputs_are = picked (compile d e o) before None None;
   answers = inl refl;
   leaves = inl same;
 }
-defs_refused d e o was is x r same g l h = absurd h
+defs_refused d e o before after x r same g l h = absurd h
 
 -- ---- texts of which no network is made
 
--- both files were given
-pub record Given (was : Option Files) (d e x y : List ℕ) : Type 0 where
-  pub design : Gives was d design_most x
+-- both files were read
+pub record HasBoth (before : Option Files) (d e x y : List ℕ) : Type 0 where
+  pub design : HasFile before d design_most x
   pub design_short : length x ≤ design_most
-  pub defs : Gives was e definitions_most y
+  pub defs : HasFile before e definitions_most y
   pub defs_short : length y ≤ definitions_most
 
 -- the second was read where the first left the folder as it was
-pub given : (was mid : Option Files) (d e x y : List ℕ) → mid ≡ was → Gives was d design_most x → length x ≤ design_most → Gives mid e definitions_most y → length y ≤ definitions_most → Given was d e x y
-given was mid d e x y same g l h m = record { design = g; design_short = l; defs = subst (λ (told : Option Files). Gives told e definitions_most y) same h; defs_short = m }
+pub has_both : (before mid : Option Files) (d e x y : List ℕ) → mid ≡ before → HasFile before d design_most x → length x ≤ design_most → HasFile mid e definitions_most y → length y ≤ definitions_most → HasBoth before d e x y
+has_both before mid d e x y same g l h m = record { design = g; design_short = l; defs = subst (λ (content : Option Files). HasFile content e definitions_most y) same h; defs_short = m }
 
 -- what holds of some bytes holds of the same bytes
 pub moved : (P : List ℕ → List ℕ → Type 0) (x y x' y' : List ℕ) → x' ≡ x → y' ≡ y → P x' y' → P x y
 moved P x y x' y' p q h = subst (λ (b : List ℕ). P x b) q (subst (λ (a : List ℕ). P a y') p h)
 
 -- so this is read of them
-abbrev both : (d e o : List ℕ) (was : Option Files) (x y : List ℕ) → Inputs
-both d e o was x y = pick (compile d e o) was (Some x) (Some y)
+abbrev both : (d e o : List ℕ) (before : Option Files) (x y : List ℕ) → Inputs
+both d e o before x y = pick (compile d e o) before (Some x) (Some y)
 
-both_are : (d e o : List ℕ) (was : Option Files) (x y : List ℕ) → InputsAre (compile d e o) was (both d e o was x y)
-both_are d e o was x y = picked (compile d e o) was (Some x) (Some y)
+both_are : (d e o : List ℕ) (before : Option Files) (x y : List ℕ) → InputsAre (compile d e o) before (both d e o before x y)
+both_are d e o before x y = picked (compile d e o) before (Some x) (Some y)
 
-both_design : (d e o : List ℕ) (was : Option Files) (x y : List ℕ) → Given was d e x y → both d e o was x y Design ≡ Some x
-both_design d e o was x y g = design_given d e o was x (Some y) g.design
+both_design : (d e o : List ℕ) (before : Option Files) (x y : List ℕ) → HasBoth before d e x y → both d e o before x y Design ≡ Some x
+both_design d e o before x y g = design_there d e o before x (Some y) g.design
 
-both_defs : (d e o : List ℕ) (was : Option Files) (x y : List ℕ) → Given was d e x y → both d e o was x y Definitions ≡ Some y
-both_defs d e o was x y g = defs_given d e o was (Some x) y g.defs
+both_defs : (d e o : List ℕ) (before : Option Files) (x y : List ℕ) → HasBoth before d e x y → both d e o before x y Definitions ≡ Some y
+both_defs d e o before x y g = defs_there d e o before (Some x) y g.defs
 
-answers_both : (d e o : List ℕ) (was : Option Files) (x y : List ℕ) (found : Result Report Refusal) → Given was d e x y
-    → AnswersFrom (compile d e o) (both d e o was x y) later found → Answers (compile d e o) (both d e o was x y) found
-answers_both d e o was x y found g rest =
-    after_both d e o (both d e o was x y) x y found (both_design d e o was x y g) g.design_short (both_defs d e o was x y g) g.defs_short rest
+answers_both : (d e o : List ℕ) (before : Option Files) (x y : List ℕ) (outcome : Result Report Refusal) → HasBoth before d e x y
+    → AnswersFrom (compile d e o) (both d e o before x y) later outcome → Answers (compile d e o) (both d e o before x y) outcome
+answers_both d e o before x y outcome g rest =
+    after_both d e o (both d e o before x y) x y outcome (both_design d e o before x y g) g.design_short (both_defs d e o before x y g) g.defs_short rest
 
-abbrev is_design : (d e o : List ℕ) (was : Option Files) (x y : List ℕ) (t : tree.Design) → Given was d e x y → ReadsAccepted x t → DesignIs (both d e o was x y) t
-is_design d e o was x y t g h = record { text = x; is = both_design d e o was x y g; reads = h.reads }
+abbrev is_design : (d e o : List ℕ) (before : Option Files) (x y : List ℕ) (t : tree.Design) → HasBoth before d e x y → ReadsAccepted x t → DesignIs (both d e o before x y) t
+is_design d e o before x y t g h = record { text = x; is = both_design d e o before x y g; reads = h.reads }
 
-texts_answer : (d e o : List ℕ) (was : Option Files) (x y : List ℕ) (r : Refusal) → Given was d e x y → NotLowered x y r → Answers (compile d e o) (both d e o was x y) (Err r)
-texts_answer d e o was x y (refusal.Language (Fault f)) g h =
-    answers_both d e o was x y _ g (inl (refusal.Language (Fault f), inl (x, f, both_design d e o was x y g, h, refl), refl))
-texts_answer d e o was x y (refusal.Language NotYet) g h =
-    let t : DesignIs (both d e o was x y) h.0 = record { text = x; is = both_design d e o was x y g; reads = h.1 } in
-    answers_both d e o was x y _ g (inr ((h.0, t), inl (refusal.Language NotYet, inl (h.0, t, h.2, refl), refl)))
-texts_answer d e o was x y (refusal.Definitions (Fault f)) g h =
-    let t = is_design d e o was x y h.0 g h.1 in
-    answers_both d e o was x y _ g (inr (
+texts_answer : (d e o : List ℕ) (before : Option Files) (x y : List ℕ) (r : Refusal) → HasBoth before d e x y → NotLowered x y r → Answers (compile d e o) (both d e o before x y) (Err r)
+texts_answer d e o before x y (refusal.Language (NoTree f)) g h =
+    answers_both d e o before x y _ g (inl (refusal.Language (NoTree f), inl (x, f, both_design d e o before x y g, h, refl), refl))
+texts_answer d e o before x y (refusal.Language NotYet) g h =
+    let t : DesignIs (both d e o before x y) h.0 = record { text = x; is = both_design d e o before x y g; reads = h.1 } in
+    answers_both d e o before x y _ g (inr ((h.0, t), inl (refusal.Language NotYet, inl (h.0, t, h.2, refl), refl)))
+texts_answer d e o before x y (refusal.Definitions (NoTree f)) g h =
+    let t = is_design d e o before x y h.0 g h.1 in
+    answers_both d e o before x y _ g (inr (
       (h.0, t),
       inr (
         (h.0, t, h.1.accepts),
-        inl (refusal.Definitions (Fault f), inl (y, f, both_defs d e o was x y g, h.2, refl), refl),
+        inl (refusal.Definitions (NoTree f), inl (y, f, both_defs d e o before x y g, h.2, refl), refl),
       ),
     ))
-texts_answer d e o was x y (refusal.Definitions NotYet) g h =
-    let t = is_design d e o was x y h.0 g h.2 in
-    let u : DefinitionsAre (both d e o was x y) h.1 = record { text = y; are = both_defs d e o was x y g; read = h.3 } in
-    answers_both d e o was x y _ g (inr (
+texts_answer d e o before x y (refusal.Definitions NotYet) g h =
+    let t = is_design d e o before x y h.0 g h.2 in
+    let u : DefinitionsAre (both d e o before x y) h.1 = record { text = y; are = both_defs d e o before x y g; read = h.3 } in
+    answers_both d e o before x y _ g (inr (
       (h.0, t),
       inr (
         (h.0, t, h.2.accepts),
@@ -248,18 +249,18 @@ texts_answer d e o was x y (refusal.Definitions NotYet) g h =
         ),
       ),
     ))
-texts_answer d e o was x y refusal.NoMemory g h = inl refl
-texts_answer d e o was x y r g h = absurd h
+texts_answer d e o before x y refusal.NoMemory g h = inl refl
+texts_answer d e o before x y r g h = absurd h
 
-pub texts_refused : (d e o : List ℕ) (was is : Option Files) (x y : List ℕ) (r : Refusal) → is ≡ was → Given was d e x y → NotLowered x y r → Did (compile d e o) was is (Err r)
-texts_refused d e o was is x y r same g h = record {
-  inputs = both d e o was x y;
-  inputs_are = both_are d e o was x y;
-  answers = texts_answer d e o was x y r g h;
+pub texts_refused : (d e o : List ℕ) (before after : Option Files) (x y : List ℕ) (r : Refusal) → after ≡ before → HasBoth before d e x y → NotLowered x y r → Performs (compile d e o) before after (Err r)
+texts_refused d e o before after x y r same g h = record {
+  inputs = both d e o before x y;
+  inputs_are = both_are d e o before x y;
+  answers = texts_answer d e o before x y r g h;
   leaves = leaves r h;
 }
   where
-    leaves : (r : Refusal) → NotLowered x y r → LeavesRefused (compile d e o) (both d e o was x y) was is r
+    leaves : (r : Refusal) → NotLowered x y r → LeavesRefused (compile d e o) (both d e o before x y) before after r
     leaves (refusal.Language f) h = same
     leaves (refusal.Definitions f) h = same
     leaves refusal.NoMemory h = inl same
@@ -267,87 +268,114 @@ texts_refused d e o was is x y r same g h = record {
 
 -- ---- a network that is made
 
-abbrev makes : (d e o : List ℕ) (was : Option Files) (x y : List ℕ) (net : NetData) → Given was d e x y → LowersTexts x y net → Makes (both d e o was x y) net
-makes d e o was x y net g h = record {
+abbrev makes : (d e o : List ℕ) (before : Option Files) (x y : List ℕ) (net : NetData) → HasBoth before d e x y → LowersTexts x y net → Makes (both d e o before x y) net
+makes d e o before x y net g h = record {
   design = h.tree;
   defs = h.entries;
-  design_is = record { text = x; is = both_design d e o was x y g; reads = h.design_reads };
-  defs_are = record { text = y; are = both_defs d e o was x y g; read = h.defs_read };
+  design_is = record { text = x; is = both_design d e o before x y g; reads = h.design_reads };
+  defs_are = record { text = y; are = both_defs d e o before x y g; read = h.defs_read };
   lowers = h.lowers;
 }
 
-abbrev makes_files : (d e o : List ℕ) (was : Option Files) (x y : List ℕ) (net : NetData) → Given was d e x y → LowersTexts x y net → MakesFiles (both d e o was x y) (bundle x net None)
-makes_files d e o was x y net g h = record { net = net; makes = makes d e o was x y net g h; files_are = refl }
+abbrev makes_files : (d e o : List ℕ) (before : Option Files) (x y : List ℕ) (net : NetData) → HasBoth before d e x y → LowersTexts x y net → MakesFiles (both d e o before x y) (bundle x net None)
+makes_files d e o before x y net g h = record { net = net; makes = makes d e o before x y net g h; files_are = refl }
 
 -- the steps up to the bundle are good
-answers_made : (d e o : List ℕ) (was : Option Files) (x y : List ℕ) (net : NetData) (found : Result Report Refusal) → Given was d e x y → LowersTexts x y net
-    → AnswersFrom (compile d e o) (both d e o was x y) (bundle_within ∷ bundle_written ∷ []) found → Answers (compile d e o) (both d e o was x y) found
-answers_made d e o was x y net found g h rest =
-    let m = makes d e o was x y net g h in
-    answers_both d e o was x y found g (inr ((h.tree, m.design_is), inr ((h.tree, m.design_is, h.accepts), inr ((h.entries, m.defs_are), inr ((net, m), rest)))))
+answers_made : (d e o : List ℕ) (before : Option Files) (x y : List ℕ) (net : NetData) (outcome : Result Report Refusal) → HasBoth before d e x y → LowersTexts x y net
+    → AnswersFrom (compile d e o) (both d e o before x y) (bundle_within ∷ bundle_written ∷ []) outcome → Answers (compile d e o) (both d e o before x y) outcome
+answers_made d e o before x y net outcome g h rest =
+    let m = makes d e o before x y net g h in
+    answers_both d e o before x y outcome g (inr ((h.tree, m.design_is), inr ((h.tree, m.design_is, h.accepts), inr ((h.entries, m.defs_are), inr ((net, m), rest)))))
 
 -- and all of them, where the files fit
-may_write : (d e o : List ℕ) (was : Option Files) (x y : List ℕ) (net : NetData) → Given was d e x y → LowersTexts x y net → AllFit (bundle x net None)
-    → MayWriteFiles (compile d e o) (both d e o was x y) (bundle x net None)
-may_write d e o was x y net g h fit =
-    let m = makes d e o was x y net g h in
-    let fs = makes_files d e o was x y net g h in
-    let design = both_design d e o was x y g in
-    let defs = both_defs d e o was x y g in record {
+may_write : (d e o : List ℕ) (before : Option Files) (x y : List ℕ) (net : NetData) → HasBoth before d e x y → LowersTexts x y net → AllFit (bundle x net None)
+    → MayWriteFiles (compile d e o) (both d e o before x y) (bundle x net None)
+may_write d e o before x y net g h fit =
+    let m = makes d e o before x y net g h in
+    let fs = makes_files d e o before x y net g h in
+    let design = both_design d e o before x y g in
+    let defs = both_defs d e o before x y g in record {
       good = ((x, design), ((x, design, g.design_short), ((y, defs), ((y, defs, g.defs_short), ((h.tree, m.design_is), ((h.tree, m.design_is, h.accepts), ((h.entries, m.defs_are), ((net, m), ((bundle x net None, fs, fit), (tt, tt))))))))));
       makes = fs;
       fit = fit;
     }
 
 -- why a bundle was not written
-pub write_refused : (d e o : List ℕ) (was mid is : Option Files) (x y : List ℕ) (net : NetData) (f : BundleFault) → mid ≡ was → Given was d e x y → LowersTexts x y net
-    → NotWritten o (bundle x net None) mid is f → Did (compile d e o) was is (Err (unwritten f))
-write_refused d e o was mid is x y net (fault.Folder file cause) same g h n =
-    let fs = makes_files d e o was x y net g h in record {
-      inputs = both d e o was x y;
-      inputs_are = both_are d e o was x y;
-      answers = answers_made d e o was x y net _ g h (inr ((bundle x net None, fs, n.0), inl (refusal.WriteFault (Bundle file), inr (file, refl), refl)));
-      leaves = (bundle x net None, may_write d e o was x y net g h n.0, subst (λ (told : Option Files). StopsAt o (bundle x net None) file told is) same n.2);
+pub write_refused : (d e o : List ℕ) (before mid after : Option Files) (x y : List ℕ) (net : NetData) (f : BundleFault) → mid ≡ before → HasBoth before d e x y → LowersTexts x y net
+    → NotWritten o (bundle x net None) mid after f → Performs (compile d e o) before after (Err (bundle_refusal f))
+write_refused d e o before mid after x y net (fault.Folder file cause) same g h n =
+    let fs = makes_files d e o before x y net g h in record {
+      inputs = both d e o before x y;
+      inputs_are = both_are d e o before x y;
+      answers = answers_made d e o before x y net _ g h (inr ((bundle x net None, fs, n.0), inl (refusal.WriteFault (Bundle file), inr (file, refl), refl)));
+      leaves = (bundle x net None, may_write d e o before x y net g h n.0, subst (λ (content : Option Files). StopsAt o (bundle x net None) file content after) same n.2);
     }
-write_refused d e o was mid is x y net (fault.Limit file) same g h n =
-    let fs = makes_files d e o was x y net g h in record {
-      inputs = both d e o was x y;
-      inputs_are = both_are d e o was x y;
-      answers = answers_made d e o was x y net _ g h (inl (refusal.TooLong (Bundle file) (most_of file), inl (bundle x net None, file, fs, n.0, refl), refl));
+write_refused d e o before mid after x y net (fault.Limit file) same g h n =
+    let fs = makes_files d e o before x y net g h in record {
+      inputs = both d e o before x y;
+      inputs_are = both_are d e o before x y;
+      answers = answers_made d e o before x y net _ g h (inl (refusal.TooLong (Bundle file) (most_of file), inl (bundle x net None, file, fs, n.0, refl), refl));
       leaves = n.1 ∙ same;
     }
-write_refused d e o was mid is x y net fault.NoMemory same g h (inl n) = record {
-  inputs = both d e o was x y;
-  inputs_are = both_are d e o was x y;
+write_refused d e o before mid after x y net fault.NoMemory same g h (inl n) = record {
+  inputs = both d e o before x y;
+  inputs_are = both_are d e o before x y;
   answers = inl refl;
   leaves = inl (n ∙ same);
 }
-write_refused d e o was mid is x y net fault.NoMemory same g h (inr n) = record {
-  inputs = both d e o was x y;
-  inputs_are = both_are d e o was x y;
+write_refused d e o before mid after x y net fault.NoMemory same g h (inr n) = record {
+  inputs = both d e o before x y;
+  inputs_are = both_are d e o before x y;
   answers = inl refl;
-  leaves = inr (bundle x net None, may_write d e o was x y net g h n.0, subst (λ (told : Option Files). SomeWritten o (bundle x net None) told is) same n.1);
+  leaves = inr (bundle x net None, may_write d e o before x y net g h n.0, subst (λ (content : Option Files). SomeWritten o (bundle x net None) content after) same n.1);
 }
 
 -- the bundle was written
-pub done : (d e o : List ℕ) (was mid is : Option Files) (x y : List ℕ) (net : NetData) (report : Report) → mid ≡ was → Given was d e x y → LowersTexts x y net
-    → is ≡ with_files o (bundle x net None) mid → AllFit (bundle x net None) → report ≡ Compiled (totals_of net) → Did (compile d e o) was is (Ok report)
-done d e o was mid is x y net (Compiled totals) same g h w fit r =
-    let fs = makes_files d e o was x y net g h in record {
-      inputs = both d e o was x y;
-      inputs_are = both_are d e o was x y;
-      answers = answers_made d e o was x y net _ g h (inr ((bundle x net None, fs, fit), inr (tt, (net, makes d e o was x y net g h, same_totals r))));
-      leaves = (bundle x net None, may_write d e o was x y net g h fit, w ∙ ap (with_files o (bundle x net None)) same);
+pub done : (d e o : List ℕ) (before mid after : Option Files) (x y : List ℕ) (net : NetData) (report : Report) → mid ≡ before → HasBoth before d e x y → LowersTexts x y net
+    → after ≡ with_files o (bundle x net None) mid → AllFit (bundle x net None) → report ≡ Compiled (totals_of net) → Performs (compile d e o) before after (Ok report)
+done d e o before mid after x y net (Compiled totals) same g h w fit r =
+    let fs = makes_files d e o before x y net g h in record {
+      inputs = both d e o before x y;
+      inputs_are = both_are d e o before x y;
+      answers = answers_made d e o before x y net _ g h (inr ((bundle x net None, fs, fit), inr (tt, (net, makes d e o before x y net g h, same_totals r))));
+      leaves = (bundle x net None, may_write d e o before x y net g h fit, w ∙ ap (with_files o (bundle x net None)) same);
     }
   where
     same_totals : Compiled totals ≡ Compiled (totals_of net) → totals ≡ totals_of net
     same_totals r = cc
 
+-- ---- which file a fault of the folder is about
+
+pub design_named : (last : List ℕ → Type 0) (d e o : List ℕ) (content : Option Files) (r : Refusal) → FileNotRead content d Design design_most r → NamesReadFailure last d r → NamesFailure last (compile d e o) (Err r)
+design_named last d e o content (refusal.ReadFault f) h n = subst (λ (g : CommandFile). last (name_in (compile d e o) g)) (sym h) n
+design_named last d e o content (refusal.WriteFault f) h n = absurd h
+design_named last d e o content r h n = tt
+
+pub defs_named : (last : List ℕ → Type 0) (d e o : List ℕ) (content : Option Files) (r : Refusal) → FileNotRead content e Definitions definitions_most r → NamesReadFailure last e r → NamesFailure last (compile d e o) (Err r)
+defs_named last d e o content (refusal.ReadFault f) h n = subst (λ (g : CommandFile). last (name_in (compile d e o) g)) (sym h) n
+defs_named last d e o content (refusal.WriteFault f) h n = absurd h
+defs_named last d e o content r h n = tt
+
+pub texts_named : (last : List ℕ → Type 0) (c : Command) (x y : List ℕ) (r : Refusal) → NotLowered x y r → NamesFailure last c (Err r)
+texts_named last c x y (refusal.ReadFault f) h = absurd h
+texts_named last c x y (refusal.WriteFault f) h = absurd h
+texts_named last c x y r h = tt
+
+pub write_named : (last : List ℕ → Type 0) (d e o : List ℕ) (f : BundleFault) → BundleNamesFailure last o f → NamesFailure last (compile d e o) (Err (bundle_refusal f))
+write_named last d e o (fault.Folder file cause) n = n
+write_named last d e o (fault.Limit file) n = tt
+write_named last d e o fault.NoMemory n = tt
+
+-- of a refusal that is passed on
+pub named_passed : (last : List ℕ → Type 0) (c : Command) (outcome : Result Report Refusal) (r : Refusal) → IsErrAnd outcome (λ x. x ≡ r) → NamesFailure last c (Err r) → NamesFailure last c outcome
+named_passed last c (Ok report) r h k = absurd h
+named_passed last c (Err x) r h k = subst (λ (y : Refusal). NamesFailure last c (Err y)) (sym h) k
+
 -- ---- the same bytes
 
-pub same_refused : (o x x' : List ℕ) (net : NetData) (was is : Option Files) (f : BundleFault) → x' ≡ x → NotWritten o (bundle x' net None) was is f → NotWritten o (bundle x net None) was is f
-same_refused o x x' net was is f e h = subst (λ (b : List ℕ). NotWritten o (bundle b net None) was is f) e h
+pub same_refused : (o x x' : List ℕ) (net : NetData) (before after : Option Files) (f : BundleFault) → x' ≡ x → NotWritten o (bundle x' net None) before after f → NotWritten o (bundle x net None) before after f
+same_refused o x x' net before after f e h = subst (λ (b : List ℕ). NotWritten o (bundle b net None) before after f) e h
 
-pub same_held : (o x x' : List ℕ) (net : NetData) (was mid is : Option Files) → x' ≡ x → mid ≡ was → HoldsTold mid is o x' net None → HoldsTold was is o x net None
-same_held o x x' net was mid is e same h =
-    subst (λ (b : List ℕ). HoldsTold was is o b net None) e (subst (λ (told : Option Files). HoldsTold told is o x' net None) same h)
+pub same_held : (o x x' : List ℕ) (net : NetData) (before mid after : Option Files) → x' ≡ x → mid ≡ before → ContentHolds mid after o x' net None → ContentHolds before after o x net None
+same_held o x x' net before mid after e same h =
+    subst (λ (b : List ℕ). ContentHolds before after o b net None) e (subst (λ (content : Option Files). ContentHolds content after o x' net None) same h)

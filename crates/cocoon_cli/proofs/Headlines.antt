@@ -2,14 +2,14 @@
 use Rattle.std.proofs.Common.{ℕ, List, Option, Some, None, refl}
 use Rattle.cocoon_io.specs.Files.{Files}
 use Rattle.p4_ir.specs.NetTree.{NetData}
-use Rattle.net_bundle.specs.Writing.{Holds, HoldsTold}
-use Rattle.cocoon_cli.specs.Command.{compile}
+use Rattle.net_bundle.specs.Writing.{Holds, ContentHolds}
+use Rattle.command_line.specs.Command.{compile}
 use Rattle.cocoon_cli.specs.Headline.{Compiled, CompiledOf}
-use Rattle.cocoon_cli.specs.Texts.{LowersTexts}
-use Rattle.cocoon_cli.proofs.Compiling.{Given}
+use Rattle.cocoon_cli.specs.LowerTexts.{LowersTexts}
+use Rattle.cocoon_cli.proofs.Compiling.{HasBoth}
 
-compiled : (was is : Files) (d e o x y : List ℕ) (net : NetData) → Given (Some was) d e x y → LowersTexts x y net → Holds was is o x net None → Compiled was is d e o
-compiled was is d e o x y net g l h = record {
+compiled : (before after : Files) (d e o x y : List ℕ) (net : NetData) → HasBoth (Some before) d e x y → LowersTexts x y net → Holds before after o x net None → Compiled before after d e o
+compiled before after d e o x y net g l h = record {
   design_text = x;
   defs_text = y;
   design = l.tree;
@@ -28,7 +28,7 @@ compiled was is d e o x y net g l h = record {
   within = l.sound.within;
 }
 
-pub headline : (was is : Option Files) (d e o x y : List ℕ) (net : NetData) → Given was d e x y → LowersTexts x y net → HoldsTold was is o x net None → CompiledOf (Some (compile d e o)) was is
-headline None is d e o x y net g l h = tt
-headline (Some was) None d e o x y net g l h = h
-headline (Some was) (Some is) d e o x y net g l h = compiled was is d e o x y net g l h
+pub headline : (before after : Option Files) (d e o x y : List ℕ) (net : NetData) → HasBoth before d e x y → LowersTexts x y net → ContentHolds before after o x net None → CompiledOf (Some (compile d e o)) before after
+headline None after d e o x y net g l h = tt
+headline (Some before) None d e o x y net g l h = h
+headline (Some before) (Some after) d e o x y net g l h = compiled before after d e o x y net g l h

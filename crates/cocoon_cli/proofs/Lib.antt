@@ -1,5 +1,4 @@
-pub mod Matching
 pub mod Compiling
 pub mod Headlines
 pub mod Running
-pub mod OneFinding
+pub mod OneOutcome

@@ -1,9 +1,11 @@
--- The names of the files of a command. It follows the section "Commands" of README.md and "Bundle files" in docs/FORMATS.md.
+-- Cited by `CommandFile::name`, by the lines of report.rt, and through Run.antt by `keeps` of
+-- `run`. The names of the files of a command. It follows the section "Commands" of README.md and
+-- "Bundle files" in docs/FORMATS.md.
 use Rattle.std.specs.Prelude.{ℕ, List}
 use Rattle.net_bundle.specs.Bundle.{whole_name}
 use Rattle.cocoon_cli.specs.declared.files.CommandFile.{CommandFile}
 use Rattle.cocoon_cli.specs.declared.files.CommandFile.TheVariants.{Design, Definitions, Bundle}
-use Rattle.cocoon_cli.specs.Command.{Command, compile}
+use Rattle.command_line.specs.Command.{Command, compile}
 
 -- the name of a file of a command
 abbrev pub name_in : Command → CommandFile → List ℕ

@@ -1,8 +1,8 @@
--- The main promise. Whenever `compile` ends with status 0, the files that it wrote read as a P4-16 network that, for
--- every packet entering at any host port and any number of switch visits, delivers copy for copy exactly what the
--- design's last level delivers under the given definitions; and each such delivery, its port, headers and payload, is
--- one that the design's topmost specification may make. It is the sentence of the section "The headline" of
--- docs/PROMISES.md.
+-- The main promise. Whenever `compile` ends with status 0, the files that it wrote read as a P4-16
+-- network that, for every packet entering at any host port and any number of switch visits,
+-- delivers copy for copy exactly what the design's last level delivers under the given definitions;
+-- and each such delivery, its port, headers and payload, is one that the design's topmost
+-- specification may make. It is the sentence of the section "The headline" of docs/PROMISES.md.
 use Rattle.std.specs.Prelude.{◌≡◌, ℕ, List, Option, Some, None}
 use Rattle.std.specs.FinMap.{get}
 use Rattle.cocoon_num.specs.Tree.{Design, DefsText}
@@ -15,36 +15,41 @@ use Rattle.p4_ir.specs.NetTree.{NetData}
 use Rattle.net_bundle.specs.BundleNames.{digest_of}
 use Rattle.net_bundle.specs.Network.{Network, InBundle}
 use Rattle.lower_p4.specs.Delivers.{DeliversExactly, DeliversWithin}
-use Rattle.cocoon_cli.specs.Command.{Command, command, compile}
+use Rattle.command_line.specs.Command.{Command, compile}
+use Rattle.command_line.specs.Words.{command}
 
--- what the files `is` hold after a `compile` of the design and the definitions that stood in the files `was`
-pub record Compiled (was is : Files) (design_name defs_name out : List ℕ) : Type 0 where
+-- what the files hold `after` a `compile` of the design and the definitions that stood in the files
+-- `before`
+pub record Compiled (before after : Files) (design_name defs_name out : List ℕ) : Type 0 where
   pub design_text : List ℕ
   pub defs_text : List ℕ
   pub design : Design
   pub entries : DefsText
   pub net : NetData
   -- the given design and definitions
-  pub design_is : get was design_name ≡ Some design_text
-  pub defs_are : get was defs_name ≡ Some defs_text
+  pub design_is : get before design_name ≡ Some design_text
+  pub defs_are : get before defs_name ≡ Some defs_text
   pub design_reads : Reads design_text design
   pub well_formed : WellFormed design
   pub defs_read : ReadsDefs defs_text entries
   pub defs_fit : DefsFit design entries
   -- the files that were written, and no others
-  pub network : Network is out net
+  pub network : Network after out net
   pub digest : network.file.design ≡ digest_of design_text
-  pub others_same : (name : List ℕ) → ¬ InBundle out net.switches name → get is name ≡ get was name
+  pub others_same : (name : List ℕ)
+      → ¬ InBundle out net.switches name → get after name ≡ get before name
   -- what they do
   pub exact : DeliversExactly net design (defs_of design entries)
   pub within : DeliversWithin net design (defs_of design entries)
 
 abbrev pub CompiledOf : Option Command → Option Files → Option Files → Type 0
-CompiledOf None told told' = ⊥
-CompiledOf (Some (compile design defs out)) None told' = Unit {0}
-CompiledOf (Some (compile design defs out)) (Some was) None = ⊥
-CompiledOf (Some (compile design defs out)) (Some was) (Some is) = Compiled was is design defs out
+CompiledOf None before after = ⊥
+CompiledOf (Some (compile design defs out)) None after = Unit {0}
+CompiledOf (Some (compile design defs out)) (Some before) None = ⊥
+CompiledOf (Some (compile design defs out)) (Some before) (Some after) =
+    Compiled before after design defs out
 
--- The words are a `compile`, and where the folder tells its content the files are those of its design and definitions.
+-- The words are a `compile`, and where the folder's content is known the files are those of its
+-- design and definitions.
 abbrev pub Headline : List (List ℕ) → Option Files → Option Files → Type 0
-Headline words told told' = CompiledOf (command words) told told'
+Headline words before after = CompiledOf (command words) before after

@@ -1,4 +1,5 @@
--- What a command leaves in the folder. It follows "Statuses" in docs/FORMATS.md.
+-- Cited through Run.antt by `keeps` of `run` and by `performs` of each command. What a command
+-- leaves in the folder. It follows "Statuses" in docs/FORMATS.md.
 use Rattle.std.specs.Prelude.{◌≡◌, ◌⊎◌, List, Option, Result, Ok, Err}
 use Rattle.cocoon_io.specs.Files.{Files}
 use Rattle.net_bundle.specs.Bundle.{MadeFile}
@@ -7,7 +8,7 @@ use Rattle.cocoon_cli.specs.declared.files.CommandFile.TheVariants.{Bundle}
 use Rattle.cocoon_cli.specs.declared.refusal.Refusal.{Refusal}
 use Rattle.cocoon_cli.specs.declared.refusal.Refusal.TheVariants.{WriteFault, NoMemory}
 use Rattle.cocoon_cli.specs.declared.report.Report.{Report}
-use Rattle.cocoon_cli.specs.Command.{Command, compile}
+use Rattle.command_line.specs.Command.{Command, compile}
 use Rattle.cocoon_cli.specs.Steps.{Inputs, MakesFiles, AllGood, steps}
 
 -- all steps are good, and these are the files of the bundle
@@ -17,23 +18,28 @@ pub record MayWriteFiles (c : Command) (inputs : Inputs) (files : List MadeFile)
   pub fit : AllFit files
 
 -- where there is a report the bundle stands, and nothing else was touched
-abbrev pub LeavesBundle : Command → Inputs → (was is : Option Files) → Type 0
-LeavesBundle (compile design defs out) inputs was is =
-    (files : List MadeFile) × MayWriteFiles (compile design defs out) inputs files × (is ≡ with_files out files was)
+abbrev pub LeavesBundle : Command → Inputs → (before after : Option Files) → Type 0
+LeavesBundle (compile design defs out) inputs before after =
+    (files : List MadeFile) × MayWriteFiles (compile design defs out) inputs files
+    × (after ≡ with_files out files before)
 
 -- the folder is as it was, or the first files of the bundle's order are new
-abbrev pub LeavesSome : Command → Inputs → (was is : Option Files) → Type 0
-LeavesSome (compile design defs out) inputs was is =
-    (is ≡ was) ⊎ ((files : List MadeFile) × MayWriteFiles (compile design defs out) inputs files × SomeWritten out files was is)
+abbrev pub LeavesSome : Command → Inputs → (before after : Option Files) → Type 0
+LeavesSome (compile design defs out) inputs before after =
+    (after ≡ before)
+    ⊎ ((files : List MadeFile) × MayWriteFiles (compile design defs out) inputs files
+    × SomeWritten out files before after)
 
 -- where there is a refusal; a write fault is about a file of the bundle at which the writes stopped
-abbrev pub LeavesRefused : Command → Inputs → (was is : Option Files) → Refusal → Type 0
-LeavesRefused (compile design defs out) inputs was is (WriteFault (Bundle file)) =
-    (files : List MadeFile) × MayWriteFiles (compile design defs out) inputs files × StopsAt out files file was is
-LeavesRefused c inputs was is NoMemory = LeavesSome c inputs was is
-LeavesRefused c inputs was is r = is ≡ was
+abbrev pub LeavesRefused : Command → Inputs → (before after : Option Files) → Refusal → Type 0
+LeavesRefused (compile design defs out) inputs before after (WriteFault (Bundle file)) =
+    (files : List MadeFile) × MayWriteFiles (compile design defs out) inputs files
+    × StopsAt out files file before after
+LeavesRefused c inputs before after NoMemory = LeavesSome c inputs before after
+LeavesRefused c inputs before after r = after ≡ before
 
--- what a command leaves that found this
-abbrev pub Leaves : Command → Inputs → (was is : Option Files) → Result Report Refusal → Type 0
-Leaves c inputs was is (Ok report) = LeavesBundle c inputs was is
-Leaves c inputs was is (Err r) = LeavesRefused c inputs was is r
+-- what a command with this outcome leaves
+abbrev pub Leaves : Command → Inputs → (before after : Option Files) → Result Report Refusal
+    → Type 0
+Leaves c inputs before after (Ok report) = LeavesBundle c inputs before after
+Leaves c inputs before after (Err r) = LeavesRefused c inputs before after r

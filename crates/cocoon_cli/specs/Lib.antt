@@ -1,10 +1,7 @@
-pub mod Stated
-pub mod Command
-pub mod Stands
 pub mod FileNames
 pub mod Report
 pub mod Steps
-pub mod Texts
+pub mod LowerTexts
 pub mod Reading
 pub mod Leaves
 pub mod Headline

@@ -1,9 +1,11 @@
--- What a command finds: the first of its steps that refuses, or else its report. A step looks at what is read of the
--- command's files; each is a case of its own, and a new rule, limit or command adds cases. It follows "Statuses" in
--- docs/FORMATS.md.
+-- Cited by `one_outcome`, and through Run.antt by `keeps` of `run`. The outcome of a command: the
+-- first of its steps that refuses, or else its report. A step looks at what is read of the
+-- command's files; each is a case of its own, and a new rule, limit or command adds cases. It
+-- follows "Statuses" in docs/FORMATS.md.
 use Rattle.std.specs.Prelude.{◌≡◌, ◌⊎◌, ◌≤◌, ◌<◌, ℕ, List, [], ◌∷◌, length, Option, Some, None, Result, Ok, Err}
 use Rattle.cocoon_num.specs.Tree as tree
-use Rattle.cocoon_num.specs.Reads.{Reads, ReadsDefs, BeginsDesign, BeginsDefs}
+use Rattle.cocoon_num.specs.Reads.{Reads, ReadsDefs}
+use Rattle.cocoon_num.specs.FirstFaults.{BeginsDesign, BeginsDefs}
 use Rattle.cocoon_text.specs.TextFaults.{FirstFault}
 use Rattle.cocoon_text.specs.declared.fault.TextFault.{TextFault}
 use Rattle.p4_ir.specs.NetTree.{NetData}
@@ -13,13 +15,13 @@ use Rattle.net_bundle.specs.declared.file.BundleFile.{BundleFile}
 use Rattle.lower_p4.specs.Accepts.{Accepts, AcceptsDefs, Lowers}
 use Rattle.cocoon_cli.specs.declared.files.CommandFile.{CommandFile}
 use Rattle.cocoon_cli.specs.declared.files.CommandFile.TheVariants.{Design, Definitions, Bundle}
-use Rattle.cocoon_cli.specs.declared.refusal.Flaw.TheVariants.{Fault, NotYet}
+use Rattle.cocoon_cli.specs.declared.refusal.InputFault.TheVariants.{NoTree, NotYet}
 use Rattle.cocoon_cli.specs.declared.refusal.Refusal.{Refusal}
 use Rattle.cocoon_cli.specs.declared.refusal.Refusal.TheVariants as refusal
 use Rattle.cocoon_cli.specs.declared.report.Totals.{Totals}
 use Rattle.cocoon_cli.specs.declared.report.Report.{Report}
 use Rattle.cocoon_cli.specs.declared.report.Report.TheVariants.{Compiled}
-use Rattle.cocoon_cli.specs.Command.{Command, compile}
+use Rattle.command_line.specs.Command.{Command, compile}
 
 -- what is read of each file of a command; nothing where it is not there
 abbrev pub Inputs : Type 0
@@ -48,8 +50,10 @@ definitions_most = 4194304
 -- the steps of a command, in their order
 abbrev pub steps : Command → List Step
 steps (compile design defs out) =
-    is_there Design ∷ is_within Design design_most ∷ is_there Definitions ∷ is_within Definitions definitions_most
-    ∷ design_reads ∷ design_accepted ∷ definitions_read ∷ definitions_accepted ∷ bundle_within ∷ bundle_written ∷ []
+    is_there Design ∷ is_within Design design_most
+    ∷ is_there Definitions ∷ is_within Definitions definitions_most
+    ∷ design_reads ∷ design_accepted ∷ definitions_read ∷ definitions_accepted
+    ∷ bundle_within ∷ bundle_written ∷ []
 
 -- ---- what the files say
 
@@ -84,7 +88,8 @@ pub record MakesFiles (inputs : Inputs) (files : List MadeFile) : Type 0 where
 -- there is nothing to refuse
 abbrev pub IsGood : Inputs → Step → Type 0
 IsGood inputs (is_there file) = (bytes : List ℕ) × (inputs file ≡ Some bytes)
-IsGood inputs (is_within file most) = (bytes : List ℕ) × (inputs file ≡ Some bytes) × (length bytes ≤ most)
+IsGood inputs (is_within file most) =
+    (bytes : List ℕ) × (inputs file ≡ Some bytes) × (length bytes ≤ most)
 IsGood inputs design_reads = (design : tree.Design) × DesignIs inputs design
 IsGood inputs design_accepted = (design : tree.Design) × DesignIs inputs design × Accepts design
 IsGood inputs definitions_read = (defs : tree.DefsText) × DefinitionsAre inputs defs
@@ -92,46 +97,60 @@ IsGood inputs definitions_accepted = (net : NetData) × Makes inputs net
 IsGood inputs bundle_within = (files : List MadeFile) × MakesFiles inputs files × AllFit files
 IsGood inputs bundle_written = Unit {0}
 
--- the step refuses, and says this
+-- the step refuses, with this
 abbrev pub Refuses : Inputs → Step → Refusal → Type 0
 Refuses inputs (is_there file) r = (inputs file ≡ None) × (r ≡ refusal.NoFile file)
 Refuses inputs (is_within file most) r =
-    (bytes : List ℕ) × (inputs file ≡ Some bytes) × (most < length bytes) × (r ≡ refusal.TooLong file most)
+    (bytes : List ℕ) × (inputs file ≡ Some bytes) × (most < length bytes)
+    × (r ≡ refusal.TooLong file most)
 Refuses inputs design_reads r =
-    (text : List ℕ) × (fault : TextFault) × (inputs Design ≡ Some text) × FirstFault BeginsDesign text fault × (r ≡ refusal.Language (Fault fault))
-Refuses inputs design_accepted r = (design : tree.Design) × DesignIs inputs design × (¬ Accepts design) × (r ≡ refusal.Language NotYet)
+    (text : List ℕ) × (fault : TextFault) × (inputs Design ≡ Some text)
+    × FirstFault BeginsDesign text fault × (r ≡ refusal.Language (NoTree fault))
+Refuses inputs design_accepted r =
+    (design : tree.Design) × DesignIs inputs design × (¬ Accepts design)
+    × (r ≡ refusal.Language NotYet)
 Refuses inputs definitions_read r =
-    (text : List ℕ) × (fault : TextFault) × (inputs Definitions ≡ Some text) × FirstFault BeginsDefs text fault × (r ≡ refusal.Definitions (Fault fault))
+    (text : List ℕ) × (fault : TextFault) × (inputs Definitions ≡ Some text)
+    × FirstFault BeginsDefs text fault × (r ≡ refusal.Definitions (NoTree fault))
 Refuses inputs definitions_accepted r =
-    (design : tree.Design) × (defs : tree.DefsText) × DesignIs inputs design × DefinitionsAre inputs defs × (¬ AcceptsDefs design defs) × (r ≡ refusal.Definitions NotYet)
+    (design : tree.Design) × (defs : tree.DefsText) × DesignIs inputs design
+    × DefinitionsAre inputs defs × (¬ AcceptsDefs design defs)
+    × (r ≡ refusal.Definitions NotYet)
 Refuses inputs bundle_within r =
-    (files : List MadeFile) × (file : BundleFile) × MakesFiles inputs files × FirstOver files file × (r ≡ refusal.TooLong (Bundle file) (most_of file))
+    (files : List MadeFile) × (file : BundleFile) × MakesFiles inputs files × FirstOver files file
+    × (r ≡ refusal.TooLong (Bundle file) (most_of file))
 Refuses inputs bundle_written r = ⊥
 
 -- ---- all steps
 
 -- how many switches, hosts and links a network has
 abbrev pub totals_of : NetData → Totals
-totals_of net = record { switches = length net.switches; hosts = length net.hosts; links = length net.links }
+totals_of net = record {
+  switches = length net.switches;
+  hosts = length net.hosts;
+  links = length net.links;
+}
 
 -- the report of a command that nothing stopped
 abbrev pub Reports : Command → Inputs → Report → Type 0
-Reports (compile design defs out) inputs (Compiled totals) = (net : NetData) × Makes inputs net × (totals ≡ totals_of net)
+Reports (compile design defs out) inputs (Compiled totals) =
+    (net : NetData) × Makes inputs net × (totals ≡ totals_of net)
 
 abbrev pub AllGood : Inputs → List Step → Type 0
 AllGood inputs [] = Unit {0}
 AllGood inputs (s ∷ ss) = IsGood inputs s × AllGood inputs ss
 
 -- the first of these steps that refuses, or the report
-abbrev pub FindsFrom : Command → Inputs → List Step → Result Report Refusal → Type 0
-FindsFrom c inputs [] (Ok report) = Reports c inputs report
-FindsFrom c inputs [] (Err r) = ⊥
-FindsFrom c inputs (s ∷ ss) found =
-    ((r : Refusal) × Refuses inputs s r × (found ≡ Err r)) ⊎ (IsGood inputs s × FindsFrom c inputs ss found)
+abbrev pub HasOutcomeFrom : Command → Inputs → List Step → Result Report Refusal → Type 0
+HasOutcomeFrom c inputs [] (Ok report) = Reports c inputs report
+HasOutcomeFrom c inputs [] (Err r) = ⊥
+HasOutcomeFrom c inputs (s ∷ ss) outcome =
+    ((r : Refusal) × Refuses inputs s r × (outcome ≡ Err r))
+    ⊎ (IsGood inputs s × HasOutcomeFrom c inputs ss outcome)
 
--- what a command finds
-abbrev pub Finds : Command → Inputs → Result Report Refusal → Type 0
-Finds c inputs found = FindsFrom c inputs (steps c) found
+-- the outcome of a command
+abbrev pub HasOutcome : Command → Inputs → Result Report Refusal → Type 0
+HasOutcome c inputs outcome = HasOutcomeFrom c inputs (steps c) outcome
 
 -- ---- faults of the folder
 
@@ -141,13 +160,14 @@ Stops inputs (is_there file) r = r ≡ refusal.ReadFault file
 Stops inputs bundle_written r = (file : BundleFile) × (r ≡ refusal.WriteFault (Bundle file))
 Stops inputs step r = ⊥
 
--- what a command answers from these steps on: what it finds, or the fault of the folder that stopped a step before which all
--- are good
+-- what a command answers from these steps on: its outcome, or the fault of the folder that stopped
+-- a step before which all are good
 abbrev pub AnswersFrom : Command → Inputs → List Step → Result Report Refusal → Type 0
-AnswersFrom c inputs [] found = FindsFrom c inputs [] found
-AnswersFrom c inputs (s ∷ ss) found =
-    ((r : Refusal) × (Refuses inputs s r ⊎ Stops inputs s r) × (found ≡ Err r)) ⊎ (IsGood inputs s × AnswersFrom c inputs ss found)
+AnswersFrom c inputs [] outcome = HasOutcomeFrom c inputs [] outcome
+AnswersFrom c inputs (s ∷ ss) outcome =
+    ((r : Refusal) × (Refuses inputs s r ⊎ Stops inputs s r) × (outcome ≡ Err r))
+    ⊎ (IsGood inputs s × AnswersFrom c inputs ss outcome)
 
--- What a command answers. Want of memory may come anywhere.
+-- What a command answers. It may be out of memory anywhere.
 abbrev pub Answers : Command → Inputs → Result Report Refusal → Type 0
-Answers c inputs found = (found ≡ Err refusal.NoMemory) ⊎ AnswersFrom c inputs (steps c) found
+Answers c inputs outcome = (outcome ≡ Err refusal.NoMemory) ⊎ AnswersFrom c inputs (steps c) outcome

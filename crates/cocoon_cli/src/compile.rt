@@ -1,18 +1,19 @@
-//! `compile`: a design and its definitions are read, a network is made of them, and its bundle is written.
+//! `compile`: a design and its definitions are read, a network is made of them, and its bundle is
+//! written.
 ghost use Rattle.std.specs.Prelude.{◌≡◌, ◌≤◌, ◌<◌, IfErr, IfOk, Some, length};
 ghost use Rattle.p4_ir.specs.NetOf.{net_of};
-ghost use Rattle.cocoon_cli.specs.Command as spec;
+ghost use Rattle.command_line.specs.Command as spec;
 ghost use Rattle.cocoon_cli.specs.Headline.{CompiledOf};
-ghost use Rattle.cocoon_cli.specs.Reading.{Gives, NotGiven, ReadFaultRose};
-ghost use Rattle.cocoon_cli.specs.Run.{Did, HasFault, count};
+ghost use Rattle.cocoon_cli.specs.Reading.{FileNotRead, HasFile, NamesReadFailure, ReadFaultRose};
+ghost use Rattle.cocoon_cli.specs.Run.{HasFault, NamesFailure, Performs, count};
 ghost use Rattle.cocoon_cli.specs.Steps.{totals_of};
 
 use crate::files::CommandFile;
+use crate::lower_texts::network;
 use crate::refusal::Refusal;
 use crate::report::{Report, Totals};
-use crate::texts::network;
-use crate::words::Compile;
 use cocoon_io::{Folder, FolderFault};
+use command_line::Compile;
 use net_bundle::write_bundle;
 use p4_ir::NetData;
 use std::alloc::Global;
@@ -22,8 +23,8 @@ const DESIGN_MOST: u64 = 1_048_576;
 
 const DEFINITIONS_MOST: u64 = 4_194_304;
 
-/// The bytes of a file that was read, if they are not too many. A folder that tells nothing of its files may give more than
-/// it was asked for.
+/// The bytes of a file that was read, if they are not too many. A folder whose content is not known
+/// may give more than it was asked for.
 fn within_limit(bytes: Vec<u8>, file: CommandFile, most: u64) -> Result<Vec<u8>, Refusal>
     ensures ok { IfOk result (λ v. (v.items ≡ bytes.items) × (length v.items ≤ most)) }
     ensures err { IfErr result (λ r. (r
@@ -44,12 +45,13 @@ fn read<F: Folder>(
     file: CommandFile,
     most: u64,
 ) -> Result<Vec<u8>, Refusal>
-    ensures ok { IfOk result (λ v. Gives (F.told folder.old) name.now most v.items) }
+    ensures ok { IfOk result (λ v. HasFile (F.content folder.old) name.now most v.items) }
     ensures short { IfOk result (λ v. length v.items ≤ most) }
-    ensures err { IfErr result (NotGiven (F.told folder.old) name.now file most) }
+    ensures err { IfErr result (FileNotRead (F.content folder.old) name.now file most) }
     ensures failed { IfErr result (ReadFaultRose F.last_read_fault
         (F.read_faults folder.old) (F.read_faults folder.new)) }
-    ensures same { F.told folder.new ≡ F.told folder.old }
+    ensures named { IfErr result (NamesReadFailure (F.last_failure folder.new) name.now) }
+    ensures same { F.content folder.new ≡ F.content folder.old }
     ensures reads { F.read_faults folder.old ≤ F.read_faults folder.new }
     ensures writes { F.write_faults folder.new ≡ F.write_faults folder.old }
 {
@@ -79,19 +81,21 @@ pub fn compile<F: Folder>(
     names: &Compile<'_>,
     folder: &mut F,
 ) -> Result<Report, Refusal>
-    // what it finds, by its steps, and what it leaves
-    ensures did { Did
+    // its outcome, by its steps, and what it leaves
+    ensures performs { Performs
         (spec.compile names.now.design.now names.now.defs.now names.now.out.now)
-        (F.told folder.old) (F.told folder.new) result }
+        (F.content folder.old) (F.content folder.new) result }
 
     // the network that the files give is what the design asks for
     ensures headline { IfOk result (λ report. CompiledOf
         (Some (spec.compile names.now.design.now names.now.defs.now names.now.out.now))
-        (F.told folder.old) (F.told folder.new)) }
+        (F.content folder.old) (F.content folder.new)) }
     ensures faults { HasFault
         (count F.last_read_fault (F.read_faults folder.old) (F.read_faults folder.new))
         (count F.last_write_fault (F.write_faults folder.old) (F.write_faults folder.new))
         result }
+    ensures named { NamesFailure (F.last_failure folder.new)
+        (spec.compile names.now.design.now names.now.defs.now names.now.out.now) result }
 {
     let design = read(
         alloc,

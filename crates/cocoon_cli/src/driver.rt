@@ -1,29 +1,29 @@
-//! The top call: the words are read, the command is done, and one report is told. Each command is a module of its own; this
-//! one only puts them together.
-ghost use Rattle.std.specs.Prelude.{◌≡◌, IfErr, IfOk, Some, map, string_bytes};
+//! The top call: the words are read, the command is performed, and one report is printed. Each
+//! command is a module of its own; this one only puts them together.
+ghost use Rattle.std.specs.Prelude.{◌≡◌, IfOk, Some, map, string_bytes};
 ghost use Rattle.cocoon_cli.specs.Headline.{CompiledOf, Headline};
-ghost use Rattle.cocoon_cli.specs.Report.{Says, Puts, finding_of, no_memory};
-ghost use Rattle.cocoon_cli.specs.Run.{Did, HasFault, Keeps, count};
-ghost use Rattle.cocoon_cli.specs.Stands.{stands_for};
-ghost use Rattle.cocoon_io.specs.Told.{Rose};
+ghost use Rattle.cocoon_cli.specs.Report.{Prints, Puts, ending_of, no_memory};
+ghost use Rattle.cocoon_cli.specs.Run.{HasFault, Keeps, NamesFailure, Performs, count};
+ghost use Rattle.command_line.specs.Stands.{stands_for};
+ghost use Rattle.cocoon_io.specs.Calls.{Rose};
 
 use crate::compile::compile;
-use crate::laws::one_finding;
+use crate::laws::one_outcome;
 use crate::refusal::Refusal;
 use crate::report::{Report, status, whole_report};
 use crate::status::Status;
-use crate::words::{Command, parse_command};
 use cocoon_io::{Folder, Sink, SinkFault};
 use cocoon_num::NoMemory;
+use command_line::{Command, parse_command};
 use std::alloc::Global;
 
 /// The line of words that are no command.
 const USAGE: &[u8] = b"usage cocoon check compile update forward step live gen\n";
 
-/// Tells the bytes; where that fails, the status says so.
+/// Gives the bytes to the sink; where that fails, the status says so.
 fn put<S: Sink>(alloc: Global, out: &mut S, bytes: &[u8], status: Status) -> Status
     ensures { Puts (Rose S.last_fault (S.faults out.old) (S.faults out.new))
-        (record { status = status; report = bytes.now }) (S.told out.old) (S.told out.new) result }
+        (record { status = status; report = bytes.now }) (S.output out.old) (S.output out.new) result }
 {
     match out.put(alloc, bytes) {
         Ok(()) => status,
@@ -32,50 +32,53 @@ fn put<S: Sink>(alloc: Global, out: &mut S, bytes: &[u8], status: Status) -> Sta
     }
 }
 
-/// Tells that there was no memory.
+/// Says that there was no memory.
 pub fn tell_no_memory<S: Sink>(alloc: Global, out: &mut S) -> Status
     ensures { Puts (Rose S.last_fault (S.faults out.old) (S.faults out.new))
-        no_memory (S.told out.old) (S.told out.new) result }
+        no_memory (S.output out.old) (S.output out.new) result }
 {
     put(alloc, out, b"no memory\n", Status::NoMemory)
 }
 
-/// Tells what a command found.
-fn tell<S: Sink>(
+/// Prints the outcome of a command.
+fn print<S: Sink>(
     alloc: Global,
     out: &mut S,
     command: &Command<'_>,
-    found: &Result<Report, Refusal>,
+    outcome: &Result<Report, Refusal>,
 ) -> Status
-    ensures { Says (Rose S.last_fault (S.faults out.old) (S.faults out.new))
-        (finding_of (stands_for command.now) found.now) (S.told out.old) (S.told out.new) result }
+    ensures { Prints (Rose S.last_fault (S.faults out.old) (S.faults out.new))
+        (ending_of (stands_for command.now) outcome.now) (S.output out.old) (S.output out.new) result }
 {
-    match whole_report(alloc, command, found) {
-        Ok(line) => put(alloc, out, line.as_bytes(), status(found)),
+    match whole_report(alloc, command, outcome) {
+        Ok(line) => put(alloc, out, line.as_bytes(), status(outcome)),
         Err(NoMemory) => tell_no_memory(alloc, out),
     }
 }
 
-/// Does what a command asks for.
+/// Performs a command.
 fn perform<F: Folder>(
     alloc: Global,
     command: &Command<'_>,
     folder: &mut F,
 ) -> Result<Report, Refusal>
-    ensures did { Did (stands_for command.now) (F.told folder.old) (F.told folder.new) result }
+    ensures performs { Performs (stands_for command.now)
+        (F.content folder.old) (F.content folder.new) result }
     ensures headline { IfOk result (λ report.
-        CompiledOf (Some (stands_for command.now)) (F.told folder.old) (F.told folder.new)) }
+        CompiledOf (Some (stands_for command.now)) (F.content folder.old) (F.content folder.new)) }
     ensures faults { HasFault
         (count F.last_read_fault (F.read_faults folder.old) (F.read_faults folder.new))
         (count F.last_write_fault (F.write_faults folder.old) (F.write_faults folder.new))
         result }
+    ensures named { NamesFailure (F.last_failure folder.new) (stands_for command.now) result }
 {
     match command {
         Command::Compile(names) => compile(alloc, names, folder),
     }
 }
 
-/// Does what the words ask for, the program's name first, and tells the sink one report of it.
+/// Performs the command of the words, the program's name first, and gives the sink one report of
+/// it.
 ///
 /// The files that are read and written are those of the folder; the names are those of the words.
 pub fn run<F: Folder, S: Sink>(
@@ -84,28 +87,29 @@ pub fn run<F: Folder, S: Sink>(
     folder: &mut F,
     out: &mut S,
 ) -> Status
-    // what is found, said and left, one fact a field
-    ensures keeps { Keeps (record {
+    // the status, what is printed and what is left, one fact a field
+    ensures keeps { Keeps (F.last_failure folder.new) (record {
       words = map string_bytes words.now;
-      was = F.told folder.old;
-      is = F.told folder.new;
-      told_before = S.told out.old;
-      told_after = S.told out.new;
+      content_before = F.content folder.old;
+      content_after = F.content folder.new;
+      output_before = S.output out.old;
+      output_after = S.output out.new;
       reads = count F.last_read_fault (F.read_faults folder.old) (F.read_faults folder.new);
       writes = count F.last_write_fault (F.write_faults folder.old) (F.write_faults folder.new);
       puts = count S.last_fault (S.faults out.old) (S.faults out.new);
       status = result;
     }) }
 
-    // the network that the files give delivers what the design's last level delivers, which its topmost specification may make
+    // the network that the files give delivers what the design's last level delivers, which its
+    // topmost specification may make
     ensures headline { result ≡ Status.Done
-        → Headline (map string_bytes words.now) (F.told folder.old) (F.told folder.new) }
+        → Headline (map string_bytes words.now) (F.content folder.old) (F.content folder.new) }
 {
-    one_finding();
+    one_outcome();
     match parse_command(alloc, words) {
         Ok(Some(command)) => {
-            let found = perform(alloc, &command, folder);
-            tell(alloc, out, &command, &found)
+            let outcome = perform(alloc, &command, folder);
+            print(alloc, out, &command, &outcome)
         }
         Ok(None) => put(alloc, out, USAGE, Status::Usage),
         Err(NoMemory) => tell_no_memory(alloc, out),

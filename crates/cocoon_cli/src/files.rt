@@ -1,15 +1,15 @@
 //! The files that a command reads and writes.
 ghost use Rattle.std.specs.Prelude.{◌≡◌, IfOk, string_bytes};
 ghost use Rattle.cocoon_cli.specs.FileNames.{name_in};
-ghost use Rattle.cocoon_cli.specs.Stands.{stands_for};
+ghost use Rattle.command_line.specs.Stands.{stands_for};
 
-use crate::words::Command;
 use cocoon_num::NoMemory;
+use command_line::Command;
 use net_bundle::BundleFile;
 use std::alloc::Global;
 
 /// A file of a command, by what it is to the command.
-#[derive(Clone, Copy, Debug, Drop, PartialEq, Eq)]
+#[derive(Clone, Copy, Debug, Drop)]
 pub enum CommandFile {
     Design,
     Definitions,
@@ -18,16 +18,15 @@ pub enum CommandFile {
 }
 
 impl CommandFile {
-    /// The name that the words of the command give it.
+    /// The name that the command gives it.
     pub fn name(self, alloc: Global, command: &Command<'_>) -> Result<String, NoMemory>
         ensures { IfOk result (λ name. string_bytes name ≡ name_in (stands_for command.now) self) }
     {
         let Command::Compile(names) = command;
-        let name = match self {
-            CommandFile::Design => String::from_str(alloc, names.design)?,
-            CommandFile::Definitions => String::from_str(alloc, names.defs)?,
-            CommandFile::Bundle(file) => file.whole_name(alloc, names.out)?,
-        };
-        Ok(name)
+        match self {
+            CommandFile::Design => Ok(String::from_str(alloc, names.design)?),
+            CommandFile::Definitions => Ok(String::from_str(alloc, names.defs)?),
+            CommandFile::Bundle(file) => file.whole_name(alloc, names.out),
+        }
     }
 }

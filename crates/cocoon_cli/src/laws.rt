@@ -1,7 +1,7 @@
-//! A command finds one thing at most. The function does nothing; its contract is the law.
+//! A command has one outcome at most. The function does nothing; its contract is the law.
 ghost use Rattle.std.specs.Prelude.{◌≡◌, Result};
-ghost use Rattle.cocoon_cli.specs.Command as spec;
-ghost use Rattle.cocoon_cli.specs.Steps.{Finds, Inputs};
+ghost use Rattle.command_line.specs.Command as spec;
+ghost use Rattle.cocoon_cli.specs.Steps.{HasOutcome, Inputs};
 ghost use Rattle.cocoon_cli.specs.declared.refusal.Refusal.{Refusal};
 ghost use Rattle.cocoon_cli.specs.declared.report.Report.{Report};
 
@@ -9,11 +9,11 @@ use cocoon_parse::laws::{one_definitions_tree, one_tree};
 use cocoon_text::laws::{one_fault, trees_have_no_fault};
 use lower_p4::lowering::one_lowering;
 
-/// By what is read of its files, a command finds one thing at most: the first step that refuses, with its status and its line,
-/// or its report.
-pub fn one_finding()
-    ensures { (c : spec.Command) (inputs : Inputs) (found other : Result Report Refusal)
-        → Finds c inputs found → Finds c inputs other → other ≡ found }
+/// By what is read of its files, a command has one outcome at most: the first step that refuses,
+/// with its status and its line, or its report.
+pub fn one_outcome()
+    ensures { (c : spec.Command) (inputs : Inputs) (outcome other : Result Report Refusal)
+        → HasOutcome c inputs outcome → HasOutcome c inputs other → other ≡ outcome }
 {
     one_tree();
     one_definitions_tree();

@@ -1,6 +1,6 @@
 //! Why a command stopped.
 ghost use Rattle.std.specs.Prelude.{◌≡◌};
-ghost use Rattle.cocoon_cli.specs.Report.{flaw_column, flaw_line, flaw_word, refusal_status};
+ghost use Rattle.cocoon_cli.specs.Report.{column_number, fault_name, line_number, refusal_status};
 
 use crate::files::CommandFile;
 use crate::status::Status;
@@ -10,53 +10,53 @@ use net_bundle::BundleFault;
 use std::alloc::AllocError;
 
 /// What is wrong with a text.
-#[derive(Clone, Copy, Debug, Drop, PartialEq, Eq)]
-pub enum Flaw {
+#[derive(Clone, Copy, Debug, Drop)]
+pub enum InputFault {
     /// It has no tree, and this is its first fault.
-    Fault(TextFault),
+    NoTree(TextFault),
     /// It has a tree, which the compiler does not take yet.
     NotYet,
 }
 
-impl Flaw {
-    /// The line of its place, from 1.
+impl InputFault {
+    /// The line of its position, from 1.
     pub fn line(&self) -> u32
-        ensures { result ≡ flaw_line self.now }
+        ensures { result ≡ line_number self.now }
     {
         match self {
-            Flaw::Fault(fault) => fault.line,
-            Flaw::NotYet => 1,
+            InputFault::NoTree(fault) => fault.line,
+            InputFault::NotYet => 1,
         }
     }
 
-    /// The column of its place, in bytes from 1.
+    /// The column of its position, in bytes from 1.
     pub fn column(&self) -> u32
-        ensures { result ≡ flaw_column self.now }
+        ensures { result ≡ column_number self.now }
     {
         match self {
-            Flaw::Fault(fault) => fault.column,
-            Flaw::NotYet => 1,
+            InputFault::NoTree(fault) => fault.column,
+            InputFault::NotYet => 1,
         }
     }
 
-    /// The word of a report.
-    pub fn word(&self) -> &'static str
-        ensures { result.now ≡ flaw_word self.now }
+    /// Its name in a report.
+    pub fn name(&self) -> &'static str
+        ensures { result.now ≡ fault_name self.now }
     {
         match self {
-            Flaw::Fault(fault) => fault.kind.name(),
-            Flaw::NotYet => "NotYet",
+            InputFault::NoTree(fault) => fault.kind.name(),
+            InputFault::NotYet => "NotYet",
         }
     }
 }
 
 /// Why a command stopped, with the file that it is about.
-#[derive(Clone, Copy, Debug, Drop, PartialEq, Eq)]
+#[derive(Clone, Copy, Debug, Drop)]
 pub enum Refusal {
-    /// The design has this flaw.
-    Language(Flaw),
-    /// The definitions have this flaw.
-    Definitions(Flaw),
+    /// The design has this fault.
+    Language(InputFault),
+    /// The definitions have this fault.
+    Definitions(InputFault),
     ReadFault(CommandFile),
     WriteFault(CommandFile),
     /// The file has more bytes than this number.
@@ -89,9 +89,9 @@ impl From<AllocError> for Refusal {
 
 impl From<BundleFault> for Refusal {
     ghost use Rattle.std.specs.Prelude.{◌≡◌};
-    ghost use Rattle.cocoon_cli.specs.Reading.{unwritten};
+    ghost use Rattle.cocoon_cli.specs.Reading.{bundle_refusal};
 
-    ghost from_gives = { λ fault r. r ≡ unwritten fault };
+    ghost from_gives = { λ fault r. r ≡ bundle_refusal fault };
 
     fn from(fault: BundleFault) -> Refusal {
         match fault {

@@ -1,36 +1,74 @@
-//! What a command found, and the lines that say it.
+//! What a command reports, and the lines that are printed.
 ghost use Rattle.std.specs.Prelude.{◌≡◌, IfOk, string_bytes};
-ghost use Rattle.cocoon_cli.specs.Report.{flaw_report, line_of, refusal_line, report_line, status_of, totals_line};
-ghost use Rattle.cocoon_cli.specs.Stands.{stands_for};
+ghost use Rattle.cocoon_cli.specs.FileNames.{name_in};
+ghost use Rattle.cocoon_cli.specs.Report.{fault_line, limit_line, line_of, line_with, refusal_line, report_line, status_of, totals_line};
+ghost use Rattle.command_line.specs.Stands.{stands_for};
 
 use crate::files::CommandFile;
-use crate::refusal::{Flaw, Refusal};
+use crate::refusal::{InputFault, Refusal};
 use crate::status::Status;
-use crate::words::Command;
 use cocoon_num::NoMemory;
+use command_line::Command;
 use std::alloc::Global;
 
 /// How many of each thing a compiled network has. Hosts at no port count, too.
-#[derive(Clone, Copy, Debug, Drop, PartialEq, Eq)]
+#[derive(Clone, Copy, Debug, Drop)]
 pub struct Totals {
     pub switches: u64,
     pub hosts: u64,
     pub links: u64,
 }
 
-/// What a command found that was not stopped.
-#[derive(Clone, Copy, Debug, Drop, PartialEq, Eq)]
+/// What a command reports that was not stopped.
+#[derive(Clone, Copy, Debug, Drop)]
 pub enum Report {
     Compiled(Totals),
 }
 
-fn flaw_report(alloc: Global, front: &str, file: &str, flaw: &Flaw) -> Result<String, NoMemory>
-    ensures { IfOk result (λ line. string_bytes line ≡ flaw_report front.now file.now flaw.now) }
+/// A line that ends with the name of a file of the command.
+fn line_with(
+    alloc: Global,
+    prefix: &str,
+    command: &Command<'_>,
+    file: CommandFile,
+) -> Result<String, NoMemory>
+    ensures { IfOk result (λ line. string_bytes line
+        ≡ line_with prefix.now (name_in (stands_for command.now) file)) }
 {
-    let line = flaw.line();
-    let column = flaw.column();
-    let word = flaw.word();
-    Ok(format!(in alloc; "{front} {file} {line}:{column} {word}\n")?)
+    let name = file.name(alloc, command)?;
+    Ok(format!(in alloc; "{prefix}{name}\n")?)
+}
+
+/// The line of a file that has more bytes than it may have.
+fn limit_line(
+    alloc: Global,
+    command: &Command<'_>,
+    file: CommandFile,
+    most: u64,
+) -> Result<String, NoMemory>
+    ensures { IfOk result (λ line. string_bytes line
+        ≡ limit_line (name_in (stands_for command.now) file) most) }
+{
+    let name = file.name(alloc, command)?;
+    Ok(format!(in alloc; "limit file {name} over {most}\n")?)
+}
+
+/// The line of a fault in a file.
+fn fault_line(
+    alloc: Global,
+    prefix: &str,
+    command: &Command<'_>,
+    file: CommandFile,
+    fault: &InputFault,
+) -> Result<String, NoMemory>
+    ensures { IfOk result (λ line. string_bytes line
+        ≡ fault_line prefix.now (name_in (stands_for command.now) file) fault.now) }
+{
+    let name = file.name(alloc, command)?;
+    let line = fault.line();
+    let column = fault.column();
+    let kind = fault.name();
+    Ok(format!(in alloc; "{prefix} {name} {line}:{column} {kind}\n")?)
 }
 
 /// The line of a command that stopped.
@@ -38,34 +76,25 @@ fn refusal_line(alloc: Global, command: &Command<'_>, refusal: &Refusal) -> Resu
     ensures { IfOk result (λ line. string_bytes line
         ≡ refusal_line (stands_for command.now) refusal.now) }
 {
-    let line = match refusal {
-        Refusal::Language(flaw) => {
-            let file = CommandFile::Design.name(alloc, command)?;
-            flaw_report(alloc, "language", &file, flaw)?
+    match refusal {
+        Refusal::Language(fault) => {
+            fault_line(alloc, "language", command, CommandFile::Design, fault)
         }
-        Refusal::Definitions(flaw) => {
-            let file = CommandFile::Definitions.name(alloc, command)?;
-            flaw_report(alloc, "definitions", &file, flaw)?
+        Refusal::Definitions(fault) => {
+            fault_line(
+                alloc,
+                "definitions",
+                command,
+                CommandFile::Definitions,
+                fault,
+            )
         }
-        Refusal::ReadFault(file) => {
-            let file = file.name(alloc, command)?;
-            format!(in alloc; "read fault {file}\n")?
-        }
-        Refusal::WriteFault(file) => {
-            let file = file.name(alloc, command)?;
-            format!(in alloc; "write fault {file}\n")?
-        }
-        Refusal::TooLong(file, most) => {
-            let file = file.name(alloc, command)?;
-            format!(in alloc; "limit file {file} over {most}\n")?
-        }
-        Refusal::NoMemory => String::from_str(alloc, "no memory\n")?,
-        Refusal::NoFile(file) => {
-            let file = file.name(alloc, command)?;
-            format!(in alloc; "no file {file}\n")?
-        }
-    };
-    Ok(line)
+        Refusal::ReadFault(file) => line_with(alloc, "read fault ", command, *file),
+        Refusal::WriteFault(file) => line_with(alloc, "write fault ", command, *file),
+        Refusal::TooLong(file, most) => limit_line(alloc, command, *file, *most),
+        Refusal::NoMemory => Ok(String::from_str(alloc, "no memory\n")?),
+        Refusal::NoFile(file) => line_with(alloc, "no file ", command, *file),
+    }
 }
 
 fn totals_line(alloc: Global, totals: &Totals) -> Result<String, NoMemory>
@@ -89,26 +118,26 @@ fn report_line(alloc: Global, report: &Report) -> Result<String, NoMemory>
     }
 }
 
-/// The whole report of what a command found.
+/// The whole report of an outcome.
 pub fn whole_report(
     alloc: Global,
     command: &Command<'_>,
-    found: &Result<Report, Refusal>,
+    outcome: &Result<Report, Refusal>,
 ) -> Result<String, NoMemory>
     ensures { IfOk result (λ line. string_bytes line
-        ≡ line_of (stands_for command.now) found.now) }
+        ≡ line_of (stands_for command.now) outcome.now) }
 {
-    match found {
+    match outcome {
         Ok(report) => report_line(alloc, report),
         Err(refusal) => refusal_line(alloc, command, refusal),
     }
 }
 
-/// The status with which a command ends that found this.
-pub fn status(found: &Result<Report, Refusal>) -> Status
-    ensures { result ≡ status_of found.now }
+/// The status with which a command of this outcome ends.
+pub fn status(outcome: &Result<Report, Refusal>) -> Status
+    ensures { result ≡ status_of outcome.now }
 {
-    match found {
+    match outcome {
         Ok(_) => Status::Done,
         Err(refusal) => refusal.status(),
     }

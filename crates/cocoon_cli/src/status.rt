@@ -1,8 +1,9 @@
 //! How a command ends.
 ghost use Rattle.std.specs.Prelude.{◌≡◌};
-ghost use Rattle.cocoon_cli.specs.Run.{number_of};
+ghost use Rattle.cocoon_cli.specs.Run.{status_number};
 
-/// How a command ended, as "Statuses" in docs/FORMATS.md lists it. The program ends with its number.
+/// How a command ended, as "Statuses" in docs/FORMATS.md lists it. The program ends with its
+/// number.
 #[derive(Clone, Copy, Debug, Drop, PartialEq, Eq)]
 pub enum Status {
     Done,
@@ -24,7 +25,7 @@ pub enum Status {
 impl Status {
     /// The exit status of the program, from 0 in the order of the variants.
     pub fn number(&self) -> u8
-        ensures { result ≡ number_of self.now }
+        ensures { result ≡ status_number self.now }
     {
         *self as u8
     }

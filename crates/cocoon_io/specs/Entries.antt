@@ -1,3 +1,4 @@
+-- The files that the entries of a map make; the view of `HonestFolder` cites this.
 use Rattle.std.specs.Prelude.{ℕ, List, [], ◌∷◌, Vec, String}
 use Rattle.std.specs.declared.alloc.Global.{Global}
 use Rattle.std.specs.String.{string_bytes}

@@ -1,4 +1,4 @@
 pub mod Files
-pub mod Told
+pub mod Calls
 pub mod Entries
 pub mod Plans

@@ -1,7 +1,8 @@
-//! A folder in memory that never fails a call, so that what a caller does to its files can be seen whole.
+//! A folder in memory that never fails a call, so that what a caller does to its files can be seen
+//! whole.
 ghost use Rattle.std.specs.Prelude.{◌≡◌, ◌≢◌, Some, None, OnOk, OnErr, IfErr, option_map};
 ghost use Rattle.std.specs.FinMap as map;
-ghost use Rattle.cocoon_io.specs.Told.{AnswersFile};
+ghost use Rattle.cocoon_io.specs.Calls.{AnswersFile};
 
 use crate::{Folder, FolderFault};
 use cocoon_num::NoMemory;
@@ -61,7 +62,7 @@ impl HonestFolder {
 }
 
 impl Folder for HonestFolder {
-    ghost told = { λ files. Some files };
+    ghost content = { λ files. Some files };
 
     ghost read_faults = { λ _. 0 };
 
@@ -70,6 +71,8 @@ impl Folder for HonestFolder {
     ghost last_read_fault = { None };
 
     ghost last_write_fault = { None };
+
+    ghost last_failure = { λ _ _. ⊥ };
 
     fn read(
         &mut self,

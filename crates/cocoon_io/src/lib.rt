@@ -1,5 +1,5 @@
-//! Folders of files and sinks of bytes, with what they hold and how often they failed as ghost members, so that a caller
-//! over any folder and any sink can say what it wrote and why it stopped.
+//! Folders of files and sinks of bytes, with what they hold and how often they failed as ghost
+//! members, so that a caller over any folder and any sink can say what it wrote and why it stopped.
 #![tactic(auto)]
 
 pub mod folder;
@@ -18,6 +18,3 @@ pub use mem_sink::MemSink;
 pub use real_folder::RealFolder;
 pub use real_out::RealOut;
 pub use sink::{Sink, SinkFault};
-
-#[cfg(test)]
-mod tests;

@@ -1,7 +1,8 @@
-//! A folder in memory that fails the calls that a test chose, so that a caller's answer to each fault can be tried.
+//! A folder in memory that fails the calls that a test chose, so that a caller's answer to each
+//! fault can be tried.
 ghost use Rattle.std.specs.Prelude.{◌≡◌, ◌↔◌, Some, None, IsTrue, OnOk, OnErr, IfErr, ◌⊎◌, option_map};
 ghost use Rattle.std.specs.FinMap as map;
-ghost use Rattle.cocoon_io.specs.Told.{AnswersFile};
+ghost use Rattle.cocoon_io.specs.Calls.{AnswersFile};
 ghost use Rattle.cocoon_io.specs.Plans.{fails_next, after_read, after_write};
 
 use crate::plan::Plan;
@@ -10,8 +11,8 @@ use cocoon_num::NoMemory;
 use std::alloc::Global;
 use std::marker::Model;
 
-/// Files in memory, and the numbers of the calls that fail. Reads and writes are counted together, from 1, and no call
-/// after number 2^64 - 1 fails. A write that fails keeps the old file.
+/// Files in memory, and the numbers of the calls that fail. Reads and writes are counted together,
+/// from 1, and no call after number 2^64 - 1 fails. A write that fails keeps the old file.
 #[derive(Drop)]
 pub struct MemFolder {
     held: HonestFolder,
@@ -28,7 +29,12 @@ impl Model for MemFolder {
 
     ghost coded = { coded_folder };
 
-    ghost view = { λ a. record { files = a.held; plan = a.planned; read_faults = a.failed_reads; write_faults = a.failed_writes } };
+    ghost view = { λ a. record {
+      files = a.held;
+      plan = a.planned;
+      read_faults = a.failed_reads;
+      write_faults = a.failed_writes;
+    } };
 
     ghost invariant = { λ a. a.failed_reads + a.failed_writes ≤ a.planned.calls };
 }
@@ -36,7 +42,12 @@ impl Model for MemFolder {
 impl MemFolder {
     /// A folder with no file and no call so far, whose calls with these numbers fail.
     pub fn new(alloc: Global, fail: Vec<u64>) -> MemFolder
-        ensures { result ≡ record { files = map.empty; plan = record { failing = fail.items; calls = 0 }; read_faults = 0; write_faults = 0 } }
+        ensures { result ≡ record {
+          files = map.empty;
+          plan = record { failing = fail.items; calls = 0 };
+          read_faults = 0;
+          write_faults = 0;
+        } }
     {
         MemFolder {
             held: HonestFolder::new(alloc),
@@ -48,7 +59,8 @@ impl MemFolder {
 
     /// Puts bytes under a name. This call is not counted.
     pub fn place_file(&mut self, name: &str, bytes: &[u8]) -> Result<(), NoMemory>
-        ensures ok { OnOk result (self.new ≡ record self.old { files = map.insert self.old.files name.now bytes.now }) }
+        ensures ok { OnOk result (self.new
+            ≡ record self.old { files = map.insert self.old.files name.now bytes.now }) }
         ensures err { OnErr result (self.new ≡ self.old) }
     {
         self.held.place_file(name, bytes)
@@ -63,7 +75,7 @@ impl MemFolder {
 }
 
 impl Folder for MemFolder {
-    ghost told = { λ folder. Some folder.files };
+    ghost content = { λ folder. Some folder.files };
 
     ghost read_faults = { λ folder. folder.read_faults };
 
@@ -72,6 +84,9 @@ impl Folder for MemFolder {
     ghost last_read_fault = { None };
 
     ghost last_write_fault = { None };
+
+    // the names of failed calls are not kept, which would need memory
+    ghost last_failure = { λ _ _. Unit {0} };
 
     fn read(
         &mut self,
@@ -91,10 +106,12 @@ impl Folder for MemFolder {
     }
 
     fn write(&mut self, alloc: Global, name: &str, bytes: &[u8]) -> Result<(), FolderFault>
-        ensures ok { OnOk result (self.new ≡ after_write self.old (map.insert self.old.files name.now bytes.now)) }
+        ensures ok { OnOk result (self.new
+            ≡ after_write self.old (map.insert self.old.files name.now bytes.now)) }
         ensures err { OnErr result (self.new ≡ after_write self.old self.old.files) }
         ensures fails { (result ≡ Err FolderFault.Failed) ↔ IsTrue (fails_next self.old.plan) }
-        ensures never_too_long { IfErr result (λ e. (e ≡ FolderFault.Failed) ⊎ (e ≡ FolderFault.NoMemory)) }
+        ensures never_too_long { IfErr result
+            (λ e. (e ≡ FolderFault.Failed) ⊎ (e ≡ FolderFault.NoMemory)) }
     {
         if self.planned.next_fails() {
             self.failed_writes += 1;

@@ -1,6 +1,6 @@
-//! The machine's files, where they meet what is proved: no clause can say what a disk holds, so this folder tells none of
-//! its files, and says only how often it failed.
-ghost use Rattle.std.specs.Prelude.{◌≡◌, ◌-◌, ◌^◌, ◌≤◌, ◌<◌, Some, None, length};
+//! The machine's files, where they meet what is proved: no clause can say what a disk holds, so the
+//! content of this folder is not known, and its clauses say only how often it failed.
+ghost use Rattle.std.specs.Prelude.{◌≡◌, ◌-◌, ◌^◌, ◌≤◌, ◌<◌, Some, None, length, option_map, string_bytes};
 
 use crate::{Folder, FolderFault};
 use std::alloc::Global;
@@ -8,13 +8,14 @@ use std::fs::{self, OpenFile};
 use std::io::{self, ErrorKind, Read, Write};
 use std::rt::Files;
 
-/// The machine's files. A name is used as a path. A write makes the file under the name with `.new` after it, and moves it
-/// to the name once the disk has all of it.
+/// The machine's files. A name is used as a path. A write makes the file under the name with `.new`
+/// after it, and moves it to the name once the disk has all of it.
 #[derive(Drop)]
 pub struct RealFolder<'r, R: Files> {
     rt: &'r R,
     failed_reads: u64,
     failed_writes: u64,
+    last_failed: Option<String>,
 }
 
 impl<'r, R: Files> RealFolder<'r, R> {
@@ -27,12 +28,13 @@ impl<'r, R: Files> RealFolder<'r, R> {
             rt,
             failed_reads: 0,
             failed_writes: 0,
+            last_failed: None,
         }
     }
 }
 
 impl<'r, R: Files> Folder for RealFolder<'r, R> {
-    ghost told = { λ _. None };
+    ghost content = { λ _. None };
 
     ghost read_faults = { λ folder. folder.failed_reads };
 
@@ -42,18 +44,21 @@ impl<'r, R: Files> Folder for RealFolder<'r, R> {
 
     ghost last_write_fault = { Some (2 ^ 64 - 1) };
 
+    ghost last_failure = { λ folder name. option_map string_bytes folder.last_failed ≡ Some name };
+
     fn read(
         &mut self,
         alloc: Global,
         name: &str,
         limit: u64,
     ) -> Result<Option<Vec<u8>>, FolderFault> {
-        match read_front(self.rt, alloc, name, limit) {
+        match read_prefix(self.rt, alloc, name, limit) {
             Ok(bytes) => within(bytes, limit),
             Err(error) => match error.kind() {
                 ErrorKind::NotFound => Ok(None),
                 ErrorKind::OutOfMemory => Err(FolderFault::NoMemory),
                 _ => {
+                    self.last_failed = Some(String::from_str(alloc, name)?);
                     self.failed_reads = self.failed_reads.saturating_add(1);
                     Err(FolderFault::Failed)
                 }
@@ -66,6 +71,7 @@ impl<'r, R: Files> Folder for RealFolder<'r, R> {
             Ok(()) => Ok(()),
             Err(error) if error.kind() == ErrorKind::OutOfMemory => Err(FolderFault::NoMemory),
             Err(_) => {
+                self.last_failed = Some(String::from_str(alloc, name)?);
                 self.failed_writes = self.failed_writes.saturating_add(1);
                 Err(FolderFault::Failed)
             }
@@ -74,14 +80,14 @@ impl<'r, R: Files> Folder for RealFolder<'r, R> {
 }
 
 // The whole file, or one byte more than the limit of a longer one.
-fn read_front(rt: &impl Files, alloc: Global, name: &str, limit: u64) -> io::Result<Vec<u8>> {
+fn read_prefix(rt: &impl Files, alloc: Global, name: &str, limit: u64) -> io::Result<Vec<u8>> {
     let file = fs::open(rt, name)?;
     let mut bytes = Vec::new(alloc);
     file.take(limit.saturating_add(1)).read_to_end(&mut bytes)?;
     Ok(bytes)
 }
 
-// What a read answers that found these bytes, which may be the front of a longer file.
+// What a read answers that found these bytes, which may be a prefix of a longer file.
 fn within(bytes: Vec<u8>, limit: u64) -> Result<Option<Vec<u8>>, FolderFault>
     ensures short { length bytes.items ≤ limit → result ≡ Ok (Some bytes) }
     ensures long { limit < length bytes.items → result ≡ Err (FolderFault.TooLong limit) }
@@ -92,7 +98,7 @@ fn within(bytes: Vec<u8>, limit: u64) -> Result<Option<Vec<u8>>, FolderFault>
     Ok(Some(bytes))
 }
 
-// Puts a whole file in the place of the old one.
+// Replaces the file by a whole new one.
 fn replace(rt: &impl Files, alloc: Global, name: &str, bytes: &[u8]) -> io::Result<()> {
     let beside = format!(in alloc; "{name}.new")?;
     let file = fs::create(rt, beside.as_str())?;

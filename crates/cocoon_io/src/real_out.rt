@@ -1,10 +1,9 @@
-//! The standard output, where it meets what is proved: no clause can say what was written there, so this sink tells none
-//! of its bytes, and says only how often it failed.
+//! The standard output, where it meets what is proved: no clause can say what was written there, so
+//! the output of this sink is not known, and its clauses say only how often it failed.
 ghost use Rattle.std.specs.Prelude.{◌≡◌, ◌-◌, ◌^◌, Some, None};
 
 use crate::{Sink, SinkFault};
 use std::alloc::Global;
-use std::io::{self, Write};
 
 /// The runtime's output.
 #[derive(Drop)]
@@ -23,24 +22,18 @@ impl<'r, R: Print> RealOut<'r, R> {
 }
 
 impl<'r, R: Print> Sink for RealOut<'r, R> {
-    ghost told = { λ _. None };
+    ghost output = { λ _. None };
 
     ghost faults = { λ sink. sink.failed_puts };
 
     ghost last_fault = { Some (2 ^ 64 - 1) };
 
     fn put(&mut self, _alloc: Global, bytes: &[u8]) -> Result<(), SinkFault> {
-        if write_through(self.rt, bytes).is_err() {
+        // what prints has no buffer: a call that succeeds has written all bytes
+        if self.rt.write_all(bytes).is_err() {
             self.failed_puts = self.failed_puts.saturating_add(1);
             return Err(SinkFault::Failed);
         }
         Ok(())
     }
-}
-
-// Writes all bytes and leaves none in a buffer.
-fn write_through(rt: &impl Print, bytes: &[u8]) -> io::Result<()> {
-    let mut out = io::writer(rt);
-    out.write_all(bytes)?;
-    out.flush()
 }

@@ -1,6 +1,6 @@
-//! Sinks: bytes that are told one after another.
-ghost use Rattle.std.specs.Prelude.{◌≡◌, ◌≤◌, ℕ, List, Option, OnOk};
-ghost use Rattle.cocoon_io.specs.Told.{AppendsFront, appended, Rose};
+//! Sinks: bytes that are put one after another.
+ghost use Rattle.std.specs.Prelude.{◌≡◌, ◌≢◌, ◌≤◌, ℕ, List, Option, OnOk};
+ghost use Rattle.cocoon_io.specs.Calls.{AppendsPrefix, appended, Rose};
 
 use std::alloc::{AllocError, Global};
 use thiserror::Error;
@@ -27,8 +27,8 @@ impl From<AllocError> for SinkFault {
 
 /// What takes bytes and keeps their order.
 pub trait Sink {
-    /// The bytes told so far, where the sink tells them.
-    ghost told: { Self → Option (List ℕ) };
+    /// The bytes put so far, where they are known.
+    ghost output: { Self → Option (List ℕ) };
 
     /// How many puts failed so far.
     ghost faults: { Self → ℕ };
@@ -36,11 +36,15 @@ pub trait Sink {
     /// The value at which the count stays, where there is one.
     ghost last_fault: { Option ℕ };
 
-    /// Tells bytes. After `Failed` some front of them was told, after `NoMemory` none.
+    /// Puts bytes out. After `Failed` a prefix of them is out, after `NoMemory` none.
     fn put(&mut self, alloc: Global, bytes: &[u8]) -> Result<(), SinkFault>
-        ensures ok { OnOk result (told self.new ≡ appended (told self.old) bytes.now) }
-        ensures failed { result ≡ Err SinkFault.Failed → Rose last_fault (faults self.old) (faults self.new) }
-        ensures front { result ≡ Err SinkFault.Failed → AppendsFront (told self.old) bytes.now (told self.new) }
-        ensures no_memory { result ≡ Err SinkFault.NoMemory → (told self.new ≡ told self.old) × (faults self.new ≡ faults self.old) }
+        ensures ok { OnOk result (output self.new ≡ appended (output self.old) bytes.now) }
+        ensures failed { result ≡ Err SinkFault.Failed
+            → Rose last_fault (faults self.old) (faults self.new) }
+        ensures counted { result ≢ Err SinkFault.Failed → faults self.new ≡ faults self.old }
+        ensures prefix { result ≡ Err SinkFault.Failed
+            → AppendsPrefix (output self.old) bytes.now (output self.new) }
+        ensures no_memory { result ≡ Err SinkFault.NoMemory
+            → (output self.new ≡ output self.old) × (faults self.new ≡ faults self.old) }
         ensures counts { faults self.old ≤ faults self.new };
 }

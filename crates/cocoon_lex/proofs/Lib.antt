@@ -1,6 +1,6 @@
-pub mod Finds
-pub mod Lines
-pub mod Openings
+pub mod CappedValues
+pub mod Columns
+pub mod KeywordLookup
+pub mod PrefixCases
 pub mod Runs
 pub mod Steps
-pub mod Values

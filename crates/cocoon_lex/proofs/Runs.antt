@@ -1,4 +1,4 @@
--- Bytes at the front of a text.
+-- Prefixes of a text.
 use Rattle.std.specs.Prelude.{◌≡◌, ℕ, suc, ◌+◌, ◌<◌, ◌≤◌, ◌==◌, ◌&&◌, nat_eq, Bool, true, false, List, [], ◌∷◌, length, take, drop, get_or, Option, Some, None, option_map, codes, if◌then◌else◌, refl}
 use Rattle.std.proofs.Common.{ap, sym, ◌∙◌, arith}
 use Rattle.std.proofs.lemmas.List.{drop_more}
@@ -22,7 +22,7 @@ begins_is (x ∷ p) (y ∷ s) = ap (λ r. (x == y) && r) (begins_is p s)
 
 -- ---- runs
 
--- so many bytes at the front are the run
+-- so many bytes are the run that the text begins with
 abbrev TakesRun : (ℕ → Bool) → List ℕ → Type 0
 TakesRun test xs = take (length (tokens.leading test xs)) xs ≡ tokens.leading test xs
 
@@ -38,11 +38,11 @@ take_run test (x ∷ xs) = one_taken test x xs (test x) refl (take_run test xs)
 
 -- ---- the ends of comments
 
--- two bytes at a place, and what comes after them
+-- two bytes at an offset, and what comes after them
 two_more : (xs : List ℕ) (i : ℕ) → i + 1 < length xs → drop i xs ≡ get_or xs i 0 ∷ get_or xs (i + 1) 0 ∷ drop (i + 1 + 1) xs
 two_more xs i h = drop_more xs i 0 (omega arith) ∙ ap (λ r. get_or xs i 0 ∷ r) (drop_more xs (i + 1) 0 h)
 
--- whether `*/` stands at a place
+-- whether `*/` stands at an offset
 pub comment_ends : (xs : List ℕ) (i : ℕ) → i + 1 < length xs → tokens.begins (codes "*/") (drop i xs) ≡ ((42 == get_or xs i 0) && ((47 == get_or xs (i + 1) 0) && true))
 comment_ends xs i h = ap (λ r. tokens.begins (codes "*/") r) (two_more xs i h)
 
@@ -66,8 +66,8 @@ goes_past : (b : ℕ) (rest : List ℕ) → tokens.begins (codes "*/") (b ∷ re
 goes_past b rest e = rw e refl
 
 -- a comment that does not end here ends a byte later
-pub goes_on : (xs : List ℕ) (i : ℕ) → i < length xs → tokens.begins (codes "*/") (drop i xs) ≡ false → tokens.comment_end (drop i xs) ≡ option_map suc (tokens.comment_end (drop (i + 1) xs))
-goes_on xs i h e =
+pub comment_goes_on : (xs : List ℕ) (i : ℕ) → i < length xs → tokens.begins (codes "*/") (drop i xs) ≡ false → tokens.comment_end (drop i xs) ≡ option_map suc (tokens.comment_end (drop (i + 1) xs))
+comment_goes_on xs i h e =
     let d : drop i xs ≡ get_or xs i 0 ∷ drop (i + 1) xs = drop_more xs i 0 h in
     ap tokens.comment_end d ∙ goes_past (get_or xs i 0) (drop (i + 1) xs) (ap (λ r. tokens.begins (codes "*/") r) (sym d) ∙ e)
 

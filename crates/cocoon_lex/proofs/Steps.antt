@@ -1,9 +1,9 @@
--- The tokens of a text, one front after the other.
+-- The tokens of a text, one prefix after the other.
 use Rattle.std.specs.Prelude.{◌≡◌, ℕ, zero, suc, ◌+◌, ◌-◌, ◌<◌, ◌≤◌, List, [], ◌∷◌, ◌++◌, length, map, take, drop, get_or, Ok, Err, IsTrue, refl}
 use Rattle.std.proofs.Common.{ap, sym, subst, ◌∙◌, arith, append_assoc, length-drop}
 use Rattle.std.proofs.lemmas.List.{drop_more, drop-drop, map-append}
 use Rattle.cocoon_num.specs.Tokens as tokens
-use Rattle.cocoon_lex.specs.Fronts.{Spells, first_front}
+use Rattle.cocoon_lex.specs.Prefixes.{Spells, language_prefix}
 use Rattle.cocoon_lex.specs.Kinds.{IsSpelled, kind_of, token_of}
 use Rattle.cocoon_lex.specs.declared.token.Token.{Token}
 use Rattle.cocoon_lex.specs.declared.token.TokenKind.{TokenKind}
@@ -17,33 +17,33 @@ covered lexicon at (suc k) (x ∷ xs) h =
     let e : suc at + k ≡ at + suc k = omega arith in
     covered lexicon (suc at) k xs (omega arith) ∙ ap (λ n. tokens.lex_from lexicon n 0 (drop k xs)) e
 
--- the tokens from a place on
+-- the tokens from an offset on
 abbrev pub from : List ℕ → ℕ → tokens.Lexed
 from text at = tokens.lex_from tokens.language at 0 (drop at text)
 
--- what comes after the front at a place
+-- what comes after the prefix at an offset
 abbrev onward : List ℕ → ℕ → ℕ → tokens.Lexed
 onward text at k = tokens.lex_from tokens.language (suc at) k (drop (at + 1) text)
 
--- the tokens from a place on go by the first front there
-by_first : (text : List ℕ) (at : ℕ) → at < length text → from text at ≡ tokens.by_front at (first_front (drop at text)) (onward text at)
+-- the tokens from an offset on go by the prefix there
+by_first : (text : List ℕ) (at : ℕ) → at < length text → from text at ≡ tokens.by_prefix at (language_prefix (drop at text)) (onward text at)
 by_first text at h =
     let d : drop at text ≡ get_or text at 0 ∷ drop (at + 1) text = drop_more text at 0 h in
-    ap (λ bs. tokens.lex_from tokens.language at 0 bs) d ∙ ap (λ bs. tokens.by_front at (first_front bs) (onward text at)) (sym d)
+    ap (λ bs. tokens.lex_from tokens.language at 0 bs) d ∙ ap (λ bs. tokens.by_prefix at (language_prefix bs) (onward text at)) (sym d)
 
--- behind a front the tokens are those from its end on
+-- behind a prefix the tokens are those from its end on
 onward_is : (text : List ℕ) (at n : ℕ) → at < length text → 1 ≤ n → n ≤ length (drop at text) → onward text at (n - 1) ≡ from text (at + n)
 onward_is text at n h some within =
     let rest : n - 1 ≤ length (drop (at + 1) text) = omega (arith, length-drop at text, length-drop (at + 1) text) in
-    let place : suc at + (n - 1) ≡ at + n = omega arith in
+    let offset : suc at + (n - 1) ≡ at + n = omega arith in
     let same : (at + 1) + (n - 1) ≡ at + n = omega arith in
     covered tokens.language (suc at) (n - 1) (drop (at + 1) text) rest
-    ∙ ap (λ m. tokens.lex_from tokens.language m 0 (drop (n - 1) (drop (at + 1) text))) place
+    ∙ ap (λ m. tokens.lex_from tokens.language m 0 (drop (n - 1) (drop (at + 1) text))) offset
     ∙ ap (λ bs. tokens.lex_from tokens.language (at + n) 0 bs) (drop-drop (n - 1) (at + 1) text ∙ ap (λ m. drop m text) same)
 
--- the tokens from a place on, by a front that is known
-by_known : (text : List ℕ) (at : ℕ) (f : tokens.Front) → at < length text → first_front (drop at text) ≡ f → from text at ≡ tokens.by_front at f (onward text at)
-by_known text at f h e = by_first text at h ∙ ap (λ g. tokens.by_front at g (onward text at)) e
+-- the tokens from an offset on, by a prefix that is known
+by_known : (text : List ℕ) (at : ℕ) (f : tokens.Prefix) → at < length text → language_prefix (drop at text) ≡ f → from text at ≡ tokens.by_prefix at f (onward text at)
+by_known text at f h e = by_first text at h ∙ ap (λ g. tokens.by_prefix at g (onward text at)) e
 
 -- ---- the tokens so far, and then others
 
@@ -58,7 +58,7 @@ after_one ts t (Ok us) = ap (λ vs. Ok vs) (sym (append_assoc ts (t ∷ []) us))
 after_one ts t (Err f) = refl
 
 -- bytes of no token are passed over
-pub gap_step : (text : List ℕ) (ts : List tokens.Token) (at n : ℕ) → at < length text → 1 ≤ n → n ≤ length (drop at text) → first_front (drop at text) ≡ tokens.gap n
+pub gap_step : (text : List ℕ) (ts : List tokens.Token) (at n : ℕ) → at < length text → 1 ≤ n → n ≤ length (drop at text) → language_prefix (drop at text) ≡ tokens.gap n
     → after ts (from text at) ≡ after ts (from text (at + n))
 gap_step text ts at n h some within e = ap (after ts) (by_known text at (tokens.gap n) h e ∙ onward_is text at n h some within)
 
@@ -68,7 +68,7 @@ token_at text at n kind = record { kind = kind; start = at; end = at + n }
 
 -- a token is found
 pub piece_step : (text : List ℕ) (found : List Token) (at n : ℕ) (kind : TokenKind) → at < length text → 1 ≤ n → n ≤ length (drop at text)
-    → first_front (drop at text) ≡ tokens.piece (kind_of kind (take n (drop at text))) n
+    → language_prefix (drop at text) ≡ tokens.piece (kind_of kind (take n (drop at text))) n
     → after (map (token_of text) found) (from text at) ≡ after (map (token_of text) (found ++ token_at text at n kind ∷ [])) (from text (at + n))
 piece_step text found at n kind h some within e =
     let ts : List tokens.Token = map (token_of text) found in

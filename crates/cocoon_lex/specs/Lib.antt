@@ -1,3 +1,3 @@
-pub mod Fronts
 pub mod Kinds
-pub mod Places
+pub mod Position
+pub mod Prefixes

@@ -22,8 +22,8 @@ pub fn is_letter(byte: u8) -> bool
     byte >= b'A' && byte <= b'Z' || byte >= b'a' && byte <= b'z' || byte == b'_'
 }
 
-pub fn is_word_byte(byte: u8) -> bool
-    ensures { result ≡ tokens.is_word_byte byte }
+pub fn is_run_byte(byte: u8) -> bool
+    ensures { result ≡ tokens.is_run_byte byte }
 {
     is_letter(byte) || is_digit(byte)
 }
@@ -43,19 +43,19 @@ pub fn begins(text: &[u8], prefix: &[u8]) -> bool
     text.starts_with(prefix)
 }
 
-/// The length of the run of letters, digits and `_` at the front.
-pub fn word_len(text: &[u8]) -> usize
-    ensures is { result ≡ length (tokens.leading tokens.is_word_byte text.now) }
+/// The length of the run of letters, digits and `_` that a text begins with.
+pub fn run_len(text: &[u8]) -> usize
+    ensures is { result ≡ length (tokens.leading tokens.is_run_byte text.now) }
     ensures within { result ≤ length text.now }
 {
     let mut len = 0;
-    while len < text.len() && is_word_byte(text[len]) {
+    while len < text.len() && is_run_byte(text[len]) {
         len += 1;
     }
     len
 }
 
-/// How many bytes stand before the first byte like this one.
+/// How many bytes come before the first one that is `stop`.
 pub fn len_before(text: &[u8], stop: u8) -> usize
     ensures is { result ≡ length (tokens.leading (λ b. not (b == stop)) text.now) }
     ensures within { result ≤ length text.now }
@@ -67,7 +67,7 @@ pub fn len_before(text: &[u8], stop: u8) -> usize
     len
 }
 
-/// Whether `*/` stands at a place.
+/// Whether `*/` stands at an offset.
 #[tactic(auto, using(crate::proofs::Runs::comment_ends))]
 fn ends_comment(text: &[u8], at: usize) -> bool
     requires { at + 1 < length text.now }
@@ -76,7 +76,7 @@ fn ends_comment(text: &[u8], at: usize) -> bool
     text[at] == b'*' && text[at + 1] == b'/'
 }
 
-/// How many bytes stand up to and with the next `*/`.
+/// How many bytes there are up to and with the next `*/`.
 pub fn comment_len(text: &[u8]) -> Option<usize>
     ensures is { result ≡ tokens.comment_end text.now }
     ensures within { IfSome result (λ n. n ≤ length text.now) }

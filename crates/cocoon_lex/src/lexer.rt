@@ -3,7 +3,7 @@ ghost use Rattle.std.specs.Prelude.{All, ◌≡◌, ◌<◌, ◌≤◌, ◌^◌,
 ghost use Rattle.cocoon_num.specs.Tokens.{language, lex as tokens_of};
 ghost use Rattle.cocoon_lex.specs.Kinds.{HasFault, IsSpelled, StandsIn, token_of};
 
-use crate::fronts::{Front, read_front};
+use crate::prefixes::{Prefix, read_prefix};
 use crate::token::{Token, TokenKind};
 use std::alloc::{AllocFailed, Global};
 
@@ -34,34 +34,34 @@ impl<T: Drop> From<AllocFailed<T>> for LexFault {
 pub fn lex(alloc: Global, text: &[u8]) -> Result<Vec<Token>, LexFault>
     requires { length text.now < 2 ^ 32 }
     ensures ok { IfOk result (λ v. tokens_of language text.now ≡ Ok (map (token_of text.now) v.items)) }
-    ensures places { IfOk result (λ v. All (StandsIn text.now) v.items) }
+    ensures offsets { IfOk result (λ v. All (StandsIn text.now) v.items) }
     ensures names { IfOk result (λ v. All (IsSpelled text.now) v.items) }
     ensures fault { IfErr result (λ f. HasFault text.now f) }
 {
-    let mut found = Vec::new(alloc);
+    let mut tokens = Vec::new(alloc);
     let mut at = 0;
     while at < text.len() {
         let start = at as u32;
-        match read_front(rest(text, at)) {
-            Front::Gap(size) => at += size,
-            Front::Piece(kind, size) => {
+        match read_prefix(rest(text, at)) {
+            Prefix::Gap(size) => at += size,
+            Prefix::Piece(kind, size) => {
                 at += size;
                 let end = at as u32;
-                found.push(Token { kind, start, end })?;
+                tokens.push(Token { kind, start, end })?;
             }
-            Front::Faulty(fault) => return Err(fault.at(start)),
+            Prefix::Faulty(fault) => return Err(fault.at(start)),
         }
     }
     let end = at as u32;
-    found.push(Token {
+    tokens.push(Token {
         kind: TokenKind::End,
         start: end,
         end,
     })?;
-    Ok(found)
+    Ok(tokens)
 }
 
-/// The bytes from a place on.
+/// The bytes from an offset on.
 fn rest(text: &[u8], at: usize) -> &[u8]
     requires { at ≤ length text.now }
     ensures { result.now ≡ drop at text.now }

@@ -3,7 +3,7 @@
 ghost use Rattle.std.specs.Prelude.{◌≡◌, ◌+◌, ◌≤◌, ◌<◌, ◌^◌, min, option_map};
 ghost use Rattle.cocoon_num.specs.Tokens as tokens;
 ghost use Rattle.cocoon_lex.specs.Kinds.{kind_of};
-ghost use Rattle.cocoon_lex.specs.Fronts.{base_of, capped, digit_of, literal_kind, literal_read, value_of};
+ghost use Rattle.cocoon_lex.specs.Prefixes.{base_of, capped, digit_of, literal_kind, literal_read, value_of};
 
 use crate::bytes::{begins, is_digit, len_before};
 use crate::token::TokenKind;

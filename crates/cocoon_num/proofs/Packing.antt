@@ -6,14 +6,8 @@ use Rattle.std.proofs.lemmas.Bool.{ltb-false, le-ltb}
 use Rattle.std.proofs.lemmas.Nat.{pow-add, mod-pow-add, field_of, mod_low, shr_high}
 use Rattle.std.proofs.Math.Pow.{pow_pos}
 use Rattle.std.proofs.Math.Nat.{mod-eq_of_lt, mod-lt}
-use Rattle.cocoon_num.specs.Packets.{Packet, Layout, FieldsFit, PacketFits, total, packed, cut, eights, byte_count, AreBytes, AllWhole, fields_of, bytes_of, with_header, enter, leave}
-
--- each number fits its width, and there are as many
-abbrev pub Fit : List ℕ → List ℕ → Type 0
-Fit [] [] = Unit {0}
-Fit (w ∷ ws) (n ∷ ns) = (n < 2 ^ w) × Fit ws ns
-Fit [] (n ∷ ns) = ⊥
-Fit (w ∷ ws) [] = ⊥
+use Rattle.cocoon_num.specs.Packets.{Packet, Layout, total, packed, cut, eights, byte_count, header_fields, header_bytes, with_header, enter, leave}
+use Rattle.cocoon_num.specs.PacketForms.{FieldsFit, PacketFits, AreBytes, AllWhole}
 
 low_of : (w k n : ℕ) → n % 2 ^ (w + k) % 2 ^ k ≡ n % 2 ^ k
 low_of w k n = rw (mod-pow-add n w k) (mod_low (n / 2 ^ k % 2 ^ w) k (n % 2 ^ k) (mod-lt n (pow_pos k)))
@@ -32,13 +26,13 @@ cut_same (w ∷ ws) m n h =
 below : (n w p k : ℕ) → n < 2 ^ w → p < 2 ^ k → n * 2 ^ k + p < 2 ^ w * 2 ^ k
 below n w p k h i = grind arith
 
-pub packed_below : (ws ns : List ℕ) → Fit ws ns → packed ws ns < 2 ^ total ws
+pub packed_below : (ws ns : List ℕ) → FieldsFit ws ns → packed ws ns < 2 ^ total ws
 packed_below [] [] f = omega arith
 packed_below [] (n ∷ ns) f = absurd f
 packed_below (w ∷ ws) [] f = absurd f
 packed_below (w ∷ ws) (n ∷ ns) f = rw (pow-add 2 w (total ws)) (below n w (packed ws ns) (total ws) f.0 (packed_below ws ns f.1))
 
-pub cut-packed : (ws ns : List ℕ) → Fit ws ns → cut ws (packed ws ns) ≡ ns
+pub cut-packed : (ws ns : List ℕ) → FieldsFit ws ns → cut ws (packed ws ns) ≡ ns
 cut-packed [] [] f = refl
 cut-packed [] (n ∷ ns) f = absurd f
 cut-packed (w ∷ ws) [] f = absurd f
@@ -49,7 +43,7 @@ cut-packed (w ∷ ws) (n ∷ ns) f =
 
 -- ---- bytes
 
-bytes_fit : (bs : List ℕ) → AreBytes bs → Fit (eights (length bs)) bs
+bytes_fit : (bs : List ℕ) → AreBytes bs → FieldsFit (eights (length bs)) bs
 bytes_fit [] f = tt
 bytes_fit (b ∷ bs) f = (f.0, bytes_fit bs f.1)
 
@@ -58,7 +52,7 @@ total-eights zero = refl
 total-eights (suc n) = rw (total-eights n) (omega arith)
 
 -- a header's bytes are those of its fields
-pub header_again : (ws bs : List ℕ) → total ws % 8 ≡ 0 → length bs ≡ byte_count ws → AreBytes bs → bytes_of ws (fields_of ws bs) ≡ bs
+pub header_again : (ws bs : List ℕ) → total ws % 8 ≡ 0 → length bs ≡ byte_count ws → AreBytes bs → header_bytes ws (header_fields ws bs) ≡ bs
 header_again ws bs whole long f =
     let size : total (eights (length bs)) ≡ total ws = total-eights (length bs) ∙ rw long (omega arith) in
     let p : packed (eights (length bs)) bs < 2 ^ total (eights (length bs)) = packed_below _ _ (bytes_fit bs f) in
@@ -97,10 +91,10 @@ chosen false x y z h = inr (refl, h)
 one_header : (ws : List ℕ) (layout : Layout) (bs : List ℕ) (o : Entered) (packet : Packet) (payload : List ℕ)
     → total ws % 8 ≡ 0 → AreBytes bs → nat_lt (length bs) (byte_count ws) ≡ false
     → ((rest : Packet) (payload : List ℕ) → o ≡ Some (rest, payload) → leave layout rest payload ≡ drop (byte_count ws) bs)
-    → with_header (fields_of ws (take (byte_count ws) bs)) o ≡ Some (packet, payload) → leave (ws ∷ layout) packet payload ≡ bs
+    → with_header (header_fields ws (take (byte_count ws) bs)) o ≡ Some (packet, payload) → leave (ws ∷ layout) packet payload ≡ bs
 one_header ws layout bs None packet payload w f long again h = cc h
 one_header ws layout bs (Some r) packet payload w f long again h =
-    let e : fields_of ws (take (byte_count ws) bs) ∷ r.0 ≡ packet = ap (packet_or []) h in
+    let e : header_fields ws (take (byte_count ws) bs) ∷ r.0 ≡ packet = ap (packet_or []) h in
     let g : r.1 ≡ payload = ap (payload_or []) h in
     rw (← e, ← g, header_again ws (take (byte_count ws) bs) w (long_enough _ bs long) (bytes-take _ bs f), again r.0 r.1 refl) (take-append-drop (byte_count ws) bs)
 
@@ -115,12 +109,6 @@ leave-enter (ws ∷ layout) bs packet payload w f h =
 
 -- ---- `enter` undoes `leave`
 
-fields_fit : (ws ns : List ℕ) → FieldsFit ws ns → Fit ws ns
-fields_fit [] [] f = tt
-fields_fit [] (n ∷ ns) f = absurd f
-fields_fit (w ∷ ws) [] f = absurd f
-fields_fit (w ∷ ws) (n ∷ ns) f = (f.0, fields_fit ws ns f.1)
-
 length-cut : (ws : List ℕ) (n : ℕ) → length (cut ws n) ≡ length ws
 length-cut [] n = refl
 length-cut (w ∷ ws) n = ap suc (length-cut ws n)
@@ -129,27 +117,27 @@ length-eights : (n : ℕ) → length (eights n) ≡ n
 length-eights zero = refl
 length-eights (suc n) = ap suc (length-eights n)
 
-length-bytes_of : (ws ns : List ℕ) → length (bytes_of ws ns) ≡ byte_count ws
-length-bytes_of ws ns = length-cut (eights (byte_count ws)) (packed ws ns) ∙ length-eights (byte_count ws)
+length-header_bytes : (ws ns : List ℕ) → length (header_bytes ws ns) ≡ byte_count ws
+length-header_bytes ws ns = length-cut (eights (byte_count ws)) (packed ws ns) ∙ length-eights (byte_count ws)
 
 -- a header's fields are those of its bytes
-fields_again : (ws ns : List ℕ) → total ws % 8 ≡ 0 → Fit ws ns → fields_of ws (bytes_of ws ns) ≡ ns
+fields_again : (ws ns : List ℕ) → total ws % 8 ≡ 0 → FieldsFit ws ns → header_fields ws (header_bytes ws ns) ≡ ns
 fields_again ws ns whole f =
     let size : total (eights (byte_count ws)) ≡ total ws = total-eights (byte_count ws) ∙ omega arith in
     let p : packed ws ns < 2 ^ total (eights (byte_count ws)) = rw size (packed_below ws ns f) in
-    rw (length-bytes_of ws ns, packed-cut (eights (byte_count ws)) (packed ws ns), mod-eq_of_lt p) (cut-packed ws ns f)
+    rw (length-header_bytes ws ns, packed-cut (eights (byte_count ws)) (packed ws ns), mod-eq_of_lt p) (cut-packed ws ns f)
 
-take_front : (xs ys : List ℕ) (n : ℕ) → length xs ≡ n → take n (xs ++ ys) ≡ xs
-take_front [] ys zero h = refl
-take_front [] ys (suc n) h = cc
-take_front (x ∷ xs) ys zero h = cc
-take_front (x ∷ xs) ys (suc n) h = ap (λ zs. x ∷ zs) (take_front xs ys n (omega (arith, h)))
+take_prefix : (xs ys : List ℕ) (n : ℕ) → length xs ≡ n → take n (xs ++ ys) ≡ xs
+take_prefix [] ys zero h = refl
+take_prefix [] ys (suc n) h = cc
+take_prefix (x ∷ xs) ys zero h = cc
+take_prefix (x ∷ xs) ys (suc n) h = ap (λ zs. x ∷ zs) (take_prefix xs ys n (omega (arith, h)))
 
-drop_front : (xs ys : List ℕ) (n : ℕ) → length xs ≡ n → drop n (xs ++ ys) ≡ ys
-drop_front [] ys zero h = refl
-drop_front [] ys (suc n) h = cc
-drop_front (x ∷ xs) ys zero h = cc
-drop_front (x ∷ xs) ys (suc n) h = drop_front xs ys n (omega (arith, h))
+drop_prefix : (xs ys : List ℕ) (n : ℕ) → length xs ≡ n → drop n (xs ++ ys) ≡ ys
+drop_prefix [] ys zero h = refl
+drop_prefix [] ys (suc n) h = cc
+drop_prefix (x ∷ xs) ys zero h = cc
+drop_prefix (x ∷ xs) ys (suc n) h = drop_prefix xs ys n (omega (arith, h))
 
 not_short : (xs ys : List ℕ) (n : ℕ) → length xs ≡ n → nat_lt (length (xs ++ ys)) n ≡ false
 not_short xs ys n h = let l : length (xs ++ ys) ≡ length xs + length ys = length-append xs ys in le-ltb _ _ (omega (arith, l, h))
@@ -159,6 +147,6 @@ enter-leave [] [] payload w f = refl
 enter-leave [] (ns ∷ packet) payload w f = absurd f
 enter-leave (ws ∷ layout) [] payload w f = absurd f
 enter-leave (ws ∷ layout) (ns ∷ packet) payload w f =
-    let long : length (bytes_of ws ns) ≡ byte_count ws = length-bytes_of ws ns in
+    let long : length (header_bytes ws ns) ≡ byte_count ws = length-header_bytes ws ns in
     let rest = leave layout packet payload in
-    rw (not_short (bytes_of ws ns) rest (byte_count ws) long, take_front (bytes_of ws ns) rest (byte_count ws) long, drop_front (bytes_of ws ns) rest (byte_count ws) long, fields_again ws ns w.0 (fields_fit ws ns f.0), enter-leave layout packet payload w.1 f.1) refl
+    rw (not_short (header_bytes ws ns) rest (byte_count ws) long, take_prefix (header_bytes ws ns) rest (byte_count ws) long, drop_prefix (header_bytes ws ns) rest (byte_count ws) long, fields_again ws ns w.0 f.0, enter-leave layout packet payload w.1 f.1) refl

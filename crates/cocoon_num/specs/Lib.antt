@@ -3,6 +3,8 @@ pub mod Tree
 pub mod Names
 pub mod Lists
 pub mod Packets
+pub mod PacketForms
 pub mod Sorts
 pub mod Tokens
 pub mod Reads
+pub mod FirstFaults

@@ -1,4 +1,5 @@
--- Tests on lists of names and of numbers, and the first of a list, for the rules of docs/LANGUAGE.md and docs/FORMATS.md.
+-- Tests on lists of names and of numbers, and the first of a list, for the rules of docs/LANGUAGE.md and of
+-- docs/FORMATS.md.
 use Rattle.std.specs.Prelude.{ℕ, ◌==◌, ◌&&◌, ◌||◌, nat_lt, Bool, true, false, not, List, [], ◌∷◌, Option, Some, None}
 use Rattle.cocoon_num.specs.Names.{same_name}
 

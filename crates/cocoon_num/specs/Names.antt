@@ -6,8 +6,7 @@ use Rattle.cocoon_num.specs.Tree.{Name}
 abbrev pub same_name : List ℕ → List ℕ → Bool
 same_name [] [] = true
 same_name (x ∷ xs) (y ∷ ys) = (x == y) && same_name xs ys
-same_name [] (y ∷ ys) = false
-same_name (x ∷ xs) [] = false
+same_name _ _ = false
 
 -- the first that is called x
 abbrev pub named : {A : Type 0} → (A → Name) → List ℕ → List A → Option A

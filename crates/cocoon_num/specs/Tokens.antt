@@ -1,4 +1,4 @@
--- The tokens of a text, with the places of their bytes, or the first fault. At each place the longest token is
+-- The tokens of a text, with the offsets of their bytes, or the first fault. At each offset the longest token is
 -- taken. Two texts have such tokens, by a lexicon of their own each: designs with definitions, and P4 programs.
 -- It follows the section "Texts" of docs/LANGUAGE.md, and for P4 programs "The text" in docs/FORMATS.md.
 use Rattle.std.specs.Prelude.{ℕ, zero, suc, ◌+◌, ◌-◌, ◌*◌, ◌^◌, ◌==◌, ◌&&◌, ◌||◌, Bool, true, false, not, nat_le, nat_lt, List, [], ◌∷◌, length, map, drop, if◌then◌else◌, Option, Some, None, option_map, option_and_then, Result, Ok, Err, codes}
@@ -6,14 +6,14 @@ use Rattle.cocoon_num.specs.Names.{same_name}
 use Rattle.cocoon_num.specs.Lists.{each, is_one_of}
 
 pub data Kind : Type 0 where
-  word : (text : List ℕ) → Kind
+  a_name : (text : List ℕ) → Kind
   keyword : (text : List ℕ) → Kind
   plain : (n : ℕ) → Kind
   literal : (width n : ℕ) → Kind
   mark : (text : List ℕ) → Kind
   finish : Kind
 
--- a token, from its first byte up to where it ends
+-- a token, from the offset of its first byte up to the one after its last
 pub record Token : Type 0 where
   pub kind : Kind
   pub start : ℕ
@@ -22,7 +22,7 @@ pub record Token : Type 0 where
 pub data LexFault : Type 0 where
   bad_byte bad_number open_comment : (at : ℕ) → LexFault
 
--- which words are reserved, which marks there are (a longer one before its beginnings), and how wide literals are
+-- the reserved words, the marks (a longer one before its beginnings), and how wide literals may be
 pub record Lexicon : Type 0 where
   pub reserved : List (List ℕ)
   pub marks : List (List ℕ)
@@ -43,13 +43,13 @@ is_digit b = is_between 48 57 b
 abbrev pub is_letter : ℕ → Bool
 is_letter b = is_between 65 90 b || is_between 97 122 b || (b == 95)
 
-abbrev pub is_word_byte : ℕ → Bool
-is_word_byte b = is_letter b || is_digit b
+abbrev pub is_run_byte : ℕ → Bool
+is_run_byte b = is_letter b || is_digit b
 
 -- one or more letters, digits and `_`
 abbrev pub is_run : List ℕ → Bool
 is_run [] = false
-is_run (b ∷ bs) = each is_word_byte (b ∷ bs)
+is_run (b ∷ bs) = each is_run_byte (b ∷ bs)
 
 abbrev pub begins : List ℕ → List ℕ → Bool
 begins [] text = true
@@ -61,7 +61,7 @@ abbrev pub beginning : List (List ℕ) → List ℕ → Option (List ℕ)
 beginning [] text = None
 beginning (m ∷ ms) text = if begins m text then Some m else beginning ms text
 
--- the bytes from the front on that pass a test
+-- the first bytes, as long as they pass a test
 abbrev pub leading : (ℕ → Bool) → List ℕ → List ℕ
 leading test [] = []
 leading test (b ∷ bs) = if test b then b ∷ leading test bs else []
@@ -69,7 +69,11 @@ leading test (b ∷ bs) = if test b then b ∷ leading test bs else []
 -- ---- numbers
 
 abbrev pub hex_digit : ℕ → Option ℕ
-hex_digit b = if is_digit b then Some (b - 48) else if is_between 97 102 b then Some (b - 87) else if is_between 65 70 b then Some (b - 55) else None
+hex_digit b =
+    if is_digit b then Some (b - 48)
+    else if is_between 97 102 b then Some (b - 87)
+    else if is_between 65 70 b then Some (b - 55)
+    else None
 
 abbrev pub dec_digit : ℕ → Option ℕ
 dec_digit b = if is_digit b then Some (b - 48) else None
@@ -77,7 +81,8 @@ dec_digit b = if is_digit b then Some (b - 48) else None
 -- the value of the digits after those of the value so far
 abbrev pub digits_after : ℕ → (ℕ → Option ℕ) → ℕ → List ℕ → Option ℕ
 digits_after base digit so_far [] = Some so_far
-digits_after base digit so_far (b ∷ bs) = option_and_then (λ d. digits_after base digit (so_far * base + d) bs) (digit b)
+digits_after base digit so_far (b ∷ bs) =
+    option_and_then (λ d. digits_after base digit (so_far * base + d) bs) (digit b)
 
 -- the value of one or more digits
 abbrev pub digits : ℕ → (ℕ → Option ℕ) → List ℕ → Option ℕ
@@ -99,7 +104,8 @@ kept_if false x = None
 abbrev pub literal_of : ℕ → Option ℕ → Option ℕ → Option Kind
 literal_of widest None value = None
 literal_of widest (Some width) None = None
-literal_of widest (Some width) (Some n) = kept_if (nat_le 1 width && nat_le width widest && nat_lt n (2 ^ width)) (literal width n)
+literal_of widest (Some width) (Some n) =
+    kept_if (nat_le 1 width && nat_le width widest && nat_lt n (2 ^ width)) (literal width n)
 
 -- the bytes before the first `w`, and those after it
 abbrev pub before_w : List ℕ → List ℕ
@@ -116,58 +122,62 @@ number_kind widest run =
       | None ↦ literal_of widest (decimal_value (before_w run)) (literal_value (after_w run))
     ]
 
--- ---- the front of a text
+-- ---- what a text begins with
 
--- what a text begins with, and how many bytes it has: no token, or a token, or a fault
-pub data Front : Type 0 where
-  gap : (size : ℕ) → Front
-  piece : (kind : Kind) (size : ℕ) → Front
-  faulty : (ℕ → LexFault) → Front
+-- a prefix of a text and how many bytes it has: no token, or a token; or a fault
+pub data Prefix : Type 0 where
+  gap : (size : ℕ) → Prefix
+  piece : (kind : Kind) (size : ℕ) → Prefix
+  faulty : (ℕ → LexFault) → Prefix
 
--- how many bytes stand up to and with the next `*/`
+-- how many bytes there are up to and with the next `*/`
 abbrev pub comment_end : List ℕ → Option ℕ
 comment_end [] = None
 comment_end (b ∷ rest) = if begins (codes "*/") (b ∷ rest) then Some 2 else option_map suc (comment_end rest)
 
-abbrev pub comment_front : Option ℕ → Front
-comment_front None = faulty open_comment
-comment_front (Some n) = gap (2 + n)
+abbrev pub comment_prefix : Option ℕ → Prefix
+comment_prefix None = faulty open_comment
+comment_prefix (Some n) = gap (2 + n)
 
-abbrev pub number_front : Option Kind → ℕ → Front
-number_front None size = faulty bad_number
-number_front (Some kind) size = piece kind size
+abbrev pub number_prefix : Option Kind → ℕ → Prefix
+number_prefix None size = faulty bad_number
+number_prefix (Some kind) size = piece kind size
 
-abbrev pub mark_front : Option (List ℕ) → Front
-mark_front None = faulty bad_byte
-mark_front (Some m) = piece (mark m) (length m)
+abbrev pub mark_prefix : Option (List ℕ) → Prefix
+mark_prefix None = faulty bad_byte
+mark_prefix (Some m) = piece (mark m) (length m)
 
--- a word is a mark where it is one, as `_` is, and else a reserved word or a name
-abbrev pub word_kind : Lexicon → List ℕ → Kind
-word_kind lexicon w = if is_one_of lexicon.marks w then mark w else if is_one_of lexicon.reserved w then keyword w else word w
+-- a run is a mark where it is one, as `_` is, and else a reserved word or a name
+abbrev pub run_kind : Lexicon → List ℕ → Kind
+run_kind lexicon run =
+    if is_one_of lexicon.marks run then mark run
+    else if is_one_of lexicon.reserved run then keyword run
+    else a_name run
 
-abbrev pub word_front : Lexicon → List ℕ → Front
-word_front lexicon run = piece (word_kind lexicon run) (length run)
+abbrev pub run_prefix : Lexicon → List ℕ → Prefix
+run_prefix lexicon run = piece (run_kind lexicon run) (length run)
 
-abbrev pub line_front : List ℕ → Front
-line_front text = gap (length (leading (λ b. not (b == 10)) text))
+abbrev pub line_prefix : List ℕ → Prefix
+line_prefix text = gap (length (leading (λ b. not (b == 10)) text))
 
-abbrev pub block_front : List ℕ → Front
-block_front text = comment_front (comment_end (drop 2 text))
+abbrev pub block_prefix : List ℕ → Prefix
+block_prefix text = comment_prefix (comment_end (drop 2 text))
 
-abbrev pub digit_front : Lexicon → List ℕ → Front
-digit_front lexicon text = number_front (number_kind lexicon.widest (leading is_word_byte text)) (length (leading is_word_byte text))
+abbrev pub digit_prefix : Lexicon → List ℕ → Prefix
+digit_prefix lexicon text =
+    number_prefix (number_kind lexicon.widest (leading is_run_byte text)) (length (leading is_run_byte text))
 
-abbrev pub letter_front : Lexicon → List ℕ → Front
-letter_front lexicon text = word_front lexicon (leading is_word_byte text)
+abbrev pub letter_prefix : Lexicon → List ℕ → Prefix
+letter_prefix lexicon text = run_prefix lexicon (leading is_run_byte text)
 
-abbrev pub front : Lexicon → ℕ → List ℕ → Front
-front lexicon b text =
+abbrev pub prefix : Lexicon → ℕ → List ℕ → Prefix
+prefix lexicon b text =
     if is_blank b then gap 1
-    else if begins (codes "//") text then line_front text
-    else if begins (codes "/*") text then block_front text
-    else if is_digit b then digit_front lexicon text
-    else if is_letter b then letter_front lexicon text
-    else mark_front (beginning lexicon.marks text)
+    else if begins (codes "//") text then line_prefix text
+    else if begins (codes "/*") text then block_prefix text
+    else if is_digit b then digit_prefix lexicon text
+    else if is_letter b then letter_prefix lexicon text
+    else mark_prefix (beginning lexicon.marks text)
 
 -- ---- all tokens
 
@@ -178,17 +188,19 @@ abbrev pub with_token : Token → Lexed → Lexed
 with_token t (Ok ts) = Ok (t ∷ ts)
 with_token t (Err e) = Err e
 
--- from what stands at a place, and the tokens after so many further bytes
-abbrev pub by_front : ℕ → Front → (ℕ → Lexed) → Lexed
-by_front at (gap size) next = next (size - 1)
-by_front at (piece kind size) next = with_token (record { kind = kind; start = at; stop = at + size }) (next (size - 1))
-by_front at (faulty fault) next = Err (fault at)
+-- from the prefix at an offset, and the tokens after so many further bytes
+abbrev pub by_prefix : ℕ → Prefix → (ℕ → Lexed) → Lexed
+by_prefix at (gap size) next = next (size - 1)
+by_prefix at (piece kind size) next =
+    with_token (record { kind = kind; start = at; stop = at + size }) (next (size - 1))
+by_prefix at (faulty fault) next = Err (fault at)
 
--- the tokens of a text from a place on, of which so many bytes belong to what came before
+-- the tokens of a text from an offset on, whose first bytes, so many, belong to what came before
 abbrev pub lex_from : Lexicon → ℕ → ℕ → List ℕ → Lexed
 lex_from lexicon at covered [] = Ok (record { kind = finish; start = at; stop = at } ∷ [])
 lex_from lexicon at (suc covered) (b ∷ rest) = lex_from lexicon (suc at) covered rest
-lex_from lexicon at zero (b ∷ rest) = by_front at (front lexicon b (b ∷ rest)) (λ covered. lex_from lexicon (suc at) covered rest)
+lex_from lexicon at zero (b ∷ rest) =
+    by_prefix at (prefix lexicon b (b ∷ rest)) (λ covered. lex_from lexicon (suc at) covered rest)
 
 abbrev pub lex : Lexicon → List ℕ → Lexed
 lex lexicon text = lex_from lexicon 0 0 text
@@ -209,15 +221,23 @@ kinds_or_none (Ok ts) = without_finish (kinds ts)
 kinds_or_none (Err e) = []
 
 -- the tokens of a fixed piece of text, by a lexicon
-abbrev pub said_by : Lexicon → List ℕ → List Kind
-said_by lexicon text = kinds_or_none (lex lexicon text)
+abbrev pub kinds_in : Lexicon → List ℕ → List Kind
+kinds_in lexicon text = kinds_or_none (lex lexicon text)
 
 -- ---- designs and definitions
 
 abbrev pub language : Lexicon
 language = record {
-  reserved = codes "packet" ∷ codes "header" ∷ codes "function" ∷ codes "assume" ∷ codes "role" ∷ codes "host" ∷ codes "switch" ∷ codes "refine" ∷ codes "within" ∷ codes "ports" ∷ codes "let" ∷ codes "if" ∷ codes "else" ∷ codes "filter" ∷ codes "havoc" ∷ codes "fork" ∷ codes "send" ∷ codes "pkt" ∷ codes "bit" ∷ codes "bool" ∷ codes "true" ∷ codes "false" ∷ codes "and" ∷ codes "or" ∷ codes "not" ∷ codes "default" ∷ codes "define" ∷ [];
-  marks = codes "&&&" ∷ codes "<=" ∷ codes ">=" ∷ codes "==" ∷ codes "!=" ∷ codes "=>" ∷ codes "++" ∷ codes "{" ∷ codes "}" ∷ codes "(" ∷ codes ")" ∷ codes "[" ∷ codes "]" ∷ codes "<" ∷ codes ">" ∷ codes "=" ∷ codes "+" ∷ codes "-" ∷ codes "&" ∷ codes "|" ∷ codes "^" ∷ codes "~" ∷ codes "," ∷ codes ";" ∷ codes ":" ∷ codes "." ∷ codes "?" ∷ codes "_" ∷ [];
+  reserved =
+      codes "packet" ∷ codes "header" ∷ codes "function" ∷ codes "assume" ∷ codes "role" ∷ codes "host"
+      ∷ codes "switch" ∷ codes "refine" ∷ codes "within" ∷ codes "ports" ∷ codes "let" ∷ codes "if" ∷ codes "else"
+      ∷ codes "filter" ∷ codes "havoc" ∷ codes "fork" ∷ codes "send" ∷ codes "pkt" ∷ codes "bit" ∷ codes "bool"
+      ∷ codes "true" ∷ codes "false" ∷ codes "and" ∷ codes "or" ∷ codes "not" ∷ codes "default" ∷ codes "define" ∷ [];
+  marks =
+      codes "&&&" ∷ codes "<=" ∷ codes ">=" ∷ codes "==" ∷ codes "!=" ∷ codes "=>" ∷ codes "++" ∷ codes "{" ∷ codes "}"
+      ∷ codes "(" ∷ codes ")" ∷ codes "[" ∷ codes "]" ∷ codes "<" ∷ codes ">" ∷ codes "=" ∷ codes "+" ∷ codes "-"
+      ∷ codes "&" ∷ codes "|" ∷ codes "^" ∷ codes "~" ∷ codes "," ∷ codes ";" ∷ codes ":" ∷ codes "." ∷ codes "?"
+      ∷ codes "_" ∷ [];
   widest = 64;
 }
 
@@ -232,7 +252,7 @@ pub record Bounds : Type 0 where
 abbrev pub same_kind : Kind → Kind → Bool
 same_kind (mark a) (mark b) = same_name a b
 same_kind (keyword a) (keyword b) = same_name a b
-same_kind (word a) (word b) = same_name a b
+same_kind (a_name a) (a_name b) = same_name a b
 same_kind _ _ = false
 
 abbrev pub is_kind_of : List Kind → Kind → Bool
@@ -256,7 +276,8 @@ operators_after operators n k =
 abbrev pub none_deep : Bounds → ℕ → ℕ → List Kind → Bool
 none_deep bounds brackets operators [] = true
 none_deep bounds brackets operators (k ∷ ks) =
-    nat_le (brackets_after brackets k) bounds.open_most && nat_le (operators_after bounds.operators operators k) bounds.operators_most
+    nat_le (brackets_after brackets k) bounds.open_most
+    && nat_le (operators_after bounds.operators operators k) bounds.operators_most
     && none_deep bounds (brackets_after brackets k) (operators_after bounds.operators operators k) ks
 
 abbrev pub is_shallow : Bounds → List Kind → Bool
@@ -264,7 +285,11 @@ is_shallow bounds ks = none_deep bounds 0 0 ks
 
 abbrev pub language_bounds : Bounds
 language_bounds = record {
-  operators = mark (codes "+") ∷ mark (codes "-") ∷ mark (codes "&") ∷ mark (codes "|") ∷ mark (codes "^") ∷ mark (codes "++") ∷ mark (codes "~") ∷ mark (codes "==") ∷ mark (codes "!=") ∷ mark (codes "<") ∷ mark (codes "<=") ∷ mark (codes ">") ∷ mark (codes ">=") ∷ keyword (codes "and") ∷ keyword (codes "or") ∷ keyword (codes "not") ∷ mark (codes "=>") ∷ mark (codes "?") ∷ mark (codes ":") ∷ mark (codes "[") ∷ [];
+  operators =
+      mark (codes "+") ∷ mark (codes "-") ∷ mark (codes "&") ∷ mark (codes "|") ∷ mark (codes "^")
+      ∷ mark (codes "++") ∷ mark (codes "~") ∷ mark (codes "==") ∷ mark (codes "!=") ∷ mark (codes "<")
+      ∷ mark (codes "<=") ∷ mark (codes ">") ∷ mark (codes ">=") ∷ keyword (codes "and") ∷ keyword (codes "or")
+      ∷ keyword (codes "not") ∷ mark (codes "=>") ∷ mark (codes "?") ∷ mark (codes ":") ∷ mark (codes "[") ∷ [];
   open_most = 64;
   operators_most = 128;
 }

@@ -1,6 +1,6 @@
--- The trees of design texts and definitions texts, with lists in place of the vectors of the code.
--- `at` is the index of a node's first token; of an expression it is the place that the grammar gives.
--- It follows the grammar in the section "Texts" of docs/LANGUAGE.md. Optional headers are absent.
+-- The trees of design texts and definitions texts, with lists where the code has vectors. `at` is the token index of
+-- a node's first token; of an expression it is the token index that the grammar gives, brackets apart. It follows
+-- the grammar in the section "Texts" of docs/LANGUAGE.md. Optional headers are absent.
 use Rattle.std.specs.Prelude.{ℕ, Bool, List, Option}
 use Rattle.cocoon_num.specs.Values.{Value, UnaryOp, BinaryOp}
 
@@ -112,16 +112,15 @@ pub data Entry : Type 0 where
 abbrev pub DefsText : Type 0
 DefsText = List Entry
 
--- ---- places
+-- ---- token indices
 
--- the place of an expression
-abbrev pub place : Expr → ℕ
-place (name at x) = at
-place (field at h f) = at
-place (lit at w n) = at
-place (true_or_false at b) = at
-place (call at f es) = at
-place (unary at op a) = at
-place (binary at op a b) = at
-place (slice at a h l) = at
-place (pick at c a b) = at
+abbrev pub token_index : Expr → ℕ
+token_index (name at x) = at
+token_index (field at h f) = at
+token_index (lit at w n) = at
+token_index (true_or_false at b) = at
+token_index (call at f es) = at
+token_index (unary at op a) = at
+token_index (binary at op a b) = at
+token_index (slice at a h l) = at
+token_index (pick at c a b) = at

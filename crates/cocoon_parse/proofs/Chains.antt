@@ -3,25 +3,25 @@ use Rattle.std.specs.Prelude.{◌≡◌, ℕ, zero, suc, ◌+◌, ◌==◌, Bool
 use Rattle.std.proofs.Common.{Vec, Global, sym, ◌∙◌, ap, subst}
 use Rattle.std.proofs.lemmas.Bool.{eq-eqb, eqb-true}
 use Rattle.cocoon_num.specs.Values.{BinaryOp}
-use Rattle.cocoon_num.specs.Tokens.{Kind, word, keyword, plain, literal, mark, finish}
-use Rattle.cocoon_num.specs.Tree.{Expr, Exprs, expr, no_exprs, binary, slice, place, Stmt, Block, stmt, no_stmts}
+use Rattle.cocoon_num.specs.Tokens.{Kind, a_name, keyword, plain, literal, mark, finish}
+use Rattle.cocoon_num.specs.Tree.{Expr, Exprs, expr, no_exprs, binary, slice, pick, token_index, Stmt, Block, stmt, no_stmts}
 use Rattle.cocoon_num.specs.Reads.{of_expr, of_post, of_prim}
 use Rattle.cocoon_syntax.specs.TreeOf.{expr_of, exprs_of, block_of, stmt_of}
 use Rattle.cocoon_syntax.specs.declared.expr.Expr.{Expr as CodeExpr}
 use Rattle.cocoon_syntax.specs.declared.stmt.Stmt.{Stmt as CodeStmt}
-use Rattle.cocoon_parse.specs.Levels.{level_of, part_of, RangeAt, leaf_from}
-use Rattle.cocoon_parse.specs.Reader.{Read, good, bad, spent, after, is_mark, op_at, expr_from, rest_from, exprs_from, commas_from, many_from, stmt_from, stmts_from, closes, sliced, by_op, prim_of, path_from, worded}
-use Rattle.cocoon_parse.specs.Says.{Says, Tells, is_word}
+use Rattle.cocoon_parse.specs.Phrases.{level_of, part_of, then_mark, Sides, sides_from, RangeAt, leaf_from}
+use Rattle.cocoon_parse.specs.PlainParser.{Outcome, good, bad, spent, after, marked, picked, is_mark, op_at, expr_from, rest_from, exprs_from, commas_from, many_from, stmt_from, stmts_from, closes, sliced, by_op, prim_of, path_from, reserved}
+use Rattle.cocoon_parse.specs.Agrees.{Agrees, AgreesDeep, is_name_token}
 use Rattle.cocoon_num.specs.Names.{same_name}
 use Rattle.cocoon_parse.specs.declared.fault.Stop.{Stop}
 use Rattle.cocoon_parse.specs.declared.fault.Stop.TheVariants.{Unexpected, NoMemory}
 use Rattle.cocoon_parse.specs.declared.operators.Chain.{Chain}
 use Rattle.cocoon_parse.specs.declared.operators.Chain.TheVariants.{Or, And, Concat, Bits, Sum}
-use Rattle.cocoon_parse.proofs.Given.{Gives, by_one, by_two, deeper, flat}
+use Rattle.cocoon_parse.proofs.Eventually.{Eventually, by_one, by_two, deeper, flat}
 
 -- what G gives, F gives
-pub record Rest {A : Type 0} (F G : ℕ → Read A) : Type 0 where
-  pub gives : (r : Read A) → Gives G r → Gives F r
+pub record Rest {A : Type 0} (F G : ℕ → Outcome A) : Type 0 where
+  pub carries : (r : Outcome A) → Eventually G r → Eventually F r
 
 -- ---- chains of operators
 
@@ -32,12 +32,12 @@ opens ts n Concat i = refl
 opens ts n Bits i = refl
 opens ts n Sum i = refl
 
-goes_on : (ts : List Kind) (n : ℕ) (c : Chain) (a : Expr) (j : ℕ) (op : BinaryOp) → op_at (level_of c) (slice_get ts j) ≡ Some op → rest_from ts (suc n) (level_of c) a j ≡ after (expr_from ts n (part_of c) (suc j)) (λ b k. rest_from ts n (level_of c) (binary (place a) op a b) k)
-goes_on ts n Or a j op e = rw e refl
-goes_on ts n And a j op e = rw e refl
-goes_on ts n Concat a j op e = rw e refl
-goes_on ts n Bits a j op e = rw e refl
-goes_on ts n Sum a j op e = rw e refl
+chain_steps : (ts : List Kind) (n : ℕ) (c : Chain) (a : Expr) (j : ℕ) (op : BinaryOp) → op_at (level_of c) (slice_get ts j) ≡ Some op → rest_from ts (suc n) (level_of c) a j ≡ after (expr_from ts n (part_of c) (suc j)) (λ b k. rest_from ts n (level_of c) (binary (token_index a) op a b) k)
+chain_steps ts n Or a j op e = rw e refl
+chain_steps ts n And a j op e = rw e refl
+chain_steps ts n Concat a j op e = rw e refl
+chain_steps ts n Bits a j op e = rw e refl
+chain_steps ts n Sum a j op e = rw e refl
 
 stops : (ts : List Kind) (n : ℕ) (c : Chain) (a : Expr) (j : ℕ) → op_at (level_of c) (slice_get ts j) ≡ None → rest_from ts (suc n) (level_of c) a j ≡ good a j
 stops ts n Or a j e = rw e refl
@@ -46,64 +46,99 @@ stops ts n Concat a j e = rw e refl
 stops ts n Bits a j e = rw e refl
 stops ts n Sum a j e = rw e refl
 
-pub chain_begins : (ts : List Kind) (c : Chain) (i : ℕ) {a : Expr} {j : ℕ} → Gives (λ n. expr_from ts n (part_of c) i) (good a j) → Rest (λ n. expr_from ts n (level_of c) i) (λ n. rest_from ts n (level_of c) a j)
+pub chain_begins : (ts : List Kind) (c : Chain) (i : ℕ) {a : Expr} {j : ℕ} → Eventually (λ n. expr_from ts n (part_of c) i) (good a j) → Rest (λ n. expr_from ts n (level_of c) i) (λ n. rest_from ts n (level_of c) a j)
 unfolding after
-chain_begins ts c i {a = a} {j = j} p = record { gives = λ r g. deeper (by_two p g (λ n e f. opens ts n c i ∙ ap (λ z. after z (rest_from ts n (level_of c))) e ∙ f)) }
+chain_begins ts c i {a = a} {j = j} p = record { carries = λ r g. deeper (by_two p g (λ n e f. opens ts n c i ∙ ap (λ z. after z (rest_from ts n (level_of c))) e ∙ f)) }
 
-pub chain_fails : (ts : List Kind) (c : Chain) (i : ℕ) (k : ℕ) → Gives (λ n. expr_from ts n (part_of c) i) (bad k) → Gives (λ n. expr_from ts n (level_of c) i) (bad k)
+pub chain_fails : (ts : List Kind) (c : Chain) (i : ℕ) (k : ℕ) → Eventually (λ n. expr_from ts n (part_of c) i) (bad k) → Eventually (λ n. expr_from ts n (level_of c) i) (bad k)
 unfolding after
 chain_fails ts c i k p = deeper (by_one p (λ n e. opens ts n c i ∙ ap (λ z. after z (rest_from ts n (level_of c))) e))
 
-pub chain_more : (ts : List Kind) (c : Chain) (a : Expr) (j k : ℕ) (op : BinaryOp) {F : ℕ → Read Expr} {b : Expr} {l : ℕ} {both : Expr} → Rest F (λ n. rest_from ts n (level_of c) a j) → op_at (level_of c) (slice_get ts j) ≡ Some op → k ≡ suc j → Gives (λ n. expr_from ts n (part_of c) k) (good b l) → both ≡ binary (place a) op a b → Rest F (λ n. rest_from ts n (level_of c) both l)
+pub chain_more : (ts : List Kind) (c : Chain) (a : Expr) (j k : ℕ) (op : BinaryOp) {F : ℕ → Outcome Expr} {b : Expr} {l : ℕ} {both : Expr} → Rest F (λ n. rest_from ts n (level_of c) a j) → op_at (level_of c) (slice_get ts j) ≡ Some op → k ≡ suc j → Eventually (λ n. expr_from ts n (part_of c) k) (good b l) → both ≡ binary (token_index a) op a b → Rest F (λ n. rest_from ts n (level_of c) both l)
 unfolding after
 chain_more ts c a j k op {b = b} {l = l} {both = both} s t q p e = record {
-  gives = λ r g. s.gives r (deeper (by_two (subst (λ z. Gives (λ n. expr_from ts n (part_of c) z) (good b l)) q p) g (λ n f h.
-      goes_on ts n c a j op t ∙ ap (λ z. after z (λ x m. rest_from ts n (level_of c) (binary (place a) op a x) m)) f ∙ ap (λ z. rest_from ts n (level_of c) z l) (sym e) ∙ h)));
+  carries = λ r g. s.carries r (deeper (by_two (subst (λ z. Eventually (λ n. expr_from ts n (part_of c) z) (good b l)) q p) g (λ n f h.
+      chain_steps ts n c a j op t ∙ ap (λ z. after z (λ x m. rest_from ts n (level_of c) (binary (token_index a) op a x) m)) f ∙ ap (λ z. rest_from ts n (level_of c) z l) (sym e) ∙ h)));
 }
 
-pub chain_broken : (ts : List Kind) (c : Chain) (a : Expr) (j k : ℕ) (op : BinaryOp) {F : ℕ → Read Expr} → Rest F (λ n. rest_from ts n (level_of c) a j) → op_at (level_of c) (slice_get ts j) ≡ Some op → k ≡ suc j → (i : ℕ) → Gives (λ n. expr_from ts n (part_of c) k) (bad i) → Gives F (bad i)
+pub chain_broken : (ts : List Kind) (c : Chain) (a : Expr) (j k : ℕ) (op : BinaryOp) {F : ℕ → Outcome Expr} → Rest F (λ n. rest_from ts n (level_of c) a j) → op_at (level_of c) (slice_get ts j) ≡ Some op → k ≡ suc j → (i : ℕ) → Eventually (λ n. expr_from ts n (part_of c) k) (bad i) → Eventually F (bad i)
 unfolding after
-chain_broken ts c a j k op s t q i p = s.gives (bad i) (deeper (by_one (subst (λ z. Gives (λ n. expr_from ts n (part_of c) z) (bad i)) q p) (λ n f.
-    goes_on ts n c a j op t ∙ ap (λ z. after z (λ x m. rest_from ts n (level_of c) (binary (place a) op a x) m)) f)))
+chain_broken ts c a j k op s t q i p = s.carries (bad i) (deeper (by_one (subst (λ z. Eventually (λ n. expr_from ts n (part_of c) z) (bad i)) q p) (λ n f.
+    chain_steps ts n c a j op t ∙ ap (λ z. after z (λ x m. rest_from ts n (level_of c) (binary (token_index a) op a x) m)) f)))
 
-pub chain_ends : (ts : List Kind) (c : Chain) (a : Expr) (j : ℕ) {F : ℕ → Read Expr} → Rest F (λ n. rest_from ts n (level_of c) a j) → op_at (level_of c) (slice_get ts j) ≡ None → Gives F (good a j)
-chain_ends ts c a j s t = s.gives (good a j) (deeper (flat (λ n. stops ts n c a j t)))
+pub chain_ends : (ts : List Kind) (c : Chain) (a : Expr) (j : ℕ) {F : ℕ → Outcome Expr} → Rest F (λ n. rest_from ts n (level_of c) a j) → op_at (level_of c) (slice_get ts j) ≡ None → Eventually F (good a j)
+chain_ends ts c a j s t = s.carries (good a j) (deeper (flat (λ n. stops ts n c a j t)))
+
+-- ---- choices
+
+-- a choice, with both its sides
+abbrev chosen : Expr → Sides → ℕ → Outcome Expr
+chosen c p k = good (pick (token_index c) c p.first p.second) k
+
+-- what follows the condition of a choice is both its sides
+picked_same : (ts : List Kind) (e : ℕ → Outcome Expr) (c : Expr) (r : Outcome Expr) → after r (picked ts e c) ≡ after (after (then_mark ts (codes ":") r) (λ a j. after (then_mark ts (codes ")") (e j)) (λ b k. good (record { first = a; second = b }) k))) (chosen c)
+unfolding after marked
+picked_same ts e c (bad i) = refl
+picked_same ts e c spent = refl
+picked_same ts e c (good a j) = by (is_mark (codes ":") (slice_get ts j))
+  where
+    closes : (b : Expr) (k : ℕ) (t : Bool) → (if t then good (pick (token_index c) c a b) (suc k) else bad k) ≡ after (after (if t then good b (suc k) else bad k) (λ b l. good (record { first = a; second = b }) l)) (chosen c)
+    closes b k true = refl
+    closes b k false = refl
+
+    second : (r : Outcome Expr) → after r (λ b k. marked ts (codes ")") k (good (pick (token_index c) c a b) (suc k))) ≡ after (after (then_mark ts (codes ")") r) (λ b k. good (record { first = a; second = b }) k)) (chosen c)
+    second (good b k) = closes b k (is_mark (codes ")") (slice_get ts k))
+    second (bad i) = refl
+    second spent = refl
+
+    by : (t : Bool) → (if t then after (e (suc j)) (λ b k. marked ts (codes ")") k (good (pick (token_index c) c a b) (suc k))) else bad j) ≡
+        after (after (if t then good a (suc j) else bad j) (λ a l. after (then_mark ts (codes ")") (e l)) (λ b k. good (record { first = a; second = b }) k))) (chosen c)
+    by false = refl
+    by true = second (e (suc j))
+
+pub picked_fails : (ts : List Kind) (c : Expr) (i k : ℕ) → Eventually (λ n. sides_from ts (expr_from ts n of_expr) i) (bad k) → Eventually (λ n. after (expr_from ts n of_expr i) (picked ts (expr_from ts n of_expr) c)) (bad k)
+unfolding after
+picked_fails ts c i k p = by_one p (λ n e. picked_same ts (expr_from ts n of_expr) c (expr_from ts n of_expr i) ∙ ap (λ z. after z (chosen c)) e)
+
+pub picked_reads : (ts : List Kind) (c : Expr) (i : ℕ) {p : Sides} {k : ℕ} {both : Expr} → Eventually (λ n. sides_from ts (expr_from ts n of_expr) i) (good p k) → both ≡ pick (token_index c) c p.first p.second → Eventually (λ n. after (expr_from ts n of_expr i) (picked ts (expr_from ts n of_expr) c)) (good both k)
+unfolding after
+picked_reads ts c i {k = k} p q = by_one p (λ n e. picked_same ts (expr_from ts n of_expr) c (expr_from ts n of_expr i) ∙ ap (λ z. after z (chosen c)) e ∙ ap (λ z. good z k) (sym q))
 
 -- ---- slices
 
-pub slices_begin : (ts : List Kind) (i : ℕ) {a : Expr} {j : ℕ} → Gives (λ n. expr_from ts n of_prim i) (good a j) → Rest (λ n. expr_from ts n of_post i) (λ n. rest_from ts n of_post a j)
+pub slices_begin : (ts : List Kind) (i : ℕ) {a : Expr} {j : ℕ} → Eventually (λ n. expr_from ts n of_prim i) (good a j) → Rest (λ n. expr_from ts n of_post i) (λ n. rest_from ts n of_post a j)
 unfolding after
-slices_begin ts i {a = a} {j = j} p = record { gives = λ r g. deeper (by_two p g (λ n e f. ap (λ z. after z (rest_from ts n of_post)) e ∙ f)) }
+slices_begin ts i {a = a} {j = j} p = record { carries = λ r g. deeper (by_two p g (λ n e f. ap (λ z. after z (rest_from ts n of_post)) e ∙ f)) }
 
-pub slices_fail : (ts : List Kind) (i : ℕ) (k : ℕ) → Gives (λ n. expr_from ts n of_prim i) (bad k) → Gives (λ n. expr_from ts n of_post i) (bad k)
+pub slices_fail : (ts : List Kind) (i : ℕ) (k : ℕ) → Eventually (λ n. expr_from ts n of_prim i) (bad k) → Eventually (λ n. expr_from ts n of_post i) (bad k)
 unfolding after
 slices_fail ts i k p = deeper (by_one p (λ n e. ap (λ z. after z (rest_from ts n of_post)) e))
 
-opens_slice : (ts : List Kind) (n : ℕ) (a : Expr) (j : ℕ) → is_mark (codes "[") (slice_get ts j) ≡ true → rest_from ts (suc n) of_post a j ≡ sliced ts j (λ high low. rest_from ts n of_post (slice (place a) a high low) (j + 5))
+opens_slice : (ts : List Kind) (n : ℕ) (a : Expr) (j : ℕ) → is_mark (codes "[") (slice_get ts j) ≡ true → rest_from ts (suc n) of_post a j ≡ sliced ts j (λ high low. rest_from ts n of_post (slice (token_index a) a high low) (j + 5))
 opens_slice ts n a j e = rw e refl
 
 no_slice : (ts : List Kind) (n : ℕ) (a : Expr) (j : ℕ) → is_mark (codes "[") (slice_get ts j) ≡ false → rest_from ts (suc n) of_post a j ≡ good a j
 no_slice ts n a j e = rw e (by (slice_get ts j))
   where
-    by : (o : Option Kind) → by_op (op_at of_post o) (good a j) (λ op. after (expr_from ts n of_prim (suc j)) (λ b k. rest_from ts n of_post (binary (place a) op a b) k)) ≡ good a j
+    by : (o : Option Kind) → by_op (op_at of_post o) (good a j) (λ op. after (expr_from ts n of_prim (suc j)) (λ b k. rest_from ts n of_post (binary (token_index a) op a b) k)) ≡ good a j
     by None = refl
     by (Some k) = refl
 
-pub slices_more : (ts : List Kind) (a : Expr) (j high low : ℕ) {F : ℕ → Read Expr} {both : Expr} → Rest F (λ n. rest_from ts n of_post a j) → is_mark (codes "[") (slice_get ts j) ≡ true → ((f : ℕ → ℕ → Read Expr) → sliced ts j f ≡ f high low) → both ≡ slice (place a) a high low → Rest F (λ n. rest_from ts n of_post both (j + 5))
-slices_more ts a j high low s t p e = record { gives = λ r g. s.gives r (deeper (by_one g (λ n h. opens_slice ts n a j t ∙ p _ ∙ ap (λ z. rest_from ts n of_post z (j + 5)) (sym e) ∙ h))) }
+pub slices_more : (ts : List Kind) (a : Expr) (j high low : ℕ) {F : ℕ → Outcome Expr} {both : Expr} → Rest F (λ n. rest_from ts n of_post a j) → is_mark (codes "[") (slice_get ts j) ≡ true → ((f : ℕ → ℕ → Outcome Expr) → sliced ts j f ≡ f high low) → both ≡ slice (token_index a) a high low → Rest F (λ n. rest_from ts n of_post both (j + 5))
+slices_more ts a j high low s t p e = record { carries = λ r g. s.carries r (deeper (by_one g (λ n h. opens_slice ts n a j t ∙ p _ ∙ ap (λ z. rest_from ts n of_post z (j + 5)) (sym e) ∙ h))) }
 
-pub slices_broken : (ts : List Kind) (a : Expr) (j i : ℕ) {F : ℕ → Read Expr} → Rest F (λ n. rest_from ts n of_post a j) → is_mark (codes "[") (slice_get ts j) ≡ true → ((f : ℕ → ℕ → Read Expr) → sliced ts j f ≡ bad i) → Gives F (bad i)
-slices_broken ts a j i s t p = s.gives (bad i) (deeper (flat (λ n. opens_slice ts n a j t ∙ p _)))
+pub slices_broken : (ts : List Kind) (a : Expr) (j i : ℕ) {F : ℕ → Outcome Expr} → Rest F (λ n. rest_from ts n of_post a j) → is_mark (codes "[") (slice_get ts j) ≡ true → ((f : ℕ → ℕ → Outcome Expr) → sliced ts j f ≡ bad i) → Eventually F (bad i)
+slices_broken ts a j i s t p = s.carries (bad i) (deeper (flat (λ n. opens_slice ts n a j t ∙ p _)))
 
-pub slices_end : (ts : List Kind) (a : Expr) (j : ℕ) {F : ℕ → Read Expr} → Rest F (λ n. rest_from ts n of_post a j) → is_mark (codes "[") (slice_get ts j) ≡ false → Gives F (good a j)
-slices_end ts a j s t = s.gives (good a j) (deeper (flat (λ n. no_slice ts n a j t)))
+pub slices_end : (ts : List Kind) (a : Expr) (j : ℕ) {F : ℕ → Outcome Expr} → Rest F (λ n. rest_from ts n of_post a j) → is_mark (codes "[") (slice_get ts j) ≡ false → Eventually F (good a j)
+slices_end ts a j s t = s.carries (good a j) (deeper (flat (λ n. no_slice ts n a j t)))
 
-pub slices_stopped : (ts : List Kind) (a : Expr) (j : ℕ) (s : Stop) {F : ℕ → Read Expr} {result : Result (CodeExpr × ℕ) Stop} → Rest F (λ n. rest_from ts n of_post a j) → is_mark (codes "[") (slice_get ts j) ≡ true → RangeAt ts j (Err s) → result ≡ Err s → Tells F expr_of result
-slices_stopped ts a j s {F = F} r t p e = subst (Tells F expr_of) (sym e) (by s p)
+pub slices_stopped : (ts : List Kind) (a : Expr) (j : ℕ) (s : Stop) {F : ℕ → Outcome Expr} {result : Result (CodeExpr × ℕ) Stop} → Rest F (λ n. rest_from ts n of_post a j) → is_mark (codes "[") (slice_get ts j) ≡ true → RangeAt ts j (Err s) → result ≡ Err s → AgreesDeep F expr_of result
+slices_stopped ts a j s {F = F} r t p e = subst (AgreesDeep F expr_of) (sym e) (by s p)
   where
-    by : (s : Stop) → RangeAt ts j (Err s) → Tells {A = CodeExpr} F expr_of (Err s)
-    by (Unexpected i) p = let g = slices_broken ts a j i r t p in record { depth = g.depth; says = g.gives }
-    by NoMemory p = record { depth = 0; says = λ n h. tt }
+    by : (s : Stop) → RangeAt ts j (Err s) → AgreesDeep {A = CodeExpr} F expr_of (Err s)
+    by (Unexpected i) p = let g = slices_broken ts a j i r t p in record { depth = g.depth; agrees = g.equal }
+    by NoMemory p = record { depth = 0; agrees = λ n h. tt }
 
 -- ---- leaves
 
@@ -123,10 +158,10 @@ same_sym (a ∷ x) [] = refl
 same_sym (a ∷ x) (b ∷ y) = rw (eqb-comm a b, same_sym x y) refl
 
 -- neither an open bracket nor a name
-pub leaf_only : (ts : List Kind) (e : ℕ → Read Expr) (es : ℕ → Read Exprs) (i : ℕ) (o : Option Kind) → slice_get ts i ≡ o → is_mark (codes "(") o ≡ false → is_word o ≡ false → prim_of ts e es i o ≡ leaf_from ts i
-unfolding after path_from worded
+pub leaf_only : (ts : List Kind) (e : ℕ → Outcome Expr) (es : ℕ → Outcome Exprs) (i : ℕ) (o : Option Kind) → slice_get ts i ≡ o → is_mark (codes "(") o ≡ false → is_name_token o ≡ false → prim_of ts e es i o ≡ leaf_from ts i
+unfolding after path_from reserved
 leaf_only ts e es i None q h w = rw q refl
-leaf_only ts e es i (Some (word x)) q h w = absurd cc
+leaf_only ts e es i (Some (a_name x)) q h w = absurd cc
 leaf_only ts e es i (Some (keyword x)) q h w = rw (q, same_sym x (codes "true"), same_sym x (codes "false")) refl
 leaf_only ts e es i (Some (plain n)) q h w = rw q refl
 leaf_only ts e es i (Some (literal v n)) q h w = rw q refl
@@ -136,12 +171,12 @@ leaf_only ts e es i (Some finish) q h w = rw q refl
 -- ---- lists of trees
 
 -- a list that is read, as the trees have it
-abbrev pub listed : {A B : Type 0} → (A → B) → Read A → Read B
+abbrev pub listed : {A B : Type 0} → (A → B) → Outcome A → Outcome B
 listed f (good x j) = good (f x) j
 listed f (bad i) = bad i
 listed f spent = spent
 
-one_expr : (a : Expr) (r : Read (List Expr)) (s : Read Exprs) → s ≡ listed exprs_of r → after s (λ es k. good (expr a es) k) ≡ listed exprs_of (after r (λ xs k. good (a ∷ xs) k))
+one_expr : (a : Expr) (r : Outcome (List Expr)) (s : Outcome Exprs) → s ≡ listed exprs_of r → after s (λ es k. good (expr a es) k) ≡ listed exprs_of (after r (λ xs k. good (a ∷ xs) k))
 unfolding after
 one_expr a (good xs k) s e = rw e refl
 one_expr a (bad i) s e = rw e refl
@@ -156,21 +191,21 @@ same_exprs ts (suc n) i = by (λ j. same_exprs ts n (suc j)) (expr_from ts n of_
     more ih a j true = one_expr a _ _ (ih j)
     more ih a j false = refl
 
-    by : ((j : ℕ) → exprs_from ts n (suc j) ≡ listed exprs_of (commas_from ts (λ m. expr_from ts m of_expr) n (suc j))) → (r : Read Expr) → after r (λ a j. if is_mark (codes ",") (slice_get ts j) then after (exprs_from ts n (suc j)) (λ es k. good (expr a es) k) else good (expr a no_exprs) j) ≡
+    by : ((j : ℕ) → exprs_from ts n (suc j) ≡ listed exprs_of (commas_from ts (λ m. expr_from ts m of_expr) n (suc j))) → (r : Outcome Expr) → after r (λ a j. if is_mark (codes ",") (slice_get ts j) then after (exprs_from ts n (suc j)) (λ es k. good (expr a es) k) else good (expr a no_exprs) j) ≡
         listed exprs_of (after r (λ a j. if is_mark (codes ",") (slice_get ts j) then after (commas_from ts (λ m. expr_from ts m of_expr) n (suc j)) (λ xs k. good (a ∷ xs) k) else good (a ∷ []) j))
     by ih (good a j) = more ih a j (is_mark (codes ",") (slice_get ts j))
     by ih (bad k) = refl
     by ih spent = refl
 
-pub as_exprs : (ts : List Kind) (i : ℕ) {result : Result (Vec CodeExpr Global × ℕ) Stop} → Tells (λ n. commas_from ts (λ m. expr_from ts m of_expr) n i) (λ v. map expr_of v.items) result → Tells (λ n. exprs_from ts n i) (λ v. exprs_of (map expr_of v.items)) result
-as_exprs ts i {result = result} p = record { depth = p.depth; says = λ n h. over n result (p.says n h) }
+pub as_exprs : (ts : List Kind) (i : ℕ) {result : Result (Vec CodeExpr Global × ℕ) Stop} → AgreesDeep (λ n. commas_from ts (λ m. expr_from ts m of_expr) n i) (λ v. map expr_of v.items) result → AgreesDeep (λ n. exprs_from ts n i) (λ v. exprs_of (map expr_of v.items)) result
+as_exprs ts i {result = result} p = record { depth = p.depth; agrees = λ n h. over n result (p.agrees n h) }
   where
-    over : (n : ℕ) (s : Result (Vec CodeExpr Global × ℕ) Stop) → Says (commas_from ts (λ m. expr_from ts m of_expr) n i) (λ v. map expr_of v.items) s → Says (exprs_from ts n i) (λ v. exprs_of (map expr_of v.items)) s
+    over : (n : ℕ) (s : Result (Vec CodeExpr Global × ℕ) Stop) → Agrees (commas_from ts (λ m. expr_from ts m of_expr) n i) (λ v. map expr_of v.items) s → Agrees (exprs_from ts n i) (λ v. exprs_of (map expr_of v.items)) s
     over n (Ok x) e = same_exprs ts n i ∙ ap (listed exprs_of) e
     over n (Err (Unexpected k)) e = same_exprs ts n i ∙ ap (listed exprs_of) e
     over n (Err NoMemory) e = tt
 
-one_stmt : (a : Stmt) (r : Read (List Stmt)) (s : Read Block) → s ≡ listed block_of r → after s (λ b k. good (stmt a b) k) ≡ listed block_of (after r (λ xs k. good (a ∷ xs) k))
+one_stmt : (a : Stmt) (r : Outcome (List Stmt)) (s : Outcome Block) → s ≡ listed block_of r → after s (λ b k. good (stmt a b) k) ≡ listed block_of (after r (λ xs k. good (a ∷ xs) k))
 unfolding after
 one_stmt a (good xs k) s e = rw e refl
 one_stmt a (bad i) s e = rw e refl
@@ -181,17 +216,17 @@ unfolding after
 same_stmts ts zero i = refl
 same_stmts ts (suc n) i = by (same_stmts ts n) (is_mark (codes "}") (slice_get ts i)) (stmt_from ts n i)
   where
-    by : ((j : ℕ) → stmts_from ts n j ≡ listed block_of (many_from (stmt_from ts) (closes ts) n j)) → (b : Bool) (r : Read Stmt) → (if b then good no_stmts i else after r (λ s j. after (stmts_from ts n j) (λ b k. good (stmt s b) k))) ≡
+    by : ((j : ℕ) → stmts_from ts n j ≡ listed block_of (many_from (stmt_from ts) (closes ts) n j)) → (b : Bool) (r : Outcome Stmt) → (if b then good no_stmts i else after r (λ s j. after (stmts_from ts n j) (λ b k. good (stmt s b) k))) ≡
         listed block_of (if b then good [] i else after r (λ x j. after (many_from (stmt_from ts) (closes ts) n j) (λ xs k. good (x ∷ xs) k)))
     by ih true r = refl
     by ih false (good s j) = one_stmt s _ _ (ih j)
     by ih false (bad k) = refl
     by ih false spent = refl
 
-pub as_block : (ts : List Kind) (i : ℕ) {result : Result (Vec CodeStmt Global × ℕ) Stop} → Tells (λ n. many_from (stmt_from ts) (closes ts) n i) (λ v. map stmt_of v.items) result → Tells (λ n. stmts_from ts n i) (λ v. block_of (map stmt_of v.items)) result
-as_block ts i {result = result} p = record { depth = p.depth; says = λ n h. over n result (p.says n h) }
+pub as_block : (ts : List Kind) (i : ℕ) {result : Result (Vec CodeStmt Global × ℕ) Stop} → AgreesDeep (λ n. many_from (stmt_from ts) (closes ts) n i) (λ v. map stmt_of v.items) result → AgreesDeep (λ n. stmts_from ts n i) (λ v. block_of (map stmt_of v.items)) result
+as_block ts i {result = result} p = record { depth = p.depth; agrees = λ n h. over n result (p.agrees n h) }
   where
-    over : (n : ℕ) (s : Result (Vec CodeStmt Global × ℕ) Stop) → Says (many_from (stmt_from ts) (closes ts) n i) (λ v. map stmt_of v.items) s → Says (stmts_from ts n i) (λ v. block_of (map stmt_of v.items)) s
+    over : (n : ℕ) (s : Result (Vec CodeStmt Global × ℕ) Stop) → Agrees (many_from (stmt_from ts) (closes ts) n i) (λ v. map stmt_of v.items) s → Agrees (stmts_from ts n i) (λ v. block_of (map stmt_of v.items)) s
     over n (Ok x) e = same_stmts ts n i ∙ ap (listed block_of) e
     over n (Err (Unexpected k)) e = same_stmts ts n i ∙ ap (listed block_of) e
     over n (Err NoMemory) e = tt

@@ -11,9 +11,6 @@ use Rattle.cocoon_num.specs.Tokens.{Kind, none_deep, brackets_after, operators_a
 pub record Shallow (ks : List Kind) (brackets operators : ℕ) : Type 0 where
   pub after : (rest : List Kind) → none_deep language_bounds 0 0 (ks ++ rest) ≡ none_deep language_bounds brackets operators rest
 
-pub no_tokens : (ks : List Kind) → ks ≡ [] → Shallow ks 0 0
-no_tokens ks e = record { after = λ rest. rw e refl }
-
 pub is_shallow_yet : (ks : List Kind) (b o : ℕ) → Shallow ks b o → IsTrue (is_shallow language_bounds ks)
 is_shallow_yet ks b o s = let e : none_deep language_bounds 0 0 ks ≡ true = ap (none_deep language_bounds 0 0) (sym (append-nil ks)) ∙ s.after [] in search e
 

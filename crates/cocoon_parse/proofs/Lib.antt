@@ -1,4 +1,5 @@
 pub mod Chains
+pub mod Closings
 pub mod Depths
 pub mod Ends
 pub mod Enough
@@ -6,7 +7,7 @@ pub mod Exact
 pub mod ExactExprs
 pub mod ExactParts
 pub mod Fails
-pub mod Given
+pub mod Eventually
 pub mod ReadsExprs
 pub mod ReadsParts
 pub mod Stays

@@ -6,8 +6,8 @@ use Rattle.cocoon_num.specs.Values.{BinaryOp, add, sub, bits_and, bits_or, bits_
 use Rattle.cocoon_num.specs.Tree.{Name, Expr, call, Exprs}
 use Rattle.cocoon_num.specs.Tokens.{Kind, mark}
 use Rattle.cocoon_num.specs.Reads.{FieldAt, Level, of_expr, of_or, of_and, of_cmp, of_cat, of_bit, of_sum, of_unary, of_post, of_prim, part, IsChain, IsComparison, operator, ExprAt, RestAt, ExprsAt, no_implication, an_implication, a_chain, no_comparison, a_comparison, a_flip, a_not, no_unary, no_part, a_part, a_slice, a_variable, a_call, a_field, a_literal, a_true, a_false, in_brackets, a_pick, last_expr, more_exprs}
-use Rattle.cocoon_parse.specs.Reader.{good, after, is_mark, is_keyword, op_at, marked, path_from, is_post, part_from, expr_from, rest_from, exprs_from}
-use Rattle.cocoon_parse.proofs.Enough.{Enough, always, later, ends_at, chain, marks, words, names, numbers}
+use Rattle.cocoon_parse.specs.PlainParser.{good, after, is_mark, is_keyword, op_at, marked, path_from, is_post, part_from, expr_from, rest_from, exprs_from}
+use Rattle.cocoon_parse.proofs.Enough.{Enough, always, later, ends_at, chain, marks, reserved_words, names, numbers}
 
 -- ---- where a phrase ends
 
@@ -78,16 +78,16 @@ op_end of_sum add h = (refl, refl)
 op_end of_sum sub h = (refl, refl)
 op_end _ _ h = absurd h
 
-op_found : (l : Level) (op : BinaryOp) → IsChain l op → op_at l (Some (operator op)) ≡ Some op
-op_found of_or or_ h = refl
-op_found of_and and_ h = refl
-op_found of_cat concat h = refl
-op_found of_bit bits_and h = refl
-op_found of_bit bits_or h = refl
-op_found of_bit bits_xor h = refl
-op_found of_sum add h = refl
-op_found of_sum sub h = refl
-op_found _ _ h = absurd h
+op_is : (l : Level) (op : BinaryOp) → IsChain l op → op_at l (Some (operator op)) ≡ Some op
+op_is of_or or_ h = refl
+op_is of_and and_ h = refl
+op_is of_cat concat h = refl
+op_is of_bit bits_and h = refl
+op_is of_bit bits_or h = refl
+op_is of_bit bits_xor h = refl
+op_is of_sum add h = refl
+op_is of_sum sub h = refl
+op_is _ _ h = absurd h
 
 not_post : (l : Level) (op : BinaryOp) → IsChain l op → is_post l ≡ false
 not_post of_or or_ h = refl
@@ -100,14 +100,14 @@ not_post of_sum add h = refl
 not_post of_sum sub h = refl
 not_post _ _ h = absurd h
 
-cmp_found : (op : BinaryOp) → IsComparison op → op_at of_cmp (Some (operator op)) ≡ Some op
-cmp_found equal h = refl
-cmp_found unequal h = refl
-cmp_found less h = refl
-cmp_found less_equal h = refl
-cmp_found greater h = refl
-cmp_found greater_equal h = refl
-cmp_found _ h = absurd h
+comparison_is : (op : BinaryOp) → IsComparison op → op_at of_cmp (Some (operator op)) ≡ Some op
+comparison_is equal h = refl
+comparison_is unequal h = refl
+comparison_is less h = refl
+comparison_is less_equal h = refl
+comparison_is greater h = refl
+comparison_is greater_equal h = refl
+comparison_is _ h = absurd h
 
 cmp_end : (op : BinaryOp) → IsComparison op → EndCat (Some (operator op))
 cmp_end equal h = (refl, (refl, (refl, (refl, refl))))
@@ -240,7 +240,7 @@ at_implies = (refl, (refl, (refl, (refl, (refl, (refl, (refl, refl)))))))
 
 pub path_read : (ts : List Kind) (i : ℕ) {h f : Name} {j : ℕ} → FieldAt ts i h f j → Enough (λ n. path_from ts i) (record { header = h; field = f }) j
 unfolding path_from
-path_read ts i {h = h} {f = f} {j = j} t = ends_at j (sym t.5) (words _ _ _ t.0 (marks _ _ _ t.1 (names _ _ _ h t.2 (marks _ _ _ t.3 (names _ _ _ f t.4 (always _ _))))))
+path_read ts i {h = h} {f = f} {j = j} t = ends_at j (sym t.5) (reserved_words _ _ _ t.0 (marks _ _ _ t.1 (names _ _ _ h t.2 (marks _ _ _ t.3 (names _ _ _ f t.4 (always _ _))))))
 
 -- ---- the grammar is read
 
@@ -250,7 +250,7 @@ mutual
   expr_read {ts} (an_implication d t f) e = later (chain _ (expr_read d (rw t at_implies)) (rw t (chain _ (expr_read f e) (always _ _))))
   expr_read {ts} {l} (a_chain {m = m} p d r) e = chain_step l m p (chain _ (expr_read d (rest_end r m p e)) (rest_read r m p e))
   expr_read {ts} (no_comparison d) e = later (chain _ (expr_read d e.1) (rw e.0 (always _ _)))
-  expr_read {ts} (a_comparison {op = op} c d t f) e = later (chain _ (expr_read d (rw t (cmp_end op c))) (rw (t, cmp_found op c) (chain _ (expr_read f e.1) (always _ _))))
+  expr_read {ts} (a_comparison {op = op} c d t f) e = later (chain _ (expr_read d (rw t (cmp_end op c))) (rw (t, comparison_is op c) (chain _ (expr_read f e.1) (always _ _))))
   expr_read {ts} (a_flip t d) e = later (rw t (chain _ (expr_read d e) (always _ _)))
   expr_read {ts} (a_not t d) e = later (rw t (chain _ (expr_read d e) (always _ _)))
   expr_read {ts} (no_unary d) e = later (rw ((post_first d).0, (post_first d).1) (expr_read d e))
@@ -269,7 +269,7 @@ mutual
   pub rest_read : {ts : List Kind} {l : Level} {a : Expr} {j : ℕ} {c : Expr} {k : ℕ} → RestAt ts l a j c k → (m : Level) → part l ≡ Some m → End l (slice_get ts k) → Enough (λ n. rest_from ts n l a j) c k
   rest_read {ts} {l} {a} {j} no_part m p e = later (rw (stop_test l m (slice_get ts j) p e, stop_op l m (slice_get ts j) p e) (always _ _))
   rest_read {ts} {l} (a_part {m = m} {op = op} q h t d r) m' p e =
-      later (rw (t, not_post l op h, op_found l op h, q) (chain _ (expr_read d (rest_end r m q e)) (rest_read r m q e)))
+      later (rw (t, not_post l op h, op_is l op h, q) (chain _ (expr_read d (rest_end r m q e)) (rest_read r m q e)))
   rest_read {ts} (a_slice t u v w x r) m p e =
       later (rw t (numbers _ _ _ u (marks _ _ _ v (numbers _ _ _ w (marks _ _ _ x (rest_read r m p e))))))
 

@@ -5,16 +5,16 @@ use Rattle.std.proofs.Math.Numerals.{add-one}
 use Rattle.cocoon_num.specs.Values.{Value}
 use Rattle.cocoon_num.specs.Tree.{Name, Expr, Exprs, Stmt, let_, set_field, if_, havoc_var, havoc_field, fork, send, Block, no_stmts, Param, ResultKind, FunctionDecl, AssumeDecl, Role, HostDecl, SwitchDecl, Decl, a_function, an_assumption, a_role, a_host, a_switch, Refine, HeaderDecl, Design, Pattern, Entry, a_default, a_row, DefsText}
 use Rattle.cocoon_num.specs.Tokens.{Kind, plain, finish, Token, Lexed, kinds}
-use Rattle.cocoon_num.specs.Reads.{Is, Mark, Word, Named, Many, no_more, one_more, Commas, last, then_comma, of_expr, ExprAt, FieldAt, BitsAt, ParamAt, ParamsAt, StmtAt, a_let, a_setting, an_if, an_if_else, a_filter, a_havoc, a_field_havoc, an_assume, a_fork, a_send, StmtsAt, no_stmt, one_stmt, BlockAt, a_block, ResultAt, a_width, a_truth, BodyAt, without_body, with_body, RoleBodyAt, no_block, its_block, OptionalParamsAt, no_params, some_params, DeclAt, the_function, the_assumption, the_role, the_host, the_switch, NameAt, RefineAt, the_block, HeaderFieldAt, the_field, HeaderAt, the_header, DesignAt, ConstAt, const_number, const_true, const_false, PatternAt, one_number, under_mask, any_number, EntryAt, the_default, the_row, DefsAt, Reads, ReadsDefs}
-use Rattle.cocoon_parse.specs.Reader.{Read, is_mark, is_keyword, bits_from, param_from, params_from, let_from, setting_from, if_from, havoc_from, fork_from, send_from, stmt_from, stmts_from, block_from, result_from, body_from, role_body_from, optional_params_from, function_from, assumption_from, role_from, host_from, switch_from, decl_from, closes, finishes, ends_decls, name_from, refine_from, header_field_from, header_from, design_from, const_from, pattern_from, default_from, row_from, entry_from, defs_from}
-use Rattle.cocoon_parse.proofs.Enough.{same_tree, Enough, always, later, ends_at, chain, marks, words, names, numbers, many_read, some_read, commas_read}
+use Rattle.cocoon_num.specs.Reads.{Is, Mark, Reserved, Named, Many, no_more, one_more, Commas, last, then_comma, of_expr, ExprAt, FieldAt, BitsAt, ParamAt, ParamsAt, StmtAt, a_let, a_setting, an_if, an_if_else, a_filter, a_havoc, a_field_havoc, an_assume, a_fork, a_send, StmtsAt, no_stmt, one_stmt, BlockAt, a_block, ResultAt, a_width, a_truth, BodyAt, without_body, with_body, RoleBodyAt, no_block, its_block, OptionalParamsAt, no_params, some_params, DeclAt, the_function, the_assumption, the_role, the_host, the_switch, NameAt, RefineAt, the_block, HeaderFieldAt, the_field, HeaderAt, the_header, DesignAt, ConstAt, const_number, const_true, const_false, PatternAt, one_number, under_mask, any_number, EntryAt, the_default, the_row, DefsAt, Reads, ReadsDefs}
+use Rattle.cocoon_parse.specs.PlainParser.{Outcome, is_mark, is_keyword, bits_from, param_from, params_from, let_from, setting_from, if_from, havoc_from, fork_from, send_from, stmt_from, stmts_from, block_from, result_from, body_from, role_body_from, optional_params_from, function_from, assumption_from, role_from, host_from, switch_from, decl_from, closes, finishes, ends_decls, name_from, refine_from, header_field_from, header_from, design_from, const_from, pattern_from, default_from, row_from, entry_from, defs_from}
+use Rattle.cocoon_parse.proofs.Enough.{same_tree, Enough, always, later, ends_at, chain, marks, reserved_words, names, numbers, many_read, some_read, commas_read}
 use Rattle.cocoon_parse.proofs.ReadsExprs.{EndExpr, path_read, expr_read, exprs_read, at_closed, at_square, at_semicolon, at_equals}
 
 -- ---- types, parameters
 
 bits_read : (ts : List Kind) (i : ℕ) {width j : ℕ} → BitsAt ts i width j → Enough (λ n. bits_from ts i) width j
 unfolding bits_from
-bits_read ts i {j = j} t = ends_at j (sym t.4) (words _ _ _ t.0 (marks _ _ _ t.1 (numbers _ _ _ t.2 (marks _ _ _ t.3 (always _ _)))))
+bits_read ts i {j = j} t = ends_at j (sym t.4) (reserved_words _ _ _ t.0 (marks _ _ _ t.1 (numbers _ _ _ t.2 (marks _ _ _ t.3 (always _ _)))))
 
 param_read : (ts : List Kind) (i : ℕ) {p : Param} {j : ℕ} → ParamAt ts i p j → Enough (λ n. param_from ts i) p j
 unfolding param_from
@@ -25,19 +25,19 @@ params_read ts d c = commas_read ts (λ n. param_from ts) (λ k. Unit {0}) tt (�
 
 -- ---- statements
 
-let_read : (ts : List Kind) (E : ℕ → ℕ → Read Expr) (i : ℕ) {p : Param} (j : ℕ) {x : Expr} {k : ℕ} → ParamAt ts (suc i) p j → Mark ts j (codes "=") → Enough (λ n. E n (suc j)) x k → Mark ts k (codes ";") → Enough (λ n. let_from ts (E n) i) (let_ i p.name p.width x) (suc k)
+let_read : (ts : List Kind) (E : ℕ → ℕ → Outcome Expr) (i : ℕ) {p : Param} (j : ℕ) {x : Expr} {k : ℕ} → ParamAt ts (suc i) p j → Mark ts j (codes "=") → Enough (λ n. E n (suc j)) x k → Mark ts k (codes ";") → Enough (λ n. let_from ts (E n) i) (let_ i p.name p.width x) (suc k)
 unfolding let_from
 let_read ts E i j p t x s = chain _ (param_read _ _ p) (marks _ _ _ t (chain _ x (marks _ _ _ s (always _ _))))
 
-setting_read : (ts : List Kind) (E : ℕ → ℕ → Read Expr) (i : ℕ) {h f : Name} (j : ℕ) {x : Expr} {k : ℕ} → FieldAt ts i h f j → Mark ts j (codes "=") → Enough (λ n. E n (suc j)) x k → Mark ts k (codes ";") → Enough (λ n. setting_from ts (E n) i) (set_field i h f x) (suc k)
+setting_read : (ts : List Kind) (E : ℕ → ℕ → Outcome Expr) (i : ℕ) {h f : Name} (j : ℕ) {x : Expr} {k : ℕ} → FieldAt ts i h f j → Mark ts j (codes "=") → Enough (λ n. E n (suc j)) x k → Mark ts k (codes ";") → Enough (λ n. setting_from ts (E n) i) (set_field i h f x) (suc k)
 unfolding setting_from
 setting_read ts E i j p t x s = chain _ (path_read _ _ p) (marks _ _ _ t (chain _ x (marks _ _ _ s (always _ _))))
 
-if_read : (ts : List Kind) (E : ℕ → ℕ → Read Expr) (B : ℕ → ℕ → Read Block) (i : ℕ) {x : Expr} (j : ℕ) {a : Block} {k : ℕ} → Mark ts (i + 1) (codes "(") → Enough (λ n. E n (i + 2)) x j → Mark ts j (codes ")") → Enough (λ n. B n (suc j)) a k → is_keyword (codes "else") (slice_get ts k) ≡ false → Enough (λ n. if_from ts (E n) (B n) i) (if_ i x a no_stmts) k
+if_read : (ts : List Kind) (E : ℕ → ℕ → Outcome Expr) (B : ℕ → ℕ → Outcome Block) (i : ℕ) {x : Expr} (j : ℕ) {a : Block} {k : ℕ} → Mark ts (i + 1) (codes "(") → Enough (λ n. E n (i + 2)) x j → Mark ts j (codes ")") → Enough (λ n. B n (suc j)) a k → is_keyword (codes "else") (slice_get ts k) ≡ false → Enough (λ n. if_from ts (E n) (B n) i) (if_ i x a no_stmts) k
 unfolding if_from
 if_read ts E B i j t x c a e = marks _ _ _ t (chain _ x (marks _ _ _ c (chain _ a (rw e (always _ _)))))
 
-if_else_read : (ts : List Kind) (E : ℕ → ℕ → Read Expr) (B : ℕ → ℕ → Read Block) (i : ℕ) {x : Expr} (j : ℕ) {a : Block} (k : ℕ) {b : Block} {l : ℕ} → Mark ts (i + 1) (codes "(") → Enough (λ n. E n (i + 2)) x j → Mark ts j (codes ")") → Enough (λ n. B n (suc j)) a k → Word ts k (codes "else") → Enough (λ n. B n (suc k)) b l → Enough (λ n. if_from ts (E n) (B n) i) (if_ i x a b) l
+if_else_read : (ts : List Kind) (E : ℕ → ℕ → Outcome Expr) (B : ℕ → ℕ → Outcome Block) (i : ℕ) {x : Expr} (j : ℕ) {a : Block} (k : ℕ) {b : Block} {l : ℕ} → Mark ts (i + 1) (codes "(") → Enough (λ n. E n (i + 2)) x j → Mark ts j (codes ")") → Enough (λ n. B n (suc j)) a k → Reserved ts k (codes "else") → Enough (λ n. B n (suc k)) b l → Enough (λ n. if_from ts (E n) (B n) i) (if_ i x a b) l
 unfolding if_from
 if_else_read ts E B i j k t x c a e b = marks _ _ _ t (chain _ x (marks _ _ _ c (chain _ a (rw e (chain _ b (always _ _))))))
 
@@ -49,11 +49,11 @@ field_havoc_read : (ts : List Kind) (i : ℕ) {h f : Name} (j : ℕ) → FieldAt
 unfolding havoc_from
 field_havoc_read ts i j p s = rw p.0 (chain _ (path_read _ _ p) (marks _ _ _ s (always _ _)))
 
-fork_read : (ts : List Kind) (E : ℕ → ℕ → Read Expr) (B : ℕ → ℕ → Read Block) (i : ℕ) {p : Param} (j : ℕ) {x : Expr} (k : ℕ) {a : Block} {l : ℕ} → Mark ts (i + 1) (codes "(") → ParamAt ts (i + 2) p j → Mark ts j (codes "|") → Enough (λ n. E n (suc j)) x k → Mark ts k (codes ")") → Enough (λ n. B n (suc k)) a l → Enough (λ n. fork_from ts (E n) (B n) i) (fork i p.name p.width x a) l
+fork_read : (ts : List Kind) (E : ℕ → ℕ → Outcome Expr) (B : ℕ → ℕ → Outcome Block) (i : ℕ) {p : Param} (j : ℕ) {x : Expr} (k : ℕ) {a : Block} {l : ℕ} → Mark ts (i + 1) (codes "(") → ParamAt ts (i + 2) p j → Mark ts j (codes "|") → Enough (λ n. E n (suc j)) x k → Mark ts k (codes ")") → Enough (λ n. B n (suc k)) a l → Enough (λ n. fork_from ts (E n) (B n) i) (fork i p.name p.width x a) l
 unfolding fork_from
 fork_read ts E B i j k t p m x c a = marks _ _ _ t (chain _ (param_read _ _ p) (marks _ _ _ m (chain _ x (marks _ _ _ c (chain _ a (always _ _))))))
 
-send_read : (ts : List Kind) (E : ℕ → ℕ → Read Exprs) (i : ℕ) {r : Name} {xs : Exprs} (j : ℕ) → Named ts (i + 1) r → Mark ts (i + 2) (codes "[") → Enough (λ n. E n (i + 3)) xs j → Mark ts j (codes "]") → Mark ts (j + 1) (codes ";") → Enough (λ n. send_from ts (E n) i) (send i r xs) (j + 2)
+send_read : (ts : List Kind) (E : ℕ → ℕ → Outcome Exprs) (i : ℕ) {r : Name} {xs : Exprs} (j : ℕ) → Named ts (i + 1) r → Mark ts (i + 2) (codes "[") → Enough (λ n. E n (i + 3)) xs j → Mark ts j (codes "]") → Mark ts (j + 1) (codes ";") → Enough (λ n. send_from ts (E n) i) (send i r xs) (j + 2)
 unfolding send_from
 send_read ts E i {r = r} j n t x c s = names _ _ _ r n (marks _ _ _ t (chain _ x (marks _ _ _ c (marks _ _ _ s (always _ _)))))
 
@@ -147,11 +147,11 @@ host_read ts i {d = d} e t x m y c s =
     subst (λ at. Enough (λ n. host_from ts i) (a_host (record { at = at; entry = d.entry; sink = d.sink })) (i + 7)) (sym e)
     (marks _ _ _ t (names _ _ _ d.entry x (marks _ _ _ m (names _ _ _ d.sink y (marks _ _ _ c (marks _ _ _ s (always _ _)))))))
 
-switch_read : (ts : List Kind) (i : ℕ) {d : SwitchDecl} → d.at ≡ i → Mark ts (i + 1) (codes "(") → Named ts (i + 2) d.into → Mark ts (i + 3) (codes ",") → Named ts (i + 4) d.out → Mark ts (i + 5) (codes ")") → Word ts (i + 6) (codes "ports") → Is ts (i + 7) (plain d.ports) → Mark ts (i + 8) (codes ";") → Enough (λ n. switch_from ts i) (a_switch d) (i + 9)
+switch_read : (ts : List Kind) (i : ℕ) {d : SwitchDecl} → d.at ≡ i → Mark ts (i + 1) (codes "(") → Named ts (i + 2) d.into → Mark ts (i + 3) (codes ",") → Named ts (i + 4) d.out → Mark ts (i + 5) (codes ")") → Reserved ts (i + 6) (codes "ports") → Is ts (i + 7) (plain d.ports) → Mark ts (i + 8) (codes ";") → Enough (λ n. switch_from ts i) (a_switch d) (i + 9)
 unfolding switch_from
 switch_read ts i {d = d} e t x m y c w p s =
     subst (λ at. Enough (λ n. switch_from ts i) (a_switch (record { at = at; into = d.into; out = d.out; ports = d.ports })) (i + 9)) (sym e)
-    (marks _ _ _ t (names _ _ _ d.into x (marks _ _ _ m (names _ _ _ d.out y (marks _ _ _ c (words _ _ _ w (numbers _ _ _ p (marks _ _ _ s (always _ _)))))))))
+    (marks _ _ _ t (names _ _ _ d.into x (marks _ _ _ m (names _ _ _ d.out y (marks _ _ _ c (reserved_words _ _ _ w (numbers _ _ _ p (marks _ _ _ s (always _ _)))))))))
 
 decl_read : (ts : List Kind) (i : ℕ) (d : Decl) (j : ℕ) → DeclAt ts i d j → Enough (λ n. decl_from ts n i) d j
 unfolding decl_from
@@ -185,7 +185,7 @@ refine_read : (ts : List Kind) (i : ℕ) (d : Refine) (j : ℕ) → RefineAt ts 
 unfolding refine_from
 refine_read ts i d _ (the_block {k = k} t e rs w n m ds c) =
     subst (λ at. Enough (λ n. refine_from ts n i) (record { at = at; roles = d.roles; within = d.within; decls = d.decls }) (suc k)) (sym e)
-    (words _ _ _ t (chain _ (commas_read ts (λ n. name_from ts) (λ k. Unit {0}) tt (name_read ts) rs tt (rw w refl)) (words _ _ _ w (numbers _ _ _ n (marks _ _ _ m
+    (reserved_words _ _ _ t (chain _ (commas_read ts (λ n. name_from ts) (λ k. Unit {0}) tt (name_read ts) rs tt (rw w refl)) (reserved_words _ _ _ w (numbers _ _ _ n (marks _ _ _ m
     (chain _ (many_read (decl_from ts) (closes ts) (decl_read ts) (decl_closes ts) ds (rw c refl)) (marks _ _ _ c (always _ _))))))))
 
 refine_finishes : (ts : List Kind) (i : ℕ) (d : Refine) (j : ℕ) → RefineAt ts i d j → finishes ts i ≡ false
@@ -201,7 +201,7 @@ header_field_closes ts i p _ (the_field t s) = rw t.0.0 refl
 header_read : (ts : List Kind) (i : ℕ) (d : HeaderDecl) (j : ℕ) → HeaderAt ts i d j → Enough (λ n. header_from ts n i) d j
 unfolding header_from
 header_read ts i d _ (the_header t h m e fs c) =
-    words _ _ _ t (names _ _ _ d.name h (marks _ _ _ m (chain _ (some_read (λ n. header_field_from ts) (closes ts) (header_field_read ts) (header_field_closes ts) e fs (rw c refl)) (marks _ _ _ c (always _ _)))))
+    reserved_words _ _ _ t (names _ _ _ d.name h (marks _ _ _ m (chain _ (some_read (λ n. header_field_from ts) (closes ts) (header_field_read ts) (header_field_closes ts) e fs (rw c refl)) (marks _ _ _ c (always _ _)))))
 
 header_closes : (ts : List Kind) (i : ℕ) (d : HeaderDecl) (j : ℕ) → HeaderAt ts i d j → closes ts i ≡ false
 header_closes ts i d _ (the_header t h m e fs c) = rw t refl
@@ -213,7 +213,7 @@ refines_first ts (one_more (the_block t a rs w n m ds c) more) e = rw t refl
 pub design_read : (ts : List Kind) (x : Design) (d : DesignAt ts x) → Enough (λ n. design_from ts n) x d.after_refines
 unfolding design_from
 design_read ts x d =
-    words _ _ _ d.packet (marks _ _ _ d.opens (chain _ (some_read (header_from ts) (closes ts) (header_read ts) (header_closes ts) d.some_header d.headers (rw d.closes refl)) (marks _ _ _ d.closes
+    reserved_words _ _ _ d.packet (marks _ _ _ d.opens (chain _ (some_read (header_from ts) (closes ts) (header_read ts) (header_closes ts) d.some_header d.headers (rw d.closes refl)) (marks _ _ _ d.closes
     (chain _ (many_read (decl_from ts) (ends_decls ts) (decl_read ts) (decl_ends ts) d.decls (refines_first ts d.refines d.ends))
     (chain _ (many_read (refine_from ts) (finishes ts) (refine_read ts) (refine_finishes ts) d.refines (rw d.ends refl)) (rw d.ends (always _ _)))))))
 

@@ -1,13 +1,13 @@
 -- What the reading of a whole text says. A tree that it gives is the text's. Where it stops, the tokens before begin some
 -- text, and those with the token there begin none.
-use Rattle.std.specs.Prelude.{◌≡◌, ℕ, zero, suc, ◌+◌, ◌≤◌, ◌<◌, Bool, true, false, List, [], ◌∷◌, ◌++◌, length, take, drop, IsTrue, slice_get, Option, Some, None, if◌then◌else◌, codes, refl}
+use Rattle.std.specs.Prelude.{◌≡◌, ℕ, zero, suc, ◌+◌, ◌≤◌, ◌<◌, Bool, true, false, List, [], ◌∷◌, ◌++◌, length, take, IsTrue, slice_get, Option, Some, None, if◌then◌else◌, codes, refl}
 use Rattle.std.proofs.Common.{inl, inr, sym, ◌∙◌, ap, subst, arith}
 use Rattle.std.proofs.lemmas.Bool.{cases_lt}
-use Rattle.std.proofs.lemmas.List.{append_assoc, take-append-drop, take-take}
 use Rattle.cocoon_num.specs.Tree.{Design, DefsText}
-use Rattle.cocoon_num.specs.Tokens.{Kind, word, keyword, plain, literal, mark, finish, is_shallow, language_bounds}
-use Rattle.cocoon_num.specs.Reads.{Is, Many, DesignAt, EntryAt, DefsAt, BeginsDesign, BeginsDefs, Unexpected}
-use Rattle.cocoon_parse.specs.Reader.{Read, good, bad, spent, after, is_mark, is_keyword, is_finish, marked, worded, many_from, some_from, closes, finishes, ends_decls, header_from, decl_from, refine_from, entry_from, design_from, defs_from}
+use Rattle.cocoon_num.specs.Tokens.{Kind, a_name, keyword, plain, literal, mark, finish, is_shallow, language_bounds}
+use Rattle.cocoon_num.specs.Reads.{Is, Many, DesignAt, EntryAt, DefsAt}
+use Rattle.cocoon_num.specs.FirstFaults.{BeginsDesign, BeginsDefs, Unexpected}
+use Rattle.cocoon_parse.specs.PlainParser.{Outcome, good, bad, spent, after, is_mark, is_keyword, is_finish, marked, reserved, many_from, some_from, closes, finishes, ends_decls, header_from, decl_from, refine_from, entry_from, design_from, defs_from}
 use Rattle.cocoon_parse.proofs.Fails.{Fails}
 use Rattle.cocoon_parse.proofs.Exact.{Agree, Clean, At, first_at, second_at, GoodRead, BadRead}
 use Rattle.cocoon_parse.proofs.ExactParts.{design_exact, defs_exact}
@@ -16,14 +16,14 @@ use Rattle.cocoon_parse.proofs.ReadsParts.{design_read, defs_read}
 
 -- ---- texts that begin alike
 
-kept : (ts rest : List Kind) (n k : ℕ) → n ≤ length ts → k < n → slice_get ts k ≡ slice_get (take n ts ++ rest) k
-kept ts rest zero k h l = absurd (omega arith)
-kept [] rest (suc n) k h l = absurd (omega arith)
-kept (x ∷ ts) rest (suc n) zero h l = refl
-kept (x ∷ ts) rest (suc n) (suc k) h l = kept ts rest n k (omega arith) (omega arith)
+same_below : (ts rest : List Kind) (n k : ℕ) → n ≤ length ts → k < n → slice_get ts k ≡ slice_get (take n ts ++ rest) k
+same_below ts rest zero k h l = absurd (omega arith)
+same_below [] rest (suc n) k h l = absurd (omega arith)
+same_below (x ∷ ts) rest (suc n) zero h l = refl
+same_below (x ∷ ts) rest (suc n) (suc k) h l = same_below ts rest n k (omega arith) (omega arith)
 
 agree_taken : (ts rest : List Kind) (n : ℕ) → n ≤ length ts → Agree ts (take n ts ++ rest) n
-agree_taken ts rest n h k l = kept ts rest n k h l
+agree_taken ts rest n h k l = same_below ts rest n k h l
 
 at_next : (x : Kind) (us : List Kind) (p : ℕ) (w : List Kind) → At us p w → At (x ∷ us) (suc p) w
 at_next x us p [] a = tt
@@ -43,7 +43,7 @@ at_taken (x ∷ ts) w (suc n) h = at_next x (take n ts ++ w) n w (at_taken ts w 
 
 finish_is : (o : Option Kind) → is_finish o ≡ true → o ≡ Some finish
 finish_is None h = absurd cc
-finish_is (Some (word x)) h = absurd cc
+finish_is (Some (a_name x)) h = absurd cc
 finish_is (Some (keyword x)) h = absurd cc
 finish_is (Some (plain n)) h = absurd cc
 finish_is (Some (literal w n)) h = absurd cc
@@ -51,28 +51,28 @@ finish_is (Some (mark x)) h = absurd cc
 finish_is (Some finish) h = refl
 
 -- what is read ends before the last token
-abbrev Last : {A : Type 0} → List Kind → Read A → Type 0
+abbrev Last : {A : Type 0} → List Kind → Outcome A → Type 0
 Last ts (good x j) = is_finish (slice_get ts j) ≡ true
 Last ts (bad i) = Unit {0}
 Last ts spent = Unit {0}
 
-after_last : {A B : Type 0} (ts : List Kind) (r : Read A) (K : A → ℕ → Read B) → ((x : A) (j : ℕ) → Last ts (K x j)) → Last ts (after r K)
+after_last : {A B : Type 0} (ts : List Kind) (r : Outcome A) (K : A → ℕ → Outcome B) → ((x : A) (j : ℕ) → Last ts (K x j)) → Last ts (after r K)
 unfolding after
 after_last ts (good x j) K h = h x j
 after_last ts (bad i) K h = tt
 after_last ts spent K h = tt
 
-if_last : {A : Type 0} (ts : List Kind) (b : Bool) (i : ℕ) (r : Read A) → Last ts r → Last ts (if b then r else bad i)
+if_last : {A : Type 0} (ts : List Kind) (b : Bool) (i : ℕ) (r : Outcome A) → Last ts r → Last ts (if b then r else bad i)
 if_last ts true i r h = h
 if_last ts false i r h = tt
 
-marked_last : {A : Type 0} (ts : List Kind) (m : List ℕ) (i : ℕ) (r : Read A) → Last ts r → Last ts (marked ts m i r)
+marked_last : {A : Type 0} (ts : List Kind) (m : List ℕ) (i : ℕ) (r : Outcome A) → Last ts r → Last ts (marked ts m i r)
 unfolding marked
 marked_last ts m i r h = if_last ts (is_mark m (slice_get ts i)) i r h
 
-worded_last : {A : Type 0} (ts : List Kind) (m : List ℕ) (i : ℕ) (r : Read A) → Last ts r → Last ts (worded ts m i r)
-unfolding worded
-worded_last ts m i r h = if_last ts (is_keyword m (slice_get ts i)) i r h
+reserved_last : {A : Type 0} (ts : List Kind) (m : List ℕ) (i : ℕ) (r : Outcome A) → Last ts r → Last ts (reserved ts m i r)
+unfolding reserved
+reserved_last ts m i r h = if_last ts (is_keyword m (slice_get ts i)) i r h
 
 ends_last : {A : Type 0} (ts : List Kind) (x : A) (k : ℕ) → Last ts (if is_finish (slice_get ts k) then good x k else bad k)
 ends_last {A} ts x k = by (is_finish (slice_get ts k)) refl
@@ -83,10 +83,10 @@ ends_last {A} ts x k = by (is_finish (slice_get ts k)) refl
 
 design_last : (ts : List Kind) (n : ℕ) → Last ts (design_from ts n)
 unfolding design_from
-design_last ts n = worded_last ts (codes "packet") 0 _ (marked_last ts (codes "{") 1 _ (after_last ts (some_from (header_from ts) (closes ts) n 2) _ (λ hs i. marked_last ts (codes "}") i _
+design_last ts n = reserved_last ts (codes "packet") 0 _ (marked_last ts (codes "{") 1 _ (after_last ts (some_from (header_from ts) (closes ts) n 2) _ (λ hs i. marked_last ts (codes "}") i _
     (after_last ts (many_from (decl_from ts) (ends_decls ts) n (suc i)) _ (λ ds j. after_last ts (many_from (refine_from ts) (finishes ts) n j) _ (λ rs k. ends_last ts (record { headers = hs; decls = ds; refines = rs }) k))))))
 
-more_last : {A : Type 0} (ts : List Kind) (r : Read (List A)) → Last ts r → (x : A) → Last ts (after r (λ xs k. good (x ∷ xs) k))
+more_last : {A : Type 0} (ts : List Kind) (r : Outcome (List A)) → Last ts r → (x : A) → Last ts (after r (λ xs k. good (x ∷ xs) k))
 unfolding after
 more_last ts (good xs k) h x = h
 more_last ts (bad k) h x = tt
@@ -132,7 +132,7 @@ design_bad ts n i e = bad_read (λ us. design_from us n) (design_exact n) ts (om
 pub design_sound : (ts : List Kind) (n : ℕ) (d : Design) (j : ℕ) → design_from ts n ≡ good d j → DesignAt ts d
 design_sound ts n d j e = (design_good ts n d j e).holds ts (λ k h. refl) (finish_is (slice_get ts j) (subst (λ r. Last ts r) e (design_last ts n)))
 
--- the tokens before the place where it stops begin some design
+-- the tokens before the one where it stops begin some design
 pub design_stops : (ts : List Kind) (n i : ℕ) → design_from ts n ≡ bad i → (i ≤ length ts) × BeginsDesign (take i ts)
 design_stops ts n i e =
     let b = design_bad ts n i e in
@@ -148,8 +148,8 @@ design_none_with ts i f h d =
     let us = take (suc i) ts ++ d.0 in
     let r = design_read us d.1 d.2 in
     let n = f.depth + r.depth in
-    let p : design_from us n ≡ bad i = (design_bad ts n i (f.gives n (omega arith))).stays us (agree_taken ts d.0 (suc i) (omega (arith, h))) in
-    let q : design_from us n ≡ good d.1 d.2.after_refines = r.gives n (omega arith) in
+    let p : design_from us n ≡ bad i = (design_bad ts n i (f.equal n (omega arith))).stays us (agree_taken ts d.0 (suc i) (omega (arith, h))) in
+    let q : design_from us n ≡ good d.1 d.2.after_refines = r.equal n (omega arith) in
     let e : good d.1 d.2.after_refines ≡ bad i = sym q ∙ p in cc
 
 -- a text that ends with the last token is not read past it
@@ -181,8 +181,8 @@ defs_none_with ts i f h d =
     let us = take (suc i) ts ++ d.0 in
     let r = defs_read us d.1 d.2 in
     let n = f.depth + r.depth in
-    let p : defs_from us n ≡ bad i = (defs_bad ts n i (f.gives n (omega arith))).stays us (agree_taken ts d.0 (suc i) (omega (arith, h))) in
-    let q : defs_from us n ≡ good d.1 d.2.0 = r.gives n (omega arith) in
+    let p : defs_from us n ≡ bad i = (defs_bad ts n i (f.equal n (omega arith))).stays us (agree_taken ts d.0 (suc i) (omega (arith, h))) in
+    let q : defs_from us n ≡ good d.1 d.2.0 = r.equal n (omega arith) in
     let e : good d.1 d.2.0 ≡ bad i = sym q ∙ p in cc
 
 pub defs_within : (ts : List Kind) (n i : ℕ) (before : List Kind) → ts ≡ before ++ finish ∷ [] → defs_from ts n ≡ bad i → i < length ts
@@ -190,32 +190,15 @@ defs_within ts n i before s e = stops_within ts before i s (defs_bad ts n i e).c
 
 -- ---- first faults
 
--- a text that begins alike, and ends sooner
-begins_sooner : (ts rest : List Kind) (m n : ℕ) → m ≤ n → take n ts ++ rest ≡ take m ts ++ (drop m (take n ts) ++ rest)
-begins_sooner ts rest m n h = ap (λ z. z ++ rest) (sym (take-append-drop m (take n ts)) ∙ ap (λ z. z ++ drop m (take n ts)) (take-take m n ts h)) ∙ append_assoc (take m ts) (drop m (take n ts)) rest
-
-pub design_begins_sooner : (ts : List Kind) (m n : ℕ) → m ≤ n → BeginsDesign (take n ts) → BeginsDesign (take m ts)
-design_begins_sooner ts m n h d = (drop m (take n ts) ++ d.0, d.1, subst (λ us. DesignAt us d.1) (begins_sooner ts d.0 m n h) d.2)
-
-pub defs_begins_sooner : (ts : List Kind) (m n : ℕ) → m ≤ n → BeginsDefs (take n ts) → BeginsDefs (take m ts)
-defs_begins_sooner ts m n h d = (drop m (take n ts) ++ d.0, d.1, subst (λ us. DefsAt us d.1) (begins_sooner ts d.0 m n h) d.2)
-
--- each part at the front of a text begins one
-pub design_begins : (ts : List Kind) (m : ℕ) (d : Design) → DesignAt ts d → BeginsDesign (take m ts)
-design_begins ts m d h = (drop m ts, d, subst (λ us. DesignAt us d) (sym (take-append-drop m ts)) h)
-
-pub defs_begins : (ts : List Kind) (m : ℕ) (d : DefsText) → DefsAt ts d → BeginsDefs (take m ts)
-defs_begins ts m d h = (drop m ts, d, subst (λ us. DefsAt us d) (sym (take-append-drop m ts)) h)
-
 -- where the reading of a text fails, with no token deep before, is the first fault
-pub design_unexpected : (ts : List Kind) (i : ℕ) (before : List Kind) → ts ≡ before ++ finish ∷ [] → Fails (λ n. design_from ts n) i → IsTrue (is_shallow language_bounds (take i ts)) → Unexpected BeginsDesign ts i
+pub design_unexpected : (ts : List Kind) (i : ℕ) (before : List Kind) → ts ≡ before ++ finish ∷ [] → Fails (λ n. design_from ts n) i → IsTrue (is_shallow language_bounds (take i ts)) → Unexpected language_bounds BeginsDesign ts i
 design_unexpected ts i before s f shallow =
-    let e = f.gives f.depth (omega arith) in
+    let e = f.equal f.depth (omega arith) in
     let h = design_within ts f.depth i before s e in
     record { within = h; before = (design_stops ts f.depth i e).1; none_with = design_none_with ts i f h; shallow = shallow }
 
-pub defs_unexpected : (ts : List Kind) (i : ℕ) (before : List Kind) → ts ≡ before ++ finish ∷ [] → Fails (λ n. defs_from ts n) i → IsTrue (is_shallow language_bounds (take i ts)) → Unexpected BeginsDefs ts i
+pub defs_unexpected : (ts : List Kind) (i : ℕ) (before : List Kind) → ts ≡ before ++ finish ∷ [] → Fails (λ n. defs_from ts n) i → IsTrue (is_shallow language_bounds (take i ts)) → Unexpected language_bounds BeginsDefs ts i
 defs_unexpected ts i before s f shallow =
-    let e = f.gives f.depth (omega arith) in
+    let e = f.equal f.depth (omega arith) in
     let h = defs_within ts f.depth i before s e in
     record { within = h; before = (defs_stops ts f.depth i e).1; none_with = defs_none_with ts i f h; shallow = shallow }

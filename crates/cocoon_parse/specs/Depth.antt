@@ -1,19 +1,20 @@
--- The first token of a text at which too many brackets are open, or too many operators have come.
+-- The first deep token of a text: too many brackets are open, or too many operators have come. Private clauses of `deep`,
+-- `operators` and `whole_text` cite it.
 use Rattle.std.specs.Prelude.{◌≡◌, ◌<◌, ◌+◌, ℕ, false, List, [], ◌∷◌, length, take, Option, Some, None, IsTrue, codes}
 use Rattle.cocoon_num.specs.Tokens.{Kind, mark, keyword, is_shallow, language_bounds}
 use Rattle.cocoon_lex.specs.Kinds.{keyword_text, mark_text}
 use Rattle.cocoon_lex.specs.declared.token.Keyword.{Keyword}
 use Rattle.cocoon_lex.specs.declared.token.Mark.{Mark}
 use Rattle.cocoon_lex.specs.declared.token.Token.{Token}
-use Rattle.cocoon_parse.specs.Says.{kinds_at}
+use Rattle.cocoon_parse.specs.Agrees.{kinds_at}
 
 -- the kind of a mark
-abbrev pub marked : Mark → Kind
-marked m = mark (mark_text m)
+abbrev pub mark_kind : Mark → Kind
+mark_kind m = mark (mark_text m)
 
 -- the kind of a reserved word
-abbrev pub worded : Keyword → Kind
-worded w = keyword (keyword_text w)
+abbrev pub keyword_kind : Keyword → Kind
+keyword_kind w = keyword (keyword_text w)
 
 -- the marks that open brackets
 abbrev pub opening : List Kind

@@ -1,7 +1,8 @@
--- The first fault of a text, from where a reading of its tokens up to the first deep one stops.
+-- The first fault of a text, by where a reading of its tokens up to the first deep one stops. Private clauses of
+-- `whole_text` cite it, and of cocoon_text.
 use Rattle.std.specs.Prelude.{◌+◌, ◌<◌, ◌^◌, ℕ, nat_lt, List, take, Option, Some, None, if◌then◌else◌}
-use Rattle.cocoon_num.specs.Tokens.{Kind}
-use Rattle.cocoon_num.specs.Reads as reads
+use Rattle.cocoon_num.specs.Tokens.{Kind, language_bounds}
+use Rattle.cocoon_num.specs.FirstFaults as first_faults
 use Rattle.cocoon_parse.specs.declared.fault.ParseFault.{ParseFault}
 use Rattle.cocoon_parse.specs.declared.fault.ParseFault.TheVariants as fault
 use Rattle.cocoon_parse.specs.declared.fault.Stop.{Stop}
@@ -18,14 +19,14 @@ fault_of None (stop.Unexpected i) = fault.Unexpected i
 fault_of (Some d) (stop.Unexpected i) = if nat_lt d i then fault.TooDeep d else fault.Unexpected i
 fault_of deep stop.NoMemory = fault.NoMemory
 
--- the place of a fault is the index of a token
-abbrev pub Fits : ParseFault → Type 0
-Fits (fault.Unexpected i) = i < 2 ^ 32
-Fits (fault.TooDeep i) = i < 2 ^ 32
-Fits fault.NoMemory = Unit {0}
+-- the index of the token of a fault is one that faults have
+abbrev pub IndexFits : ParseFault → Type 0
+IndexFits (fault.Unexpected i) = i < 2 ^ 32
+IndexFits (fault.TooDeep i) = i < 2 ^ 32
+IndexFits fault.NoMemory = Unit {0}
 
 -- the fault is the first of these tokens
-abbrev pub Finds : (List Kind → Type 0) → List Kind → ParseFault → Type 0
-Finds Begins ts (fault.Unexpected i) = reads.Unexpected Begins ts i
-Finds Begins ts (fault.TooDeep i) = reads.TooDeep Begins ts i
-Finds Begins ts fault.NoMemory = Unit {0}
+abbrev pub IsFirstFault : (List Kind → Type 0) → List Kind → ParseFault → Type 0
+IsFirstFault Begins ts (fault.Unexpected i) = first_faults.Unexpected language_bounds Begins ts i
+IsFirstFault Begins ts (fault.TooDeep i) = first_faults.TooDeep language_bounds Begins ts i
+IsFirstFault Begins ts fault.NoMemory = Unit {0}

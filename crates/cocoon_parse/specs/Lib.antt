@@ -1,5 +1,5 @@
 pub mod Depth
 pub mod Faults
-pub mod Levels
-pub mod Reader
-pub mod Says
+pub mod Phrases
+pub mod PlainParser
+pub mod Agrees

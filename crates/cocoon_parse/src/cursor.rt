@@ -1,11 +1,11 @@
-//! Tokens of a text, by their places.
+//! Tokens of a text, by their indices.
 ghost use Rattle.std.specs.Prelude.{◌≡◌, ◌<◌, ◌≤◌, ◌+◌, ◌^◌, ℕ, List, IfOk, IsSome, Some, option_map, length, slice_get, slice_range, true};
 ghost use Rattle.cocoon_lex.specs.Kinds.{keyword_text, kind_of, mark_text};
 ghost use Rattle.cocoon_syntax.specs.TreeOf.{binary_of};
 ghost use Rattle.cocoon_num.specs.Reads.{of_cmp, of_expr};
-ghost use Rattle.cocoon_parse.specs.Levels.{level_of};
-ghost use Rattle.cocoon_parse.specs.Reader as reader;
-ghost use Rattle.cocoon_parse.specs.Says.{LiteralAt, NameAt, NumberAt, TokenAt, kind_at, kinds_at, is_word, literal_of, word_of};
+ghost use Rattle.cocoon_parse.specs.Phrases.{level_of};
+ghost use Rattle.cocoon_parse.specs.PlainParser as parser;
+ghost use Rattle.cocoon_parse.specs.Agrees.{LiteralAt, NameAt, NumberAt, TokenAt, kind_at, kinds_at, is_name_token, literal_of, name_bytes};
 
 use crate::fault::Stop;
 use crate::operators::{Chain, chained, compared, implied};
@@ -25,7 +25,7 @@ pub struct Source<'a> {
 impl<'a> Model for Source<'a> {
     ghost use Rattle.std.specs.Prelude.{◌≤◌, ◌^◌, List, length};
     ghost use Rattle.cocoon_num.specs.Tokens.{Kind};
-    ghost use Rattle.cocoon_parse.specs.Says.{kinds_at};
+    ghost use Rattle.cocoon_parse.specs.Agrees.{kinds_at};
 
     ghost Value = { List Kind };
 
@@ -43,8 +43,8 @@ impl<'a> Source<'a> {
         Source { text, tokens }
     }
 
-    /// The place of a token, as trees have it.
-    pub fn place(&self, pos: usize) -> u32
+    /// The index of a token, as trees have it.
+    pub fn token_index(&self, pos: usize) -> u32
         requires { pos < length self.now }
         ensures { result ≡ pos }
     {
@@ -52,9 +52,9 @@ impl<'a> Source<'a> {
         pos as u32
     }
 
-    /// Whether this mark stands at a place.
+    /// Whether this mark stands at a token index.
     pub fn is_mark(&self, pos: usize, mark: Mark) -> bool
-        ensures is { result ≡ reader.is_mark (mark_text mark) (slice_get self.now pos) }
+        ensures is { result ≡ parser.is_mark (mark_text mark) (slice_get self.now pos) }
         ensures within { result ≡ true → (pos < length self.now) × (length self.now ≤ 2 ^ 32) }
     {
         match self.tokens.get(pos) {
@@ -63,20 +63,20 @@ impl<'a> Source<'a> {
         }
     }
 
-    /// Whether this reserved word stands at a place.
-    pub fn is_keyword(&self, pos: usize, word: Keyword) -> bool
-        ensures is { result ≡ reader.is_keyword (keyword_text word) (slice_get self.now pos) }
+    /// Whether this reserved word stands at a token index.
+    pub fn is_keyword(&self, pos: usize, keyword: Keyword) -> bool
+        ensures is { result ≡ parser.is_keyword (keyword_text keyword) (slice_get self.now pos) }
         ensures within { result ≡ true → (pos < length self.now) × (length self.now ≤ 2 ^ 32) }
     {
         match self.tokens.get(pos) {
-            Some(token) => is_keyword(token.kind, word),
+            Some(token) => is_keyword(token.kind, keyword),
             None => false,
         }
     }
 
-    /// Whether the text ends at a place.
+    /// Whether the text ends at a token index.
     pub fn is_end(&self, pos: usize) -> bool
-        ensures { result ≡ reader.is_finish (slice_get self.now pos) }
+        ensures { result ≡ parser.is_finish (slice_get self.now pos) }
     {
         match self.tokens.get(pos) {
             Some(token) => is_end(token.kind),
@@ -84,9 +84,9 @@ impl<'a> Source<'a> {
         }
     }
 
-    /// The number without a width at a place.
+    /// The number without a width at a token index.
     pub fn plain(&self, pos: usize) -> Option<u32>
-        ensures is { result ≡ reader.plain_of (slice_get self.now pos) }
+        ensures is { result ≡ parser.plain_of (slice_get self.now pos) }
         ensures within { IsSome result → (pos < length self.now) × (length self.now ≤ 2 ^ 32) }
     {
         match self.tokens.get(pos) {
@@ -95,9 +95,9 @@ impl<'a> Source<'a> {
         }
     }
 
-    /// Whether a name stands at a place.
+    /// Whether a name stands at a token index.
     pub fn is_name(&self, pos: usize) -> bool
-        ensures { result ≡ is_word (slice_get self.now pos) }
+        ensures { result ≡ is_name_token (slice_get self.now pos) }
     {
         match self.tokens.get(pos) {
             Some(token) => is_name(token.kind),
@@ -105,9 +105,10 @@ impl<'a> Source<'a> {
         }
     }
 
-    /// The operator of a chain at a place.
+    /// The operator of a chain at a token index.
     pub fn chained(&self, pos: usize, level: Chain) -> Option<BinaryOp>
-        ensures is { option_map binary_of result ≡ reader.op_at (level_of level) (slice_get self.now pos) }
+        ensures is { option_map binary_of result ≡
+            parser.op_at (level_of level) (slice_get self.now pos) }
         ensures within { IsSome result → (pos < length self.now) × (length self.now ≤ 2 ^ 32) }
     {
         match self.tokens.get(pos) {
@@ -116,9 +117,9 @@ impl<'a> Source<'a> {
         }
     }
 
-    /// The operator of a comparison at a place.
+    /// The operator of a comparison at a token index.
     pub fn compared(&self, pos: usize) -> Option<BinaryOp>
-        ensures is { option_map binary_of result ≡ reader.op_at of_cmp (slice_get self.now pos) }
+        ensures is { option_map binary_of result ≡ parser.op_at of_cmp (slice_get self.now pos) }
         ensures within { IsSome result → (pos < length self.now) × (length self.now ≤ 2 ^ 32) }
     {
         match self.tokens.get(pos) {
@@ -127,9 +128,9 @@ impl<'a> Source<'a> {
         }
     }
 
-    /// The implication at a place.
+    /// The implication at a token index.
     pub fn implied(&self, pos: usize) -> Option<BinaryOp>
-        ensures is { option_map binary_of result ≡ reader.op_at of_expr (slice_get self.now pos) }
+        ensures is { option_map binary_of result ≡ parser.op_at of_expr (slice_get self.now pos) }
         ensures within { IsSome result → (pos < length self.now) × (length self.now ≤ 2 ^ 32) }
     {
         match self.tokens.get(pos) {
@@ -138,9 +139,9 @@ impl<'a> Source<'a> {
         }
     }
 
-    /// Demands this mark at a place.
+    /// Demands this mark at a token index.
     pub fn expect(&self, pos: usize, mark: Mark) -> Result<(), Stop>
-        ensures is { TokenAt pos (reader.is_mark (mark_text mark) (slice_get self.now pos)) result }
+        ensures is { TokenAt pos (parser.is_mark (mark_text mark) (slice_get self.now pos)) result }
         ensures within { IfOk result (λ _. (pos < length self.now) × (length self.now ≤ 2 ^ 32)) }
     {
         if self.is_mark(pos, mark) {
@@ -150,19 +151,20 @@ impl<'a> Source<'a> {
         }
     }
 
-    /// Demands this reserved word at a place.
-    pub fn expect_keyword(&self, pos: usize, word: Keyword) -> Result<(), Stop>
-        ensures is { TokenAt pos (reader.is_keyword (keyword_text word) (slice_get self.now pos)) result }
+    /// Demands this reserved word at a token index.
+    pub fn expect_keyword(&self, pos: usize, keyword: Keyword) -> Result<(), Stop>
+        ensures is { TokenAt
+            pos (parser.is_keyword (keyword_text keyword) (slice_get self.now pos)) result }
         ensures within { IfOk result (λ _. (pos < length self.now) × (length self.now ≤ 2 ^ 32)) }
     {
-        if self.is_keyword(pos, word) {
+        if self.is_keyword(pos, keyword) {
             Ok(())
         } else {
             Err(Stop::Unexpected(pos))
         }
     }
 
-    /// The number without a width at a place.
+    /// The number without a width at a token index.
     pub fn number(&self, pos: usize) -> Result<u32, Stop>
         ensures is { NumberAt pos (slice_get self.now pos) result }
         ensures within { IfOk result (λ _. (pos < length self.now) × (length self.now ≤ 2 ^ 32)) }
@@ -173,9 +175,9 @@ impl<'a> Source<'a> {
         }
     }
 
-    /// The number with a width at a place.
+    /// The number with a width at a token index.
     pub fn literal(&self, pos: usize) -> Option<Bits>
-        ensures is { option_map literal_of result ≡ reader.literal_of (slice_get self.now pos) }
+        ensures is { option_map literal_of result ≡ parser.literal_of (slice_get self.now pos) }
         ensures within { IsSome result → (pos < length self.now) × (length self.now ≤ 2 ^ 32) }
     {
         match self.tokens.get(pos) {
@@ -184,7 +186,7 @@ impl<'a> Source<'a> {
         }
     }
 
-    /// Demands a number with a width at a place.
+    /// Demands a number with a width at a token index.
     pub fn demand_literal(&self, pos: usize) -> Result<Bits, Stop>
         ensures is { LiteralAt pos (slice_get self.now pos) result }
         ensures within { IfOk result (λ _. (pos < length self.now) × (length self.now ≤ 2 ^ 32)) }
@@ -195,23 +197,24 @@ impl<'a> Source<'a> {
         }
     }
 
-    /// The bytes of the name at a place.
-    pub fn word(&self, pos: usize) -> Option<&'a [u8]>
-        ensures is { option_map (λ bytes. bytes.now) result ≡ word_of (slice_get self.now pos) }
+    /// The bytes of the name at a token index.
+    pub fn name_bytes(&self, pos: usize) -> Option<&'a [u8]>
+        ensures is { option_map (λ bytes. bytes.now) result ≡ name_bytes (slice_get self.now pos) }
         ensures within { IsSome result → (pos < length self.now) × (length self.now ≤ 2 ^ 32) }
     {
         match self.tokens.get(pos) {
-            Some(token) => word_of(self.text, token),
+            Some(token) => name_bytes(self.text, token),
             None => None,
         }
     }
 
-    /// The name at a place.
+    /// The name at a token index.
     pub fn name(&self, alloc: Global, pos: usize) -> Result<Name, Stop>
         ensures is { NameAt pos (slice_get self.now pos) result }
-        ensures within { IfOk result (λ name. (pos < length self.now) × (length self.now ≤ 2 ^ 32)) }
+        ensures within { IfOk
+            result (λ name. (pos < length self.now) × (length self.now ≤ 2 ^ 32)) }
     {
-        match self.word(pos) {
+        match self.name_bytes(pos) {
             Some(bytes) => Ok(Name {
                 at: pos as u32,
                 text: Text::from(alloc, bytes)?,
@@ -222,7 +225,7 @@ impl<'a> Source<'a> {
 }
 
 fn is_name(kind: TokenKind) -> bool
-    ensures { (bytes : List ℕ) → result ≡ is_word (Some (kind_of kind bytes)) }
+    ensures { (bytes : List ℕ) → result ≡ is_name_token (Some (kind_of kind bytes)) }
 {
     match kind {
         TokenKind::Name => true,
@@ -231,7 +234,8 @@ fn is_name(kind: TokenKind) -> bool
 }
 
 fn is_mark(kind: TokenKind, wanted: Mark) -> bool
-    ensures { (bytes : List ℕ) → result ≡ reader.is_mark (mark_text wanted) (Some (kind_of kind bytes)) }
+    ensures { (bytes : List ℕ)
+        → result ≡ parser.is_mark (mark_text wanted) (Some (kind_of kind bytes)) }
 {
     match kind {
         TokenKind::Mark(found) => found == wanted,
@@ -240,7 +244,8 @@ fn is_mark(kind: TokenKind, wanted: Mark) -> bool
 }
 
 fn is_keyword(kind: TokenKind, wanted: Keyword) -> bool
-    ensures { (bytes : List ℕ) → result ≡ reader.is_keyword (keyword_text wanted) (Some (kind_of kind bytes)) }
+    ensures { (bytes : List ℕ)
+        → result ≡ parser.is_keyword (keyword_text wanted) (Some (kind_of kind bytes)) }
 {
     match kind {
         TokenKind::Keyword(found) => found == wanted,
@@ -249,7 +254,7 @@ fn is_keyword(kind: TokenKind, wanted: Keyword) -> bool
 }
 
 fn is_end(kind: TokenKind) -> bool
-    ensures { (bytes : List ℕ) → result ≡ reader.is_finish (Some (kind_of kind bytes)) }
+    ensures { (bytes : List ℕ) → result ≡ parser.is_finish (Some (kind_of kind bytes)) }
 {
     match kind {
         TokenKind::End => true,
@@ -258,7 +263,7 @@ fn is_end(kind: TokenKind) -> bool
 }
 
 fn plain_of(kind: TokenKind) -> Option<u32>
-    ensures { (bytes : List ℕ) → result ≡ reader.plain_of (Some (kind_of kind bytes)) }
+    ensures { (bytes : List ℕ) → result ≡ parser.plain_of (Some (kind_of kind bytes)) }
 {
     match kind {
         TokenKind::Plain(number) => Some(number),
@@ -267,7 +272,8 @@ fn plain_of(kind: TokenKind) -> Option<u32>
 }
 
 fn bits_of(kind: TokenKind) -> Option<Bits>
-    ensures { (bytes : List ℕ) → option_map literal_of result ≡ reader.literal_of (Some (kind_of kind bytes)) }
+    ensures { (bytes : List ℕ)
+        → option_map literal_of result ≡ parser.literal_of (Some (kind_of kind bytes)) }
 {
     match kind {
         TokenKind::Literal(bits) => Some(bits),
@@ -275,8 +281,9 @@ fn bits_of(kind: TokenKind) -> Option<Bits>
     }
 }
 
-fn word_of<'a>(text: &'a [u8], token: &Token) -> Option<&'a [u8]>
-    ensures { option_map (λ bytes. bytes.now) result ≡ word_of (Some (kind_at text.now token.now)) }
+fn name_bytes<'a>(text: &'a [u8], token: &Token) -> Option<&'a [u8]>
+    ensures { option_map (λ bytes. bytes.now) result ≡
+        name_bytes (Some (kind_at text.now token.now)) }
 {
     match token.kind {
         TokenKind::Name => Some(bytes_of(text, token)),

@@ -1,27 +1,26 @@
 //! Declarations, refinements, headers and designs.
-ghost use Rattle.std.specs.Prelude.{◌≡◌, ◌<◌, ◌≤◌, ◌^◌, IfOk, length, map, option_map, slice_get, true};
-ghost use Rattle.cocoon_num.specs.Reads.{of_expr};
+ghost use Rattle.std.specs.Prelude.{◌≡◌, ◌+◌, ◌<◌, ◌≤◌, ◌^◌, IfOk, length, map, option_map, slice_get, true};
 ghost use Rattle.cocoon_syntax.specs.TreeOf.{body_of, decl_of, design_of, expr_of, header_of, param_of, refine_of, result_of};
-ghost use Rattle.cocoon_parse.specs.Levels.{stops_of};
-ghost use Rattle.cocoon_parse.specs.Reader as reader;
-ghost use Rattle.cocoon_parse.specs.Says.{Advances, Moves, Says, Tells};
+ghost use Rattle.cocoon_parse.specs.Phrases.{PairAt, PortsAt, stops_of};
+ghost use Rattle.cocoon_parse.specs.PlainParser as parser;
+ghost use Rattle.cocoon_parse.specs.Agrees.{Advances, Moves, Agrees, AgreesDeep};
 
 use crate::cursor::Source;
-use crate::exprs::expr;
+use crate::exprs::{expr, expr_then};
 use crate::fault::Stop;
-use crate::parts::{bits, names, param, params};
-use crate::stmts::block;
+use crate::names::{bits, names, param, params};
+use crate::stmts::{assigned, block};
 use cocoon_lex::{Keyword, Mark};
 use cocoon_syntax::{
-    AssumeDecl, Decl, Design, Expr, FunctionDecl, HeaderDecl, HostDecl, Param, Refine, ResultKind,
-    Role, Stmt, SwitchDecl,
+    AssumeDecl, Decl, Design, Expr, FunctionDecl, HeaderDecl, HostDecl, Name, Param, Refine,
+    ResultKind, Role, Stmt, SwitchDecl,
 };
 use std::alloc::Global;
 
 /// `bool` or `bit<N>`.
-#[tactic(auto, unfolding(crate::specs::Reader::result_from, crate::specs::Reader::after))]
+#[tactic(auto, unfolding(crate::specs::PlainParser::result_from, crate::specs::PlainParser::after))]
 fn result_kind(source: &Source, pos: usize) -> Result<(ResultKind, usize), Stop>
-    ensures says { Says (reader.result_from source.now pos) result_of result }
+    ensures agrees { Agrees (parser.result_from source.now pos) result_of result }
     ensures moves { Moves pos (length source.now) result }
 {
     if source.is_keyword(pos, Keyword::Bool) {
@@ -33,21 +32,21 @@ fn result_kind(source: &Source, pos: usize) -> Result<(ResultKind, usize), Stop>
 
 /// `;` or `= a;`.
 fn value(alloc: Global, source: &Source, pos: usize) -> Result<(Option<Expr>, usize), Stop>
-    ensures says { Tells (λ n. reader.body_from source.now n pos) (λ v. option_map expr_of v) result }
+    ensures agrees { AgreesDeep
+        (λ n. parser.body_from source.now n pos) (λ v. option_map expr_of v) result }
     ensures moves { Moves pos (length source.now) result }
 {
     if source.is_mark(pos, Mark::Semicolon) {
         return Ok((None, pos + 1));
     }
-    source.expect(pos, Mark::Assign)?;
-    let (value, end) = expr(alloc, source, pos + 1)?;
-    source.expect(end, Mark::Semicolon)?;
-    Ok((Some(value), end + 1))
+    let (value, end) = assigned(alloc, source, pos)?;
+    Ok((Some(value), end))
 }
 
 /// `;` or `= { .. }`.
 fn body(alloc: Global, source: &Source, pos: usize) -> Result<(Option<Vec<Stmt>>, usize), Stop>
-    ensures says { Tells (λ n. reader.role_body_from source.now n pos) (λ b. option_map body_of b) result }
+    ensures agrees { AgreesDeep
+        (λ n. parser.role_body_from source.now n pos) (λ b. option_map body_of b) result }
     ensures moves { Moves pos (length source.now) result }
 {
     if source.is_mark(pos, Mark::Semicolon) {
@@ -61,7 +60,8 @@ fn body(alloc: Global, source: &Source, pos: usize) -> Result<(Option<Vec<Stmt>>
 /// Parameters or none, up to a closing bracket.
 fn optional_params(alloc: Global, source: &Source, pos: usize) -> Result<(Vec<Param>, usize), Stop>
     requires { pos ≤ length source.now }
-    ensures says { Tells (λ n. reader.optional_params_from source.now n pos) (λ v. map param_of v.items) result }
+    ensures agrees { AgreesDeep
+        (λ n. parser.optional_params_from source.now n pos) (λ v. map param_of v.items) result }
     ensures moves { Advances pos (length source.now) result }
 {
     if source.is_mark(pos, Mark::CloseParen) {
@@ -72,9 +72,9 @@ fn optional_params(alloc: Global, source: &Source, pos: usize) -> Result<(Vec<Pa
 }
 
 /// `function f(x: bit<N>, ..): r ..`, from its first token on.
-fn function(alloc: Global, source: &Source, pos: usize) -> Result<(FunctionDecl, usize), Stop>
+fn function(alloc: Global, source: &Source, pos: usize) -> Result<(Decl, usize), Stop>
     requires { pos < 2 ^ 32 }
-    ensures says { Tells (λ n. reader.function_from source.now n pos) (λ f. decl_of (Decl.Function f)) result }
+    ensures agrees { AgreesDeep (λ n. parser.function_from source.now n pos) decl_of result }
     ensures moves { Moves pos (length source.now) result }
 {
     let name = source.name(alloc, pos + 1)?;
@@ -90,29 +90,28 @@ fn function(alloc: Global, source: &Source, pos: usize) -> Result<(FunctionDecl,
         result,
         body,
     };
-    Ok((function, end))
+    Ok((Decl::Function(function), end))
 }
 
 /// `assume (x: bit<N>, ..) a;`, from its first token on.
-fn assumption(alloc: Global, source: &Source, pos: usize) -> Result<(AssumeDecl, usize), Stop>
+fn assumption(alloc: Global, source: &Source, pos: usize) -> Result<(Decl, usize), Stop>
     requires small { pos < 2 ^ 32 }
     requires within { pos < length source.now }
-    ensures says { Tells (λ n. reader.assumption_from source.now n pos) (λ a. decl_of (Decl.Assume a)) result }
+    ensures agrees { AgreesDeep (λ n. parser.assumption_from source.now n pos) decl_of result }
     ensures moves { Moves pos (length source.now) result }
 {
-    let at = source.place(pos);
+    let at = source.token_index(pos);
     source.expect(pos + 1, Mark::OpenParen)?;
     let (params, close) = optional_params(alloc, source, pos + 2)?;
     source.expect(close, Mark::CloseParen)?;
-    let (body, end) = expr(alloc, source, close + 1)?;
-    source.expect(end, Mark::Semicolon)?;
-    Ok((AssumeDecl { at, params, body }, end + 1))
+    let (body, end) = expr_then(alloc, source, close + 1, Mark::Semicolon)?;
+    Ok((Decl::Assume(AssumeDecl { at, params, body }), end))
 }
 
 /// `role r[x: bit<N>, ..] | a ..`, from its first token on.
-fn role(alloc: Global, source: &Source, pos: usize) -> Result<(Role, usize), Stop>
+fn role(alloc: Global, source: &Source, pos: usize) -> Result<(Decl, usize), Stop>
     requires { pos < 2 ^ 32 }
-    ensures says { Tells (λ n. reader.role_from source.now n pos) (λ r. decl_of (Decl.Role r)) result }
+    ensures agrees { AgreesDeep (λ n. parser.role_from source.now n pos) decl_of result }
     ensures moves { Moves pos (length source.now) result }
 {
     let name = source.name(alloc, pos + 1)?;
@@ -128,77 +127,89 @@ fn role(alloc: Global, source: &Source, pos: usize) -> Result<(Role, usize), Sto
         guard,
         body,
     };
-    Ok((role, end))
+    Ok((Decl::Role(role), end))
+}
+
+/// `(r, s)`, after the token at this index.
+#[tactic(auto, unfolding(crate::specs::PlainParser::marked, crate::specs::PlainParser::named))]
+fn pair(alloc: Global, source: &Source, pos: usize) -> Result<(Name, Name), Stop>
+    requires { pos < 2 ^ 32 }
+    ensures is { PairAt source.now pos result }
+    ensures within { IfOk
+        result (λ _. (pos + 6 ≤ length source.now) × (length source.now ≤ 2 ^ 32)) }
+{
+    source.expect(pos + 1, Mark::OpenParen)?;
+    let first = source.name(alloc, pos + 2)?;
+    source.expect(pos + 3, Mark::Comma)?;
+    let second = source.name(alloc, pos + 4)?;
+    source.expect(pos + 5, Mark::CloseParen)?;
+    Ok((first, second))
 }
 
 /// `host (r, s);`, from its first token on.
-#[tactic(auto, unfolding(crate::specs::Reader::host_from, crate::specs::Reader::marked, crate::specs::Reader::named))]
-fn host(alloc: Global, source: &Source, pos: usize) -> Result<(HostDecl, usize), Stop>
+fn host(alloc: Global, source: &Source, pos: usize) -> Result<(Decl, usize), Stop>
     requires small { pos < 2 ^ 32 }
     requires within { pos < length source.now }
-    ensures says { Says (reader.host_from source.now pos) (λ h. decl_of (Decl.Host h)) result }
+    ensures agrees { Agrees (parser.host_from source.now pos) decl_of result }
     ensures moves { Moves pos (length source.now) result }
 {
-    let at = source.place(pos);
-    source.expect(pos + 1, Mark::OpenParen)?;
-    let entry = source.name(alloc, pos + 2)?;
-    source.expect(pos + 3, Mark::Comma)?;
-    let sink = source.name(alloc, pos + 4)?;
-    source.expect(pos + 5, Mark::CloseParen)?;
+    let at = source.token_index(pos);
+    let (entry, sink) = pair(alloc, source, pos)?;
     source.expect(pos + 6, Mark::Semicolon)?;
-    Ok((HostDecl { at, entry, sink }, pos + 7))
+    Ok((Decl::Host(HostDecl { at, entry, sink }), pos + 7))
 }
 
 /// `switch (r, s) ports n;`, from its first token on.
-#[tactic(auto, unfolding(crate::specs::Reader::switch_from, crate::specs::Reader::marked, crate::specs::Reader::named, crate::specs::Reader::worded, crate::specs::Reader::numbered))]
-fn switch(alloc: Global, source: &Source, pos: usize) -> Result<(SwitchDecl, usize), Stop>
+fn switch(alloc: Global, source: &Source, pos: usize) -> Result<(Decl, usize), Stop>
     requires small { pos < 2 ^ 32 }
     requires within { pos < length source.now }
-    ensures says { Says (reader.switch_from source.now pos) (λ s. decl_of (Decl.Switch s)) result }
+    ensures agrees { Agrees (parser.switch_from source.now pos) decl_of result }
     ensures moves { Moves pos (length source.now) result }
 {
-    let at = source.place(pos);
-    source.expect(pos + 1, Mark::OpenParen)?;
-    let into = source.name(alloc, pos + 2)?;
-    source.expect(pos + 3, Mark::Comma)?;
-    let out = source.name(alloc, pos + 4)?;
-    source.expect(pos + 5, Mark::CloseParen)?;
-    source.expect_keyword(pos + 6, Keyword::Ports)?;
-    let ports = source.number(pos + 7)?;
-    source.expect(pos + 8, Mark::Semicolon)?;
+    let at = source.token_index(pos);
+    let (into, out) = pair(alloc, source, pos)?;
+    let ports = ports(source, pos + 6)?;
     let switch = SwitchDecl {
         at,
         into,
         out,
         ports,
     };
-    Ok((switch, pos + 9))
+    Ok((Decl::Switch(switch), pos + 9))
+}
+
+/// `ports n;`.
+#[tactic(auto, unfolding(crate::specs::PlainParser::reserved, crate::specs::PlainParser::numbered, crate::specs::PlainParser::marked))]
+fn ports(source: &Source, pos: usize) -> Result<u32, Stop>
+    ensures is { PortsAt source.now pos result }
+    ensures within { IfOk
+        result (λ _. (pos + 3 ≤ length source.now) × (length source.now ≤ 2 ^ 32)) }
+{
+    source.expect_keyword(pos, Keyword::Ports)?;
+    let ports = source.number(pos + 1)?;
+    source.expect(pos + 2, Mark::Semicolon)?;
+    Ok(ports)
 }
 
 /// One declaration.
 fn decl(alloc: Global, source: &Source, pos: usize) -> Result<(Decl, usize), Stop>
-    ensures says { Tells (λ n. reader.decl_from source.now n pos) decl_of result }
+    ensures agrees { AgreesDeep (λ n. parser.decl_from source.now n pos) decl_of result }
     ensures moves { Moves pos (length source.now) result }
 {
     if source.is_keyword(pos, Keyword::Function) {
-        let (function, end) = function(alloc, source, pos)?;
-        return Ok((Decl::Function(function), end));
+        return function(alloc, source, pos);
     }
     if source.is_keyword(pos, Keyword::Assume) {
-        let (assume, end) = assumption(alloc, source, pos)?;
-        return Ok((Decl::Assume(assume), end));
+        return assumption(alloc, source, pos);
     }
     if source.is_keyword(pos, Keyword::Role) {
-        let (role, end) = role(alloc, source, pos)?;
-        return Ok((Decl::Role(role), end));
+        return role(alloc, source, pos);
     }
     if source.is_keyword(pos, Keyword::Host) {
-        let (host, end) = host(alloc, source, pos)?;
-        return Ok((Decl::Host(host), end));
+        return host(alloc, source, pos);
     }
     if source.is_keyword(pos, Keyword::Switch) {
-        let (switch, end) = switch(alloc, source, pos)?;
-        return Ok((Decl::Switch(switch), end));
+        return switch(alloc, source, pos);
     }
     Err(Stop::Unexpected(pos))
 }
@@ -229,7 +240,9 @@ fn decls(
     until: Until,
 ) -> Result<(Vec<Decl>, usize), Stop>
     requires { pos ≤ length source.now }
-    ensures says { Tells (λ n. reader.many_from (reader.decl_from source.now) (stops_of until source.now) n pos) (λ v. map decl_of v.items) result }
+    ensures agrees { AgreesDeep
+        (λ n. parser.many_from (parser.decl_from source.now) (stops_of until source.now) n pos)
+        (λ v. map decl_of v.items) result }
     ensures moves { Advances pos (length source.now) result }
 {
     let mut decls = Vec::new(alloc);
@@ -244,11 +257,11 @@ fn decls(
 
 /// `refine r, .. within n { .. }`.
 fn refine(alloc: Global, source: &Source, pos: usize) -> Result<(Refine, usize), Stop>
-    ensures says { Tells (λ n. reader.refine_from source.now n pos) refine_of result }
+    ensures agrees { AgreesDeep (λ n. parser.refine_from source.now n pos) refine_of result }
     ensures moves { Moves pos (length source.now) result }
 {
     source.expect_keyword(pos, Keyword::Refine)?;
-    let at = source.place(pos);
+    let at = source.token_index(pos);
     let (roles, next) = names(alloc, source, pos + 1)?;
     source.expect_keyword(next, Keyword::Within)?;
     let within = source.number(next + 1)?;
@@ -267,8 +280,10 @@ fn refine(alloc: Global, source: &Source, pos: usize) -> Result<(Refine, usize),
 /// All refinements, up to the end of the text.
 fn refines(alloc: Global, source: &Source, pos: usize) -> Result<(Vec<Refine>, usize), Stop>
     requires { pos ≤ length source.now }
-    ensures says { Tells (λ n. reader.many_from (reader.refine_from source.now) (reader.finishes source.now) n pos) (λ v. map refine_of v.items) result }
-    ensures ends { IfOk result (λ r. reader.is_finish (slice_get source.now r.1) ≡ true) }
+    ensures agrees { AgreesDeep
+        (λ n. parser.many_from (parser.refine_from source.now) (parser.finishes source.now) n pos)
+        (λ v. map refine_of v.items) result }
+    ensures ends { IfOk result (λ r. parser.is_finish (slice_get source.now r.1) ≡ true) }
 {
     let mut refines = Vec::new(alloc);
     let mut next = pos;
@@ -281,9 +296,9 @@ fn refines(alloc: Global, source: &Source, pos: usize) -> Result<(Vec<Refine>, u
 }
 
 /// `x: bit<N>;`.
-#[tactic(auto, unfolding(crate::specs::Reader::header_field_from, crate::specs::Reader::after, crate::specs::Reader::marked))]
+#[tactic(auto, unfolding(crate::specs::PlainParser::header_field_from, crate::specs::PlainParser::after, crate::specs::PlainParser::marked))]
 fn header_field(alloc: Global, source: &Source, pos: usize) -> Result<(Param, usize), Stop>
-    ensures says { Says (reader.header_field_from source.now pos) param_of result }
+    ensures agrees { Agrees (parser.header_field_from source.now pos) param_of result }
     ensures moves { Moves pos (length source.now) result }
 {
     let (field, end) = param(alloc, source, pos)?;
@@ -293,7 +308,8 @@ fn header_field(alloc: Global, source: &Source, pos: usize) -> Result<(Param, us
 
 /// One or more fields, up to a closing brace.
 fn fields(alloc: Global, source: &Source, pos: usize) -> Result<(Vec<Param>, usize), Stop>
-    ensures says { Tells (λ n. reader.some_from (λ m. reader.header_field_from source.now) (reader.closes source.now) n pos) (λ v. map param_of v.items) result }
+    ensures agrees { AgreesDeep (λ n. parser.some_from (λ m. parser.header_field_from source.now)
+        (parser.closes source.now) n pos) (λ v. map param_of v.items) result }
     ensures moves { Moves pos (length source.now) result }
 {
     let mut fields = Vec::new(alloc);
@@ -309,7 +325,7 @@ fn fields(alloc: Global, source: &Source, pos: usize) -> Result<(Vec<Param>, usi
 
 /// `header h { .. }`.
 fn header(alloc: Global, source: &Source, pos: usize) -> Result<(HeaderDecl, usize), Stop>
-    ensures says { Tells (λ n. reader.header_from source.now n pos) header_of result }
+    ensures agrees { AgreesDeep (λ n. parser.header_from source.now n pos) header_of result }
     ensures moves { Moves pos (length source.now) result }
 {
     source.expect_keyword(pos, Keyword::Header)?;
@@ -322,7 +338,9 @@ fn header(alloc: Global, source: &Source, pos: usize) -> Result<(HeaderDecl, usi
 
 /// One or more headers, up to a closing brace.
 fn headers(alloc: Global, source: &Source, pos: usize) -> Result<(Vec<HeaderDecl>, usize), Stop>
-    ensures says { Tells (λ n. reader.some_from (reader.header_from source.now) (reader.closes source.now) n pos) (λ v. map header_of v.items) result }
+    ensures agrees { AgreesDeep
+        (λ n. parser.some_from (parser.header_from source.now) (parser.closes source.now) n pos)
+        (λ v. map header_of v.items) result }
     ensures moves { Moves pos (length source.now) result }
 {
     let mut headers = Vec::new(alloc);
@@ -338,7 +356,7 @@ fn headers(alloc: Global, source: &Source, pos: usize) -> Result<(Vec<HeaderDecl
 
 /// A whole design.
 pub fn design(alloc: Global, source: &Source) -> Result<(Design, usize), Stop>
-    ensures { Tells (reader.design_from source.now) design_of result }
+    ensures { AgreesDeep (parser.design_from source.now) design_of result }
 {
     source.expect_keyword(0, Keyword::Packet)?;
     source.expect(1, Mark::OpenBrace)?;

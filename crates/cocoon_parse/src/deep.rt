@@ -2,7 +2,7 @@
 ghost use Rattle.std.specs.Prelude.{◌≡◌, ◌≤◌, ◌+◌, ℕ, List};
 ghost use Rattle.cocoon_num.specs.Tokens.{brackets_after, is_kind_of, language_bounds, operators_after};
 ghost use Rattle.cocoon_lex.specs.Kinds.{kind_of};
-ghost use Rattle.cocoon_parse.specs.Depth.{FirstDeep, closing, marked, opening, restarting, worded};
+ghost use Rattle.cocoon_parse.specs.Depth.{FirstDeep, closing, mark_kind, opening, restarting, keyword_kind};
 
 use cocoon_lex::{Keyword, Mark, Token, TokenKind};
 
@@ -48,7 +48,8 @@ fn open_after(brackets: u32, kind: TokenKind) -> u32
 
 fn count_after(operators: u32, kind: TokenKind) -> u32
     requires { operators ≤ 128 }
-    ensures is { (bytes : List ℕ) → result ≡ operators_after language_bounds.operators operators (kind_of kind bytes) }
+    ensures is { (bytes : List ℕ)
+        → result ≡ operators_after language_bounds.operators operators (kind_of kind bytes) }
     ensures most { result ≤ operators + 1 }
 {
     match kind {
@@ -61,7 +62,7 @@ fn count_after(operators: u32, kind: TokenKind) -> u32
                 operators
             }
         }
-        TokenKind::Keyword(word) => if is_word_operator(word) {
+        TokenKind::Keyword(keyword) => if is_reserved_operator(keyword) {
             operators + 1
         } else {
             operators
@@ -71,7 +72,7 @@ fn count_after(operators: u32, kind: TokenKind) -> u32
 }
 
 fn opens(mark: Mark) -> bool
-    ensures { result ≡ is_kind_of opening (marked mark) }
+    ensures { result ≡ is_kind_of opening (mark_kind mark) }
 {
     match mark {
         Mark::OpenParen | Mark::OpenBracket | Mark::OpenBrace => true,
@@ -80,7 +81,7 @@ fn opens(mark: Mark) -> bool
 }
 
 fn closes(mark: Mark) -> bool
-    ensures { result ≡ is_kind_of closing (marked mark) }
+    ensures { result ≡ is_kind_of closing (mark_kind mark) }
 {
     match mark {
         Mark::CloseParen | Mark::CloseBracket | Mark::CloseBrace => true,
@@ -89,7 +90,7 @@ fn closes(mark: Mark) -> bool
 }
 
 fn restarts(mark: Mark) -> bool
-    ensures { result ≡ is_kind_of restarting (marked mark) }
+    ensures { result ≡ is_kind_of restarting (mark_kind mark) }
 {
     match mark {
         Mark::Semicolon | Mark::OpenBrace | Mark::CloseBrace => true,
@@ -98,7 +99,7 @@ fn restarts(mark: Mark) -> bool
 }
 
 fn is_operator(mark: Mark) -> bool
-    ensures { result ≡ is_kind_of language_bounds.operators (marked mark) }
+    ensures { result ≡ is_kind_of language_bounds.operators (mark_kind mark) }
 {
     match mark {
         Mark::Plus
@@ -122,10 +123,10 @@ fn is_operator(mark: Mark) -> bool
     }
 }
 
-fn is_word_operator(word: Keyword) -> bool
-    ensures { result ≡ is_kind_of language_bounds.operators (worded word) }
+fn is_reserved_operator(keyword: Keyword) -> bool
+    ensures { result ≡ is_kind_of language_bounds.operators (keyword_kind keyword) }
 {
-    match word {
+    match keyword {
         Keyword::And | Keyword::Or | Keyword::Not => true,
         _ => false,
     }

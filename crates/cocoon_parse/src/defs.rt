@@ -1,8 +1,8 @@
 //! Definitions.
 ghost use Rattle.std.specs.Prelude.{◌<◌, ◌^◌, length, map};
 ghost use Rattle.cocoon_syntax.specs.TreeOf.{const_of, entry_of, pattern_of};
-ghost use Rattle.cocoon_parse.specs.Reader as reader;
-ghost use Rattle.cocoon_parse.specs.Says.{Moves, Says, Tells};
+ghost use Rattle.cocoon_parse.specs.PlainParser as parser;
+ghost use Rattle.cocoon_parse.specs.Agrees.{Moves, Agrees, AgreesDeep};
 
 use crate::cursor::Source;
 use crate::fault::Stop;
@@ -10,9 +10,9 @@ use cocoon_lex::{Keyword, Mark};
 use cocoon_syntax::{Const, Entry, Pattern};
 use std::alloc::Global;
 
-#[tactic(auto, unfolding(crate::specs::Reader::const_from))]
+#[tactic(auto, unfolding(crate::specs::PlainParser::const_from))]
 fn constant(source: &Source, pos: usize) -> Result<(Const, usize), Stop>
-    ensures says { Says (reader.const_from source.now pos) const_of result }
+    ensures agrees { Agrees (parser.const_from source.now pos) const_of result }
     ensures moves { Moves pos (length source.now) result }
 {
     if let Some(bits) = source.literal(pos) {
@@ -26,9 +26,9 @@ fn constant(source: &Source, pos: usize) -> Result<(Const, usize), Stop>
 }
 
 /// A literal, a literal with its mask, or `_`.
-#[tactic(auto, unfolding(crate::specs::Reader::pattern_from))]
+#[tactic(auto, unfolding(crate::specs::PlainParser::pattern_from))]
 fn pattern(source: &Source, pos: usize) -> Result<(Pattern, usize), Stop>
-    ensures says { Says (reader.pattern_from source.now pos) pattern_of result }
+    ensures agrees { Agrees (parser.pattern_from source.now pos) pattern_of result }
     ensures moves { Moves pos (length source.now) result }
 {
     if source.is_mark(pos, Mark::Any) {
@@ -43,10 +43,10 @@ fn pattern(source: &Source, pos: usize) -> Result<(Pattern, usize), Stop>
 }
 
 /// `default f = v;`, from its first token on.
-#[tactic(auto, unfolding(crate::specs::Reader::default_from, crate::specs::Reader::named, crate::specs::Reader::marked, crate::specs::Reader::after))]
+#[tactic(auto, unfolding(crate::specs::PlainParser::default_from, crate::specs::PlainParser::named, crate::specs::PlainParser::marked, crate::specs::PlainParser::after))]
 fn default(alloc: Global, source: &Source, pos: usize) -> Result<(Entry, usize), Stop>
     requires { pos < 2 ^ 32 }
-    ensures says { Says (reader.default_from source.now pos) entry_of result }
+    ensures agrees { Agrees (parser.default_from source.now pos) entry_of result }
     ensures moves { Moves pos (length source.now) result }
 {
     let function = source.name(alloc, pos + 1)?;
@@ -58,7 +58,9 @@ fn default(alloc: Global, source: &Source, pos: usize) -> Result<(Entry, usize),
 
 /// One or more patterns with commas between.
 fn patterns(alloc: Global, source: &Source, pos: usize) -> Result<(Vec<Pattern>, usize), Stop>
-    ensures says { Tells (λ n. reader.commas_from source.now (λ m. reader.pattern_from source.now) n pos) (λ v. map pattern_of v.items) result }
+    ensures agrees { AgreesDeep
+        (λ n. parser.commas_from source.now (λ m. parser.pattern_from source.now) n pos)
+        (λ v. map pattern_of v.items) result }
     ensures moves { Moves pos (length source.now) result }
 {
     let mut patterns = Vec::new(alloc);
@@ -73,10 +75,10 @@ fn patterns(alloc: Global, source: &Source, pos: usize) -> Result<(Vec<Pattern>,
 }
 
 /// `define f(p, ..) = v;`, from its first token on.
-#[tactic(auto, unfolding(crate::specs::Reader::row_from, crate::specs::Reader::named, crate::specs::Reader::marked, crate::specs::Reader::after))]
+#[tactic(auto, unfolding(crate::specs::PlainParser::row_from, crate::specs::PlainParser::named, crate::specs::PlainParser::marked, crate::specs::PlainParser::after))]
 fn row(alloc: Global, source: &Source, pos: usize) -> Result<(Entry, usize), Stop>
     requires { pos < 2 ^ 32 }
-    ensures says { Tells (λ n. reader.row_from source.now n pos) entry_of result }
+    ensures agrees { AgreesDeep (λ n. parser.row_from source.now n pos) entry_of result }
     ensures moves { Moves pos (length source.now) result }
 {
     let function = source.name(alloc, pos + 1)?;
@@ -90,9 +92,9 @@ fn row(alloc: Global, source: &Source, pos: usize) -> Result<(Entry, usize), Sto
 }
 
 /// A default or a row.
-#[tactic(auto, unfolding(crate::specs::Reader::entry_from))]
+#[tactic(auto, unfolding(crate::specs::PlainParser::entry_from))]
 fn entry(alloc: Global, source: &Source, pos: usize) -> Result<(Entry, usize), Stop>
-    ensures says { Tells (λ n. reader.entry_from source.now n pos) entry_of result }
+    ensures agrees { AgreesDeep (λ n. parser.entry_from source.now n pos) entry_of result }
     ensures moves { Moves pos (length source.now) result }
 {
     if source.is_keyword(pos, Keyword::Default) {
@@ -106,7 +108,7 @@ fn entry(alloc: Global, source: &Source, pos: usize) -> Result<(Entry, usize), S
 
 /// All definitions of a text, up to its end.
 pub fn entries(alloc: Global, source: &Source) -> Result<(Vec<Entry>, usize), Stop>
-    ensures { Tells (reader.defs_from source.now) (λ v. map entry_of v.items) result }
+    ensures { AgreesDeep (parser.defs_from source.now) (λ v. map entry_of v.items) result }
 {
     let mut entries = Vec::new(alloc);
     let mut next = 0;

@@ -2,15 +2,16 @@
 ghost use Rattle.std.specs.Prelude.{◌≡◌, ◌+◌, ◌<◌, ◌≤◌, ◌^◌, IfOk, length, map};
 ghost use Rattle.cocoon_num.specs.Reads.{of_expr, of_unary, of_post, of_prim, of_cmp};
 ghost use Rattle.cocoon_num.specs.Tree as tree;
+ghost use Rattle.cocoon_lex.specs.Kinds.{mark_text};
 ghost use Rattle.cocoon_syntax.specs.TreeOf.{binary_of, expr_of, exprs_of, kind_of, name_of, unary_of};
-ghost use Rattle.cocoon_parse.specs.Levels.{RangeAt, leaf_from, level_of, name_or_call, part_of};
-ghost use Rattle.cocoon_parse.specs.Reader as reader;
-ghost use Rattle.cocoon_parse.specs.Says.{Moves, Says, Tells};
+ghost use Rattle.cocoon_parse.specs.Phrases.{RangeAt, leaf_from, level_of, name_or_call, part_of, sides_from, sides_of, then_mark};
+ghost use Rattle.cocoon_parse.specs.PlainParser as parser;
+ghost use Rattle.cocoon_parse.specs.Agrees.{Moves, Agrees, AgreesDeep};
 
 use crate::cursor::Source;
 use crate::fault::Stop;
+use crate::names::path;
 use crate::operators::Chain;
-use crate::parts::path;
 use cocoon_lex::{Keyword, Mark};
 use cocoon_num::{NoMemory, Text};
 use cocoon_syntax::{BinaryOp, Expr, ExprKind, Name, UnaryOp};
@@ -19,7 +20,7 @@ use std::alloc::Global;
 /// An expression of any form: `a => b`, or what binds tighter.
 #[cycle(expr)]
 pub fn expr(alloc: Global, source: &Source, pos: usize) -> Result<(Expr, usize), Stop>
-    ensures says { Tells (λ n. reader.expr_from source.now n of_expr pos) expr_of result }
+    ensures agrees { AgreesDeep (λ n. parser.expr_from source.now n of_expr pos) expr_of result }
     ensures moves { Moves pos (length source.now) result }
 {
     let (left, next) = chain(alloc, source, Chain::Or, pos)?;
@@ -36,7 +37,8 @@ pub fn expr(alloc: Global, source: &Source, pos: usize) -> Result<(Expr, usize),
 /// Parts with operators of one level between, grouped to the left.
 #[cycle(expr)]
 fn chain(alloc: Global, source: &Source, level: Chain, pos: usize) -> Result<(Expr, usize), Stop>
-    ensures says { Tells (λ n. reader.expr_from source.now n (level_of level) pos) expr_of result }
+    ensures agrees { AgreesDeep
+        (λ n. parser.expr_from source.now n (level_of level) pos) expr_of result }
     ensures moves { Moves pos (length source.now) result }
 {
     let (mut left, mut next) = part(alloc, source, level, pos)?;
@@ -51,7 +53,8 @@ fn chain(alloc: Global, source: &Source, level: Chain, pos: usize) -> Result<(Ex
 /// A part of a chain.
 #[cycle(expr)]
 fn part(alloc: Global, source: &Source, level: Chain, pos: usize) -> Result<(Expr, usize), Stop>
-    ensures says { Tells (λ n. reader.expr_from source.now n (part_of level) pos) expr_of result }
+    ensures agrees { AgreesDeep
+        (λ n. parser.expr_from source.now n (part_of level) pos) expr_of result }
     ensures moves { Moves pos (length source.now) result }
 {
     match level {
@@ -66,7 +69,7 @@ fn part(alloc: Global, source: &Source, level: Chain, pos: usize) -> Result<(Exp
 /// One comparison at most.
 #[cycle(expr)]
 fn comparison(alloc: Global, source: &Source, pos: usize) -> Result<(Expr, usize), Stop>
-    ensures says { Tells (λ n. reader.expr_from source.now n of_cmp pos) expr_of result }
+    ensures agrees { AgreesDeep (λ n. parser.expr_from source.now n of_cmp pos) expr_of result }
     ensures moves { Moves pos (length source.now) result }
 {
     let (left, next) = chain(alloc, source, Chain::Concat, pos)?;
@@ -83,17 +86,17 @@ fn comparison(alloc: Global, source: &Source, pos: usize) -> Result<(Expr, usize
 /// `~a`, `not a`, or what binds tighter.
 #[cycle(expr)]
 fn unary(alloc: Global, source: &Source, pos: usize) -> Result<(Expr, usize), Stop>
-    ensures says { Tells (λ n. reader.expr_from source.now n of_unary pos) expr_of result }
+    ensures agrees { AgreesDeep (λ n. parser.expr_from source.now n of_unary pos) expr_of result }
     ensures moves { Moves pos (length source.now) result }
 {
     if source.is_mark(pos, Mark::Flip) {
         let (inner, next) = unary(alloc, source, pos + 1)?;
-        let flipped = with_unary(alloc, source.place(pos), UnaryOp::Flip, inner)?;
+        let flipped = with_unary(alloc, source.token_index(pos), UnaryOp::Flip, inner)?;
         return Ok((flipped, next));
     }
     if source.is_keyword(pos, Keyword::Not) {
         let (inner, next) = unary(alloc, source, pos + 1)?;
-        let negated = with_unary(alloc, source.place(pos), UnaryOp::Not, inner)?;
+        let negated = with_unary(alloc, source.token_index(pos), UnaryOp::Not, inner)?;
         return Ok((negated, next));
     }
     sliced(alloc, source, pos)
@@ -102,7 +105,7 @@ fn unary(alloc: Global, source: &Source, pos: usize) -> Result<(Expr, usize), St
 /// A primary, and slices of it: `a[high:low]`.
 #[cycle(expr)]
 fn sliced(alloc: Global, source: &Source, pos: usize) -> Result<(Expr, usize), Stop>
-    ensures says { Tells (λ n. reader.expr_from source.now n of_post pos) expr_of result }
+    ensures agrees { AgreesDeep (λ n. parser.expr_from source.now n of_post pos) expr_of result }
     ensures moves { Moves pos (length source.now) result }
 {
     let (mut number, mut next) = primary(alloc, source, pos)?;
@@ -117,7 +120,7 @@ fn sliced(alloc: Global, source: &Source, pos: usize) -> Result<(Expr, usize), S
 /// A name, a call, a field, a literal, a truth value, or an expression in brackets.
 #[cycle(expr)]
 fn primary(alloc: Global, source: &Source, pos: usize) -> Result<(Expr, usize), Stop>
-    ensures says { Tells (λ n. reader.expr_from source.now n of_prim pos) expr_of result }
+    ensures agrees { AgreesDeep (λ n. parser.expr_from source.now n of_prim pos) expr_of result }
     ensures moves { Moves pos (length source.now) result }
 {
     if source.is_mark(pos, Mark::OpenParen) {
@@ -134,7 +137,8 @@ fn primary(alloc: Global, source: &Source, pos: usize) -> Result<(Expr, usize), 
 fn bracketed(alloc: Global, source: &Source, pos: usize) -> Result<(Expr, usize), Stop>
     requires small { pos < 2 ^ 32 }
     requires within { pos < length source.now }
-    ensures says { Tells (λ n. reader.after (reader.expr_from source.now n of_expr (pos + 1)) (reader.bracketed source.now (reader.expr_from source.now n of_expr))) expr_of result }
+    ensures agrees { AgreesDeep (λ n. parser.after (parser.expr_from source.now n of_expr (pos + 1))
+        (parser.bracketed source.now (parser.expr_from source.now n of_expr))) expr_of result }
     ensures moves { Moves pos (length source.now) result }
 {
     let (first, next) = expr(alloc, source, pos + 1)?;
@@ -155,25 +159,55 @@ fn picked(
 ) -> Result<(Expr, usize), Stop>
     requires small { pos < 2 ^ 32 }
     requires within { pos < length source.now }
-    ensures says { Tells (λ n. reader.after (reader.expr_from source.now n of_expr (pos + 1)) (reader.picked source.now (reader.expr_from source.now n of_expr) (expr_of condition))) expr_of result }
+    ensures agrees { AgreesDeep (λ n. parser.after (parser.expr_from source.now n of_expr (pos + 1))
+        (parser.picked source.now (parser.expr_from source.now n of_expr) (expr_of condition)))
+        expr_of result }
     ensures moves { Moves pos (length source.now) result }
 {
-    let (first, colon) = expr(alloc, source, pos + 1)?;
-    source.expect(colon, Mark::Colon)?;
-    let (second, end) = expr(alloc, source, colon + 1)?;
-    source.expect(end, Mark::CloseParen)?;
+    let ((first, second), end) = sides(alloc, source, pos + 1)?;
     let choice = pick(alloc, condition, first, second)?;
-    Ok((choice, end + 1))
+    Ok((choice, end))
+}
+
+/// `a : b)`: both sides of a choice.
+#[cycle(expr)]
+fn sides(alloc: Global, source: &Source, pos: usize) -> Result<((Expr, Expr), usize), Stop>
+    ensures agrees { AgreesDeep
+        (λ n. sides_from source.now (parser.expr_from source.now n of_expr) pos) sides_of result }
+    ensures moves { Moves pos (length source.now) result }
+{
+    let (first, next) = expr_then(alloc, source, pos, Mark::Colon)?;
+    let (second, end) = expr_then(alloc, source, next, Mark::CloseParen)?;
+    Ok(((first, second), end))
+}
+
+/// An expression, and this mark after it.
+#[cycle(expr)]
+pub fn expr_then(
+    alloc: Global,
+    source: &Source,
+    pos: usize,
+    mark: Mark,
+) -> Result<(Expr, usize), Stop>
+    ensures agrees { AgreesDeep
+        (λ n. then_mark source.now (mark_text mark) (parser.expr_from source.now n of_expr pos))
+        expr_of result }
+    ensures moves { Moves pos (length source.now) result }
+{
+    let (first, next) = expr(alloc, source, pos)?;
+    source.expect(next, mark)?;
+    Ok((first, next + 1))
 }
 
 /// A variable, or a call: `f(a, ..)`.
 #[cycle(expr)]
 fn variable_or_call(alloc: Global, source: &Source, pos: usize) -> Result<(Expr, usize), Stop>
-    ensures says { Tells (λ n. reader.named source.now pos (name_or_call source.now (reader.exprs_from source.now n) pos)) expr_of result }
+    ensures agrees { AgreesDeep (λ n. parser.named source.now
+        pos (name_or_call source.now (parser.exprs_from source.now n) pos)) expr_of result }
     ensures moves { Moves pos (length source.now) result }
 {
     let name = source.name(alloc, pos)?;
-    let at = source.place(pos);
+    let at = source.token_index(pos);
     if !source.is_mark(pos + 1, Mark::OpenParen) {
         return Ok((variable(at, name.text), pos + 1));
     }
@@ -185,7 +219,8 @@ fn variable_or_call(alloc: Global, source: &Source, pos: usize) -> Result<(Expr,
 /// One or more expressions with commas between.
 #[cycle(expr)]
 pub fn exprs(alloc: Global, source: &Source, pos: usize) -> Result<(Vec<Expr>, usize), Stop>
-    ensures says { Tells (λ n. reader.exprs_from source.now n pos) (λ v. exprs_of (map expr_of v.items)) result }
+    ensures agrees { AgreesDeep
+        (λ n. parser.exprs_from source.now n pos) (λ v. exprs_of (map expr_of v.items)) result }
     ensures moves { Moves pos (length source.now) result }
 {
     let mut exprs = Vec::new(alloc);
@@ -200,23 +235,32 @@ pub fn exprs(alloc: Global, source: &Source, pos: usize) -> Result<(Vec<Expr>, u
 }
 
 /// A literal, a truth value, or a field.
-#[tactic(auto, unfolding(crate::specs::Reader::after, crate::specs::Reader::path_from, crate::specs::Reader::worded))]
+#[tactic(auto, unfolding(crate::specs::PlainParser::after, crate::specs::PlainParser::path_from, crate::specs::PlainParser::reserved))]
 fn leaf(alloc: Global, source: &Source, pos: usize) -> Result<(Expr, usize), Stop>
-    ensures says { Says (leaf_from source.now pos) expr_of result }
+    ensures agrees { Agrees (leaf_from source.now pos) expr_of result }
     ensures moves { Moves pos (length source.now) result }
 {
     if let Some(bits) = source.literal(pos) {
-        return Ok((leaf_at(source.place(pos), ExprKind::Lit(bits)), pos + 1));
+        return Ok((
+            leaf_at(source.token_index(pos), ExprKind::Lit(bits)),
+            pos + 1,
+        ));
     }
     if source.is_keyword(pos, Keyword::True) {
-        return Ok((leaf_at(source.place(pos), ExprKind::Truth(true)), pos + 1));
+        return Ok((
+            leaf_at(source.token_index(pos), ExprKind::Truth(true)),
+            pos + 1,
+        ));
     }
     if source.is_keyword(pos, Keyword::False) {
-        return Ok((leaf_at(source.place(pos), ExprKind::Truth(false)), pos + 1));
+        return Ok((
+            leaf_at(source.token_index(pos), ExprKind::Truth(false)),
+            pos + 1,
+        ));
     }
     let ((header, field), next) = path(alloc, source, pos)?;
     Ok((
-        leaf_at(source.place(pos), ExprKind::Field(header, field)),
+        leaf_at(source.token_index(pos), ExprKind::Field(header, field)),
         next,
     ))
 }
@@ -228,11 +272,12 @@ fn leaf_at(at: u32, kind: ExprKind) -> Expr
 }
 
 /// `[high:low]`, from the open bracket on: the highest bit and the lowest.
-#[tactic(auto, unfolding(crate::specs::Reader::numbered, crate::specs::Reader::marked))]
+#[tactic(auto, unfolding(crate::specs::PlainParser::numbered, crate::specs::PlainParser::marked))]
 fn range(source: &Source, pos: usize) -> Result<(u32, u32), Stop>
     requires { pos < 2 ^ 32 }
-    ensures says { RangeAt source.now pos result }
-    ensures within { IfOk result (λ _. (pos + 5 ≤ length source.now) × (length source.now ≤ 2 ^ 32)) }
+    ensures agrees { RangeAt source.now pos result }
+    ensures within { IfOk
+        result (λ _. (pos + 5 ≤ length source.now) × (length source.now ≤ 2 ^ 32)) }
 {
     let high = source.number(pos + 1)?;
     source.expect(pos + 2, Mark::Colon)?;
@@ -262,13 +307,24 @@ fn call(at: u32, function: Name, args: Vec<Expr>) -> Expr
 }
 
 fn binary(alloc: Global, op: BinaryOp, left: Expr, right: Expr) -> Result<Expr, NoMemory>
-    ensures { IfOk result (λ e. expr_of e ≡ tree.binary (tree.place (expr_of left)) (binary_of op) (expr_of left) (expr_of right)) }
+    ensures { IfOk result (λ e. expr_of e ≡
+        tree.binary (tree.token_index (expr_of left)) (binary_of op) (expr_of left) (expr_of right)) }
 {
     let at = left.at;
-    let left = Box::new(alloc, left)?;
-    let right = Box::new(alloc, right)?;
-    let kind = ExprKind::Binary(op, left, right);
-    Ok(Expr { at, kind })
+    let (left, right) = boxed(alloc, left, right)?;
+    Ok(Expr {
+        at,
+        kind: ExprKind::Binary(op, left, right),
+    })
+}
+
+/// Two expressions, each in a box.
+fn boxed(alloc: Global, first: Expr, second: Expr) -> Result<(Box<Expr>, Box<Expr>), NoMemory>
+    ensures { IfOk result (λ both. (both.0.value ≡ first) × (both.1.value ≡ second)) }
+{
+    let first = Box::new(alloc, first)?;
+    let second = Box::new(alloc, second)?;
+    Ok((first, second))
 }
 
 fn with_unary(alloc: Global, at: u32, op: UnaryOp, inner: Expr) -> Result<Expr, NoMemory>
@@ -279,7 +335,8 @@ fn with_unary(alloc: Global, at: u32, op: UnaryOp, inner: Expr) -> Result<Expr, 
 }
 
 fn slice(alloc: Global, number: Expr, high: u32, low: u32) -> Result<Expr, NoMemory>
-    ensures { IfOk result (λ e. expr_of e ≡ tree.slice (tree.place (expr_of number)) (expr_of number) high low) }
+    ensures { IfOk result
+        (λ e. expr_of e ≡ tree.slice (tree.token_index (expr_of number)) (expr_of number) high low) }
 {
     let at = number.at;
     let kind = ExprKind::Slice(Box::new(alloc, number)?, high, low);
@@ -287,12 +344,14 @@ fn slice(alloc: Global, number: Expr, high: u32, low: u32) -> Result<Expr, NoMem
 }
 
 fn pick(alloc: Global, condition: Expr, first: Expr, second: Expr) -> Result<Expr, NoMemory>
-    ensures { IfOk result (λ e. expr_of e ≡ tree.pick (tree.place (expr_of condition)) (expr_of condition) (expr_of first) (expr_of second)) }
+    ensures { IfOk result (λ e. expr_of e ≡ tree.pick
+        (tree.token_index (expr_of condition)) (expr_of condition) (expr_of first) (expr_of second)) }
 {
     let at = condition.at;
     let condition = Box::new(alloc, condition)?;
-    let first = Box::new(alloc, first)?;
-    let second = Box::new(alloc, second)?;
-    let kind = ExprKind::Pick(condition, first, second);
-    Ok(Expr { at, kind })
+    let (first, second) = boxed(alloc, first, second)?;
+    Ok(Expr {
+        at,
+        kind: ExprKind::Pick(condition, first, second),
+    })
 }

@@ -15,7 +15,7 @@ pub enum ParseFault {
 /// Why a phrase was not read.
 #[derive(Clone, Copy, Debug, Drop, PartialEq, Eq)]
 pub enum Stop {
-    /// The token at this place cannot be taken.
+    /// The token at this index cannot be taken.
     Unexpected(usize),
     NoMemory,
 }

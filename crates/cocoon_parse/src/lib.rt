@@ -1,5 +1,6 @@
-//! The trees of texts of designs and of definitions, or the first fault of a text. A text is gone over once, from the
-//! left and with one token ahead; no more of it is read than up to the first token that is too deep.
+//! The trees of texts of designs and of definitions, or the first fault of a text. A text is gone over
+//! once, from the left and with one token ahead; no more of it is read than up to the first token that
+//! is too deep.
 #![tactic(auto)]
 
 mod cursor;
@@ -9,12 +10,10 @@ mod defs;
 mod exprs;
 pub mod fault;
 pub mod laws;
+mod names;
 mod operators;
-mod parts;
 mod stmts;
-#[cfg(test)]
-mod tests;
-pub mod texts;
+pub mod whole_text;
 
 pub use fault::ParseFault;
-pub use texts::{parse_defs, parse_design};
+pub use whole_text::{parse_defs, parse_design};

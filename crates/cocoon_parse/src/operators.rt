@@ -3,9 +3,9 @@ ghost use Rattle.std.specs.Prelude.{◌≡◌, Some, List, ℕ, option_map};
 ghost use Rattle.cocoon_num.specs.Reads.{of_cmp, of_expr, of_or, of_and, of_cat, of_bit, of_sum};
 ghost use Rattle.cocoon_lex.specs.Kinds.{kind_of};
 ghost use Rattle.cocoon_syntax.specs.TreeOf.{binary_of};
-ghost use Rattle.cocoon_parse.specs.Depth.{marked};
-ghost use Rattle.cocoon_parse.specs.Levels.{level_of};
-ghost use Rattle.cocoon_parse.specs.Reader.{op_at, op_in, ops_of};
+ghost use Rattle.cocoon_parse.specs.Depth.{mark_kind};
+ghost use Rattle.cocoon_parse.specs.Phrases.{level_of};
+ghost use Rattle.cocoon_parse.specs.PlainParser.{op_at, op_in, ops_of};
 
 use cocoon_lex::{Keyword, Mark, TokenKind};
 use cocoon_syntax::BinaryOp;
@@ -22,7 +22,8 @@ pub enum Chain {
 
 /// The operator of a chain.
 pub fn chained(kind: TokenKind, level: Chain) -> Option<BinaryOp>
-    ensures { (bytes : List ℕ) → option_map binary_of result ≡ op_at (level_of level) (Some (kind_of kind bytes)) }
+    ensures { (bytes : List ℕ)
+        → option_map binary_of result ≡ op_at (level_of level) (Some (kind_of kind bytes)) }
 {
     match level {
         Chain::Or => or(kind),
@@ -34,10 +35,11 @@ pub fn chained(kind: TokenKind, level: Chain) -> Option<BinaryOp>
 }
 
 fn or(kind: TokenKind) -> Option<BinaryOp>
-    ensures { (bytes : List ℕ) → option_map binary_of result ≡ op_at of_or (Some (kind_of kind bytes)) }
+    ensures { (bytes : List ℕ)
+        → option_map binary_of result ≡ op_at of_or (Some (kind_of kind bytes)) }
 {
     match kind {
-        TokenKind::Keyword(word) => if word == Keyword::Or {
+        TokenKind::Keyword(keyword) => if keyword == Keyword::Or {
             Some(BinaryOp::Or)
         } else {
             None
@@ -47,10 +49,11 @@ fn or(kind: TokenKind) -> Option<BinaryOp>
 }
 
 fn and(kind: TokenKind) -> Option<BinaryOp>
-    ensures { (bytes : List ℕ) → option_map binary_of result ≡ op_at of_and (Some (kind_of kind bytes)) }
+    ensures { (bytes : List ℕ)
+        → option_map binary_of result ≡ op_at of_and (Some (kind_of kind bytes)) }
 {
     match kind {
-        TokenKind::Keyword(word) => if word == Keyword::And {
+        TokenKind::Keyword(keyword) => if keyword == Keyword::And {
             Some(BinaryOp::And)
         } else {
             None
@@ -60,7 +63,8 @@ fn and(kind: TokenKind) -> Option<BinaryOp>
 }
 
 fn concat(kind: TokenKind) -> Option<BinaryOp>
-    ensures { (bytes : List ℕ) → option_map binary_of result ≡ op_at of_cat (Some (kind_of kind bytes)) }
+    ensures { (bytes : List ℕ)
+        → option_map binary_of result ≡ op_at of_cat (Some (kind_of kind bytes)) }
 {
     match kind {
         TokenKind::Mark(mark) => if mark == Mark::PlusPlus {
@@ -73,7 +77,8 @@ fn concat(kind: TokenKind) -> Option<BinaryOp>
 }
 
 fn bits(kind: TokenKind) -> Option<BinaryOp>
-    ensures { (bytes : List ℕ) → option_map binary_of result ≡ op_at of_bit (Some (kind_of kind bytes)) }
+    ensures { (bytes : List ℕ)
+        → option_map binary_of result ≡ op_at of_bit (Some (kind_of kind bytes)) }
 {
     match kind {
         TokenKind::Mark(mark) => bits_mark(mark),
@@ -82,7 +87,7 @@ fn bits(kind: TokenKind) -> Option<BinaryOp>
 }
 
 fn bits_mark(mark: Mark) -> Option<BinaryOp>
-    ensures { option_map binary_of result ≡ op_in (ops_of of_bit) (marked mark) }
+    ensures { option_map binary_of result ≡ op_in (ops_of of_bit) (mark_kind mark) }
 {
     match mark {
         Mark::And => Some(BinaryOp::BitAnd),
@@ -93,7 +98,8 @@ fn bits_mark(mark: Mark) -> Option<BinaryOp>
 }
 
 fn sum(kind: TokenKind) -> Option<BinaryOp>
-    ensures { (bytes : List ℕ) → option_map binary_of result ≡ op_at of_sum (Some (kind_of kind bytes)) }
+    ensures { (bytes : List ℕ)
+        → option_map binary_of result ≡ op_at of_sum (Some (kind_of kind bytes)) }
 {
     match kind {
         TokenKind::Mark(mark) => sum_mark(mark),
@@ -102,7 +108,7 @@ fn sum(kind: TokenKind) -> Option<BinaryOp>
 }
 
 fn sum_mark(mark: Mark) -> Option<BinaryOp>
-    ensures { option_map binary_of result ≡ op_in (ops_of of_sum) (marked mark) }
+    ensures { option_map binary_of result ≡ op_in (ops_of of_sum) (mark_kind mark) }
 {
     match mark {
         Mark::Plus => Some(BinaryOp::Add),
@@ -113,7 +119,8 @@ fn sum_mark(mark: Mark) -> Option<BinaryOp>
 
 /// The operator of a comparison.
 pub fn compared(kind: TokenKind) -> Option<BinaryOp>
-    ensures { (bytes : List ℕ) → option_map binary_of result ≡ op_at of_cmp (Some (kind_of kind bytes)) }
+    ensures { (bytes : List ℕ)
+        → option_map binary_of result ≡ op_at of_cmp (Some (kind_of kind bytes)) }
 {
     match kind {
         TokenKind::Mark(mark) => compared_mark(mark),
@@ -122,7 +129,7 @@ pub fn compared(kind: TokenKind) -> Option<BinaryOp>
 }
 
 fn compared_mark(mark: Mark) -> Option<BinaryOp>
-    ensures { option_map binary_of result ≡ op_in (ops_of of_cmp) (marked mark) }
+    ensures { option_map binary_of result ≡ op_in (ops_of of_cmp) (mark_kind mark) }
 {
     match mark {
         Mark::Equal => Some(BinaryOp::Equal),
@@ -137,7 +144,8 @@ fn compared_mark(mark: Mark) -> Option<BinaryOp>
 
 /// The implication.
 pub fn implied(kind: TokenKind) -> Option<BinaryOp>
-    ensures { (bytes : List ℕ) → option_map binary_of result ≡ op_at of_expr (Some (kind_of kind bytes)) }
+    ensures { (bytes : List ℕ)
+        → option_map binary_of result ≡ op_at of_expr (Some (kind_of kind bytes)) }
 {
     match kind {
         TokenKind::Mark(mark) => if mark == Mark::Implies {

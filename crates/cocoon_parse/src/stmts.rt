@@ -3,14 +3,14 @@ ghost use Rattle.std.specs.Prelude.{◌≡◌, ◌+◌, ◌<◌, ◌≤◌, ◌^
 ghost use Rattle.cocoon_num.specs.Reads.{of_expr};
 ghost use Rattle.cocoon_num.specs.Tree as tree;
 ghost use Rattle.cocoon_syntax.specs.TreeOf.{block_of, expr_of, exprs_of, name_of, stmt_kind_of, stmt_of};
-ghost use Rattle.cocoon_parse.specs.Levels.{havoc_field_from, havoc_variable_from};
-ghost use Rattle.cocoon_parse.specs.Reader as reader;
-ghost use Rattle.cocoon_parse.specs.Says.{Advances, Moves, Says, Tells};
+ghost use Rattle.cocoon_parse.specs.Phrases.{assigned_from, havoc_field_from, havoc_variable_from};
+ghost use Rattle.cocoon_parse.specs.PlainParser as parser;
+ghost use Rattle.cocoon_parse.specs.Agrees.{Advances, Moves, Agrees, AgreesDeep};
 
 use crate::cursor::Source;
-use crate::exprs::{expr, exprs};
+use crate::exprs::{expr, expr_then, exprs};
 use crate::fault::Stop;
-use crate::parts::{param, path};
+use crate::names::{param, path};
 use cocoon_lex::{Keyword, Mark};
 use cocoon_syntax::{Expr, Name, Param, Stmt, StmtKind};
 use std::alloc::Global;
@@ -18,7 +18,7 @@ use std::alloc::Global;
 /// One statement.
 #[cycle(stmt)]
 fn stmt(alloc: Global, source: &Source, pos: usize) -> Result<(Stmt, usize), Stop>
-    ensures says { Tells (λ n. reader.stmt_from source.now n pos) stmt_of result }
+    ensures agrees { AgreesDeep (λ n. parser.stmt_from source.now n pos) stmt_of result }
     ensures moves { Moves pos (length source.now) result }
 {
     if source.is_keyword(pos, Keyword::Let) {
@@ -51,7 +51,8 @@ fn stmt(alloc: Global, source: &Source, pos: usize) -> Result<(Stmt, usize), Sto
 /// `{ .. }`.
 #[cycle(stmt)]
 pub fn block(alloc: Global, source: &Source, pos: usize) -> Result<(Vec<Stmt>, usize), Stop>
-    ensures says { Tells (λ n. reader.block_from source.now n pos) (λ v. block_of (map stmt_of v.items)) result }
+    ensures agrees { AgreesDeep
+        (λ n. parser.block_from source.now n pos) (λ v. block_of (map stmt_of v.items)) result }
     ensures moves { Moves pos (length source.now) result }
 {
     source.expect(pos, Mark::OpenBrace)?;
@@ -64,7 +65,8 @@ pub fn block(alloc: Global, source: &Source, pos: usize) -> Result<(Vec<Stmt>, u
 #[cycle(stmt)]
 fn stmts(alloc: Global, source: &Source, pos: usize) -> Result<(Vec<Stmt>, usize), Stop>
     requires { pos ≤ length source.now }
-    ensures says { Tells (λ n. reader.stmts_from source.now n pos) (λ v. block_of (map stmt_of v.items)) result }
+    ensures agrees { AgreesDeep
+        (λ n. parser.stmts_from source.now n pos) (λ v. block_of (map stmt_of v.items)) result }
     ensures moves { Advances pos (length source.now) result }
 {
     let mut stmts = Vec::new(alloc);
@@ -82,10 +84,12 @@ fn stmts(alloc: Global, source: &Source, pos: usize) -> Result<(Vec<Stmt>, usize
 fn conditional(alloc: Global, source: &Source, pos: usize) -> Result<(Stmt, usize), Stop>
     requires small { pos < 2 ^ 32 }
     requires within { pos < length source.now }
-    ensures says { Tells (λ n. reader.if_from source.now (reader.expr_from source.now n of_expr) (reader.block_from source.now n) pos) stmt_of result }
+    ensures agrees { AgreesDeep
+        (λ n. parser.if_from source.now (parser.expr_from source.now n of_expr)
+        (parser.block_from source.now n) pos) stmt_of result }
     ensures moves { Moves pos (length source.now) result }
 {
-    let at = source.place(pos);
+    let at = source.token_index(pos);
     source.expect(pos + 1, Mark::OpenParen)?;
     let (condition, close) = expr(alloc, source, pos + 2)?;
     source.expect(close, Mark::CloseParen)?;
@@ -102,10 +106,12 @@ fn conditional(alloc: Global, source: &Source, pos: usize) -> Result<(Stmt, usiz
 fn fork(alloc: Global, source: &Source, pos: usize) -> Result<(Stmt, usize), Stop>
     requires small { pos < 2 ^ 32 }
     requires within { pos < length source.now }
-    ensures says { Tells (λ n. reader.fork_from source.now (reader.expr_from source.now n of_expr) (reader.block_from source.now n) pos) stmt_of result }
+    ensures agrees { AgreesDeep
+        (λ n. parser.fork_from source.now (parser.expr_from source.now n of_expr)
+        (parser.block_from source.now n) pos) stmt_of result }
     ensures moves { Moves pos (length source.now) result }
 {
-    let at = source.place(pos);
+    let at = source.token_index(pos);
     source.expect(pos + 1, Mark::OpenParen)?;
     let (variable, bar) = param(alloc, source, pos + 2)?;
     source.expect(bar, Mark::Or)?;
@@ -119,63 +125,73 @@ fn fork(alloc: Global, source: &Source, pos: usize) -> Result<(Stmt, usize), Sto
 fn binding(alloc: Global, source: &Source, pos: usize) -> Result<(Stmt, usize), Stop>
     requires small { pos < 2 ^ 32 }
     requires within { pos < length source.now }
-    ensures says { Tells (λ n. reader.let_from source.now (reader.expr_from source.now n of_expr) pos) stmt_of result }
+    ensures agrees { AgreesDeep
+        (λ n. parser.let_from source.now (parser.expr_from source.now n of_expr) pos)
+        stmt_of result }
     ensures moves { Moves pos (length source.now) result }
 {
-    let at = source.place(pos);
-    let (variable, assign) = param(alloc, source, pos + 1)?;
-    source.expect(assign, Mark::Assign)?;
-    let (value, end) = expr(alloc, source, assign + 1)?;
-    source.expect(end, Mark::Semicolon)?;
-    Ok((let_node(at, variable, value), end + 1))
+    let at = source.token_index(pos);
+    let (variable, next) = param(alloc, source, pos + 1)?;
+    let (value, end) = assigned(alloc, source, next)?;
+    Ok((let_node(at, variable, value), end))
 }
 
 /// `pkt.h.f = a;`.
 fn setting(alloc: Global, source: &Source, pos: usize) -> Result<(Stmt, usize), Stop>
     requires { pos < length source.now }
-    ensures says { Tells (λ n. reader.setting_from source.now (reader.expr_from source.now n of_expr) pos) stmt_of result }
+    ensures agrees { AgreesDeep
+        (λ n. parser.setting_from source.now (parser.expr_from source.now n of_expr) pos)
+        stmt_of result }
     ensures moves { Moves pos (length source.now) result }
 {
-    let at = source.place(pos);
-    let ((header, field), assign) = path(alloc, source, pos)?;
-    source.expect(assign, Mark::Assign)?;
-    let (value, end) = expr(alloc, source, assign + 1)?;
-    source.expect(end, Mark::Semicolon)?;
-    Ok((set_node(at, header, field, value), end + 1))
+    let at = source.token_index(pos);
+    let ((header, field), next) = path(alloc, source, pos)?;
+    let (value, end) = assigned(alloc, source, next)?;
+    Ok((set_node(at, header, field, value), end))
+}
+
+/// `= a;`: what is set.
+pub fn assigned(alloc: Global, source: &Source, pos: usize) -> Result<(Expr, usize), Stop>
+    ensures agrees { AgreesDeep
+        (λ n. assigned_from source.now (parser.expr_from source.now n of_expr) pos) expr_of result }
+    ensures moves { Moves pos (length source.now) result }
+{
+    source.expect(pos, Mark::Assign)?;
+    expr_then(alloc, source, pos + 1, Mark::Semicolon)
 }
 
 /// `filter a;`, from its first token on.
 fn filter(alloc: Global, source: &Source, pos: usize) -> Result<(Stmt, usize), Stop>
     requires small { pos < 2 ^ 32 }
     requires within { pos < length source.now }
-    ensures says { Tells (λ n. reader.ended source.now (reader.expr_from source.now n of_expr) (pos + 1) (λ x. tree.filter pos x)) stmt_of result }
+    ensures agrees { AgreesDeep (λ n. parser.ended source.now
+        (parser.expr_from source.now n of_expr) (pos + 1) (λ x. tree.filter pos x)) stmt_of result }
     ensures moves { Moves pos (length source.now) result }
 {
-    let at = source.place(pos);
-    let (condition, end) = expr(alloc, source, pos + 1)?;
-    source.expect(end, Mark::Semicolon)?;
-    Ok((filter_node(at, condition), end + 1))
+    let at = source.token_index(pos);
+    let (condition, end) = expr_then(alloc, source, pos + 1, Mark::Semicolon)?;
+    Ok((filter_node(at, condition), end))
 }
 
 /// `assume a;`, from its first token on.
 fn assume(alloc: Global, source: &Source, pos: usize) -> Result<(Stmt, usize), Stop>
     requires small { pos < 2 ^ 32 }
     requires within { pos < length source.now }
-    ensures says { Tells (λ n. reader.ended source.now (reader.expr_from source.now n of_expr) (pos + 1) (λ x. tree.assume pos x)) stmt_of result }
+    ensures agrees { AgreesDeep (λ n. parser.ended source.now
+        (parser.expr_from source.now n of_expr) (pos + 1) (λ x. tree.assume pos x)) stmt_of result }
     ensures moves { Moves pos (length source.now) result }
 {
-    let at = source.place(pos);
-    let (condition, end) = expr(alloc, source, pos + 1)?;
-    source.expect(end, Mark::Semicolon)?;
-    Ok((assume_node(at, condition), end + 1))
+    let at = source.token_index(pos);
+    let (condition, end) = expr_then(alloc, source, pos + 1, Mark::Semicolon)?;
+    Ok((assume_node(at, condition), end))
 }
 
 /// `havoc x: bit<N>;` or `havoc pkt.h.f;`, from its first token on.
-#[tactic(auto, unfolding(crate::specs::Reader::havoc_from))]
+#[tactic(auto, unfolding(crate::specs::PlainParser::havoc_from))]
 fn havoc(alloc: Global, source: &Source, pos: usize) -> Result<(Stmt, usize), Stop>
     requires small { pos < 2 ^ 32 }
     requires within { pos < length source.now }
-    ensures says { Says (reader.havoc_from source.now pos) stmt_of result }
+    ensures agrees { Agrees (parser.havoc_from source.now pos) stmt_of result }
     ensures moves { Moves pos (length source.now) result }
 {
     if source.is_keyword(pos + 1, Keyword::Pkt) {
@@ -185,27 +201,27 @@ fn havoc(alloc: Global, source: &Source, pos: usize) -> Result<(Stmt, usize), St
     }
 }
 
-#[tactic(auto, unfolding(crate::specs::Reader::after, crate::specs::Reader::marked))]
+#[tactic(auto, unfolding(crate::specs::PlainParser::after, crate::specs::PlainParser::marked))]
 fn havoc_field(alloc: Global, source: &Source, pos: usize) -> Result<(Stmt, usize), Stop>
     requires small { pos < 2 ^ 32 }
     requires within { pos < length source.now }
-    ensures says { Says (havoc_field_from source.now pos) stmt_of result }
+    ensures agrees { Agrees (havoc_field_from source.now pos) stmt_of result }
     ensures moves { Moves pos (length source.now) result }
 {
-    let at = source.place(pos);
+    let at = source.token_index(pos);
     let ((header, field), end) = path(alloc, source, pos + 1)?;
     source.expect(end, Mark::Semicolon)?;
     Ok((node(at, StmtKind::HavocField(header, field)), end + 1))
 }
 
-#[tactic(auto, unfolding(crate::specs::Reader::after, crate::specs::Reader::marked))]
+#[tactic(auto, unfolding(crate::specs::PlainParser::after, crate::specs::PlainParser::marked))]
 fn havoc_variable(alloc: Global, source: &Source, pos: usize) -> Result<(Stmt, usize), Stop>
     requires small { pos < 2 ^ 32 }
     requires within { pos < length source.now }
-    ensures says { Says (havoc_variable_from source.now pos) stmt_of result }
+    ensures agrees { Agrees (havoc_variable_from source.now pos) stmt_of result }
     ensures moves { Moves pos (length source.now) result }
 {
-    let at = source.place(pos);
+    let at = source.token_index(pos);
     let (variable, end) = param(alloc, source, pos + 1)?;
     source.expect(end, Mark::Semicolon)?;
     Ok((
@@ -218,10 +234,11 @@ fn havoc_variable(alloc: Global, source: &Source, pos: usize) -> Result<(Stmt, u
 fn send(alloc: Global, source: &Source, pos: usize) -> Result<(Stmt, usize), Stop>
     requires small { pos < 2 ^ 32 }
     requires within { pos < length source.now }
-    ensures says { Tells (λ n. reader.send_from source.now (reader.exprs_from source.now n) pos) stmt_of result }
+    ensures agrees { AgreesDeep
+        (λ n. parser.send_from source.now (parser.exprs_from source.now n) pos) stmt_of result }
     ensures moves { Moves pos (length source.now) result }
 {
-    let at = source.place(pos);
+    let at = source.token_index(pos);
     let role = source.name(alloc, pos + 1)?;
     source.expect(pos + 2, Mark::OpenBracket)?;
     let (args, close) = exprs(alloc, source, pos + 3)?;
@@ -267,14 +284,16 @@ fn assume_node(at: u32, condition: Expr) -> Stmt
 }
 
 fn if_node(at: u32, condition: Expr, first: Vec<Stmt>, second: Vec<Stmt>) -> Stmt
-    ensures { stmt_of result ≡ tree.if_ at (expr_of condition) (block_of (map stmt_of first.items)) (block_of (map stmt_of second.items)) }
+    ensures { stmt_of result ≡ tree.if_ at (expr_of condition)
+        (block_of (map stmt_of first.items)) (block_of (map stmt_of second.items)) }
 {
     let kind = StmtKind::If(condition, first, second);
     Stmt { at, kind }
 }
 
 fn fork_node(at: u32, variable: Param, condition: Expr, body: Vec<Stmt>) -> Stmt
-    ensures { stmt_of result ≡ tree.fork at (name_of variable.name) variable.width (expr_of condition) (block_of (map stmt_of body.items)) }
+    ensures { stmt_of result ≡ tree.fork at (name_of variable.name)
+        variable.width (expr_of condition) (block_of (map stmt_of body.items)) }
 {
     let kind = StmtKind::Fork(variable.name, variable.width, condition, body);
     Stmt { at, kind }

@@ -1,4 +1,5 @@
--- The trees of the definitions that the trees of the code stand for.
+-- Cited by the clauses of the copies here, of the parser, of cocoon_text and of all that takes a tree: the trees of the
+-- definitions that the trees of the code stand for.
 use Rattle.std.specs.Prelude.{ℕ, List, [], ◌∷◌, map, option_map, Vec}
 use Rattle.std.specs.declared.alloc.Global.{Global}
 use Rattle.cocoon_num.specs.Tree as tree
@@ -37,7 +38,7 @@ use Rattle.cocoon_syntax.specs.declared.defs.DefsText.{DefsText}
 
 -- ---- names and operators
 
--- the name at its place
+-- the name with its token index
 abbrev pub name_of : Name → tree.Name
 name_of n = record { at = n.at; text = n.text }
 
@@ -71,7 +72,7 @@ abbrev pub exprs_of : List tree.Expr → tree.Exprs
 exprs_of [] = tree.no_exprs
 exprs_of (e ∷ es) = tree.expr e (exprs_of es)
 
--- one level of a kind, with each tree inside already seen: the expression but for its place
+-- one level of a kind, with each tree inside already seen: the expression but for its token index
 abbrev pub kind_step : ExprKind-F (ℕ → tree.Expr) tree.Expr → ℕ → tree.Expr
 kind_step (ExprKind-F.Name t) at = tree.name at t
 kind_step (ExprKind-F.Field h f) at = tree.field at (name_of h) (name_of f)
@@ -83,11 +84,11 @@ kind_step (ExprKind-F.Binary op a b) at = tree.binary at (binary_of op) a.value 
 kind_step (ExprKind-F.Slice a high low) at = tree.slice at a.value high low
 kind_step (ExprKind-F.Pick c a b) at = tree.pick at c.value a.value b.value
 
--- one level: the kind at its place
+-- one level: the kind with its token index
 abbrev pub expr_step : Expr-F (ℕ → tree.Expr) tree.Expr → tree.Expr
 expr_step e = e.kind e.at
 
--- the expression of a kind at a place
+-- the expression of a kind and a token index
 abbrev pub kind_of : ExprKind → ℕ → tree.Expr
 kind_of = fold-ExprKind (ℕ → tree.Expr) tree.Expr kind_step expr_step
 
@@ -102,7 +103,7 @@ abbrev pub block_of : List tree.Stmt → tree.Block
 block_of [] = tree.no_stmts
 block_of (s ∷ ss) = tree.stmt s (block_of ss)
 
--- one level of a kind, with each statement inside already seen: the statement but for its place
+-- one level of a kind, with each statement inside already seen: the statement but for its token index
 abbrev pub stmt_kind_step : StmtKind-F (ℕ → tree.Stmt) tree.Stmt → ℕ → tree.Stmt
 stmt_kind_step (StmtKind-F.Let x w e) at = tree.let_ at (name_of x) w (expr_of e)
 stmt_kind_step (StmtKind-F.SetField h f e) at = tree.set_field at (name_of h) (name_of f) (expr_of e)
@@ -114,11 +115,11 @@ stmt_kind_step (StmtKind-F.Assume e) at = tree.assume at (expr_of e)
 stmt_kind_step (StmtKind-F.Fork x w e body) at = tree.fork at (name_of x) w (expr_of e) (block_of body.items)
 stmt_kind_step (StmtKind-F.Send r es) at = tree.send at (name_of r) (exprs_of (map expr_of es.items))
 
--- one level: the kind at its place
+-- one level: the kind with its token index
 abbrev pub stmt_step : Stmt-F (ℕ → tree.Stmt) tree.Stmt → tree.Stmt
 stmt_step s = s.kind s.at
 
--- the statement of a kind at a place
+-- the statement of a kind and a token index
 abbrev pub stmt_kind_of : StmtKind → ℕ → tree.Stmt
 stmt_kind_of = fold-StmtKind (ℕ → tree.Stmt) tree.Stmt stmt_kind_step stmt_step
 

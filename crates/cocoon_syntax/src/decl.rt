@@ -1,10 +1,12 @@
 //! Declarations, and designs. Widths are in bits.
 ghost use Rattle.std.specs.Prelude.{◌≡◌, IfOk, map, option_map};
+ghost use Rattle.cocoon_num.specs.Tree.{Decl as Declared, HeaderDecl as Header, Param as Parameter, Refine as Refined};
 ghost use Rattle.cocoon_syntax.specs.TreeOf.{assume_of, body_of, decl_of, design_of, expr_of, function_of, header_of, host_of, param_of, refine_of, role_of, switch_of};
 
 use crate::expr::Expr;
-use crate::name::{Name, copy_names};
+use crate::name::Name;
 use crate::stmt::{Stmt, copy_stmts};
+use crate::tree::{Tree, both, copy_list};
 use cocoon_num::NoMemory;
 use std::alloc::Global;
 
@@ -16,7 +18,7 @@ pub struct Param {
 }
 
 /// What a function gives: a number of a width, or a truth value.
-#[derive(Clone, Copy, Debug, Drop, PartialEq, Eq)]
+#[derive(Clone, Copy, Drop, PartialEq, Eq)]
 pub enum ResultKind {
     Width(u32),
     Truth,
@@ -74,7 +76,8 @@ pub enum Decl {
     Switch(SwitchDecl),
 }
 
-/// A refinement of roles: the declarations of its level, and how many bodies a refined run may take.
+/// A refinement of roles: the declarations of its level, and how many bodies a refined run may
+/// take.
 #[derive(Drop)]
 pub struct Refine {
     pub at: u32,
@@ -98,7 +101,11 @@ pub struct Design {
     pub refines: Vec<Refine>,
 }
 
-impl Param {
+impl Tree for Param {
+    ghost Meaning = { Parameter };
+
+    ghost meaning = { param_of };
+
     fn copy(&self, alloc: Global) -> Result<Param, NoMemory>
         ensures { IfOk result (λ copy. param_of copy ≡ param_of self.now) }
     {
@@ -113,11 +120,18 @@ impl FunctionDecl {
     fn copy(&self, alloc: Global) -> Result<FunctionDecl, NoMemory>
         ensures { IfOk result (λ copy. function_of copy ≡ function_of self.now) }
     {
+        let (name, (params, body)) = both(
+            self.name.copy(alloc),
+            both(
+                copy_list(alloc, &self.params),
+                copy_value(alloc, &self.body),
+            ),
+        )?;
         Ok(FunctionDecl {
-            name: self.name.copy(alloc)?,
-            params: copy_params(alloc, &self.params)?,
+            name,
+            params,
             result: self.result,
-            body: copy_value(alloc, &self.body)?,
+            body,
         })
     }
 }
@@ -126,10 +140,11 @@ impl AssumeDecl {
     fn copy(&self, alloc: Global) -> Result<AssumeDecl, NoMemory>
         ensures { IfOk result (λ copy. assume_of copy ≡ assume_of self.now) }
     {
+        let (params, body) = both(copy_list(alloc, &self.params), self.body.copy(alloc))?;
         Ok(AssumeDecl {
             at: self.at,
-            params: copy_params(alloc, &self.params)?,
-            body: self.body.copy(alloc)?,
+            params,
+            body,
         })
     }
 }
@@ -139,11 +154,13 @@ impl Role {
     pub fn copy(&self, alloc: Global) -> Result<Role, NoMemory>
         ensures { IfOk result (λ copy. role_of copy ≡ role_of self.now) }
     {
+        let (name, params) = both(self.name.copy(alloc), copy_list(alloc, &self.params))?;
+        let (guard, body) = both(self.guard.copy(alloc), copy_body(alloc, &self.body))?;
         Ok(Role {
-            name: self.name.copy(alloc)?,
-            params: copy_params(alloc, &self.params)?,
-            guard: self.guard.copy(alloc)?,
-            body: copy_body(alloc, &self.body)?,
+            name,
+            params,
+            guard,
+            body,
         })
     }
 }
@@ -152,10 +169,11 @@ impl HostDecl {
     fn copy(&self, alloc: Global) -> Result<HostDecl, NoMemory>
         ensures { IfOk result (λ copy. host_of copy ≡ host_of self.now) }
     {
+        let (entry, sink) = both(self.entry.copy(alloc), self.sink.copy(alloc))?;
         Ok(HostDecl {
             at: self.at,
-            entry: self.entry.copy(alloc)?,
-            sink: self.sink.copy(alloc)?,
+            entry,
+            sink,
         })
     }
 }
@@ -164,16 +182,21 @@ impl SwitchDecl {
     fn copy(&self, alloc: Global) -> Result<SwitchDecl, NoMemory>
         ensures { IfOk result (λ copy. switch_of copy ≡ switch_of self.now) }
     {
+        let (into, out) = both(self.into.copy(alloc), self.out.copy(alloc))?;
         Ok(SwitchDecl {
             at: self.at,
-            into: self.into.copy(alloc)?,
-            out: self.out.copy(alloc)?,
+            into,
+            out,
             ports: self.ports,
         })
     }
 }
 
-impl Decl {
+impl Tree for Decl {
+    ghost Meaning = { Declared };
+
+    ghost meaning = { decl_of };
+
     fn copy(&self, alloc: Global) -> Result<Decl, NoMemory>
         ensures { IfOk result (λ copy. decl_of copy ≡ decl_of self.now) }
     {
@@ -187,27 +210,33 @@ impl Decl {
     }
 }
 
-impl Refine {
+impl Tree for Refine {
+    ghost Meaning = { Refined };
+
+    ghost meaning = { refine_of };
+
     fn copy(&self, alloc: Global) -> Result<Refine, NoMemory>
         ensures { IfOk result (λ copy. refine_of copy ≡ refine_of self.now) }
     {
         Ok(Refine {
             at: self.at,
-            roles: copy_names(alloc, &self.roles)?,
+            roles: copy_list(alloc, &self.roles)?,
             within: self.within,
-            decls: copy_decls(alloc, &self.decls)?,
+            decls: copy_list(alloc, &self.decls)?,
         })
     }
 }
 
-impl HeaderDecl {
+impl Tree for HeaderDecl {
+    ghost Meaning = { Header };
+
+    ghost meaning = { header_of };
+
     fn copy(&self, alloc: Global) -> Result<HeaderDecl, NoMemory>
         ensures { IfOk result (λ copy. header_of copy ≡ header_of self.now) }
     {
-        Ok(HeaderDecl {
-            name: self.name.copy(alloc)?,
-            fields: copy_params(alloc, &self.fields)?,
-        })
+        let (name, fields) = both(self.name.copy(alloc), copy_list(alloc, &self.fields))?;
+        Ok(HeaderDecl { name, fields })
     }
 }
 
@@ -217,9 +246,9 @@ impl Design {
         ensures { IfOk result (λ copy. design_of copy ≡ design_of self.now) }
     {
         Ok(Design {
-            headers: copy_headers(alloc, &self.headers)?,
-            decls: copy_decls(alloc, &self.decls)?,
-            refines: copy_refines(alloc, &self.refines)?,
+            headers: copy_list(alloc, &self.headers)?,
+            decls: copy_list(alloc, &self.decls)?,
+            refines: copy_list(alloc, &self.refines)?,
         })
     }
 }
@@ -240,44 +269,4 @@ fn copy_body(alloc: Global, body: &Option<Vec<Stmt>>) -> Result<Option<Vec<Stmt>
         Some(stmts) => Ok(Some(copy_stmts(alloc, stmts)?)),
         None => Ok(None),
     }
-}
-
-fn copy_params(alloc: Global, params: &[Param]) -> Result<Vec<Param>, NoMemory>
-    ensures { IfOk result (λ copies. map param_of copies.items ≡ map param_of params.now) }
-{
-    let mut copies = Vec::new(alloc);
-    for param in params {
-        copies.push(param.copy(alloc)?)?;
-    }
-    Ok(copies)
-}
-
-fn copy_decls(alloc: Global, decls: &[Decl]) -> Result<Vec<Decl>, NoMemory>
-    ensures { IfOk result (λ copies. map decl_of copies.items ≡ map decl_of decls.now) }
-{
-    let mut copies = Vec::new(alloc);
-    for decl in decls {
-        copies.push(decl.copy(alloc)?)?;
-    }
-    Ok(copies)
-}
-
-fn copy_headers(alloc: Global, headers: &[HeaderDecl]) -> Result<Vec<HeaderDecl>, NoMemory>
-    ensures { IfOk result (λ copies. map header_of copies.items ≡ map header_of headers.now) }
-{
-    let mut copies = Vec::new(alloc);
-    for header in headers {
-        copies.push(header.copy(alloc)?)?;
-    }
-    Ok(copies)
-}
-
-fn copy_refines(alloc: Global, refines: &[Refine]) -> Result<Vec<Refine>, NoMemory>
-    ensures { IfOk result (λ copies. map refine_of copies.items ≡ map refine_of refines.now) }
-{
-    let mut copies = Vec::new(alloc);
-    for refine in refines {
-        copies.push(refine.copy(alloc)?)?;
-    }
-    Ok(copies)
 }

@@ -3,16 +3,17 @@ ghost use Rattle.std.specs.Prelude.{◌≡◌, IfOk, map};
 ghost use Rattle.cocoon_syntax.specs.TreeOf.{expr_of, kind_of};
 
 use crate::name::Name;
+use crate::tree::{Tree, both};
 use cocoon_num::{Bits, NoMemory, Text};
 use std::alloc::Global;
 
-#[derive(Clone, Copy, Debug, Drop, PartialEq, Eq)]
+#[derive(Clone, Copy, Debug, Drop)]
 pub enum UnaryOp {
     Flip,
     Not,
 }
 
-#[derive(Clone, Copy, Debug, Drop, PartialEq, Eq)]
+#[derive(Clone, Copy, Debug, Drop)]
 pub enum BinaryOp {
     Add,
     Sub,
@@ -85,23 +86,28 @@ fn copy_kind(alloc: Global, kind: &ExprKind) -> Result<ExprKind, NoMemory>
     match kind {
         ExprKind::Name(text) => Ok(ExprKind::Name(Text::from(alloc, text.bytes())?)),
         ExprKind::Field(header, field) => {
-            Ok(ExprKind::Field(header.copy(alloc)?, field.copy(alloc)?))
+            let (header, field) = both(header.copy(alloc), field.copy(alloc))?;
+            Ok(ExprKind::Field(header, field))
         }
         ExprKind::Lit(bits) => Ok(ExprKind::Lit(*bits)),
         ExprKind::Truth(truth) => Ok(ExprKind::Truth(*truth)),
         ExprKind::Call(function, args) => {
-            Ok(ExprKind::Call(function.copy(alloc)?, copy_exprs(alloc, args)?))
+            let (function, args) = both(function.copy(alloc), copy_exprs(alloc, args))?;
+            Ok(ExprKind::Call(function, args))
         }
         ExprKind::Unary(op, a) => Ok(ExprKind::Unary(*op, copy_boxed(alloc, a)?)),
         ExprKind::Binary(op, left, right) => {
-            Ok(ExprKind::Binary(*op, copy_boxed(alloc, left)?, copy_boxed(alloc, right)?))
+            let (left, right) = both(copy_boxed(alloc, left), copy_boxed(alloc, right))?;
+            Ok(ExprKind::Binary(*op, left, right))
         }
         ExprKind::Slice(a, high, low) => Ok(ExprKind::Slice(copy_boxed(alloc, a)?, *high, *low)),
-        ExprKind::Pick(condition, first, second) => Ok(ExprKind::Pick(
-            copy_boxed(alloc, condition)?,
-            copy_boxed(alloc, first)?,
-            copy_boxed(alloc, second)?,
-        )),
+        ExprKind::Pick(condition, first, second) => {
+            let (condition, (first, second)) = both(
+                copy_boxed(alloc, condition),
+                both(copy_boxed(alloc, first), copy_boxed(alloc, second)),
+            )?;
+            Ok(ExprKind::Pick(condition, first, second))
+        }
     }
 }
 

@@ -1,32 +1,28 @@
-//! Names at their places.
-ghost use Rattle.std.specs.Prelude.{◌≡◌, IfOk, map};
+//! Names with their token indices.
+ghost use Rattle.std.specs.Prelude.{◌≡◌, IfOk};
+ghost use Rattle.cocoon_num.specs.Tree.{Name as Called};
 ghost use Rattle.cocoon_syntax.specs.TreeOf.{name_of};
 
+use crate::tree::Tree;
 use cocoon_num::{NoMemory, Text};
 use std::alloc::Global;
 
-/// A name, and the index of its token.
+/// A name, and its token index.
 #[derive(Drop)]
 pub struct Name {
     pub at: u32,
     pub text: Text,
 }
 
-impl Name {
-    pub(crate) fn copy(&self, alloc: Global) -> Result<Name, NoMemory>
+impl Tree for Name {
+    ghost Meaning = { Called };
+
+    ghost meaning = { name_of };
+
+    fn copy(&self, alloc: Global) -> Result<Name, NoMemory>
         ensures { IfOk result (λ name. name_of name ≡ name_of self.now) }
     {
         let text = Text::from(alloc, self.text.bytes())?;
         Ok(Name { at: self.at, text })
     }
-}
-
-pub(crate) fn copy_names(alloc: Global, names: &[Name]) -> Result<Vec<Name>, NoMemory>
-    ensures { IfOk result (λ copies. map name_of copies.items ≡ map name_of names.now) }
-{
-    let mut copies = Vec::new(alloc);
-    for name in names {
-        copies.push(name.copy(alloc)?)?;
-    }
-    Ok(copies)
 }

@@ -4,6 +4,7 @@ ghost use Rattle.cocoon_syntax.specs.TreeOf.{stmt_kind_of, stmt_of};
 
 use crate::expr::{Expr, copy_exprs};
 use crate::name::Name;
+use crate::tree::{Tree, both};
 use cocoon_num::NoMemory;
 use std::alloc::Global;
 
@@ -61,32 +62,40 @@ fn copy_kind(alloc: Global, kind: &StmtKind) -> Result<StmtKind, NoMemory>
 {
     match kind {
         StmtKind::Let(name, width, value) => {
-            Ok(StmtKind::Let(name.copy(alloc)?, *width, value.copy(alloc)?))
+            let (name, value) = both(name.copy(alloc), value.copy(alloc))?;
+            Ok(StmtKind::Let(name, *width, value))
         }
-        StmtKind::SetField(header, field, value) => Ok(StmtKind::SetField(
-            header.copy(alloc)?,
-            field.copy(alloc)?,
-            value.copy(alloc)?,
-        )),
-        StmtKind::If(condition, first, second) => Ok(StmtKind::If(
-            condition.copy(alloc)?,
-            copy_stmts(alloc, first)?,
-            copy_stmts(alloc, second)?,
-        )),
+        StmtKind::SetField(header, field, value) => {
+            let (header, (field, value)) = both(
+                header.copy(alloc),
+                both(field.copy(alloc), value.copy(alloc)),
+            )?;
+            Ok(StmtKind::SetField(header, field, value))
+        }
+        StmtKind::If(condition, first, second) => {
+            let (condition, (first, second)) = both(
+                condition.copy(alloc),
+                both(copy_stmts(alloc, first), copy_stmts(alloc, second)),
+            )?;
+            Ok(StmtKind::If(condition, first, second))
+        }
         StmtKind::Filter(condition) => Ok(StmtKind::Filter(condition.copy(alloc)?)),
         StmtKind::HavocVar(name, width) => Ok(StmtKind::HavocVar(name.copy(alloc)?, *width)),
         StmtKind::HavocField(header, field) => {
-            Ok(StmtKind::HavocField(header.copy(alloc)?, field.copy(alloc)?))
+            let (header, field) = both(header.copy(alloc), field.copy(alloc))?;
+            Ok(StmtKind::HavocField(header, field))
         }
         StmtKind::Assume(condition) => Ok(StmtKind::Assume(condition.copy(alloc)?)),
-        StmtKind::Fork(name, width, condition, body) => Ok(StmtKind::Fork(
-            name.copy(alloc)?,
-            *width,
-            condition.copy(alloc)?,
-            copy_stmts(alloc, body)?,
-        )),
+        StmtKind::Fork(name, width, condition, body) => {
+            let (name, (condition, body)) = both(
+                name.copy(alloc),
+                both(condition.copy(alloc), copy_stmts(alloc, body)),
+            )?;
+            Ok(StmtKind::Fork(name, *width, condition, body))
+        }
         StmtKind::Send(role, args) => {
-            Ok(StmtKind::Send(role.copy(alloc)?, copy_exprs(alloc, args)?))
+            let (role, args) = both(role.copy(alloc), copy_exprs(alloc, args))?;
+            Ok(StmtKind::Send(role, args))
         }
     }
 }

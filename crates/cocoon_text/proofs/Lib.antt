@@ -1,4 +1,4 @@
-pub mod Found
+pub mod FirstFaults
 pub mod OneFault
+pub mod Spelled
 pub mod Within
-pub mod Words

@@ -1,41 +1,41 @@
--- The first fault of a text of designs or of definitions, by where it begins, and its line and column.
+-- Cited by the clauses of `read_design` and `read_defs`, by the laws of this crate, and by the clauses of cocoon_cli on
+-- refusals: the first fault of a text of designs or of definitions, by the offset at which it begins, with its position.
 use Rattle.std.specs.Prelude.{◌≡◌, ◌&&◌, ℕ, Bool, List, slice_get, Some, Ok, Err, codes}
 use Rattle.cocoon_num.specs.Lists.{each}
 use Rattle.cocoon_num.specs.Tree.{Design, HeaderDecl, Param}
-use Rattle.cocoon_num.specs.Tokens.{Kind, Token, is_run, kinds, language, lex}
+use Rattle.cocoon_num.specs.Tokens.{Kind, Token, is_run, kinds, language, language_bounds, lex}
 use Rattle.cocoon_num.specs.Tokens as lexing
-use Rattle.cocoon_num.specs.Reads as reads
-use Rattle.cocoon_lex.specs.Places.{column_of, line_of}
+use Rattle.cocoon_num.specs.FirstFaults as first_faults
+use Rattle.cocoon_lex.specs.Position.{column_of, line_of}
 use Rattle.cocoon_text.specs.declared.fault.FaultKind.{FaultKind}
 use Rattle.cocoon_text.specs.declared.fault.FaultKind.TheVariants as kind
 use Rattle.cocoon_text.specs.declared.fault.TextFault.{TextFault}
 use Rattle.cocoon_text.specs.declared.fault.Unread.{Unread}
 use Rattle.cocoon_text.specs.declared.fault.Unread.TheVariants.{Faulty, NoMemory}
 
--- The first fault of a text begins at an offset, which counts bytes from 0. By what a parameter says, tokens begin some
--- text.
+-- The first fault of a text begins at an offset. Tokens begin some text by the parameter `Begins`.
 pub data FaultAt (Begins : List Kind → Type 0) (text : List ℕ) : FaultKind → ℕ → Type 0 where
   bad_byte : {at : ℕ} → lex language text ≡ Err (lexing.bad_byte at) → FaultAt Begins text kind.BadByte at
   bad_number : {at : ℕ} → lex language text ≡ Err (lexing.bad_number at) → FaultAt Begins text kind.BadNumber at
   open_comment : {at : ℕ} → lex language text ≡ Err (lexing.open_comment at) → FaultAt Begins text kind.OpenComment at
   unexpected : {tokens : List Token} {i : ℕ} {token : Token} → lex language text ≡ Ok tokens
-      → reads.Unexpected Begins (kinds tokens) i → slice_get tokens i ≡ Some token → FaultAt Begins text kind.Unexpected token.start
+      → first_faults.Unexpected language_bounds Begins (kinds tokens) i → slice_get tokens i ≡ Some token → FaultAt Begins text kind.Unexpected token.start
   too_deep : {tokens : List Token} {i : ℕ} {token : Token} → lex language text ≡ Ok tokens
-      → reads.TooDeep Begins (kinds tokens) i → slice_get tokens i ≡ Some token → FaultAt Begins text kind.TooDeep token.start
+      → first_faults.TooDeep language_bounds Begins (kinds tokens) i → slice_get tokens i ≡ Some token → FaultAt Begins text kind.TooDeep token.start
 
--- and stands at this line and column
+-- The first fault of a text, with the line and column of its offset.
 pub record FirstFault (Begins : List Kind → Type 0) (text : List ℕ) (f : TextFault) : Type 0 where
   pub offset : ℕ
-  pub found : FaultAt Begins text f.kind offset
+  pub begins : FaultAt Begins text f.kind offset
   pub line_is : f.line ≡ line_of text offset
   pub column_is : f.column ≡ column_of text offset
 
--- why a text has no tree, want of memory aside
+-- why a text has no tree, out of memory aside
 abbrev pub IsUnread : (List Kind → Type 0) → List ℕ → Unread → Type 0
 IsUnread Begins text (Faulty f) = FirstFault Begins text f
 IsUnread Begins text NoMemory = Unit {0}
 
--- the word of a report
+-- the name in a report
 abbrev pub kind_name : FaultKind → List ℕ
 kind_name kind.BadByte = codes "BadByte"
 kind_name kind.BadNumber = codes "BadNumber"
@@ -43,10 +43,10 @@ kind_name kind.OpenComment = codes "OpenComment"
 kind_name kind.Unexpected = codes "Unexpected"
 kind_name kind.TooDeep = codes "TooDeep"
 
--- the names of a header and of its fields are words
-abbrev pub header_has_words : HeaderDecl → Bool
-header_has_words h = is_run h.name.text && each (λ (p : Param). is_run p.name.text) h.fields
+-- the names of a header and of its fields are one or more letters, digits and `_`
+abbrev pub header_is_spelled : HeaderDecl → Bool
+header_is_spelled h = is_run h.name.text && each (λ (p : Param). is_run p.name.text) h.fields
 
 -- those of each header
-abbrev pub has_words : Design → Bool
-has_words d = each header_has_words d.headers
+abbrev pub is_spelled : Design → Bool
+is_spelled d = each header_is_spelled d.headers

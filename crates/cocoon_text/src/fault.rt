@@ -1,4 +1,4 @@
-//! Faults of texts, at their places.
+//! Faults of texts, with their positions.
 ghost use Rattle.std.specs.Prelude.{◌≡◌};
 ghost use Rattle.cocoon_text.specs.TextFaults.{kind_name};
 
@@ -18,7 +18,7 @@ pub enum FaultKind {
 }
 
 impl FaultKind {
-    /// The word of a report.
+    /// The name in a report.
     pub fn name(self) -> &'static str
         ensures { result.now ≡ kind_name self }
     {

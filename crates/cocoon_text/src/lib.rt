@@ -4,9 +4,7 @@
 
 pub mod fault;
 pub mod laws;
-#[cfg(test)]
-mod tests;
-pub mod texts;
+pub mod read;
 
 pub use fault::{FaultKind, TextFault, Unread};
-pub use texts::{read_defs, read_design};
+pub use read::{read_defs, read_design};

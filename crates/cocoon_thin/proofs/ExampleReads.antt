@@ -2,7 +2,7 @@
 use Rattle.std.specs.Prelude.{ℕ, ◌+◌, ◌*◌, ◌-◌, ◌==◌, nat_lt, List, [], ◌∷◌, if◌then◌else◌, codes, Ok, Err, refl}
 use Rattle.cocoon_num.specs.Lists.{has_number}
 use Rattle.cocoon_num.specs.Tree.{Expr}
-use Rattle.cocoon_num.specs.Tokens.{Kind, word, keyword, plain, literal, mark, finish, Token, lex, language}
+use Rattle.cocoon_num.specs.Tokens.{Kind, a_name, keyword, plain, literal, mark, finish, Token, lex, language}
 use Rattle.cocoon_num.specs.Reads.{Many, no_more, one_more, last, then_comma, no_implication, a_chain, no_comparison, a_comparison, no_unary, no_part, a_part, a_variable, a_call, a_field, a_literal, last_expr, more_exprs, an_if_else, a_send, no_stmt, one_stmt as first_stmt, a_block, a_truth, without_body, no_block, its_block, of_expr, of_cmp, of_cat, of_prim, ExprAt, DeclAt, the_function, the_role, the_host, the_switch, HeaderAt, the_field, the_header, DesignAt, Reads, const_true, const_false, one_number, EntryAt, the_default, the_row, DefsAt, ReadsDefs}
 use Rattle.cocoon_thin.specs.ThinTree.{Places, decls_after, thin_tree, thin_entries}
 use Rattle.cocoon_thin.specs.ExampleThin.{example_design, example_defs, example_names, example_entries, example_thin}
@@ -26,21 +26,21 @@ example_places = record { fields = λ i. 5 + 7 * i; nodes = λ k. if k == 0 then
 -- its tokens
 abbrev design_kinds : List Kind
 design_kinds =
-    keyword (codes "packet") ∷ mark (codes "{") ∷ keyword (codes "header") ∷ word (codes "e") ∷ mark (codes "{")
-    ∷ word (codes "tag") ∷ mark (codes ":") ∷ keyword (codes "bit") ∷ mark (codes "<") ∷ plain 8 ∷ mark (codes ">") ∷ mark (codes ";")
+    keyword (codes "packet") ∷ mark (codes "{") ∷ keyword (codes "header") ∷ a_name (codes "e") ∷ mark (codes "{")
+    ∷ a_name (codes "tag") ∷ mark (codes ":") ∷ keyword (codes "bit") ∷ mark (codes "<") ∷ plain 8 ∷ mark (codes ">") ∷ mark (codes ";")
     ∷ mark (codes "}") ∷ mark (codes "}")
-    ∷ keyword (codes "function") ∷ word (codes "h") ∷ mark (codes "(") ∷ word (codes "a") ∷ mark (codes ":") ∷ keyword (codes "bit") ∷ mark (codes "<") ∷ plain 16 ∷ mark (codes ">") ∷ mark (codes ")") ∷ mark (codes ":") ∷ keyword (codes "bool") ∷ mark (codes ";")
-    ∷ keyword (codes "function") ∷ word (codes "g") ∷ mark (codes "(") ∷ word (codes "s") ∷ mark (codes ":") ∷ keyword (codes "bit") ∷ mark (codes "<") ∷ plain 16 ∷ mark (codes ">") ∷ mark (codes ")") ∷ mark (codes ":") ∷ keyword (codes "bool") ∷ mark (codes ";")
-    ∷ keyword (codes "role") ∷ word (codes "Out") ∷ mark (codes "[") ∷ word (codes "a") ∷ mark (codes ":") ∷ keyword (codes "bit") ∷ mark (codes "<") ∷ plain 16 ∷ mark (codes ">") ∷ mark (codes "]") ∷ mark (codes "|") ∷ word (codes "h") ∷ mark (codes "(") ∷ word (codes "a") ∷ mark (codes ")")
-    ∷ mark (codes "=") ∷ mark (codes "{") ∷ keyword (codes "send") ∷ word (codes "SwIn") ∷ mark (codes "[") ∷ literal 16 1 ∷ mark (codes ",") ∷ word (codes "a") ∷ mark (codes "]") ∷ mark (codes ";") ∷ mark (codes "}")
-    ∷ keyword (codes "role") ∷ word (codes "In") ∷ mark (codes "[") ∷ word (codes "a") ∷ mark (codes ":") ∷ keyword (codes "bit") ∷ mark (codes "<") ∷ plain 16 ∷ mark (codes ">") ∷ mark (codes "]") ∷ mark (codes "|") ∷ word (codes "h") ∷ mark (codes "(") ∷ word (codes "a") ∷ mark (codes ")")
+    ∷ keyword (codes "function") ∷ a_name (codes "h") ∷ mark (codes "(") ∷ a_name (codes "a") ∷ mark (codes ":") ∷ keyword (codes "bit") ∷ mark (codes "<") ∷ plain 16 ∷ mark (codes ">") ∷ mark (codes ")") ∷ mark (codes ":") ∷ keyword (codes "bool") ∷ mark (codes ";")
+    ∷ keyword (codes "function") ∷ a_name (codes "g") ∷ mark (codes "(") ∷ a_name (codes "s") ∷ mark (codes ":") ∷ keyword (codes "bit") ∷ mark (codes "<") ∷ plain 16 ∷ mark (codes ">") ∷ mark (codes ")") ∷ mark (codes ":") ∷ keyword (codes "bool") ∷ mark (codes ";")
+    ∷ keyword (codes "role") ∷ a_name (codes "Out") ∷ mark (codes "[") ∷ a_name (codes "a") ∷ mark (codes ":") ∷ keyword (codes "bit") ∷ mark (codes "<") ∷ plain 16 ∷ mark (codes ">") ∷ mark (codes "]") ∷ mark (codes "|") ∷ a_name (codes "h") ∷ mark (codes "(") ∷ a_name (codes "a") ∷ mark (codes ")")
+    ∷ mark (codes "=") ∷ mark (codes "{") ∷ keyword (codes "send") ∷ a_name (codes "SwIn") ∷ mark (codes "[") ∷ literal 16 1 ∷ mark (codes ",") ∷ a_name (codes "a") ∷ mark (codes "]") ∷ mark (codes ";") ∷ mark (codes "}")
+    ∷ keyword (codes "role") ∷ a_name (codes "In") ∷ mark (codes "[") ∷ a_name (codes "a") ∷ mark (codes ":") ∷ keyword (codes "bit") ∷ mark (codes "<") ∷ plain 16 ∷ mark (codes ">") ∷ mark (codes "]") ∷ mark (codes "|") ∷ a_name (codes "h") ∷ mark (codes "(") ∷ a_name (codes "a") ∷ mark (codes ")")
     ∷ mark (codes ";")
-    ∷ keyword (codes "host") ∷ mark (codes "(") ∷ word (codes "Out") ∷ mark (codes ",") ∷ word (codes "In") ∷ mark (codes ")") ∷ mark (codes ";")
-    ∷ keyword (codes "role") ∷ word (codes "SwIn") ∷ mark (codes "[") ∷ word (codes "s") ∷ mark (codes ":") ∷ keyword (codes "bit") ∷ mark (codes "<") ∷ plain 16 ∷ mark (codes ">") ∷ mark (codes ",") ∷ word (codes "p") ∷ mark (codes ":") ∷ keyword (codes "bit") ∷ mark (codes "<") ∷ plain 16 ∷ mark (codes ">") ∷ mark (codes "]") ∷ mark (codes "|") ∷ word (codes "g") ∷ mark (codes "(") ∷ word (codes "s") ∷ mark (codes ")") ∷ keyword (codes "and") ∷ word (codes "p") ∷ mark (codes "<") ∷ literal 16 4
-    ∷ mark (codes "=") ∷ mark (codes "{") ∷ keyword (codes "if") ∷ mark (codes "(") ∷ keyword (codes "pkt") ∷ mark (codes ".") ∷ word (codes "e") ∷ mark (codes ".") ∷ word (codes "tag") ∷ mark (codes "==") ∷ literal 8 1 ∷ mark (codes ")") ∷ mark (codes "{") ∷ keyword (codes "send") ∷ word (codes "SwOut") ∷ mark (codes "[") ∷ word (codes "s") ∷ mark (codes ",") ∷ literal 16 1 ∷ mark (codes "]") ∷ mark (codes ";") ∷ mark (codes "}") ∷ keyword (codes "else") ∷ mark (codes "{") ∷ keyword (codes "send") ∷ word (codes "SwOut") ∷ mark (codes "[") ∷ word (codes "s") ∷ mark (codes ",") ∷ literal 16 2 ∷ mark (codes "]") ∷ mark (codes ";") ∷ mark (codes "}") ∷ mark (codes "}")
-    ∷ keyword (codes "role") ∷ word (codes "SwOut") ∷ mark (codes "[") ∷ word (codes "s") ∷ mark (codes ":") ∷ keyword (codes "bit") ∷ mark (codes "<") ∷ plain 16 ∷ mark (codes ">") ∷ mark (codes ",") ∷ word (codes "p") ∷ mark (codes ":") ∷ keyword (codes "bit") ∷ mark (codes "<") ∷ plain 16 ∷ mark (codes ">") ∷ mark (codes "]") ∷ mark (codes "|") ∷ word (codes "g") ∷ mark (codes "(") ∷ word (codes "s") ∷ mark (codes ")") ∷ keyword (codes "and") ∷ word (codes "p") ∷ mark (codes "<") ∷ literal 16 4
-    ∷ mark (codes "=") ∷ mark (codes "{") ∷ keyword (codes "send") ∷ word (codes "In") ∷ mark (codes "[") ∷ word (codes "p") ∷ mark (codes "]") ∷ mark (codes ";") ∷ mark (codes "}")
-    ∷ keyword (codes "switch") ∷ mark (codes "(") ∷ word (codes "SwIn") ∷ mark (codes ",") ∷ word (codes "SwOut") ∷ mark (codes ")") ∷ keyword (codes "ports") ∷ plain 4 ∷ mark (codes ";") ∷ finish ∷ []
+    ∷ keyword (codes "host") ∷ mark (codes "(") ∷ a_name (codes "Out") ∷ mark (codes ",") ∷ a_name (codes "In") ∷ mark (codes ")") ∷ mark (codes ";")
+    ∷ keyword (codes "role") ∷ a_name (codes "SwIn") ∷ mark (codes "[") ∷ a_name (codes "s") ∷ mark (codes ":") ∷ keyword (codes "bit") ∷ mark (codes "<") ∷ plain 16 ∷ mark (codes ">") ∷ mark (codes ",") ∷ a_name (codes "p") ∷ mark (codes ":") ∷ keyword (codes "bit") ∷ mark (codes "<") ∷ plain 16 ∷ mark (codes ">") ∷ mark (codes "]") ∷ mark (codes "|") ∷ a_name (codes "g") ∷ mark (codes "(") ∷ a_name (codes "s") ∷ mark (codes ")") ∷ keyword (codes "and") ∷ a_name (codes "p") ∷ mark (codes "<") ∷ literal 16 4
+    ∷ mark (codes "=") ∷ mark (codes "{") ∷ keyword (codes "if") ∷ mark (codes "(") ∷ keyword (codes "pkt") ∷ mark (codes ".") ∷ a_name (codes "e") ∷ mark (codes ".") ∷ a_name (codes "tag") ∷ mark (codes "==") ∷ literal 8 1 ∷ mark (codes ")") ∷ mark (codes "{") ∷ keyword (codes "send") ∷ a_name (codes "SwOut") ∷ mark (codes "[") ∷ a_name (codes "s") ∷ mark (codes ",") ∷ literal 16 1 ∷ mark (codes "]") ∷ mark (codes ";") ∷ mark (codes "}") ∷ keyword (codes "else") ∷ mark (codes "{") ∷ keyword (codes "send") ∷ a_name (codes "SwOut") ∷ mark (codes "[") ∷ a_name (codes "s") ∷ mark (codes ",") ∷ literal 16 2 ∷ mark (codes "]") ∷ mark (codes ";") ∷ mark (codes "}") ∷ mark (codes "}")
+    ∷ keyword (codes "role") ∷ a_name (codes "SwOut") ∷ mark (codes "[") ∷ a_name (codes "s") ∷ mark (codes ":") ∷ keyword (codes "bit") ∷ mark (codes "<") ∷ plain 16 ∷ mark (codes ">") ∷ mark (codes ",") ∷ a_name (codes "p") ∷ mark (codes ":") ∷ keyword (codes "bit") ∷ mark (codes "<") ∷ plain 16 ∷ mark (codes ">") ∷ mark (codes "]") ∷ mark (codes "|") ∷ a_name (codes "g") ∷ mark (codes "(") ∷ a_name (codes "s") ∷ mark (codes ")") ∷ keyword (codes "and") ∷ a_name (codes "p") ∷ mark (codes "<") ∷ literal 16 4
+    ∷ mark (codes "=") ∷ mark (codes "{") ∷ keyword (codes "send") ∷ a_name (codes "In") ∷ mark (codes "[") ∷ a_name (codes "p") ∷ mark (codes "]") ∷ mark (codes ";") ∷ mark (codes "}")
+    ∷ keyword (codes "switch") ∷ mark (codes "(") ∷ a_name (codes "SwIn") ∷ mark (codes ",") ∷ a_name (codes "SwOut") ∷ mark (codes ")") ∷ keyword (codes "ports") ∷ plain 4 ∷ mark (codes ";") ∷ finish ∷ []
 
 -- an expression of one part, as an operand of a comparison, as one of `and`, and as a whole
 as_operand : {ts : List Kind} {i j : ℕ} {a : Expr} → ExprAt ts of_prim i a j → ExprAt ts of_cat i a j
@@ -108,13 +108,13 @@ example_defs_places i = if nat_lt i 2 then 1 + 5 * i else 8 * i - 5
 -- the tokens of the definitions
 abbrev defs_kinds : List Kind
 defs_kinds =
-    keyword (codes "default") ∷ word (codes "h") ∷ mark (codes "=") ∷ keyword (codes "false") ∷ mark (codes ";")
-    ∷ keyword (codes "default") ∷ word (codes "g") ∷ mark (codes "=") ∷ keyword (codes "false") ∷ mark (codes ";")
-    ∷ keyword (codes "define") ∷ word (codes "h") ∷ mark (codes "(") ∷ literal 16 0 ∷ mark (codes ")") ∷ mark (codes "=") ∷ keyword (codes "true") ∷ mark (codes ";")
-    ∷ keyword (codes "define") ∷ word (codes "h") ∷ mark (codes "(") ∷ literal 16 1 ∷ mark (codes ")") ∷ mark (codes "=") ∷ keyword (codes "true") ∷ mark (codes ";")
-    ∷ keyword (codes "define") ∷ word (codes "h") ∷ mark (codes "(") ∷ literal 16 2 ∷ mark (codes ")") ∷ mark (codes "=") ∷ keyword (codes "true") ∷ mark (codes ";")
-    ∷ keyword (codes "define") ∷ word (codes "h") ∷ mark (codes "(") ∷ literal 16 3 ∷ mark (codes ")") ∷ mark (codes "=") ∷ keyword (codes "true") ∷ mark (codes ";")
-    ∷ keyword (codes "define") ∷ word (codes "g") ∷ mark (codes "(") ∷ literal 16 1 ∷ mark (codes ")") ∷ mark (codes "=") ∷ keyword (codes "true") ∷ mark (codes ";")
+    keyword (codes "default") ∷ a_name (codes "h") ∷ mark (codes "=") ∷ keyword (codes "false") ∷ mark (codes ";")
+    ∷ keyword (codes "default") ∷ a_name (codes "g") ∷ mark (codes "=") ∷ keyword (codes "false") ∷ mark (codes ";")
+    ∷ keyword (codes "define") ∷ a_name (codes "h") ∷ mark (codes "(") ∷ literal 16 0 ∷ mark (codes ")") ∷ mark (codes "=") ∷ keyword (codes "true") ∷ mark (codes ";")
+    ∷ keyword (codes "define") ∷ a_name (codes "h") ∷ mark (codes "(") ∷ literal 16 1 ∷ mark (codes ")") ∷ mark (codes "=") ∷ keyword (codes "true") ∷ mark (codes ";")
+    ∷ keyword (codes "define") ∷ a_name (codes "h") ∷ mark (codes "(") ∷ literal 16 2 ∷ mark (codes ")") ∷ mark (codes "=") ∷ keyword (codes "true") ∷ mark (codes ";")
+    ∷ keyword (codes "define") ∷ a_name (codes "h") ∷ mark (codes "(") ∷ literal 16 3 ∷ mark (codes ")") ∷ mark (codes "=") ∷ keyword (codes "true") ∷ mark (codes ";")
+    ∷ keyword (codes "define") ∷ a_name (codes "g") ∷ mark (codes "(") ∷ literal 16 1 ∷ mark (codes ")") ∷ mark (codes "=") ∷ keyword (codes "true") ∷ mark (codes ";")
     ∷ finish ∷ []
 
 -- the entries

@@ -10,7 +10,8 @@ use Rattle.cocoon_thin.specs.declared.parts.ThinField.{ThinField}
 use Rattle.cocoon_thin.specs.declared.parts.Thin.{Thin}
 use Rattle.cocoon_thin.specs.ThinParts.{field_name, field_width, fields_fit, numbers_fit}
 use Rattle.cocoon_types.specs.Design.{widths_of}
-use Rattle.cocoon_types.specs.Rules.{unless, has_name, repeated, param_names, wide_params}
+use Rattle.cocoon_types.specs.RuleParts.{unless, has_name, repeated, param_names}
+use Rattle.cocoon_types.specs.TypeRules.{wide_params}
 use Rattle.cocoon_thin.specs.ThinTree.{name_at, fields_from}
 use Rattle.cocoon_thin.proofs.NameFacts.{same_name-refl}
 use Rattle.cocoon_thin.proofs.NoFaults.{joined, named_here, named_next}

@@ -1,15 +1,21 @@
 -- The roles of a thin design have the forms of their kinds.
 use Rattle.std.specs.Prelude.{◌≡◌, ℕ, ◌==◌, ◌&&◌, ◌||◌, Bool, true, false, not, List, [], ◌∷◌, ◌++◌, length, flat_map, nat_lt, if◌then◌else◌, Option, Some, None, is_none, option_and_then, refl}
+use Rattle.std.specs.List.{list_any}
 use Rattle.std.proofs.Common.{◌∙◌, ap, ap₂}
 use Rattle.std.proofs.lemmas.Bool.{and_from, eq-eqb}
-use Rattle.cocoon_num.specs.Tree.{Name, Expr, name, lit, fork, send, FunctionDecl, Role, HostDecl, SwitchDecl, place}
+use Rattle.cocoon_num.specs.Tree.{Name, Expr, name, lit, fork, send, Param, FunctionDecl, Role, HostDecl, SwitchDecl, token_index}
 use Rattle.cocoon_num.specs.Names.{same_name, named}
 use Rattle.cocoon_num.specs.Lists.{first_of}
 use Rattle.cocoon_thin.specs.declared.parts.Thin.{Thin}
 use Rattle.cocoon_thin.specs.ThinParts.{ThinNames}
 use Rattle.cocoon_types.specs.Design.{functions, all_decls}
-use Rattle.cocoon_types.specs.Typing.{StmtSite, with_var, stmts_in}
-use Rattle.cocoon_types.specs.Rules.{sink_form, guard_form, not_switch_form, not_wire, last_choice, fork_form, fails_at, unless, unless_named, has_name, same_params, is_runtime, host_guard, called, guard_function, switch_guard, of_host, same_truth, declared_as, roles_of, guards_by, switch_declared, last_stmts, is_own_out, switch_sends, fork_condition, has_fork, two_ports, each_once, role_names, is_wire, wire_stmt, stmt_place, is_choice}
+use Rattle.cocoon_types.specs.Typing.{with_var}
+use Rattle.cocoon_types.specs.Sites.{StmtSite, stmts_in}
+use Rattle.cocoon_types.specs.SameTrees.{same_params, same_truth}
+use Rattle.cocoon_types.specs.RuleParts.{unless, unless_named, has_name, role_names, roles_of, stmt_at}
+use Rattle.cocoon_types.specs.LastLevel.{called, of_host, last_stmts}
+use Rattle.cocoon_types.specs.FormRules.{is_runtime, host_guard, guard_function, switch_guard, declared_as, guards_by, switch_declared, is_own_out, switch_sends, fork_condition, is_fork, two_ports, each_once, is_wire, wire_stmt, is_choice}
+use Rattle.cocoon_types.specs.Rules.{sink_form, guard_form, not_switch_form, not_wire, last_choice, fork_form, fails_at}
 use Rattle.cocoon_thin.specs.ThinTree.{Places, name_at, param_at, two_values, thin_tree}
 use Rattle.cocoon_thin.proofs.NameFacts.{same_name-refl, AllApart}
 use Rattle.cocoon_thin.proofs.NoFaults.{joined, Every}
@@ -37,7 +43,7 @@ body_sites places n t o = elim o [
   | None ↦ []
   | Some x ↦ elim x.body [
     | None ↦ []
-    | Some b ↦ stmts_in (record { design = thin_tree places n t; vars = x.params; before = functions (thin_tree places n t); level = 0; packet = true }) b
+    | Some b ↦ stmts_in (record { design = thin_tree places n t; vars = x.params; before = functions (thin_tree places n t); level = 0; packet = true }) false b
   ]
 ]
 
@@ -57,11 +63,11 @@ either true = refl
 either false = refl
 
 -- two guards that have the form by one function
-two_guards : (fits : Role → Bool) (function : Expr → List ℕ) (a b : Role) → fits a ≡ true → fits b ≡ true
+two_guards : (fits : List Param → Expr → Bool) (function : Expr → List ℕ) (a b : Role) → fits a.params a.guard ≡ true → fits b.params b.guard ≡ true
     → same_name (function a.guard) (function a.guard) ≡ true → same_name (function a.guard) (function b.guard) ≡ true → guards_by fits function (a ∷ b ∷ []) ≡ []
 two_guards fits function a b h g e i =
-    joined (ap₂ (λ x y. unless (x && (not x || y)) (place a.guard)) h e)
-    (joined (ap₂ (λ x y. unless x (place b.guard)) (and_from _ _ g (ap₂ (λ x y. not x || y) h i)) h) refl)
+    joined (ap₂ (λ x y. unless (x && (not x || y)) (token_index a.guard)) h e)
+    (joined (ap₂ (λ x y. unless x (token_index b.guard)) (and_from _ _ g (ap₂ (λ x y. not x || y) h i)) h) refl)
 
 module _ (places : Places) (n : ThinNames) (t : Thin) (d : AllApart n) where
   -- what is asked of the host roles
@@ -127,12 +133,12 @@ module _ (places : Places) (n : ThinNames) (t : Thin) (d : AllApart n) where
   runtime f x h e = ap (λ (o : Option FunctionDecl). elim o as (λ y. Bool) [ None ↦ false | Some y ↦ is_none y.body ]) h ∙ ap (λ o. is_none o) e
 
   -- the guard of the entry role has its form
-  entry_form : host_guard (thin_tree places n t) (entry_of places n t) ≡ true
-  entry_form = and_from _ _ (and_from true _ refl (runtime n.host_guard (hosts_of places n t) (hosts_named places n t d) refl)) (and_from _ true (same_name-refl n.host) refl)
+  entry_form : host_guard (thin_tree places n t) (entry_of places n t).params (entry_of places n t).guard ≡ true
+  entry_form = and_from _ _ (runtime n.host_guard (hosts_of places n t) (hosts_named places n t d) refl) (and_from _ true (same_name-refl n.host) refl)
 
   -- and so has that of the sink
-  sink_has_form : host_guard (thin_tree places n t) (sink_of places n t) ≡ true
-  sink_has_form = and_from _ _ (and_from true _ refl (runtime n.host_guard (hosts_of places n t) (hosts_named places n t d) refl)) (and_from _ true (same_name-refl n.host) refl)
+  sink_has_form : host_guard (thin_tree places n t) (sink_of places n t).params (sink_of places n t).guard ≡ true
+  sink_has_form = and_from _ _ (runtime n.host_guard (hosts_of places n t) (hosts_named places n t d) refl) (and_from _ true (same_name-refl n.host) refl)
 
   -- the tests of a switch guard, part by part
   switch_form_of : (same_name n.switch_guard n.switch_guard && (same_name n.switch n.switch && true)) && (same_name n.port n.port && (t.ports == t.ports)) ≡ true
@@ -140,12 +146,12 @@ module _ (places : Places) (n : ThinNames) (t : Thin) (d : AllApart n) where
       and_from _ _ (and_from _ _ (same_name-refl n.switch_guard) (and_from _ true (same_name-refl n.switch) refl)) (and_from _ _ (same_name-refl n.port) (eq-eqb t.ports t.ports refl))
 
   -- the guard of the first switch role has its form
-  into_form : switch_guard (thin_tree places n t) t.ports (into_of places n t) ≡ true
-  into_form = and_from _ _ (and_from true _ refl (runtime n.switch_guard (switches_of places n t) (switches_named places n t d) refl)) switch_form_of
+  into_form : switch_guard (thin_tree places n t) t.ports (into_of places n t).params (into_of places n t).guard ≡ true
+  into_form = and_from _ _ (runtime n.switch_guard (switches_of places n t) (switches_named places n t d) refl) switch_form_of
 
   -- and so has that of the second
-  out_form : switch_guard (thin_tree places n t) t.ports (out_of places n t) ≡ true
-  out_form = and_from _ _ (and_from true _ refl (runtime n.switch_guard (switches_of places n t) (switches_named places n t d) refl)) switch_form_of
+  out_form : switch_guard (thin_tree places n t) t.ports (out_of places n t).params (out_of places n t).guard ≡ true
+  out_form = and_from _ _ (runtime n.switch_guard (switches_of places n t) (switches_named places n t d) refl) switch_form_of
 
   pub keeps_guard_form : fails_at guard_form (thin_tree places n t) ≡ []
   keeps_guard_form =
@@ -174,33 +180,33 @@ module _ (places : Places) (n : ThinNames) (t : Thin) (d : AllApart n) where
   keeps_not_switch_form = joined (ap (λ rs. flat_map (λ (r : Role). unless_named (two_ports r) r.name) rs) declared_switches) switch_sites
 
   -- wires: the entry role and OUT
-  entry_wires : (k : ℕ) → flat_map (wire_stmt (thin_tree places n t) (name_at k n.entry)) (last_stmts (thin_tree places n t) n.entry) ≡ []
+  entry_wires : (k : ℕ) → flat_map (wire_stmt (hosts_at places n t) (switches_at places n t) (name_at k n.entry)) (last_stmts (thin_tree places n t) n.entry) ≡ []
   entry_wires k =
-      ap (λ o. flat_map (wire_stmt (thin_tree places n t) (name_at k n.entry)) (body_sites places n t o)) (entry_is places n t d)
+      ap (λ o. flat_map (wire_stmt (hosts_at places n t) (switches_at places n t) (name_at k n.entry)) (body_sites places n t o)) (entry_is places n t d)
       ∙ ap (λ b. unless (b || (same_name n.into n.sink && not (same_name n.entry n.entry))) (places.nodes 45) ++ [] ++ []) (same_name-refl n.into)
 
   -- the second switch role sends to the sink
-  out_wires : (k : ℕ) → flat_map (wire_stmt (thin_tree places n t) (name_at k n.out)) (last_stmts (thin_tree places n t) n.out) ≡ []
+  out_wires : (k : ℕ) → flat_map (wire_stmt (hosts_at places n t) (switches_at places n t) (name_at k n.out)) (last_stmts (thin_tree places n t) n.out) ≡ []
   out_wires k =
-      ap (λ o. flat_map (wire_stmt (thin_tree places n t) (name_at k n.out)) (body_sites places n t o)) (out_is places n t d)
+      ap (λ o. flat_map (wire_stmt (hosts_at places n t) (switches_at places n t) (name_at k n.out)) (body_sites places n t o)) (out_is places n t d)
       ∙ ap₂ (λ a b. unless (a || b) (places.nodes 165) ++ [] ++ []) d.sink_into.one (ap₂ (λ a b. a && not b) (same_name-refl n.sink) d.entry_out.other)
 
   -- the first switch role is none
-  into_no_wire : (k : ℕ) → is_wire (thin_tree places n t) (name_at k n.into) ≡ false
+  into_no_wire : (k : ℕ) → is_wire (hosts_at places n t) (switches_at places n t) (name_at k n.into) ≡ false
   into_no_wire k = ap₂ (λ a b. not a && b) d.sink_into.other (ap₂ (λ a b. not a || b) (same_name-refl n.into) d.into_out.one)
 
   -- a role that does nothing wrong, be it a wire or not
-  wire_of : (r : Name) → flat_map (wire_stmt (thin_tree places n t) r) (last_stmts (thin_tree places n t) r.text) ≡ [] → (if is_wire (thin_tree places n t) r then flat_map (wire_stmt (thin_tree places n t) r) (last_stmts (thin_tree places n t) r.text) else []) ≡ []
-  wire_of r h = ap (λ x. if is_wire (thin_tree places n t) r then x else []) h ∙ either (is_wire (thin_tree places n t) r)
+  wire_of : (r : Name) → flat_map (wire_stmt (hosts_at places n t) (switches_at places n t) r) (last_stmts (thin_tree places n t) r.text) ≡ [] → (if is_wire (hosts_at places n t) (switches_at places n t) r then flat_map (wire_stmt (hosts_at places n t) (switches_at places n t) r) (last_stmts (thin_tree places n t) r.text) else []) ≡ []
+  wire_of r h = ap (λ x. if is_wire (hosts_at places n t) (switches_at places n t) r then x else []) h ∙ either (is_wire (hosts_at places n t) (switches_at places n t) r)
 
   pub keeps_not_wire : fails_at not_wire (thin_tree places n t) ≡ []
   keeps_not_wire =
-      none_once (λ r. if is_wire (thin_tree places n t) r then flat_map (wire_stmt (thin_tree places n t) r) (last_stmts (thin_tree places n t) r.text) else []) (role_names (all_decls (thin_tree places n t))) (
+      none_once (λ r. if is_wire (hosts_at places n t) (switches_at places n t) r then flat_map (wire_stmt (hosts_at places n t) (switches_at places n t) r) (last_stmts (thin_tree places n t) r.text) else []) (role_names (all_decls (thin_tree places n t))) (
         wire_of (name_at (places.nodes 29) n.entry) (entry_wires (places.nodes 29)),
         (
-          wire_of (name_at (places.nodes 55) n.sink) (ap (λ o. flat_map (wire_stmt (thin_tree places n t) (name_at (places.nodes 55) n.sink)) (body_sites places n t o)) (sink_is places n t d)),
+          wire_of (name_at (places.nodes 55) n.sink) (ap (λ o. flat_map (wire_stmt (hosts_at places n t) (switches_at places n t) (name_at (places.nodes 55) n.sink)) (body_sites places n t o)) (sink_is places n t d)),
           (
-            ap (λ b. if b then flat_map (wire_stmt (thin_tree places n t) (name_at (places.nodes 78) n.into)) (last_stmts (thin_tree places n t) n.into) else []) (into_no_wire (places.nodes 78)),
+            ap (λ b. if b then flat_map (wire_stmt (hosts_at places n t) (switches_at places n t) (name_at (places.nodes 78) n.into)) (last_stmts (thin_tree places n t) n.into) else []) (into_no_wire (places.nodes 78)),
             (wire_of (name_at (places.nodes 138) n.out) (out_wires (places.nodes 138)), tt),
           ),
         ),
@@ -209,13 +215,13 @@ module _ (places : Places) (n : ThinNames) (t : Thin) (d : AllApart n) where
   -- no choices
   pub keeps_last_choice : fails_at last_choice (thin_tree places n t) ≡ []
   keeps_last_choice =
-      none_once (λ r. flat_map (λ (site : StmtSite). unless (not (is_choice site.s)) (stmt_place site.s)) (last_stmts (thin_tree places n t) r.text)) (role_names (all_decls (thin_tree places n t))) (
-        ap (λ o. flat_map (λ (site : StmtSite). unless (not (is_choice site.s)) (stmt_place site.s)) (body_sites places n t o)) (entry_is places n t d),
+      none_once (λ r. flat_map (λ (site : StmtSite). unless (not (is_choice site.s)) (stmt_at site.s)) (last_stmts (thin_tree places n t) r.text)) (role_names (all_decls (thin_tree places n t))) (
+        ap (λ o. flat_map (λ (site : StmtSite). unless (not (is_choice site.s)) (stmt_at site.s)) (body_sites places n t o)) (entry_is places n t d),
         (
-          ap (λ o. flat_map (λ (site : StmtSite). unless (not (is_choice site.s)) (stmt_place site.s)) (body_sites places n t o)) (sink_is places n t d),
+          ap (λ o. flat_map (λ (site : StmtSite). unless (not (is_choice site.s)) (stmt_at site.s)) (body_sites places n t o)) (sink_is places n t d),
           (
-            ap (λ o. flat_map (λ (site : StmtSite). unless (not (is_choice site.s)) (stmt_place site.s)) (body_sites places n t o)) (into_is places n t d),
-            (ap (λ o. flat_map (λ (site : StmtSite). unless (not (is_choice site.s)) (stmt_place site.s)) (body_sites places n t o)) (out_is places n t d), tt),
+            ap (λ o. flat_map (λ (site : StmtSite). unless (not (is_choice site.s)) (stmt_at site.s)) (body_sites places n t o)) (into_is places n t d),
+            (ap (λ o. flat_map (λ (site : StmtSite). unless (not (is_choice site.s)) (stmt_at site.s)) (body_sites places n t o)) (out_is places n t d), tt),
           ),
         ),
       )
@@ -223,6 +229,6 @@ module _ (places : Places) (n : ThinNames) (t : Thin) (d : AllApart n) where
   pub keeps_fork_form : fails_at fork_form (thin_tree places n t) ≡ []
   keeps_fork_form =
       ap (λ (o : Option Role). flat_map (λ (site : StmtSite). elim site.s as (λ x. List ℕ) [
-        | fork at x w e b ↦ unless (fork_condition (with_var x w site.scope) x.text e && not (has_fork (stmts_in (with_var x w site.scope) b))) at
+        | fork at x w e b ↦ unless (fork_condition (thin_tree places n t) x.text e && not (list_any is_fork (stmts_in (with_var x w site.scope) false b))) at
         | _ ↦ []
       ]) (body_sites places n t o)) (into_is places n t d)

@@ -5,8 +5,11 @@ use Rattle.std.proofs.lemmas.Bool.{ne_eqb}
 use Rattle.cocoon_num.specs.Packets.{total}
 use Rattle.cocoon_thin.specs.declared.parts.Thin.{Thin}
 use Rattle.cocoon_thin.specs.ThinParts.{ThinNames}
-use Rattle.cocoon_types.specs.Typing.{ExprSite, StmtSite, DeclSite, all_exprs, all_stmts, decl_sites, params_of}
-use Rattle.cocoon_types.specs.Rules.{twice, unknown_name, late_function, unknown_role, zero_count, too_wide, header_width, wrong_width, not_bool, wrong_count, bad_slice, packet_in_guard, fails_at, unless, repeated, param_names, bound_again, roles_again, unknown_in_expr, unknown_in_stmt, late_in_expr, unknown_role_in_stmt, unknown_role_in_decl, wide_params, wide_result, wide_in_stmt, wide_in_expr, wrong_in_expr, wrong_in_stmt, wrong_result, not_bool_in_expr, not_bool_in_stmt, not_bool_in_decl, wrong_count_in_expr, wrong_count_in_stmt, bad_slices, packet_used}
+use Rattle.cocoon_types.specs.Sites.{ExprSite, StmtSite, DeclSite, all_exprs, all_stmts, decl_sites, params_of, bound_by}
+use Rattle.cocoon_types.specs.RuleParts.{unless, repeated, param_names}
+use Rattle.cocoon_types.specs.NameRules.{bound_again, roles_again, unknown_in_expr, unknown_in_stmt, late_in_expr, unknown_role_in_stmt, unknown_role_in_decl}
+use Rattle.cocoon_types.specs.TypeRules.{wide_params, wide_result, wide_in_expr, wrong_in_expr, wrong_in_stmt, wrong_result, not_bool_in_expr, not_bool_in_stmt, not_bool_in_decl, wrong_count_in_expr, wrong_count_in_stmt, bad_slices, packet_used}
+use Rattle.cocoon_types.specs.Rules.{twice, unknown_name, late_function, unknown_role, zero_count, too_wide, header_width, wrong_width, not_bool, wrong_count, bad_slice, packet_in_guard, fails_at}
 use Rattle.cocoon_thin.specs.ThinTree.{Places, name_at, thin_tree}
 use Rattle.cocoon_thin.proofs.NameFacts.{AllApart}
 use Rattle.cocoon_thin.proofs.NoFaults.{joined, every_none}
@@ -61,7 +64,7 @@ module _ (places : Places) (n : ThinNames) (t : Thin) (d : AllApart n) (f : Fiel
       joined (joined (joined (joined (joined (none_wide t.fields places.fields f.narrow_all) refl)
       (decls_keep (λ (s : DeclSite). wide_params (params_of s.decl)) (λ x h. h.narrow)))
       (decls_keep wide_result (λ x h. h.result_narrow)))
-      (stmts_keep wide_in_stmt (λ x h. h.narrow)))
+      (stmts_keep (λ (s : StmtSite). wide_params (bound_by s.s)) (λ x h. h.narrow)))
       (exprs_keep wide_in_expr (λ x h. h.narrow))
 
   pub keeps_header_width : fails_at header_width (thin_tree places n t) ≡ []

@@ -7,7 +7,7 @@ use Rattle.cocoon_thin.specs.declared.parts.Thin.{Thin}
 use Rattle.cocoon_thin.specs.ThinParts.{ThinNames}
 use Rattle.cocoon_types.specs.Design.{role_at}
 use Rattle.cocoon_types.specs.Typing.{Scope, var_width}
-use Rattle.cocoon_types.specs.Rules.{first_role}
+use Rattle.cocoon_types.specs.TypeRules.{first_role}
 use Rattle.cocoon_thin.specs.ThinTree.{Places, param_at, guard_at, entry_role, sink_role, into_role, out_role, thin_tree}
 use Rattle.cocoon_thin.proofs.NameFacts.{same_name-refl, AllApart}
 use Rattle.cocoon_thin.proofs.NoFaults.{named_here, named_next}

@@ -1,13 +1,17 @@
 -- The statements and declarations of a thin design break no rule.
 use Rattle.std.specs.Prelude.{◌≡◌, ℕ, ◌==◌, ◌||◌, Bool, true, false, not, List, [], ◌∷◌, ◌++◌, length, Option, Some, None, is_some, refl}
 use Rattle.std.proofs.Common.{◌∙◌, ap, ap₂}
-use Rattle.cocoon_num.specs.Tree.{Name, Expr, name, lit, Exprs, send, if_, Block, Role, a_role, place}
+use Rattle.cocoon_num.specs.Tree.{Name, Expr, name, lit, Exprs, send, if_, Block, Role, a_role, token_index}
 use Rattle.cocoon_num.specs.Sorts.{bits_sort, truth_sort}
 use Rattle.cocoon_thin.specs.declared.parts.Thin.{Thin}
 use Rattle.cocoon_thin.specs.ThinParts.{ThinNames}
 use Rattle.cocoon_types.specs.Design.{role_at, widths_of}
-use Rattle.cocoon_types.specs.Typing.{Scope, StmtSite, DeclSite, sort_of, all_stmts, decl_sites, params_of}
-use Rattle.cocoon_types.specs.Rules.{unless, unless_named, where_, repeated, param_names, bound_again, unknown_in_stmt, unknown_role_in_stmt, unknown_role_in_decl, wide_in_stmt, wide_params, wide_result, wrong_in_stmt, wrong_result, not_bool_in_stmt, not_bool_in_decl, wrong_count_in_stmt, is_other, first_role, role_widths, wrong_args, count_of}
+use Rattle.cocoon_types.specs.Typing.{Scope, sort_of}
+use Rattle.cocoon_types.specs.Sites.{StmtSite, DeclSite, all_stmts, decl_sites, params_of, bound_by}
+use Rattle.cocoon_types.specs.Parts.{count_of}
+use Rattle.cocoon_types.specs.RuleParts.{unless, unless_named, repeated, param_names}
+use Rattle.cocoon_types.specs.NameRules.{bound_again, unknown_in_stmt, unknown_role_in_stmt, unknown_role_in_decl}
+use Rattle.cocoon_types.specs.TypeRules.{where_, wide_params, wide_result, wrong_in_stmt, wrong_result, not_bool_in_stmt, not_bool_in_decl, wrong_count_in_stmt, is_other, first_role, role_widths, wrong_args}
 use Rattle.cocoon_thin.specs.ThinTree.{Places, name_at, field_test, send_out_at, two_values, one_value, thin_tree}
 use Rattle.cocoon_thin.proofs.NameFacts.{AllApart}
 use Rattle.cocoon_thin.proofs.NoFaults.{Every}
@@ -20,7 +24,7 @@ pub record FineStmt (site : StmtSite) : Type 0 where
   pub fresh : bound_again site ≡ []
   pub known : unknown_in_stmt site ≡ []
   pub reached : unknown_role_in_stmt site ≡ []
-  pub narrow : wide_in_stmt site ≡ []
+  pub narrow : wide_params (bound_by site.s) ≡ []
   pub fitting : wrong_in_stmt site ≡ []
   pub truths : not_bool_in_stmt site ≡ []
   pub counted : wrong_count_in_stmt site ≡ []
@@ -41,15 +45,15 @@ where_none false = refl
 
 -- values of 16 bits for parameters of 16 bits
 one_arg : (s : Scope) (a : Expr) → Wide s a → wrong_args s (16 ∷ []) (one_value a) ≡ []
-one_arg s a h = ap (λ p. unless (not (is_other (bits_sort 16) p)) (place a) ++ []) h
+one_arg s a h = ap (λ p. unless (not (is_other (bits_sort 16) p)) (token_index a) ++ []) h
 
 -- two values for two parameters
 two_args : (s : Scope) (a b : Expr) → Wide s a → Wide s b → wrong_args s (16 ∷ 16 ∷ []) (two_values a b) ≡ []
-two_args s a b h g = ap₂ (λ p q. unless (not (is_other (bits_sort 16) p)) (place a) ++ (unless (not (is_other (bits_sort 16) q)) (place b) ++ [])) h g
+two_args s a b h g = ap₂ (λ p q. unless (not (is_other (bits_sort 16) p)) (token_index a) ++ (unless (not (is_other (bits_sort 16) q)) (token_index b) ++ [])) h g
 
 -- a `send` to a role that is known, with its values
 fine_send : (s : Scope) (at : ℕ) (r : Name) (es : Exprs) (x y : Role) → role_at s.level s.design r.text ≡ Some x → first_role s.design r.text ≡ Some y
-    → (length y.params == count_of es) ≡ true → wrong_args s (widths_of y.params) es ≡ [] → FineStmt (record { scope = s; s = send at r es })
+    → (length y.params == count_of es) ≡ true → wrong_args s (widths_of y.params) es ≡ [] → FineStmt (record { scope = s; ended = false; s = send at r es })
 fine_send s at r es x y there first count args = record {
   fresh = refl;
   known = refl;
@@ -65,20 +69,20 @@ fine_send s at r es x y there first count args = record {
 }
 
 -- an `if` on a truth value
-fine_if : (s : Scope) (at : ℕ) (e : Expr) (a b : Block) → sort_of s e ≡ Some truth_sort → FineStmt (record { scope = s; s = if_ at e a b })
+fine_if : (s : Scope) (at : ℕ) (e : Expr) (a b : Block) → sort_of s e ≡ Some truth_sort → FineStmt (record { scope = s; ended = false; s = if_ at e a b })
 fine_if s at e a b h = record {
   fresh = refl;
   known = refl;
   reached = refl;
   narrow = refl;
   fitting = refl;
-  truths = ap (λ q. unless (not (is_other truth_sort q)) (place e)) h;
+  truths = ap (λ q. unless (not (is_other truth_sort q)) (token_index e)) h;
   counted = refl;
 }
 
 module _ (places : Places) (n : ThinNames) (t : Thin) (d : AllApart n) (f : FieldFacts t) where
   -- send OUT[SWITCH, 16wPORT];
-  out_sent : (at k i m port : ℕ) → FineStmt (record { scope = switch_scope places n t 80 87 true; s = send at (name_at k n.out) (two_values (name i n.switch) (lit m 16 port)) })
+  out_sent : (at k i m port : ℕ) → FineStmt (record { scope = switch_scope places n t 80 87 true; ended = false; s = send at (name_at k n.out) (two_values (name i n.switch) (lit m 16 port)) })
   out_sent at k i m port =
       fine_send (switch_scope places n t 80 87 true) at (name_at k n.out) (two_values (name i n.switch) (lit m 16 port)) (out_of places n t) (out_of places n t) (out_is places n t d) (first_out places n t d) refl
       (two_args (switch_scope places n t 80 87 true) (name i n.switch) (lit m 16 port) (switch_wide places n t d f 80 87 i true) refl)
@@ -121,7 +125,7 @@ module _ (places : Places) (n : ThinNames) (t : Thin) (d : AllApart n) (f : Fiel
     narrow = refl;
     result_narrow = refl;
     result_fitting = refl;
-    truths = ap (λ q. unless (not (is_other truth_sort q)) (place guard)) h;
+    truths = ap (λ q. unless (not (is_other truth_sort q)) (token_index guard)) h;
   }
 
   -- a host role whose guard is a truth value
@@ -133,7 +137,7 @@ module _ (places : Places) (n : ThinNames) (t : Thin) (d : AllApart n) (f : Fiel
     narrow = refl;
     result_narrow = refl;
     result_fitting = refl;
-    truths = ap (λ q. unless (not (is_other truth_sort q)) (place guard)) h;
+    truths = ap (λ q. unless (not (is_other truth_sort q)) (token_index guard)) h;
   }
 
   -- all declarations, in the order of the text
@@ -150,7 +154,7 @@ module _ (places : Places) (n : ThinNames) (t : Thin) (d : AllApart n) (f : Fiel
               (
                 record {
                   fresh = refl;
-                  reached = ap₂ (λ p q. unless_named (is_some p) (name_at (at 72) n.entry) ++ unless_named (is_some q) (name_at (at 74) n.sink)) (entry_is places n t d) (sink_is places n t d);
+                  reached = ap₂ (λ p q. unless_named (is_some p) (name_at (at 72) n.entry) ++ (unless_named (is_some q) (name_at (at 74) n.sink) ++ [])) (entry_is places n t d) (sink_is places n t d);
                   narrow = refl;
                   result_narrow = refl;
                   result_fitting = refl;
@@ -163,7 +167,7 @@ module _ (places : Places) (n : ThinNames) (t : Thin) (d : AllApart n) (f : Fiel
                     (
                       record {
                         fresh = refl;
-                        reached = ap₂ (λ p q. unless_named (is_some p) (name_at (at 174) n.into) ++ unless_named (is_some q) (name_at (at 176) n.out)) (into_is places n t d) (out_is places n t d);
+                        reached = ap₂ (λ p q. unless_named (is_some p) (name_at (at 174) n.into) ++ (unless_named (is_some q) (name_at (at 176) n.out) ++ [])) (into_is places n t d) (out_is places n t d);
                         narrow = refl;
                         result_narrow = refl;
                         result_fitting = refl;

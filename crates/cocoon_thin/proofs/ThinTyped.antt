@@ -7,7 +7,8 @@ use Rattle.cocoon_num.specs.Names.{named}
 use Rattle.cocoon_num.specs.Sorts.{bits_sort, truth_sort}
 use Rattle.cocoon_thin.specs.declared.parts.Thin.{Thin}
 use Rattle.cocoon_thin.specs.ThinParts.{ThinNames, field_name, field_width}
-use Rattle.cocoon_types.specs.Typing.{Scope, sort_of, all_exprs}
+use Rattle.cocoon_types.specs.Typing.{Scope, sort_of}
+use Rattle.cocoon_types.specs.Sites.{all_exprs}
 use Rattle.cocoon_thin.specs.ThinTree.{Places, name_at, fields_from, call_at, field_test, thin_tree}
 use Rattle.cocoon_thin.proofs.NameFacts.{same_name-refl, AllApart}
 use Rattle.cocoon_thin.proofs.NoFaults.{Every, named_here}

@@ -2,7 +2,7 @@
 use Rattle.std.specs.Prelude.{◌≡◌, ℕ, zero, suc, ◌<◌, ◌==◌, ◌&&◌, nat_lt, Bool, true, false, not, List, [], ◌∷◌, length, map, slice_get, if◌then◌else◌, Option, Some, None, option_map, option_and_then, refl}
 use Rattle.std.proofs.Common.{◌∙◌, ap, ap₂, arith}
 use Rattle.std.proofs.lemmas.Bool.{eq-eqb, and_parts, not-true}
-use Rattle.cocoon_num.specs.Values.{Value, number, truth, number_of, fits_width, of_binary, equal, less, and_, with_both}
+use Rattle.cocoon_num.specs.Values.{Value, number, truth, as_number, fits_width, apply_binary, equal, less, and_, with_both}
 use Rattle.cocoon_num.specs.Tree.{Role, Block, name, lit, binary, if_, send}
 use Rattle.cocoon_num.specs.Names.{same_name}
 use Rattle.cocoon_num.specs.Lists.{is_one_of, all_distinct}
@@ -147,13 +147,13 @@ read_found (f ∷ fs) at (suc i) (m ∷ ns) h e =
     ∙ read_found fs (λ k. at (suc k)) i ns (omega (arith, h)) p.1
 
 -- an equation of two numbers of one width
-equal_numbers : (w m : ℕ) (o : Option ℕ) → with_both (of_binary equal) (option_map (number w) o) (Some (number w m)) ≡ option_map (λ v. truth (v == m)) o
+equal_numbers : (w m : ℕ) (o : Option ℕ) → with_both (apply_binary equal) (option_map (number w) o) (Some (number w m)) ≡ option_map (λ v. truth (v == m)) o
 equal_numbers w m None = refl
 equal_numbers w m (Some v) = ap (λ b. if b then Some (truth (v == m)) else None) (eq-eqb w w refl)
 
 -- the guard of a role that is found
-guard_found : (w : World) (at : Loc) (r : Role) → w.role at.role ≡ Some r → guard_at w at ≡ option_and_then (λ env. value w.scope env [] r.guard) (bind r.params at.values)
-guard_found w at r h = ap (λ o. option_and_then (λ (r : Role). option_and_then (λ env. value w.scope env [] r.guard) (bind r.params at.values)) o) h
+guard_found : (w : World) (at : Loc) (r : Role) → w.role at.role ≡ Some r → guard_at w at ≡ option_and_then (λ env. value w.context env [] r.guard) (bind r.params at.values)
+guard_found w at r h = ap (λ o. option_and_then (λ (r : Role). option_and_then (λ env. value w.context env [] r.guard) (bind r.params at.values)) o) h
 
 -- the run of a body of a role that is found
 body_found : (w : World) (at : Loc) (r : Role) (b : Block) (v : Option Value) (packet : Packet) (cs : List ℕ) → w.role at.role ≡ Some r → r.body ≡ Some b → guard_at w at ≡ v
@@ -199,42 +199,42 @@ module _ (places : Places) (n : ThinNames) (t : Thin) (defs : Defs) (hosts switc
   port_is s p = ap₂ (λ b c. if b then Some (number 16 s) else (if c then Some (number 16 p) else None)) d.variables.other (same_name-refl n.port)
 
   -- guards of hosts
-  host_call : (at : ℕ → ℕ) (k x : ℕ) → value (thin_world places n t defs).scope (host_env n x) [] (call_at at k n.host_guard n.host) ≡ Some (truth (hosts x))
+  host_call : (at : ℕ → ℕ) (k x : ℕ) → value (thin_world places n t defs).context (host_env n x) [] (call_at at k n.host_guard n.host) ≡ Some (truth (hosts x))
   host_call at k x =
-      ap (λ v. option_and_then (apply (thin_tree places n t) defs n.host_guard) (then_numbers (option_and_then number_of v) (Some []))) (host_is x) ∙ g.host x
+      ap (λ v. option_and_then (apply (thin_tree places n t) defs n.host_guard) (then_numbers (option_and_then as_number v) (Some []))) (host_is x) ∙ g.host x
 
   -- the guard of the entry role
   entry_guard : (x : ℕ) → guard_at (thin_world places n t defs) (entry_loc n x) ≡ host_value hosts x
   entry_guard x =
       guard_found (thin_world places n t defs) (entry_loc n x) (entry_of places n t) (entry_is places n t d)
-      ∙ only_if (fits_width 16 x) (λ env. value (thin_world places n t defs).scope env [] (entry_of places n t).guard) (host_env n x)
+      ∙ only_if (fits_width 16 x) (λ env. value (thin_world places n t defs).context env [] (entry_of places n t).guard) (host_env n x)
       ∙ ap (λ v. if fits_width 16 x then v else None) (host_call places.nodes 39 x)
 
   -- the guard of the sink
   sink_guard : (x : ℕ) → guard_at (thin_world places n t defs) (sink_loc n x) ≡ host_value hosts x
   sink_guard x =
       guard_found (thin_world places n t defs) (sink_loc n x) (sink_of places n t) (sink_is places n t d)
-      ∙ only_if (fits_width 16 x) (λ env. value (thin_world places n t defs).scope env [] (sink_of places n t).guard) (host_env n x)
+      ∙ only_if (fits_width 16 x) (λ env. value (thin_world places n t defs).context env [] (sink_of places n t).guard) (host_env n x)
       ∙ ap (λ v. if fits_width 16 x then v else None) (host_call places.nodes 65 x)
 
   -- guards of switches
-  switch_call : (at : ℕ → ℕ) (k i j s p : ℕ) → value (thin_world places n t defs).scope (switch_env n s p) [] (binary i and_ (call_at at k n.switch_guard n.switch) (binary j less (name j n.port) (lit i 16 t.ports))) ≡ Some (truth (switches s && nat_lt p t.ports))
+  switch_call : (at : ℕ → ℕ) (k i j s p : ℕ) → value (thin_world places n t defs).context (switch_env n s p) [] (binary i and_ (call_at at k n.switch_guard n.switch) (binary j less (name j n.port) (lit i 16 t.ports))) ≡ Some (truth (switches s && nat_lt p t.ports))
   switch_call at k i j s p =
-      ap₂ (λ u v. with_both (of_binary and_) u (with_both (of_binary less) v (Some (number 16 t.ports))))
-      (ap (λ v. option_and_then (apply (thin_tree places n t) defs n.switch_guard) (then_numbers (option_and_then number_of v) (Some []))) (switch_is s p) ∙ g.switch s) (port_is s p)
+      ap₂ (λ u v. with_both (apply_binary and_) u (with_both (apply_binary less) v (Some (number 16 t.ports))))
+      (ap (λ v. option_and_then (apply (thin_tree places n t) defs n.switch_guard) (then_numbers (option_and_then as_number v) (Some []))) (switch_is s p) ∙ g.switch s) (port_is s p)
 
   -- the guard of the first switch role
   into_guard : (s p : ℕ) → guard_at (thin_world places n t defs) (into_loc n s p) ≡ place_value t switches s p
   into_guard s p =
       guard_found (thin_world places n t defs) (into_loc n s p) (into_of places n t) (into_is places n t d)
-      ∙ only_both (fits_width 16 s) (fits_width 16 p) (λ env. value (thin_world places n t defs).scope env [] (into_of places n t).guard) (bound n.switch (number 16 s)) (record { name = n.port; value = number 16 p } ∷ [])
+      ∙ only_both (fits_width 16 s) (fits_width 16 p) (λ env. value (thin_world places n t defs).context env [] (into_of places n t).guard) (bound n.switch (number 16 s)) (record { name = n.port; value = number 16 p } ∷ [])
       ∙ ap (λ v. if fits_width 16 s then (if fits_width 16 p then v else None) else None) (switch_call places.nodes 95 0 0 s p)
 
   -- the guard of the second switch role
   out_guard : (s p : ℕ) → guard_at (thin_world places n t defs) (out_loc n s p) ≡ place_value t switches s p
   out_guard s p =
       guard_found (thin_world places n t defs) (out_loc n s p) (out_of places n t) (out_is places n t d)
-      ∙ only_both (fits_width 16 s) (fits_width 16 p) (λ env. value (thin_world places n t defs).scope env [] (out_of places n t).guard) (bound n.switch (number 16 s)) (record { name = n.port; value = number 16 p } ∷ [])
+      ∙ only_both (fits_width 16 s) (fits_width 16 p) (λ env. value (thin_world places n t defs).context env [] (out_of places n t).guard) (bound n.switch (number 16 s)) (record { name = n.port; value = number 16 p } ∷ [])
       ∙ ap (λ v. if fits_width 16 s then (if fits_width 16 p then v else None) else None) (switch_call places.nodes 155 0 0 s p)
 
   -- the entry role's body
@@ -242,7 +242,7 @@ module _ (places : Places) (n : ThinNames) (t : Thin) (defs : Defs) (hosts switc
       ≡ go_on (where_true (place_value t switches t.entry_switch a) (Some (sends (into_loc n t.entry_switch a) packet, cs))) ends_there
   entry_sends a packet cs =
       ap (λ v. go_on (option_and_then (λ ns. where_true (guard_at (thin_world places n t defs) (record { role = n.into; values = ns })) (Some (sends (record { role = n.into; values = ns }) packet, cs)))
-      (then_numbers (Some t.entry_switch) (then_numbers (option_and_then number_of v) (Some [])))) ends_there) (host_is a)
+      (then_numbers (Some t.entry_switch) (then_numbers (option_and_then as_number v) (Some [])))) ends_there) (host_is a)
       ∙ ap (λ v. go_on (where_true v (Some (sends (into_loc n t.entry_switch a) packet, cs))) ends_there) (into_guard t.entry_switch a)
 
   -- where a packet goes from a host
@@ -257,11 +257,11 @@ module _ (places : Places) (n : ThinNames) (t : Thin) (defs : Defs) (hosts switc
       ∙ run_by_host (fits_width 16 a) (hosts a) (if place t switches t.entry_switch a then Some (into_loc n t.entry_switch a, packet, cs) else None)
 
   -- the test of the field
-  test_value : (env : Env) (packet : Packet) → value (thin_world places n t defs).scope env packet (field_test places.nodes t) ≡ option_map (λ v. truth (v == t.literal)) (tested_number t packet)
+  test_value : (env : Env) (packet : Packet) → value (thin_world places n t defs).context env packet (field_test places.nodes t) ≡ option_map (λ v. truth (v == t.literal)) (tested_number t packet)
   test_value env [] = refl
   test_value env (ns ∷ packet) =
-      ap (λ b. with_both (of_binary equal) (if b then read_in (fields_from places.fields t.fields) ns (field_name t.fields t.tested) else None) (Some (number (field_width t.fields t.tested) t.literal))) (same_name-refl t.header)
-      ∙ ap (λ o. with_both (of_binary equal) o (Some (number (field_width t.fields t.tested) t.literal))) (read_found t.fields places.fields t.tested ns f.tested f.distinct)
+      ap (λ b. with_both (apply_binary equal) (if b then read_in (fields_from places.fields t.fields) ns (field_name t.fields t.tested) else None) (Some (number (field_width t.fields t.tested) t.literal))) (same_name-refl t.header)
+      ∙ ap (λ o. with_both (apply_binary equal) o (Some (number (field_width t.fields t.tested) t.literal))) (read_found t.fields places.fields t.tested ns f.tested f.distinct)
       ∙ equal_numbers (field_width t.fields t.tested) t.literal (slice_get ns t.tested)
 
   -- a send to a port of the own switch
@@ -269,14 +269,14 @@ module _ (places : Places) (n : ThinNames) (t : Thin) (defs : Defs) (hosts switc
       ≡ go_on (where_true (place_value t switches s port) (Some (sends (out_loc n s port) packet, cs))) ends_there
   out_sends k port s p packet cs =
       ap (λ v. go_on (option_and_then (λ ns. where_true (guard_at (thin_world places n t defs) (record { role = n.out; values = ns })) (Some (sends (record { role = n.out; values = ns }) packet, cs)))
-      (then_numbers (option_and_then number_of v) (then_numbers (Some port) (Some [])))) ends_there) (switch_is s p)
+      (then_numbers (option_and_then as_number v) (then_numbers (Some port) (Some [])))) ends_there) (switch_is s p)
       ∙ ap (λ v. go_on (where_true v (Some (sends (out_loc n s port) packet, cs))) ends_there) (out_guard s port)
 
   -- where the first switch role sends it
   into_sends : (s p : ℕ) (packet : Packet) (cs : List ℕ) → if_reached (run_all (thin_world places n t defs) (into_block places n t) (switch_env n s p) packet cs)
       ≡ next_of n t switches s packet cs (tested_number t packet)
   into_sends s p packet cs =
-      ap₂ (λ u v. if_reached (go_on (back (switch_env n s p) (by_truth (value (thin_world places n t defs).scope (switch_env n s p) packet (field_test places.nodes t)) u v)) ends_there))
+      ap₂ (λ u v. if_reached (go_on (back (switch_env n s p) (by_truth (value (thin_world places n t defs).context (switch_env n s p) packet (field_test places.nodes t)) u v)) ends_there))
       (out_sends 116 t.first_port s p packet cs) (out_sends 127 t.other_port s p packet cs)
       ∙ ap (λ v. if_reached (go_on (back (switch_env n s p) (by_truth v (sent_to n t switches s t.first_port packet cs) (sent_to n t switches s t.other_port packet cs))) ends_there)) (test_value (switch_env n s p) packet)
       ∙ by_test n t switches s packet cs (switch_env n s p) (tested_number t packet)
@@ -296,7 +296,7 @@ module _ (places : Places) (n : ThinNames) (t : Thin) (defs : Defs) (hosts switc
       ≡ go_on (where_true (host_value hosts p) (Some (sends (sink_loc n p) packet, cs))) ends_there
   sink_sends s p packet cs =
       ap (λ v. go_on (option_and_then (λ ns. where_true (guard_at (thin_world places n t defs) (record { role = n.sink; values = ns })) (Some (sends (record { role = n.sink; values = ns }) packet, cs)))
-      (then_numbers (option_and_then number_of v) (Some []))) ends_there) (port_is s p)
+      (then_numbers (option_and_then as_number v) (Some []))) ends_there) (port_is s p)
       ∙ ap (λ v. go_on (where_true v (Some (sends (sink_loc n p) packet, cs))) ends_there) (sink_guard p)
 
   -- where a packet goes from the port at which it left

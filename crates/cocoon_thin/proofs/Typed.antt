@@ -3,12 +3,16 @@ use Rattle.std.specs.Prelude.{◌≡◌, ℕ, ◌==◌, ◌&&◌, ◌||◌, true
 use Rattle.std.proofs.Common.{◌∙◌, ap, ap₂}
 use Rattle.std.proofs.lemmas.Bool.{eq-eqb}
 use Rattle.cocoon_num.specs.Values.{equal, less, and_}
-use Rattle.cocoon_num.specs.Tree.{Name, Expr, name, field, lit, call, binary, FunctionDecl, HeaderDecl, place}
+use Rattle.cocoon_num.specs.Tree.{Name, Expr, name, field, lit, call, binary, FunctionDecl, HeaderDecl, token_index}
 use Rattle.cocoon_num.specs.Names.{named}
-use Rattle.cocoon_num.specs.Sorts.{Sort, bits_sort, truth_sort, binary_sort, of_two}
+use Rattle.cocoon_num.specs.Sorts.{Sort, bits_sort, truth_sort, binary_sort}
+use Rattle.cocoon_num.specs.Values.{with_both}
 use Rattle.cocoon_types.specs.Design.{field_width}
-use Rattle.cocoon_types.specs.Typing.{Scope, ExprSite, var_width, function_named, sort_of, call_sort}
-use Rattle.cocoon_types.specs.Rules.{unless, unless_named, where_, has_name, param_names, header_named, unknown_in_expr, late_in_expr, wide_in_expr, wrong_in_expr, not_bool_in_expr, wrong_count_in_expr, bad_slices, packet_used, both_typed, of_one_width, is_other, found_widths, all_typed, wrong_args}
+use Rattle.cocoon_types.specs.Typing.{Scope, var_width, function_named, sort_of, call_sort}
+use Rattle.cocoon_types.specs.Sites.{ExprSite}
+use Rattle.cocoon_types.specs.RuleParts.{unless, unless_named, has_name, param_names}
+use Rattle.cocoon_types.specs.NameRules.{unknown_in_expr, late_in_expr}
+use Rattle.cocoon_types.specs.TypeRules.{where_, wide_in_expr, wrong_in_expr, not_bool_in_expr, wrong_count_in_expr, bad_slices, packet_used, both_typed, are_like, is_other, found_widths, all_typed, wrong_args}
 use Rattle.cocoon_thin.specs.ThinTree.{guard_at, one_value}
 
 -- no rule of expressions fails at it
@@ -44,11 +48,11 @@ module _ (s : Scope) (i : ℕ) (at : ℕ → ℕ) (k : ℕ) (f : Name) (variable
       → sort_of s a ≡ Some (bits_sort 16) → Fine (at_scope s (call i f (one_value a)))
   fine_call h before typed = record {
     known = ap (λ o. unless_named (is_some o) f) h;
-    not_late = ap₂ (λ o p. unless_named (is_none o || p) f) h before;
+    not_late = ap₂ (λ o p. unless_named (not (is_some o && not p)) f) h before;
     narrow = refl;
     fitting =
         ap (λ o. where_ (all_typed s (one_value a) && (length (found_widths o) == 1)) (wrong_args s (found_widths o) (one_value a))) h
-        ∙ ap (λ q. where_ ((is_some q && true) && true) (unless (not (is_other (bits_sort 16) q)) (place a) ++ [])) typed;
+        ∙ ap (λ q. where_ ((is_some q && true) && true) (unless (not (is_other (bits_sort 16) q)) (token_index a) ++ [])) typed;
     truths = refl;
     counted =
         ap (λ (o : Option FunctionDecl). elim o as (λ x. List ℕ) [ None ↦ [] | Some d ↦ where_ (all_typed s (one_value a)) (unless_named (length d.params == 1) f) ]) h
@@ -73,8 +77,8 @@ module _ (s : Scope) (at w : ℕ) (a b : Expr) (one : sort_of s a ≡ Some (bits
     known = refl;
     not_late = refl;
     narrow = refl;
-    fitting = ap₂ (λ p q. where_ (both_typed p q) (unless (of_one_width p q) at)) one other ∙ ap (λ x. unless x at) same;
-    truths = ap₂ (λ p q. where_ (both_typed p q) []) one other;
+    fitting = ap₂ (λ p q. where_ (both_typed p q) (unless (are_like p q) at)) one other ∙ ap (λ x. unless x at) same;
+    truths = refl;
     counted = refl;
     sliced = refl;
     guarded = refl;
@@ -86,8 +90,8 @@ module _ (s : Scope) (at w : ℕ) (a b : Expr) (one : sort_of s a ≡ Some (bits
     known = refl;
     not_late = refl;
     narrow = refl;
-    fitting = ap₂ (λ p q. where_ (both_typed p q) (unless (of_one_width p q) at)) one other ∙ ap (λ x. unless x at) same;
-    truths = ap₂ (λ p q. where_ (both_typed p q) []) one other;
+    fitting = ap₂ (λ p q. where_ (both_typed p q) (unless (are_like p q) at)) one other ∙ ap (λ x. unless x at) same;
+    truths = refl;
     counted = refl;
     sliced = refl;
     guarded = refl;
@@ -95,11 +99,11 @@ module _ (s : Scope) (at w : ℕ) (a b : Expr) (one : sort_of s a ≡ Some (bits
 
   -- its type
   pub sort_less : sort_of s (binary at less a b) ≡ Some truth_sort
-  sort_less = ap₂ (λ p q. of_two (binary_sort less) p q) one other ∙ ap (λ x. if x then Some truth_sort else None) same
+  sort_less = ap₂ (λ p q. with_both (binary_sort less) p q) one other ∙ ap (λ x. if x then Some truth_sort else None) same
 
   -- its type
   pub sort_equal : sort_of s (binary at equal a b) ≡ Some truth_sort
-  sort_equal = ap₂ (λ p q. of_two (binary_sort equal) p q) one other ∙ ap (λ x. if x then Some truth_sort else None) same
+  sort_equal = ap₂ (λ p q. with_both (binary_sort equal) p q) one other ∙ ap (λ x. if x then Some truth_sort else None) same
 
 -- two truths joined
 module _ (s : Scope) (at : ℕ) (a b : Expr) (one : sort_of s a ≡ Some truth_sort) (other : sort_of s b ≡ Some truth_sort) where
@@ -110,7 +114,7 @@ module _ (s : Scope) (at : ℕ) (a b : Expr) (one : sort_of s a ≡ Some truth_s
     not_late = refl;
     narrow = refl;
     fitting = ap₂ (λ p q. where_ (both_typed p q) []) one other;
-    truths = ap₂ (λ p q. where_ (both_typed p q) (unless (not (is_other truth_sort p)) (place a) ++ unless (not (is_other truth_sort q)) (place b))) one other;
+    truths = ap₂ (λ p q. where_ (both_typed p q) (unless (not (is_other truth_sort p)) (token_index a) ++ unless (not (is_other truth_sort q)) (token_index b))) one other;
     counted = refl;
     sliced = refl;
     guarded = refl;
@@ -118,11 +122,11 @@ module _ (s : Scope) (at : ℕ) (a b : Expr) (one : sort_of s a ≡ Some truth_s
 
   -- its type
   pub sort_and : sort_of s (binary at and_ a b) ≡ Some truth_sort
-  sort_and = ap₂ (λ p q. of_two (binary_sort and_) p q) one other
+  sort_and = ap₂ (λ p q. with_both (binary_sort and_) p q) one other
 
 -- a field of a header that has it, where the packet is in scope
 module _ (s : Scope) (at : ℕ) (h f : Name) (d : HeaderDecl) (w : ℕ) where
-  pub fine_field : header_named s h.text ≡ Some d → has_name f.text (param_names d.fields) ≡ true → s.packet ≡ true → Fine (at_scope s (field at h f))
+  pub fine_field : named (λ (x : HeaderDecl). x.name) h.text s.design.headers ≡ Some d → has_name f.text (param_names d.fields) ≡ true → s.packet ≡ true → Fine (at_scope s (field at h f))
   fine_field there has packet = record {
     known =
         ap (λ (o : Option HeaderDecl). elim o as (λ x. List ℕ) [ None ↦ h.at ∷ [] | Some x ↦ unless_named (has_name f.text (param_names x.fields)) f ]) there

@@ -1,3 +1,4 @@
+-- Private clauses of `definitions` cite it.
 -- The entries of thin definitions, read from their tree.
 use Rattle.std.specs.Prelude.{ℕ, ◌==◌, false, List, [], ◌∷◌, Option, Some, None, if◌then◌else◌, option_and_then, option_map}
 use Rattle.cocoon_num.specs.Values.{truth}

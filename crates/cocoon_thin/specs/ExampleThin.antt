@@ -1,3 +1,4 @@
+-- The law `thin_example` cites it, and so do tests in crates above.
 -- A thin design of one field with its definitions: hosts 0 to 3 at switch 1, and two ports that a packet may leave at.
 use Rattle.std.specs.Prelude.{ℕ, true, List, [], ◌∷◌, codes}
 use Rattle.cocoon_thin.specs.declared.parts.Thin.{Thin}

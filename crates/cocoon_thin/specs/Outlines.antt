@@ -1,3 +1,4 @@
+-- Private clauses of `declarations` and `design` cite it.
 -- What the declarations of a design say, if they are those of a thin one.
 use Rattle.std.specs.Prelude.{ℕ, ◌&&◌, nat_le, Bool, List, [], ◌∷◌, Option, Some, None, if◌then◌else◌, option_and_then, option_map}
 use Rattle.cocoon_num.specs.Names.{same_name}

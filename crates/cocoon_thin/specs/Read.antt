@@ -1,3 +1,4 @@
+-- The clauses of `thin_design` and `thin_definitions` cite it, and private clauses of nearly all modules.
 -- What the values of the code stand for, and what is one.
 use Rattle.std.specs.Prelude.{ℕ, ◌≡◌, suc, ◌==◌, nat_lt, Bool, false, List, [], ◌∷◌, map, if◌then◌else◌, Option, Some, None}
 use Rattle.cocoon_num.specs.Tree.{Design, DefsText}

@@ -1,3 +1,4 @@
+-- Private clauses of `roles` cite it.
 -- What the functions and roles of a thin design have to be, and the numbers that stand in them.
 use Rattle.std.specs.Prelude.{ℕ, suc, ◌&&◌, Bool, true, false, List, [], ◌∷◌, Option, Some, None, if◌then◌else◌, is_none, option_and_then, option_map}
 use Rattle.cocoon_num.specs.Names.{same_name}

@@ -1,3 +1,4 @@
+-- The clauses of `thin_design` and `thin_definitions` cite it, and so do the laws of `meaning`, `visits` and `trees`.
 -- Which designs and definitions are thin: those whose tree is that of some parts, at whatever places the nodes of it stand.
 -- `compile` takes them today. It follows the section "Thin designs" of docs/LANGUAGE.md.
 use Rattle.std.specs.Prelude.{◌≡◌, ℕ, List, IsTrue}

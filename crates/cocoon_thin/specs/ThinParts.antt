@@ -1,3 +1,4 @@
+-- The clauses of `thin_design` and `thin_definitions` cite it, the laws of `meaning` and `visits`, and private clauses.
 -- The parts of a thin design and of thin definitions for it, and what they have to meet. It follows the section "Thin
 -- designs" of docs/LANGUAGE.md.
 use Rattle.std.specs.Prelude.{◌≡◌, ℕ, ◌+◌, ◌%◌, ◌^◌, ◌==◌, ◌&&◌, nat_le, nat_lt, Bool, false, List, [], ◌∷◌, length, map, slice_get, if◌then◌else◌, Some, None, IsTrue}

@@ -1,3 +1,4 @@
+-- The laws of `meaning` cite it.
 -- What a thin design and its definitions mean, and what a network of it delivers, in the terms of its parts alone. A packet
 -- visits one switch: it enters at the port that is the host's number, and leaves at one of two ports, which is the number
 -- of the host that gets it. It is the section "Hosts" of docs/LANGUAGE.md for the form of the section "Thin designs".

@@ -1,3 +1,4 @@
+-- No clause cites it: `Thin` stands on it.
 -- The trees of thin designs and thin definitions. It follows the section "Thin designs" of docs/LANGUAGE.md.
 --
 -- The places of nodes are free. Each node has a number that is its own alone, and `places` is asked for it.

@@ -1,3 +1,4 @@
+-- The laws of `visits` cite it.
 -- One visit of a switch of a thin design: the run from its ingress role to its egress role, and the same in the terms of
 -- the parts. It is the section "A body's run" of docs/LANGUAGE.md for that role.
 use Rattle.std.specs.Prelude.{◌≡◌, ℕ, ◌&&◌, nat_lt, Bool, List, [], ◌∷◌, Some, IsTrue}

@@ -1,3 +1,4 @@
+-- The laws of `visits` cite it.
 -- What wires a thin design: the run of its entry role, which leads from a host to a port, and the run of its egress role,
 -- which leads from a port to a host. Both are stated in the terms of the parts alone.
 use Rattle.std.specs.Prelude.{◌≡◌, ℕ, List, [], ◌∷◌, IsTrue}

@@ -1,3 +1,4 @@
+-- Private clauses of `views` and `roles` cite it.
 -- What stands in pieces of a tree, whatever their places.
 use Rattle.std.specs.Prelude.{ℕ, ◌==◌, ◌&&◌, Bool, false, List, [], ◌∷◌, Option, Some, None, if◌then◌else◌, option_and_then, option_map}
 use Rattle.cocoon_num.specs.Names.{same_name}

@@ -1,11 +1,11 @@
--- The run that takes its choices from the front of a list computes what `Does` relates: `takes` and `takes_all` say that
+-- The run that takes its choices from a list computes what `Does` relates: `takes` and `takes_all` say that
 -- a run so related is computed, whatever choices follow, and `gives` and `gives_all` that what is computed is so
--- related. So a run has one end, and one front of a list of choices.
+-- related. So a run has one end, and one prefix of a list of choices.
 use Rattle.std.specs.Prelude.{◌≡◌, ℕ, zero, suc, ◌^◌, ◌⊎◌, Bool, true, false, List, [], ◌∷◌, ◌++◌, cond, Option, Some, None, option_map, option_and_then, refl}
 use Rattle.std.proofs.Common.{sym, ◌∙◌, ap, inl, inr}
 use Rattle.std.proofs.lemmas.Bool.{lt-ltb, ltb-true}
 use Rattle.std.proofs.lemmas.List.{append_assoc}
-use Rattle.cocoon_num.specs.Values.{Value, number, truth, number_of, FitsWidth, fits_width}
+use Rattle.cocoon_num.specs.Values.{Value, number, truth, as_number, FitsWidth, fits_width}
 use Rattle.cocoon_num.specs.Tree.{Stmt, let_, set_field, if_, filter, havoc_var, havoc_field, assume, fork, send, Block, no_stmts, stmt, Role}
 use Rattle.cocoon_num.specs.Packets.{Packet}
 use Rattle.cocoon_types.specs.Design.{write_field, field_width}
@@ -54,7 +54,7 @@ abbrev rest_or : List ℕ → Ended → List ℕ
 rest_or cs None = cs
 rest_or cs (Some r) = r.1
 
--- Where a run uses up a front of a list of choices, the rest aside, no other run does so.
+-- Where a run uses up a prefix of a list of choices, the rest aside, no other run does so.
 pub one_end : (w : World) (b : Block) (env : Env) (packet : Packet) (cs ds rest more : List ℕ) (x y : End) → DoesAll w b env packet cs x → DoesAll w b env packet ds y → cs ++ rest ≡ ds ++ more → (x ≡ y) × (rest ≡ more)
 one_end w b env packet cs ds rest more x y d e h =
     let both : ◌≡◌ {A = Ended} (Some (x, rest)) (Some (y, more)) = sym (takes_all w b env packet cs x d rest) ∙ ap (run_all w b env packet) h ∙ takes_all w b env packet ds y e more in
@@ -145,47 +145,47 @@ went_on (Some r) f end rest h = by_end r.0 r.1 h
 -- a location whose guard is true stands
 guard_true : (w : World) (at : Loc) → guard_at w at ≡ Some (truth true) → Stands w at
 guard_true w at h =
-    let r : (r : Role) × (w.role at.role ≡ Some r) × (option_and_then (λ env. value w.scope env [] r.guard) (bind r.params at.values) ≡ Some (truth true)) = then_is_some _ (w.role at.role) (truth true) h in
-    let e : (env : Env) × (bind r.0.params at.values ≡ Some env) × (value w.scope env [] r.0.guard ≡ Some (truth true)) = then_is_some _ (bind r.0.params at.values) (truth true) r.2 in
+    let r : (r : Role) × (w.role at.role ≡ Some r) × (option_and_then (λ env. value w.context env [] r.guard) (bind r.params at.values) ≡ Some (truth true)) = then_is_some _ (w.role at.role) (truth true) h in
+    let e : (env : Env) × (bind r.0.params at.values ≡ Some env) × (value w.context env [] r.0.guard ≡ Some (truth true)) = then_is_some _ (bind r.0.params at.values) (truth true) r.2 in
     (r.0, e.0, r.1, e.1, e.2)
 
 mutual
   -- a statement that is run so ends so
   pub gives : (w : World) (s : Stmt) (env : Env) (packet : Packet) (cs : List ℕ) (end : End) (rest : List ℕ) → run w s env packet cs ≡ Some (end, rest) → Used cs rest (λ used. Does w s env packet used end)
   gives w (let_ at x width e) env packet cs end rest h =
-      let m : (v : Value) × (value w.scope env packet e ≡ Some v) × (pair_with (falls (bound x.text v env) packet) cs ≡ pair_with end rest) = map_some _ (value w.scope env packet e) (end, rest) h in
+      let m : (v : Value) × (value w.context env packet e ≡ Some v) × (pair_with (falls (bound x.text v env) packet) cs ≡ pair_with end rest) = map_some _ (value w.context env packet e) (end, rest) h in
       ([], ap (λ p. p.1) m.2, (m.0, m.1, refl, sym (ap (λ p. p.0) m.2)))
   gives w (set_field at h f e) env packet cs end rest g =
-      let m : (n : ℕ) × (option_and_then number_of (value w.scope env packet e) ≡ Some n) × (pair_with (falls env (write_field w.scope.headers packet h.text f.text n)) cs ≡ pair_with end rest) = map_some _ (option_and_then number_of (value w.scope env packet e)) (end, rest) g in
-      let v : (v : Value) × (value w.scope env packet e ≡ Some v) × (number_of v ≡ Some m.0) = then_is_some number_of (value w.scope env packet e) m.0 m.1 in
+      let m : (n : ℕ) × (option_and_then as_number (value w.context env packet e) ≡ Some n) × (pair_with (falls env (write_field w.context.headers packet h.text f.text n)) cs ≡ pair_with end rest) = map_some _ (option_and_then as_number (value w.context env packet e)) (end, rest) g in
+      let v : (v : Value) × (value w.context env packet e ≡ Some v) × (as_number v ≡ Some m.0) = then_is_some as_number (value w.context env packet e) m.0 m.1 in
       ([], ap (λ p. p.1) m.2, (v.0, m.0, v.1, v.2, refl, sym (ap (λ p. p.0) m.2)))
   gives w (if_ at e first second) env packet cs end rest h =
-      let b : (inner : End) × (by_truth (value w.scope env packet e) (run_all w first env packet cs) (run_all w second env packet cs) ≡ Some (inner, rest)) × (end ≡ back_to env inner) = was_back env _ end rest h in
-      elim (was_either (value w.scope env packet e) (run_all w first env packet cs) (run_all w second env packet cs) (b.0, rest) b.1) [
+      let b : (inner : End) × (by_truth (value w.context env packet e) (run_all w first env packet cs) (run_all w second env packet cs) ≡ Some (inner, rest)) × (end ≡ back_to env inner) = was_back env _ end rest h in
+      elim (was_either (value w.context env packet e) (run_all w first env packet cs) (run_all w second env packet cs) (b.0, rest) b.1) [
         | inl t ↦ let g : Used cs rest (λ used. DoesAll w first env packet used b.0) = gives_all w first env packet cs b.0 rest t.1 in (g.0, g.1, (b.0, b.2, inl (t.0, g.2)))
         | inr t ↦ let g : Used cs rest (λ used. DoesAll w second env packet used b.0) = gives_all w second env packet cs b.0 rest t.1 in (g.0, g.1, (b.0, b.2, inr (t.0, g.2)))
       ]
   gives w (filter at e) env packet cs end rest h =
-      let t : (value w.scope env packet e ≡ Some (truth true)) × (some_of (falls env packet) cs ≡ Some (end, rest)) = was_true _ _ (end, rest) h in
+      let t : (value w.context env packet e ≡ Some (truth true)) × (some_of (falls env packet) cs ≡ Some (end, rest)) = was_true _ _ (end, rest) h in
       ([], (pair_of t.1).1, (t.0, refl, sym (pair_of t.1).0))
   gives w (havoc_var at x width) env packet cs end rest h =
       let t : (c : ℕ) × (more : List ℕ) × (cs ≡ c ∷ more) × FitsWidth width c × (some_of (falls (bound x.text (number width c) env) packet) more ≡ Some (end, rest)) = was_taken width cs _ (end, rest) h in
       (t.0 ∷ [], t.2 ∙ ap (λ r. t.0 ∷ r) (pair_of t.4).1, (t.0, t.3, refl, sym (pair_of t.4).0))
   gives w (havoc_field at h f) env packet cs end rest g =
-      let m : (width : ℕ) × (field_width w.scope.headers h.text f.text ≡ Some width) × (take_one width cs (λ c rest. Some (falls env (write_field w.scope.headers packet h.text f.text c), rest)) ≡ Some (end, rest)) = then_is_some _ (field_width w.scope.headers h.text f.text) (end, rest) g in
-      let t : (c : ℕ) × (more : List ℕ) × (cs ≡ c ∷ more) × FitsWidth m.0 c × (some_of (falls env (write_field w.scope.headers packet h.text f.text c)) more ≡ Some (end, rest)) = was_taken m.0 cs _ (end, rest) m.2 in
+      let m : (width : ℕ) × (field_width w.context.headers h.text f.text ≡ Some width) × (take_one width cs (λ c rest. Some (falls env (write_field w.context.headers packet h.text f.text c), rest)) ≡ Some (end, rest)) = then_is_some _ (field_width w.context.headers h.text f.text) (end, rest) g in
+      let t : (c : ℕ) × (more : List ℕ) × (cs ≡ c ∷ more) × FitsWidth m.0 c × (some_of (falls env (write_field w.context.headers packet h.text f.text c)) more ≡ Some (end, rest)) = was_taken m.0 cs _ (end, rest) m.2 in
       (t.0 ∷ [], t.2 ∙ ap (λ r. t.0 ∷ r) (pair_of t.4).1, (t.0, m.0, m.1, t.3, refl, sym (pair_of t.4).0))
   gives w (assume at e) env packet cs end rest h =
-      let t : (value w.scope env packet e ≡ Some (truth true)) × (some_of (falls env packet) cs ≡ Some (end, rest)) = was_true _ _ (end, rest) h in
+      let t : (value w.context env packet e ≡ Some (truth true)) × (some_of (falls env packet) cs ≡ Some (end, rest)) = was_true _ _ (end, rest) h in
       ([], (pair_of t.1).1, (t.0, refl, sym (pair_of t.1).0))
   gives w (fork at x width e body) env packet cs end rest h =
-      let t : (c : ℕ) × (more : List ℕ) × (cs ≡ c ∷ more) × FitsWidth width c × (where_true (value w.scope (bound x.text (number width c) env) packet e) (only_sends (run_all w body (bound x.text (number width c) env) packet more)) ≡ Some (end, rest)) = was_taken width cs _ (end, rest) h in
-      let u : (value w.scope (bound x.text (number width t.0) env) packet e ≡ Some (truth true)) × (only_sends (run_all w body (bound x.text (number width t.0) env) packet t.1) ≡ Some (end, rest)) = was_true _ _ (end, rest) t.4 in
+      let t : (c : ℕ) × (more : List ℕ) × (cs ≡ c ∷ more) × FitsWidth width c × (where_true (value w.context (bound x.text (number width c) env) packet e) (only_sends (run_all w body (bound x.text (number width c) env) packet more)) ≡ Some (end, rest)) = was_taken width cs _ (end, rest) h in
+      let u : (value w.context (bound x.text (number width t.0) env) packet e ≡ Some (truth true)) × (only_sends (run_all w body (bound x.text (number width t.0) env) packet t.1) ≡ Some (end, rest)) = was_true _ _ (end, rest) t.4 in
       let v : (to : Loc) × (sent : Packet) × (run_all w body (bound x.text (number width t.0) env) packet t.1 ≡ Some (sends to sent, rest)) × (end ≡ sends to sent) = was_sent _ end rest u.1 in
       let g : Used t.1 rest (λ used. DoesAll w body (bound x.text (number width t.0) env) packet used (sends v.0 v.1)) = gives_all w body (bound x.text (number width t.0) env) packet t.1 (sends v.0 v.1) rest v.2 in
       (t.0 ∷ g.0, t.2 ∙ ap (λ r. t.0 ∷ r) g.1, (t.0, g.0, v.0, v.1, t.3, refl, u.0, g.2, v.3))
   gives w (send at r es) env packet cs end rest h =
-      let m : (ns : List ℕ) × (numbers w.scope env packet es ≡ Some ns) × (where_true (guard_at w (record { role = r.text; values = ns })) (Some (sends (record { role = r.text; values = ns }) packet, cs)) ≡ Some (end, rest)) = then_is_some _ (numbers w.scope env packet es) (end, rest) h in
+      let m : (ns : List ℕ) × (numbers w.context env packet es ≡ Some ns) × (where_true (guard_at w (record { role = r.text; values = ns })) (Some (sends (record { role = r.text; values = ns }) packet, cs)) ≡ Some (end, rest)) = then_is_some _ (numbers w.context env packet es) (end, rest) h in
       let t : (guard_at w (record { role = r.text; values = m.0 }) ≡ Some (truth true)) × (some_of (sends (record { role = r.text; values = m.0 }) packet) cs ≡ Some (end, rest)) = was_true _ _ (end, rest) m.2 in
       ([], (pair_of t.1).1, (m.0, m.1, guard_true w _ t.0, refl, sym (pair_of t.1).0))
 

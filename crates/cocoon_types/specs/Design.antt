@@ -1,7 +1,7 @@
 -- What a design declares: its levels, functions, roles, hosts, switches and the layout of its packets.
 -- It follows the sections "Packets", "Levels" and "Hosts" of docs/LANGUAGE.md. Headers are all there: none is optional.
-use Rattle.std.specs.Prelude.{ℕ, List, [], ◌∷◌, ◌++◌, map, flat_map, filter_map, length, take, reverse, if◌then◌else◌, Option, Some, None, option_map, option_and_then}
-use Rattle.cocoon_num.specs.Tree.{Param, FunctionDecl, AssumeDecl, Role, HostDecl, SwitchDecl, Decl, a_function, an_assumption, a_role, a_host, a_switch, Refine, HeaderDecl, Design}
+use Rattle.std.specs.Prelude.{ℕ, List, ◌∷◌, ◌++◌, map, flat_map, filter_map, length, take, reverse, if◌then◌else◌, Option, Some, None, option_map, option_and_then}
+use Rattle.cocoon_num.specs.Tree.{Param, FunctionDecl, Role, HostDecl, SwitchDecl, Decl, a_function, a_role, a_host, a_switch, Refine, HeaderDecl, Design}
 use Rattle.cocoon_num.specs.Names.{same_name, named}
 use Rattle.cocoon_num.specs.Packets.{Packet, Layout}
 use Rattle.cocoon_num.specs.Values.{Value, number}
@@ -21,43 +21,19 @@ all_decls design = decls_to (last_level design) design
 
 -- the declaration where it is a function
 abbrev pub as_function : Decl → Option FunctionDecl
-as_function (a_function f) = Some f
-as_function (an_assumption a) = None
-as_function (a_role r) = None
-as_function (a_host h) = None
-as_function (a_switch s) = None
-
--- the declaration where it is an assumption
-abbrev pub as_assumption : Decl → Option AssumeDecl
-as_assumption (a_function f) = None
-as_assumption (an_assumption a) = Some a
-as_assumption (a_role r) = None
-as_assumption (a_host h) = None
-as_assumption (a_switch s) = None
+as_function d = elim d [ a_function f ↦ Some f | _ ↦ None ]
 
 -- the declaration where it is a role
 abbrev pub as_role : Decl → Option Role
-as_role (a_function f) = None
-as_role (an_assumption a) = None
-as_role (a_role r) = Some r
-as_role (a_host h) = None
-as_role (a_switch s) = None
+as_role d = elim d [ a_role r ↦ Some r | _ ↦ None ]
 
 -- the declaration where it names the host roles
 abbrev pub as_host : Decl → Option HostDecl
-as_host (a_function f) = None
-as_host (an_assumption a) = None
-as_host (a_role r) = None
-as_host (a_host h) = Some h
-as_host (a_switch s) = None
+as_host d = elim d [ a_host h ↦ Some h | _ ↦ None ]
 
 -- the declaration where it names the switch roles
 abbrev pub as_switch : Decl → Option SwitchDecl
-as_switch (a_function f) = None
-as_switch (an_assumption a) = None
-as_switch (a_role r) = None
-as_switch (a_host h) = None
-as_switch (a_switch s) = Some s
+as_switch d = elim d [ a_switch s ↦ Some s | _ ↦ None ]
 
 -- the functions of the design, in the order of declaration
 abbrev pub functions : Design → List FunctionDecl
@@ -87,27 +63,25 @@ layout design = map (λ (h : HeaderDecl). widths_of h.fields) design.headers
 
 -- the field f among the fields of one header
 abbrev pub read_in : List Param → List ℕ → List ℕ → Option Value
-read_in [] ns f = None
-read_in (p ∷ ps) [] f = None
 read_in (p ∷ ps) (n ∷ ns) f = if same_name f p.name.text then Some (number p.width n) else read_in ps ns f
+read_in _ _ f = None
 
 -- the field f of the header h
 abbrev pub read_field : List HeaderDecl → Packet → List ℕ → List ℕ → Option Value
-read_field [] packet h f = None
-read_field (d ∷ ds) [] h f = None
-read_field (d ∷ ds) (ns ∷ packet) h f = if same_name h d.name.text then read_in d.fields ns f else read_field ds packet h f
+read_field (d ∷ ds) (ns ∷ packet) h f =
+    if same_name h d.name.text then read_in d.fields ns f else read_field ds packet h f
+read_field _ _ h f = None
 
 -- the numbers of one header with the field f set to n
 abbrev pub write_in : List Param → List ℕ → List ℕ → ℕ → List ℕ
-write_in [] ns f n = ns
-write_in (p ∷ ps) [] f n = []
 write_in (p ∷ ps) (m ∷ ns) f n = if same_name f p.name.text then n ∷ ns else m ∷ write_in ps ns f n
+write_in _ ns f n = ns
 
 -- the packet with the field f of the header h set to n
 abbrev pub write_field : List HeaderDecl → Packet → List ℕ → List ℕ → ℕ → Packet
-write_field [] packet h f n = packet
-write_field (d ∷ ds) [] h f n = []
-write_field (d ∷ ds) (ns ∷ packet) h f n = if same_name h d.name.text then write_in d.fields ns f n ∷ packet else ns ∷ write_field ds packet h f n
+write_field (d ∷ ds) (ns ∷ packet) h f n =
+    if same_name h d.name.text then write_in d.fields ns f n ∷ packet else ns ∷ write_field ds packet h f n
+write_field _ packet h f n = packet
 
 -- the width of the field f of the header h
 abbrev pub field_width : List HeaderDecl → List ℕ → List ℕ → Option ℕ

@@ -3,7 +3,15 @@ pub mod Tables
 pub mod Val
 pub mod Runs
 pub mod Taken
+pub mod Parts
+pub mod SameTrees
 pub mod Typing
+pub mod Sites
+pub mod RuleParts
+pub mod NameRules
+pub mod TypeRules
+pub mod LastLevel
 pub mod ReadBack
+pub mod FormRules
 pub mod Rules
 pub mod DefsRules

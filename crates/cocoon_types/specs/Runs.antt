@@ -4,12 +4,12 @@
 -- case. Headers are all there: none is optional. What the rules of designs shut out is not tested here once more (values of
 -- another width, fields that are not declared, a second role without a body): who cites a run has a well-formed design.
 use Rattle.std.specs.Prelude.{◌≡◌, ℕ, zero, suc, ◌+◌, ◌*◌, ◌⊎◌, true, false, List, [], ◌∷◌, ◌++◌, Option, Some, None}
-use Rattle.cocoon_num.specs.Values.{Value, number, truth, number_of, FitsWidth}
+use Rattle.cocoon_num.specs.Values.{Value, number, truth, as_number, FitsWidth}
 use Rattle.cocoon_num.specs.Tree.{Expr, Stmt, let_, set_field, if_, filter, havoc_var, havoc_field, assume, fork, send, Block, no_stmts, stmt, Role, HostDecl, Design}
 use Rattle.cocoon_num.specs.Packets.{Packet, enter, leave}
 use Rattle.cocoon_types.specs.Design.{role_at, write_field, field_width, host_decl, layout, last_level}
 use Rattle.cocoon_types.specs.Tables.{Defs}
-use Rattle.cocoon_types.specs.Val.{Env, bound, bind, Scope, value, numbers, scope}
+use Rattle.cocoon_types.specs.Val.{Env, bound, bind, Context, value, numbers, context}
 
 -- a role with values of its parameters
 pub record Loc : Type 0 where
@@ -18,12 +18,12 @@ pub record Loc : Type 0 where
 
 -- What runs are in: how expressions are evaluated, and the latest declaration of each role at the level.
 pub record World : Type 0 where
-  pub scope : Scope
+  pub context : Context
   pub role : List ℕ → Option Role
 
 -- the world of a level under some definitions
 abbrev pub world : ℕ → Design → Defs → World
-world i design defs = record { scope = scope design defs; role = role_at i design }
+world i design defs = record { context = context design defs; role = role_at i design }
 
 -- An end falls through, with the variables and the packet as they are then, or sends.
 pub data End : Type 0 where
@@ -32,11 +32,11 @@ pub data End : Type 0 where
 
 -- the expression is true
 abbrev pub IsTrueAt : World → Env → Packet → Expr → Type 0
-IsTrueAt w env packet e = value w.scope env packet e ≡ Some (truth true)
+IsTrueAt w env packet e = value w.context env packet e ≡ Some (truth true)
 
 -- the expression is false
 abbrev pub IsFalseAt : World → Env → Packet → Expr → Type 0
-IsFalseAt w env packet e = value w.scope env packet e ≡ Some (truth false)
+IsFalseAt w env packet e = value w.context env packet e ≡ Some (truth false)
 
 -- the guard of a location is true
 abbrev pub Stands : World → Loc → Type 0
@@ -51,10 +51,10 @@ abbrev mutual
   -- a statement, from these variables and this packet, ends so with exactly these choices
   pub Does : World → Stmt → Env → Packet → List ℕ → End → Type 0
   Does w (let_ at x width e) env packet cs end =
-      (v : Value) × (value w.scope env packet e ≡ Some v) × (cs ≡ []) × (end ≡ falls (bound x.text v env) packet)
+      (v : Value) × (value w.context env packet e ≡ Some v) × (cs ≡ []) × (end ≡ falls (bound x.text v env) packet)
   Does w (set_field at h f e) env packet cs end =
-      (v : Value) × (n : ℕ) × (value w.scope env packet e ≡ Some v) × (number_of v ≡ Some n) × (cs ≡ [])
-      × (end ≡ falls env (write_field w.scope.headers packet h.text f.text n))
+      (v : Value) × (n : ℕ) × (value w.context env packet e ≡ Some v) × (as_number v ≡ Some n) × (cs ≡ [])
+      × (end ≡ falls env (write_field w.context.headers packet h.text f.text n))
   Does w (if_ at e first second) env packet cs end =
       (inner : End) × (end ≡ back_to env inner)
       × (IsTrueAt w env packet e × DoesAll w first env packet cs inner ⊎ IsFalseAt w env packet e × DoesAll w second env packet cs inner)
@@ -62,15 +62,15 @@ abbrev mutual
   Does w (havoc_var at x width) env packet cs end =
       (c : ℕ) × FitsWidth width c × (cs ≡ c ∷ []) × (end ≡ falls (bound x.text (number width c) env) packet)
   Does w (havoc_field at h f) env packet cs end =
-      (c width : ℕ) × (field_width w.scope.headers h.text f.text ≡ Some width) × FitsWidth width c × (cs ≡ c ∷ [])
-      × (end ≡ falls env (write_field w.scope.headers packet h.text f.text c))
+      (c width : ℕ) × (field_width w.context.headers h.text f.text ≡ Some width) × FitsWidth width c × (cs ≡ c ∷ [])
+      × (end ≡ falls env (write_field w.context.headers packet h.text f.text c))
   Does w (assume at e) env packet cs end = IsTrueAt w env packet e × (cs ≡ []) × (end ≡ falls env packet)
   Does w (fork at x width e body) env packet cs end =
       (c : ℕ) × (rest : List ℕ) × (to : Loc) × (sent : Packet) × FitsWidth width c × (cs ≡ c ∷ rest)
       × IsTrueAt w (bound x.text (number width c) env) packet e
       × DoesAll w body (bound x.text (number width c) env) packet rest (sends to sent) × (end ≡ sends to sent)
   Does w (send at r es) env packet cs end =
-      (ns : List ℕ) × (numbers w.scope env packet es ≡ Some ns) × Stands w (record { role = r.text; values = ns })
+      (ns : List ℕ) × (numbers w.context env packet es ≡ Some ns) × Stands w (record { role = r.text; values = ns })
       × (cs ≡ []) × (end ≡ sends (record { role = r.text; values = ns }) packet)
 
   -- the same of a block: the empty one falls, a statement that falls is followed by the rest of the block, and

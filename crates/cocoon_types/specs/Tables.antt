@@ -33,8 +33,7 @@ matches any x = true
 abbrev pub all_match : List Pattern → List ℕ → Bool
 all_match [] [] = true
 all_match (p ∷ ps) (x ∷ xs) = matches p x && all_match ps xs
-all_match [] (x ∷ xs) = false
-all_match (p ∷ ps) [] = false
+all_match _ _ = false
 
 -- the value of the first row that matches, else the default
 abbrev pub look : List Row → Value → List ℕ → Value
@@ -49,21 +48,21 @@ look_up defs f xs = option_map (λ (t : Table). look t.rows t.otherwise xs) (nam
 
 -- the entry where it is a row of the function
 abbrev pub row_of : List ℕ → Entry → Option Row
-row_of f (a_default g v) = None
 row_of f (a_row g ps v) = if same_name f g.text then Some (record { patterns = ps; value = v }) else None
+row_of f _ = None
 
 -- the value where the entry is the function's default
 abbrev pub default_of : List ℕ → Entry → Option Value
 default_of f (a_default g v) = if same_name f g.text then Some v else None
-default_of f (a_row g ps v) = None
+default_of f _ = None
 
 -- the function's rows in the order of the text, and its default
-abbrev pub table_of : DefsText → FunctionDecl → Option Table
-table_of text f = elim f.body [
+abbrev pub runtime_table : DefsText → FunctionDecl → Option Table
+runtime_table text f = elim f.body [
   | Some e ↦ None
   | None ↦ option_map (λ v. record { function = f.name; rows = filter_map (row_of f.name.text) text; otherwise = v }) (first_of (filter_map (default_of f.name.text) text))
 ]
 
 -- a table for each run-time function that has a default
 abbrev pub defs_of : Design → DefsText → Defs
-defs_of design text = filter_map (table_of text) (functions design)
+defs_of design text = filter_map (runtime_table text) (functions design)

@@ -1,7 +1,7 @@
--- A run that takes its choices from the front of a list: the plain program beside the definition of runs. What it does
--- not use of the list it hands on. No contract of the compiler stands on it; it is what proofs about runs compute.
+-- The law `runs_are_taken` cites it, and proofs about runs compute it; no contract of the compiler does. A run that takes
+-- its choices from a list and hands on what it does not use of it: the plain program beside the definition of runs.
 use Rattle.std.specs.Prelude.{◌≡◌, ℕ, zero, suc, true, false, List, [], ◌∷◌, ◌++◌, if◌then◌else◌, Option, Some, None, option_map, option_and_then}
-use Rattle.cocoon_num.specs.Values.{Value, number, truth, number_of, fits_width}
+use Rattle.cocoon_num.specs.Values.{Value, number, truth, as_number, fits_width}
 use Rattle.cocoon_num.specs.Tree.{Stmt, let_, set_field, if_, filter, havoc_var, havoc_field, assume, fork, send, Block, no_stmts, stmt, Role}
 use Rattle.cocoon_num.specs.Packets.{Packet}
 use Rattle.cocoon_types.specs.Design.{write_field, field_width}
@@ -58,29 +58,29 @@ go_on (Some r) f = after r.0 r.1 f
 
 -- the value of the guard of a location
 abbrev pub guard_at : World → Loc → Option Value
-guard_at w at = option_and_then (λ (r : Role). option_and_then (λ env. value w.scope env [] r.guard) (bind r.params at.values)) (w.role at.role)
+guard_at w at = option_and_then (λ (r : Role). option_and_then (λ env. value w.context env [] r.guard) (bind r.params at.values)) (w.role at.role)
 
 abbrev mutual
   -- a statement's run
   pub run : World → Stmt → Env → Packet → List ℕ → Ended
-  run w (let_ at x width e) env packet cs = option_map (λ v. (falls (bound x.text v env) packet, cs)) (value w.scope env packet e)
+  run w (let_ at x width e) env packet cs = option_map (λ v. (falls (bound x.text v env) packet, cs)) (value w.context env packet e)
   run w (set_field at h f e) env packet cs =
-      option_map (λ n. (falls env (write_field w.scope.headers packet h.text f.text n), cs)) (option_and_then number_of (value w.scope env packet e))
+      option_map (λ n. (falls env (write_field w.context.headers packet h.text f.text n), cs)) (option_and_then as_number (value w.context env packet e))
   run w (if_ at e first second) env packet cs =
-      back env (by_truth (value w.scope env packet e) (run_all w first env packet cs) (run_all w second env packet cs))
-  run w (filter at e) env packet cs = where_true (value w.scope env packet e) (Some (falls env packet, cs))
+      back env (by_truth (value w.context env packet e) (run_all w first env packet cs) (run_all w second env packet cs))
+  run w (filter at e) env packet cs = where_true (value w.context env packet e) (Some (falls env packet, cs))
   run w (havoc_var at x width) env packet cs =
       take_one width cs (λ c rest. Some (falls (bound x.text (number width c) env) packet, rest))
   run w (havoc_field at h f) env packet cs =
-      option_and_then (λ width. take_one width cs (λ c rest. Some (falls env (write_field w.scope.headers packet h.text f.text c), rest)))
-      (field_width w.scope.headers h.text f.text)
-  run w (assume at e) env packet cs = where_true (value w.scope env packet e) (Some (falls env packet, cs))
+      option_and_then (λ width. take_one width cs (λ c rest. Some (falls env (write_field w.context.headers packet h.text f.text c), rest)))
+      (field_width w.context.headers h.text f.text)
+  run w (assume at e) env packet cs = where_true (value w.context env packet e) (Some (falls env packet, cs))
   run w (fork at x width e body) env packet cs =
-      take_one width cs (λ c rest. where_true (value w.scope (bound x.text (number width c) env) packet e)
+      take_one width cs (λ c rest. where_true (value w.context (bound x.text (number width c) env) packet e)
       (only_sends (run_all w body (bound x.text (number width c) env) packet rest)))
   run w (send at r es) env packet cs =
       option_and_then (λ ns. where_true (guard_at w (record { role = r.text; values = ns })) (Some (sends (record { role = r.text; values = ns }) packet, cs)))
-      (numbers w.scope env packet es)
+      (numbers w.context env packet es)
 
   -- a block's run
   pub run_all : World → Block → Env → Packet → List ℕ → Ended

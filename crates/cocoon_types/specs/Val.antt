@@ -3,7 +3,7 @@
 -- are declared before it. It follows the section "Values" of docs/LANGUAGE.md; every form there has its case.
 -- Optional headers are absent.
 use Rattle.std.specs.Prelude.{ℕ, List, [], ◌∷◌, if◌then◌else◌, Option, Some, None, option_map, option_and_then, reverse}
-use Rattle.cocoon_num.specs.Values.{Value, number, truth, number_of, fits_width, of_unary, of_binary, of_slice, of_pick, with_both, with_all}
+use Rattle.cocoon_num.specs.Values.{Value, number, truth, as_number, fits_width, apply_unary, apply_binary, apply_slice, apply_pick, with_both, with_all}
 use Rattle.cocoon_num.specs.Tree.{Param, Expr, name, field, lit, true_or_false, call, unary, binary, slice, pick, Exprs, no_exprs, expr, FunctionDecl, HeaderDecl, Design}
 use Rattle.cocoon_num.specs.Names.{same_name}
 use Rattle.cocoon_num.specs.Packets.{Packet}
@@ -32,11 +32,10 @@ bound x v env = record { name = x; value = v } ∷ env
 abbrev pub bind : List Param → List ℕ → Option Env
 bind [] [] = Some []
 bind (p ∷ ps) (n ∷ ns) = if fits_width p.width n then option_map (bound p.name.text (number p.width n)) (bind ps ns) else None
-bind [] (n ∷ ns) = None
-bind (p ∷ ps) [] = None
+bind _ _ = None
 
--- what an expression is evaluated in: the headers, and the values of the functions
-pub record Scope : Type 0 where
+-- what an expression is evaluated in, beside variables and packet: the headers, and the values of the functions
+pub record Context : Type 0 where
   pub headers : List HeaderDecl
   pub apply : List ℕ → List ℕ → Option Value
 
@@ -47,21 +46,21 @@ then_numbers (Some n) ns = option_map (λ rest. n ∷ rest) ns
 
 abbrev mutual
   -- the value of an expression
-  pub value : Scope → Env → Packet → Expr → Option Value
+  pub value : Context → Env → Packet → Expr → Option Value
   value s env packet (name at x) = variable env x
   value s env packet (field at h f) = read_field s.headers packet h.text f.text
   value s env packet (lit at w n) = Some (number w n)
   value s env packet (true_or_false at b) = Some (truth b)
   value s env packet (call at f es) = option_and_then (s.apply f.text) (numbers s env packet es)
-  value s env packet (unary at op a) = option_and_then (of_unary op) (value s env packet a)
-  value s env packet (binary at op a b) = with_both (of_binary op) (value s env packet a) (value s env packet b)
-  value s env packet (slice at a high low) = option_and_then (λ v. of_slice v high low) (value s env packet a)
-  value s env packet (pick at c a b) = with_all of_pick (value s env packet c) (value s env packet a) (value s env packet b)
+  value s env packet (unary at op a) = option_and_then (apply_unary op) (value s env packet a)
+  value s env packet (binary at op a b) = with_both (apply_binary op) (value s env packet a) (value s env packet b)
+  value s env packet (slice at a high low) = option_and_then (λ v. apply_slice v high low) (value s env packet a)
+  value s env packet (pick at c a b) = with_all apply_pick (value s env packet c) (value s env packet a) (value s env packet b)
 
   -- the numbers that some expressions give, from left to right
-  pub numbers : Scope → Env → Packet → Exprs → Option (List ℕ)
+  pub numbers : Context → Env → Packet → Exprs → Option (List ℕ)
   numbers s env packet no_exprs = Some []
-  numbers s env packet (expr e es) = then_numbers (option_and_then number_of (value s env packet e)) (numbers s env packet es)
+  numbers s env packet (expr e es) = then_numbers (option_and_then as_number (value s env packet e)) (numbers s env packet es)
 
 -- ---- functions
 
@@ -80,6 +79,6 @@ apply_in headers defs (d ∷ earlier) f xs =
 abbrev pub apply : Design → Defs → List ℕ → List ℕ → Option Value
 apply design defs = apply_in design.headers defs (reverse (functions design))
 
--- expressions of a design under some definitions
-abbrev pub scope : Design → Defs → Scope
-scope design defs = record { headers = design.headers; apply = apply design defs }
+-- that of a design's expressions under some definitions
+abbrev pub context : Design → Defs → Context
+context design defs = record { headers = design.headers; apply = apply design defs }

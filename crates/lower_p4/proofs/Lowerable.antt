@@ -13,7 +13,7 @@ use Rattle.p4_ir.specs.P4Tree.{P4Field, field_widths}
 use Rattle.p4_ir.specs.P4Kinds.{is_well_kinded}
 use Rattle.cocoon_num.specs.Sorts.{is_declared_width}
 use Rattle.p4_ir.specs.P4Text.{p4_bounds, program_tokens}
-use Rattle.lower_p4.specs.ThinLowered.{fields_of, p4_field, thin_program}
+use Rattle.lower_p4.specs.ThinLowered.{p4_fields, p4_field, thin_program}
 use Rattle.lower_p4.specs.ThinNumbers.{IsLowerable}
 use Rattle.lower_p4.proofs.TestProgram.{TestFits, test_kinds, test_shallow}
 
@@ -76,20 +76,20 @@ narrow t h =
 
 -- ---- the program is well kinded
 
-got : (fields : List ThinField) (i : ℕ) (f : ThinField) → slice_get fields i ≡ Some f → slice_get (fields_of fields) i ≡ Some (p4_field f)
+got : (fields : List ThinField) (i : ℕ) (f : ThinField) → slice_get fields i ≡ Some f → slice_get (p4_fields fields) i ≡ Some (p4_field f)
 got [] i f e = cc
 got (x ∷ xs) zero f e = cc
 got (x ∷ xs) (suc i) f e = got xs i f e
 
-names_same : (fields : List ThinField) → map (λ (f : P4Field). f.name) (fields_of fields) ≡ map (λ (f : ThinField). f.name) fields
+names_same : (fields : List ThinField) → map (λ (f : P4Field). f.name) (p4_fields fields) ≡ map (λ (f : ThinField). f.name) fields
 names_same [] = refl
 names_same (x ∷ xs) = ap (λ ns. x.name ∷ ns) (names_same xs)
 
-widths_same : (fields : List ThinField) → field_widths (fields_of fields) ≡ map (λ (f : ThinField). f.width) fields
+widths_same : (fields : List ThinField) → field_widths (p4_fields fields) ≡ map (λ (f : ThinField). f.width) fields
 widths_same [] = refl
 widths_same (x ∷ xs) = ap (λ ns. x.width ∷ ns) (widths_same xs)
 
-runs_same : (fields : List ThinField) → each (λ (f : P4Field). is_run f.name) (fields_of fields) ≡ each (λ (f : ThinField). is_run f.name) fields
+runs_same : (fields : List ThinField) → each (λ (f : P4Field). is_run f.name) (p4_fields fields) ≡ each (λ (f : ThinField). is_run f.name) fields
 runs_same [] = refl
 runs_same (x ∷ xs) = ap (λ b. is_run x.name && b) (runs_same xs)
 
@@ -97,7 +97,7 @@ fits_same : (fields : List ThinField) → each is_declared_width (map (λ (f : T
 fits_same [] = refl
 fits_same (x ∷ xs) = ap (λ b. is_declared_width x.width && b) (fits_same xs)
 
-fits : (t : Thin) → IsLowerable t → t.first_port < 2 ^ 16 → t.other_port < 2 ^ 16 → TestFits t.header (fields_of t.fields) t.tested (field_width t.fields t.tested) t.literal t.first_port t.other_port
+fits : (t : Thin) → IsLowerable t → t.first_port < 2 ^ 16 → t.other_port < 2 ^ 16 → TestFits t.header (p4_fields t.fields) t.tested (field_width t.fields t.tested) t.literal t.first_port t.other_port
 fits t h first other =
     let f = tested t h in
     let parts = fields_parts t.fields h.0 in
@@ -124,4 +124,4 @@ pub kinds : (t : Thin) → IsLowerable t → t.first_port < 2 ^ 16 → t.other_p
 kinds t h first other = test_kinds _ _ _ _ _ _ _ (fits t h first other)
 
 pub shallow : (t : Thin) → is_shallow p4_bounds (program_tokens (thin_program t)) ≡ true
-shallow t = test_shallow t.header (fields_of t.fields) t.tested (field_width t.fields t.tested) t.literal t.first_port t.other_port
+shallow t = test_shallow t.header (p4_fields t.fields) t.tested (field_width t.fields t.tested) t.literal t.first_port t.other_port

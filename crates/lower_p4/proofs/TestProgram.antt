@@ -5,12 +5,13 @@ use Rattle.std.proofs.lemmas.Bool.{and_from, and_parts, eq-eqb, le-leb, lt-ltb}
 use Rattle.cocoon_num.specs.Values.{equal}
 use Rattle.cocoon_num.specs.Lists.{each, all_distinct}
 use Rattle.cocoon_num.specs.Packets.{total}
-use Rattle.cocoon_num.specs.Tokens.{is_run, Kind, word, mark, literal, finish, brackets_after, operators_after, none_deep, is_shallow}
+use Rattle.cocoon_num.specs.Tokens.{is_run, Kind, a_name, mark, literal, finish, brackets_after, operators_after, none_deep, is_shallow}
 use Rattle.p4_ir.specs.P4Tree.{p_lit, p_field, p_binary, P4Field, field_widths}
 use Rattle.lower_p4.specs.ThinLowered.{sends, test_program}
-use Rattle.p4_ir.specs.P4Text.{p4_bounds, said, of_found, program_tokens, header_type, header_name, member_tokens, meta_member_tokens, control_tokens, block_tokens, in_braces, declared, field_name, architecture}
+use Rattle.p4_ir.specs.P4Text.{p4_bounds, said, optional_tokens, program_tokens, header_type, header_name, member_tokens, meta_member_tokens, control_tokens, block_tokens, in_braces, declared, field_name, architecture}
 use Rattle.p4_ir.specs.P4Kinds.{is_well_kinded, names_fit, widths_fit, Within, p4_sort, sort_if, block_fits}
-use Rattle.cocoon_num.specs.Sorts.{is_declared_width, bits_sort, truth_sort, of_two, binary_sort, has_sort}
+use Rattle.cocoon_num.specs.Sorts.{is_declared_width, bits_sort, truth_sort, binary_sort, has_sort}
+use Rattle.cocoon_num.specs.Values.{with_both}
 
 -- ---- depth, piece by piece
 
@@ -60,7 +61,7 @@ quiet_fields : (fs : List P4Field) → Quiet 1 0 (flat_map (λ (f : P4Field). de
 quiet_fields [] = quiet 1 0 [] refl
 quiet_fields (f ∷ fs) = then_quiet (quiet 1 0 (declared f.width (field_name f.name) ++ mark (codes ";") ∷ []) refl) (quiet_fields fs)
 
-quiet_found : (name : List ℕ) (o : Option P4Field) → Quiet 4 0 (of_found (λ (x : P4Field). said (codes "h.") ++ header_name name ∷ said (codes ".") ++ field_name x.name ∷ []) o) 4 0
+quiet_found : (name : List ℕ) (o : Option P4Field) → Quiet 4 0 (optional_tokens (λ (x : P4Field). said (codes "h.") ++ header_name name ∷ said (codes ".") ++ field_name x.name ∷ []) o) 4 0
 quiet_found name None = quiet 4 0 [] refl
 quiet_found name (Some x) = quiet 4 0 (said (codes "h.") ++ header_name name ∷ said (codes ".") ++ field_name x.name ∷ []) refl
 
@@ -69,15 +70,15 @@ quiet_test : (name : List ℕ) (fields : List P4Field) (tested width n first oth
 quiet_test name fields tested width n first other =
     let p = test_program name fields tested width n first other in
     let left = then_quiet (quiet_found name (slice_get fields tested)) (quiet 4 0 (mark (codes "==") ∷ literal width n ∷ []) refl) in
-    let condition = then_quiet (quiet 2 0 (word (codes "if") ∷ mark (codes "(") ∷ []) refl)
+    let condition = then_quiet (quiet 2 0 (a_name (codes "if") ∷ mark (codes "(") ∷ []) refl)
     (then_quiet (then_quiet (quiet 3 0 (mark (codes "(") ∷ []) refl) (then_quiet left (quiet 4 1 (mark (codes ")") ∷ []) refl))) (quiet 3 1 (mark (codes ")") ∷ []) refl)) in
-    then_quiet (then_quiet (then_quiet condition (quiet 2 1 (in_braces (block_tokens p (sends first))) refl)) (quiet 2 0 (word (codes "else") ∷ in_braces (block_tokens p (sends other))) refl)) (quiet 2 0 [] refl)
+    then_quiet (then_quiet (then_quiet condition (quiet 2 1 (in_braces (block_tokens p (sends first))) refl)) (quiet 2 0 (a_name (codes "else") ∷ in_braces (block_tokens p (sends other))) refl)) (quiet 2 0 [] refl)
 
 pub test_shallow : (name : List ℕ) (fields : List P4Field) (tested width n first other : ℕ) → is_shallow p4_bounds (program_tokens (test_program name fields tested width n first other)) ≡ true
 test_shallow name fields tested width n first other =
     let p = test_program name fields tested width n first other in
-    let header = then_quiet (then_quiet (quiet 0 0 (word (codes "header") ∷ header_type name ∷ mark (codes "{") ∷ []) refl) (then_quiet (quiet_fields fields) (quiet 1 0 (mark (codes "}") ∷ []) refl))) (quiet 0 0 [] refl) in
-    let ingress = then_quiet (quiet 0 8 (mark (codes "{") ∷ word (codes "apply") ∷ mark (codes "{") ∷ []) refl)
+    let header = then_quiet (then_quiet (quiet 0 0 (a_name (codes "header") ∷ header_type name ∷ mark (codes "{") ∷ []) refl) (then_quiet (quiet_fields fields) (quiet 1 0 (mark (codes "}") ∷ []) refl))) (quiet 0 0 [] refl) in
+    let ingress = then_quiet (quiet 0 8 (mark (codes "{") ∷ a_name (codes "apply") ∷ mark (codes "{") ∷ []) refl)
     (then_quiet (then_quiet (then_quiet (quiet 2 0 (said (codes "verdict = 8w0; egress_port = 16w0; group = 16w0;")) refl) (quiet_test name fields tested width n first other)) (quiet 2 0 (mark (codes "}") ∷ []) refl)) (quiet 1 0 (mark (codes "}") ∷ []) refl)) in
     let q1 = then_quiet (quiet 0 0 architecture refl) header in
     let q2 = then_quiet (then_quiet q1 (quiet 0 0 (said (codes "struct Headers")) refl)) (quiet 0 0 (in_braces (flat_map member_tokens p.headers)) refl) in
@@ -123,7 +124,7 @@ test_kinds name fields tested width n first other f =
     let names : names_fit p ≡ true = ap₂ (λ u v. (u && v && true) && true && true && true) (ap₂ (λ u v. u && v) f.name_rest f.rests) f.distinct in
     let widths : widths_fit p ≡ true = ap₂ (λ u v. (u && v && true) && true) f.widths f.bytes in
     let test : p4_sort c (p_binary equal (p_field 0 tested) (p_lit width n)) ≡ Some truth_sort =
-    ap₂ (λ u v. of_two (binary_sort equal) (option_map (λ (x : P4Field). bits_sort x.width) u) (sort_if v (bits_sort width))) f.there (and_from _ _ (and_from _ _ w1 w2) w3)
+    ap₂ (λ u v. with_both (binary_sort equal) (option_map (λ (x : P4Field). bits_sort x.width) u) (sort_if v (bits_sort width))) f.there (and_from _ _ (and_from _ _ w1 w2) w3)
     ∙ ap (λ v. if v then Some truth_sort else None) same in
     let one : block_fits c (sends first) ≡ true = ap (λ v. has_sort (bits_sort 16) (sort_if v (bits_sort 16)) && true) a in
     let two : block_fits c (sends other) ≡ true = ap (λ v. has_sort (bits_sort 16) (sort_if v (bits_sort 16)) && true) b in

@@ -3,7 +3,8 @@ use Rattle.std.proofs.Common.{◌≡◌, ℕ, true, List, [], ◌∷◌, map, Is
 use Rattle.std.proofs.lemmas.Bool.{and_from}
 use Rattle.cocoon_num.specs.Lists.{ascend}
 use Rattle.cocoon_thin.specs.declared.parts.Thin.{Thin}
-use Rattle.p4_ir.specs.NetFits.{wiring_fits, switch_numbers, switch_fits, net_fits}
+use Rattle.p4_ir.specs.Wiring.{wiring_fits}
+use Rattle.p4_ir.specs.NetFits.{switch_numbers, switch_fits, net_fits}
 use Rattle.lower_p4.specs.ThinNet.{thin_switch, thin_net}
 use Rattle.lower_p4.specs.ThinNumbers.{IsLowerable, NumbersFit}
 use Rattle.lower_p4.specs.ThinLowered.{host_ports, links}

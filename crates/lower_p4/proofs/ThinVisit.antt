@@ -2,7 +2,7 @@
 use Rattle.std.proofs.Common.{◌≡◌, ℕ, zero, suc, ◌<◌, List, [], ◌∷◌, Bool, true, false, Option, Some, None, length, map, if◌then◌else◌, refl, ap, sym, ◌∙◌, arith}
 use Rattle.std.specs.Prelude.{◌==◌, slice_get, option_map, option_and_then}
 use Rattle.std.proofs.lemmas.Bool.{eq-eqb}
-use Rattle.cocoon_num.specs.Values.{Value, number, truth, of_binary, equal, with_both}
+use Rattle.cocoon_num.specs.Values.{Value, number, truth, apply_binary, equal, with_both}
 use Rattle.cocoon_num.specs.Packets.{Packet, enter, leave}
 use Rattle.cocoon_thin.specs.declared.parts.ThinField.{ThinField}
 use Rattle.cocoon_thin.specs.declared.parts.Thin.{Thin}
@@ -10,12 +10,12 @@ use Rattle.cocoon_thin.specs.ThinParts.{field_width}
 use Rattle.cocoon_thin.specs.ThinRuns.{thin_layout, port_of, leaves_at}
 use Rattle.p4_ir.specs.P4Tree.{no_rows, p_done, field_widths, program_layout}
 use Rattle.p4_ir.specs.Switch.{State, Running, both, choose, then_run, state_of, p4_run_all, ingress_of, after_ingress}
-use Rattle.lower_p4.specs.ThinLowered.{fields_of, sends, thin_program}
+use Rattle.lower_p4.specs.ThinLowered.{p4_fields, sends, thin_program}
 use Rattle.lower_p4.specs.ThinNet.{thin_leaves, thin_visit}
 use Rattle.lower_p4.specs.ThinSwitches.{VisitsAreThin}
 
 -- the program has the fields of the design
-same_widths : (fs : List ThinField) → field_widths (fields_of fs) ≡ map (λ (f : ThinField). f.width) fs
+same_widths : (fs : List ThinField) → field_widths (p4_fields fs) ≡ map (λ (f : ThinField). f.width) fs
 same_widths [] = refl
 same_widths (f ∷ fs) = ap (λ ws. f.width ∷ ws) (same_widths fs)
 
@@ -24,7 +24,7 @@ same_layout : (t : Thin) → program_layout (thin_program t) ≡ thin_layout t
 same_layout t = ap (λ ws. ws ∷ []) (same_widths t.fields)
 
 -- the tested field has its width in the program
-width_there : (fs : List ThinField) (i : ℕ) → i < length fs → slice_get (field_widths (fields_of fs)) i ≡ Some (field_width fs i)
+width_there : (fs : List ThinField) (i : ℕ) → i < length fs → slice_get (field_widths (p4_fields fs)) i ≡ Some (field_width fs i)
 width_there [] i h = absurd (omega (arith, h))
 width_there (f ∷ fs) zero h = refl
 width_there (f ∷ fs) (suc i) h = width_there fs i (omega (arith, h))
@@ -52,7 +52,7 @@ by_truth t port packet false = refl
 
 -- the number in the field decides
 by_number : (t : Thin) (port : ℕ) (packet : Packet) (w : ℕ) (o : Option ℕ)
-    → tested t port packet (with_both (of_binary equal) (both (Some w) o) (Some (number w t.literal))) ≡ option_map (leaving packet) (option_map (port_of t) o)
+    → tested t port packet (with_both (apply_binary equal) (both (Some w) o) (Some (number w t.literal))) ≡ option_map (leaving packet) (option_map (port_of t) o)
 by_number t port packet w None = refl
 by_number t port packet w (Some n) =
     ap (λ b. tested t port packet (if b then Some (truth (n == t.literal)) else None)) (eq-eqb w w refl) ∙ by_truth t port packet (n == t.literal)
@@ -62,7 +62,7 @@ ingress_leaves : (t : Thin) → t.tested < length t.fields → (port : ℕ) (pac
 ingress_leaves t h port [] = refl
 ingress_leaves t h port (ns ∷ packet) =
     let w = field_width t.fields t.tested in
-    ap (λ o. tested t port (ns ∷ packet) (with_both (of_binary equal) (both o (slice_get ns t.tested)) (Some (number w t.literal)))) (width_there t.fields t.tested h)
+    ap (λ o. tested t port (ns ∷ packet) (with_both (apply_binary equal) (both o (slice_get ns t.tested)) (Some (number w t.literal)))) (width_there t.fields t.tested h)
     ∙ by_number t port (ns ∷ packet) w (slice_get ns t.tested)
 
 -- what follows from that state

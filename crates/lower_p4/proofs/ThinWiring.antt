@@ -9,7 +9,7 @@ use Rattle.cocoon_thin.specs.declared.parts.Thin.{Thin}
 use Rattle.cocoon_thin.specs.ThinParts.{numbers_fit}
 use Rattle.p4_ir.specs.NetTree.{to_host, Link}
 use Rattle.lower_p4.specs.ThinLowered.{host_port, host_ports, port_hosts, links_of, links}
-use Rattle.p4_ir.specs.NetFits.{Wiring, pairs_ascend, host_numbers, attach_fits, host_fits, link_fits, wiring_fits}
+use Rattle.p4_ir.specs.Wiring.{Wiring, pairs_ascend, host_numbers, attach_fits, host_fits, link_fits, wiring_fits}
 use Rattle.lower_p4.specs.ThinNumbers.{NumbersFit}
 use Rattle.lower_p4.proofs.ThinLists.{all_below, or_right, number_itself, each_from, each_map, each_flat, kept_passes, kept_there, filter_ascends}
 

@@ -1,5 +1,7 @@
--- What the compiler takes today, thin designs, and the network that it makes of them. Whatever stands above knows these
--- words alone. It follows "Thin designs" in docs/LANGUAGE.md and "Lowering and the P4 text" in docs/FORMATS.md.
+-- The clauses of `accept`, `lower` and `one_lowering` cite it.
+-- What the compiler takes today, thin designs, and the network that it makes of them. The command knows them by these
+-- names alone; the laws of whole networks also look behind them. It follows "Thin designs" in docs/LANGUAGE.md and
+-- "Lowering and the P4 text" in docs/FORMATS.md.
 use Rattle.std.specs.Prelude.{◌≡◌, ℕ}
 use Rattle.cocoon_num.specs.Tree.{Design, DefsText}
 use Rattle.p4_ir.specs.P4Tree.{Program}
@@ -20,7 +22,7 @@ Accepts design = ThinDesign design
 unfoldable pub AcceptsDefs : Design → DefsText → Type 0
 AcceptsDefs design defs = ThinDefs design defs
 
--- the design is the one that was accepted, places aside
+-- the design is the one that was accepted, token indices aside
 unfoldable pub IsOf : Accepted → Design → Type 0
 IsOf accepted design = IsThinDesign design (names_of accepted.outline.names) accepted.outline.parts
 

@@ -1,3 +1,4 @@
+-- The clauses `lowering` and `sound` of `lower` cite it.
 -- What it is to be a lowering of a design under its definitions. It follows "Lowering and the
 -- P4 text" in docs/FORMATS.md.
 use Rattle.std.specs.Prelude.{ℕ, List, [], ◌∷◌, IsTrue}

@@ -1,3 +1,4 @@
+-- Clauses of `thin` and laws of `thin_networks` cite it.
 -- The network of a thin design: the program of its switches, where hosts are attached, and the links. It follows
 -- "Lowering" in docs/FORMATS.md. The program of a thin design has no table, no group and no tagged form.
 use Rattle.std.specs.Prelude.{ℕ, ◌&&◌, nat_lt, List, [], ◌∷◌, map, filter, flat_map, if◌then◌else◌, Some, None, codes}
@@ -33,13 +34,13 @@ test_program name fields tested width n first other = record {
 abbrev pub p4_field : ThinField → P4Field
 p4_field f = record { name = f.name; width = f.width }
 
-abbrev pub fields_of : List ThinField → List P4Field
-fields_of fields = map p4_field fields
+abbrev pub p4_fields : List ThinField → List P4Field
+p4_fields fields = map p4_field fields
 
 -- the program of a switch is that of every other
 abbrev pub thin_program : Thin → Program
 thin_program t =
-    test_program t.header (fields_of t.fields) t.tested (field_width t.fields t.tested)
+    test_program t.header (p4_fields t.fields) t.tested (field_width t.fields t.tested)
     t.literal t.first_port t.other_port
 
 -- ---- hosts and links

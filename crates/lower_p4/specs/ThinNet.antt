@@ -1,3 +1,4 @@
+-- Clauses of `thin` cite it, and so does `Accepts`.
 -- The whole network of a thin design, and what one visit of its switches does: "Lowering" and "One visit" in
 -- docs/FORMATS.md.
 use Rattle.std.specs.Prelude.{ℕ, List, [], ◌∷◌, map, None, option_map, option_and_then}

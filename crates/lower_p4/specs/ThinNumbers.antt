@@ -1,3 +1,4 @@
+-- Private clauses of `thin`, `ranges` and `find_parts` cite it, and a field of `Accepted`.
 -- The parts of a thin design as values of the code hold them.
 use Rattle.std.specs.Prelude.{ℕ, ◌<◌, ◌^◌, IsTrue, List, slice_index}
 use Rattle.cocoon_thin.specs.declared.parts.Thin.{Thin}

@@ -1,3 +1,4 @@
+-- The clause `visits` of `thin::program` and the laws of `thin_networks` cite it.
 -- What the network of a thin design does, against what the design says: "The network" in docs/FORMATS.md, against the
 -- sections "A body's run" and "Hosts" of docs/LANGUAGE.md.
 use Rattle.std.specs.Prelude.{◌≡◌, ◌↔◌, ℕ, ◌<◌, List, Some, IsTrue}

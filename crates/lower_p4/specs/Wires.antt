@@ -1,3 +1,4 @@
+-- The clauses `attached` and `wired` of `thin::host_ports` and `thin::links` cite it.
 -- The wires of a network against the runs of the roles of its design: where hosts are attached, and where links lead.
 use Rattle.std.specs.Prelude.{◌≡◌, ◌↔◌, ℕ, List, [], Some}
 use Rattle.cocoon_num.specs.Packets.{Packet}

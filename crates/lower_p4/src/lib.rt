@@ -1,13 +1,13 @@
 //! From a design with its definitions to a network: the program of each switch with its rows, where hosts are attached, and
-//! the links. Thin designs are the ones that it takes today; whatever stands above knows a lowering by what it delivers, and
-//! nothing of how it is made.
+//! the links. Thin designs are the ones that it takes today. The command knows a lowering by what it delivers, and nothing of
+//! how it is made; [`thin`] and [`thin_networks`] are for laws of crates above.
 #![tactic(auto)]
 
 pub mod accepted;
 pub mod lowering;
 mod ranges;
 pub mod thin;
-pub mod visits;
+pub mod thin_networks;
 
 pub use accepted::Accepted;
 pub use lowering::{LowerFault, accept, lower};

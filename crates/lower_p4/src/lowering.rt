@@ -2,7 +2,7 @@
 ghost use Rattle.std.specs.Prelude.{◌≡◌, ℕ, Err, IfOk, IsTrue};
 ghost use Rattle.cocoon_num.specs.Tree as tree;
 ghost use Rattle.cocoon_syntax.specs.TreeOf.{design_of, entries_of};
-ghost use Rattle.cocoon_text.specs.TextFaults.{has_words};
+ghost use Rattle.cocoon_text.specs.TextFaults.{is_spelled};
 ghost use Rattle.cocoon_thin.specs.Thin.{AreThin};
 ghost use Rattle.p4_ir.specs.NetOf.{net_of};
 ghost use Rattle.p4_ir.specs.NetTree as nets;
@@ -14,7 +14,7 @@ ghost use Rattle.lower_p4.specs.ThinNumbers.{IsLowerable};
 use crate::accepted::Accepted;
 use crate::ranges::know_numbers;
 use crate::thin::network;
-use crate::visits::thin_networks_mean;
+use crate::thin_networks::thin_networks_mean;
 use cocoon_syntax::{DefsText, Design};
 use cocoon_thin::trees::{one_thin_design, one_thin_reading};
 use cocoon_thin::{Thin, ThinFault, thin_definitions, thin_design};
@@ -32,7 +32,7 @@ pub enum LowerFault {
 /// The design, if the compiler takes it. The names of its headers and fields have to be words, as those of every design are
 /// that was read from a text.
 pub fn accept(alloc: Global, design: &Design) -> Result<Accepted, LowerFault>
-    requires words { IsTrue (has_words (design_of design.now)) }
+    requires words { IsTrue (is_spelled (design_of design.now)) }
     ensures accepts { IfOk result (λ a. Accepts (design_of design.now)) }
     ensures is_of { IfOk result (λ a. IsOf a (design_of design.now)) }
     ensures not_yet { result ≡ Err LowerFault.NotYet → ¬ Accepts (design_of design.now) }

@@ -15,7 +15,7 @@ ghost use Rattle.lower_p4.specs.ThinSwitches.{VisitsAreRuns};
 ghost use Rattle.lower_p4.specs.Wires.{HostsAreRuns, LinksAreRuns};
 
 use crate::ranges::know_numbers;
-use crate::visits::thin_switches_run;
+use crate::thin_networks::thin_switches_run;
 use cocoon_num::{Bits, List, NoMemory, Text};
 use cocoon_thin::visits::{thin_entries_run, thin_exits_run};
 use cocoon_thin::{Thin, ThinField};
@@ -52,7 +52,7 @@ fn field(alloc: Global, field: &ThinField) -> Result<P4Field, NoMemory>
 }
 
 fn fields(alloc: Global, fields: &[ThinField]) -> Result<Vec<P4Field>, NoMemory>
-    ensures { IfOk result (λ v. map field_of v.items ≡ spec.fields_of fields.now) }
+    ensures { IfOk result (λ v. map field_of v.items ≡ spec.p4_fields fields.now) }
 {
     let mut lowered = Vec::new(alloc);
     for each in fields {
@@ -94,7 +94,7 @@ fn test(alloc: Global, thin: &Thin) -> Result<P4Stmt, NoMemory>
 
 fn header(alloc: Global, thin: &Thin) -> Result<P4Header, NoMemory>
     ensures { IfOk result (λ h. header_of h
-        ≡ record { name = thin.now.header; fields = spec.fields_of thin.now.fields }) }
+        ≡ record { name = thin.now.header; fields = spec.p4_fields thin.now.fields }) }
 {
     Ok(P4Header {
         name: Text::from(alloc, thin.header.bytes())?,

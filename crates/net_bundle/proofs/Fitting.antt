@@ -1,4 +1,4 @@
--- Switches that fit and are readable, from a place on.
+-- Switches that fit and are readable, from an index on.
 use Rattle.std.proofs.Common.{◌≡◌, ℕ, ◌+◌, ◌<◌, Bool, true, false, ◌&&◌, IsTrue, List, ◌∷◌, ◌++◌, length, map, drop, slice_index_or, refl, sym, ap, ◌∙◌, subst}
 use Rattle.std.proofs.lemmas.List.{drop_more, append_assoc}
 use Rattle.cocoon_num.specs.Lists.{each}

@@ -1,6 +1,6 @@
 mod NetValue
 mod RowsValue
-mod Placing
+mod InOrder
 mod Fitting
 mod ReadingLists
 mod ReadingDigests

@@ -1,15 +1,16 @@
--- The bundle of a network, put into told files, is that network, and no name outside of the bundle is touched.
+-- The bundle of a network, put into a folder, is that network, and no name outside of the bundle is touched.
 use Rattle.std.proofs.Common.{◌≡◌, ℕ, suc, ◌^◌, ◌<◌, Bool, true, List, [], ◌∷◌, ◌++◌, map, nat_lt, Option, Some, None, ◌⊎◌, inl, inr, IsTrue, refl, ap, sym, subst, arith}
 use Rattle.std.specs.FinMap.{get}
 use Rattle.std.proofs.lemmas.Bool.{and_from, and_parts, ltb-true}
 use Rattle.cocoon_num.specs.Lists.{each, ascend}
 use Rattle.cocoon_io.specs.Files.{Files}
-use Rattle.p4_ir.specs.Loading.{rows_file_fits, loads}
-use Rattle.p4_ir.specs.NetFits.{wiring_fits, wiring_of, switch_numbers, switch_fits, net_fits}
+use Rattle.p4_ir.specs.Loading.{rows_file_fits, rows_load}
+use Rattle.p4_ir.specs.Wiring.{wiring_fits}
+use Rattle.p4_ir.specs.NetFits.{wiring_of, switch_numbers, switch_fits, net_fits}
 use Rattle.p4_ir.specs.NetTree.{SwitchFiles, NetData}
 use Rattle.p4_emit.specs.Printed.{printed}
-use Rattle.net_bundle.specs.BundleNames.{program_name, rows_name, certificates_name, net_name, file_name, digest_of}
-use Rattle.net_bundle.specs.Bundle.{MadeFile, rows_text, switch_files, all_switch_files, certificate_files, kept, net_file, net_text, bundle}
+use Rattle.net_bundle.specs.BundleNames.{program_name, rows_name, net_name, file_name, digest_of}
+use Rattle.net_bundle.specs.Bundle.{certificates_name, MadeFile, rows_text, switch_files, all_switch_files, certificate_files, kept_digest, net_file, net_text, bundle}
 use Rattle.net_bundle.specs.declared.file.BundleFile.TheVariants as file
 use Rattle.net_bundle.specs.Network.{SwitchesRead, Network, InBundle}
 use Rattle.net_bundle.specs.Readable.{AllReadable, Readable}
@@ -122,15 +123,15 @@ record Stands (is : Files) (out : List ℕ) (s : SwitchFiles) : Type 0 where
 
 -- each switch of a list has its files
 switches_read : (is : Files) (out : List ℕ) (rs : List SwitchFiles) → AllReadable rs → each switch_fits rs ≡ true → ((s : SwitchFiles) → Among s rs → Stands is out s)
-    → SwitchesRead is out (map kept (all_switch_files rs)) (switch_numbers rs) rs
+    → SwitchesRead is out (map kept_digest (all_switch_files rs)) (switch_numbers rs) rs
 switches_read is out [] reads fits under = refl
 switches_read is out (s ∷ rs) reads fits under =
     let parts = and_parts (switch_fits s) (each switch_fits rs) fits in
-    let loading = and_parts _ (loads s.program s.rows) parts.0 in
+    let loading = and_parts _ (rows_load s.program s.rows) parts.0 in
     let numbers = and_parts _ (rows_file_fits s.rows) loading.0 in
     let stands = under s (inl refl) in (
-      map kept (switch_files s),
-      map kept (all_switch_files rs),
+      map kept_digest (switch_files s),
+      map kept_digest (all_switch_files rs),
       refl,
       refl,
       record {

@@ -8,8 +8,8 @@ use Rattle.std.proofs.lemmas.Map.Views.{tells_apart}
 use Rattle.std.proofs.lemmas.List.{append_cancel_left, append_cancel_right}
 use Rattle.std.proofs.lemmas.Fmt.{decimal_injective}
 use Rattle.cocoon_io.specs.Files.{Files}
-use Rattle.net_bundle.specs.BundleNames.{program_name, rows_name, certificates_name, net_name, file_name}
-use Rattle.net_bundle.specs.Bundle.{MadeFile, whole_name}
+use Rattle.net_bundle.specs.BundleNames.{program_name, rows_name, net_name, file_name}
+use Rattle.net_bundle.specs.Bundle.{certificates_name, MadeFile, whole_name}
 use Rattle.net_bundle.specs.Writing.{with_files}
 
 -- ---- one name

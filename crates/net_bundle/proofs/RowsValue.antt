@@ -24,12 +24,7 @@ key_pairs [] ms = refl
 key_pairs (v ∷ vs) [] = refl
 key_pairs (v ∷ vs) (m ∷ ms) = rw (key_pairs vs ms) refl
 
--- one more pair, and none any more
-pub pairs_on : (vs ms : List ℕ) (i v m : ℕ) → i < length vs → i < length ms → v ≡ slice_index_or vs i v → m ≡ slice_index_or ms i m
-    → pairs (drop i vs) (drop i ms) ≡ pair_data v m ∷ pairs (drop (i + 1) vs) (drop (i + 1) ms)
-pairs_on vs ms i v m h k e f =
-    ap₂ pairs (drop_more vs i v h) (drop_more ms i m k) ∙ ap₂ (λ a b. pair_data a b ∷ pairs (drop (i + 1) vs) (drop (i + 1) ms)) (sym e) (sym f)
-
+-- there are no more pairs than values or masks
 pub pairs_end : (vs ms : List ℕ) (i : ℕ) → min (length vs) (length ms) ≤ i → pairs (drop i vs) (drop i ms) ≡ []
 pairs_end [] ms zero h = refl
 pairs_end [] ms (suc i) h = refl

@@ -1,6 +1,6 @@
--- The files of the bundle of a network, in the order in which they are written. It follows "Bundle files" in
--- docs/FORMATS.md. The tagged form and versions of rows are absent.
-use Rattle.std.specs.Prelude.{ℕ, List, [], ◌∷◌, ◌++◌, map, flat_map, Option, Some, None}
+-- The files of the bundle of a network, in the order in which they are written. The clauses of `make` and `write_bundle` cite
+-- it. It follows "Bundle files" in docs/FORMATS.md. The tagged form and versions of rows are absent.
+use Rattle.std.specs.Prelude.{ℕ, List, [], ◌∷◌, ◌++◌, map, flat_map, Option, Some, None, codes}
 use Rattle.serde_json.specs.Written.{compact_text}
 use Rattle.p4_ir.specs.P4Tree.{RowsFile}
 use Rattle.p4_ir.specs.NetFits.{switch_numbers}
@@ -8,8 +8,11 @@ use Rattle.p4_ir.specs.NetTree.{SwitchFiles, NetData}
 use Rattle.p4_emit.specs.Printed.{printed}
 use Rattle.net_bundle.specs.declared.file.BundleFile.{BundleFile}
 use Rattle.net_bundle.specs.declared.file.BundleFile.TheVariants.{Program, Rows, Certificates, Network}
-use Rattle.net_bundle.specs.BundleNames.{program_name, rows_name, certificates_name, net_name, file_name, digest_of}
+use Rattle.net_bundle.specs.BundleNames.{program_name, rows_name, net_name, file_name, digest_of}
 use Rattle.net_bundle.specs.NetJson.{KeptDigest, NetFile, net_data, rows_data}
+
+abbrev pub certificates_name : List ℕ
+certificates_name = codes "certs.json"
 
 -- what follows the bundle's name in the name of a file
 abbrev pub name_of : BundleFile → List ℕ
@@ -42,14 +45,15 @@ abbrev pub certificate_files : Option (List ℕ) → List MadeFile
 certificate_files None = []
 certificate_files (Some bytes) = record { file = Certificates; bytes = bytes } ∷ []
 
-abbrev pub kept : MadeFile → KeptDigest
-kept f = record { name = name_of f.file; digest = digest_of f.bytes }
+-- what the file of the network keeps of another file
+abbrev pub kept_digest : MadeFile → KeptDigest
+kept_digest f = record { name = name_of f.file; digest = digest_of f.bytes }
 
 -- what the file of the network holds
 abbrev pub net_file : (design : List ℕ) → NetData → NetFile
 net_file design net = record {
   design = digest_of design;
-  files = map kept (all_switch_files net.switches);
+  files = map kept_digest (all_switch_files net.switches);
   hosts = net.hosts;
   links = net.links;
   ports = net.ports;

@@ -12,9 +12,6 @@ program_name s = codes "s" ++ (decimal s ++ codes ".p4")
 abbrev pub rows_name : ℕ → List ℕ
 rows_name s = codes "s" ++ (decimal s ++ codes ".rows.json")
 
-abbrev pub certificates_name : List ℕ
-certificates_name = codes "certs.json"
-
 abbrev pub net_name : List ℕ
 net_name = codes "net.json"
 

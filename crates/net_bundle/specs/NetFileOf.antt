@@ -1,4 +1,5 @@
--- The files of the definitions that values of the code stand for.
+-- The files of the definitions that values of the code stand for. The private clauses of `make`, `net_json` and `write` cite
+-- it.
 use Rattle.std.specs.Prelude.{map}
 use Rattle.std.specs.String.{string_bytes}
 use Rattle.p4_ir.specs.NetOf.{host_port_of, link_of}

@@ -9,8 +9,8 @@ use Rattle.serde_json.specs.Read.{read}
 use Rattle.cocoon_num.specs.Lists.{each}
 use Rattle.cocoon_io.specs.Files.{Files}
 use Rattle.p4_ir.specs.P4Reads.{P4Reads}
-use Rattle.p4_ir.specs.Loading.{rows_file_fits, loads}
-use Rattle.p4_ir.specs.NetFits.{Wiring, wiring_fits}
+use Rattle.p4_ir.specs.Loading.{rows_file_fits, rows_load}
+use Rattle.p4_ir.specs.Wiring.{Wiring, wiring_fits}
 use Rattle.p4_ir.specs.NetTree.{SwitchFiles, NetData}
 use Rattle.net_bundle.specs.NetJson.{KeptDigest, NetFile, net_data, rows_data}
 use Rattle.net_bundle.specs.BundleNames.{digest_of, program_name, rows_name, net_name, file_name}
@@ -44,7 +44,7 @@ pub record SwitchReads (files : Files) (out : List ℕ) (kept : List KeptDigest)
   pub program_reads : P4Reads program_text s.program
   pub rows_read : IsJson rows_text (rows_data s.rows)
   pub rows_fit : IsTrue (rows_file_fits s.rows)
-  pub loads : IsTrue (loads s.program s.rows)
+  pub loads : IsTrue (rows_load s.program s.rows)
 
 -- the same of all switches, in order, with the digests of each one after another
 abbrev pub SwitchesRead : Files → List ℕ → List KeptDigest → List ℕ → List SwitchFiles → Type 0

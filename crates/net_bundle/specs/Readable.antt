@@ -1,4 +1,5 @@
--- What the made files of a network read as, by "The text" and "Bundle files" in docs/FORMATS.md.
+-- What the made files of a network read as, by "The text" and "Bundle files" in docs/FORMATS.md. The clauses of `make` cite
+-- it.
 use Rattle.std.specs.Prelude.{ℕ, List, [], ◌∷◌}
 use Rattle.p4_ir.specs.P4Reads.{P4Reads}
 use Rattle.p4_ir.specs.NetTree.{SwitchFiles, NetData}

@@ -1,24 +1,25 @@
--- What the writing of a bundle does to the told files, and why it may stop. It follows "Bundle files" in docs/FORMATS.md.
+-- What the writing of a bundle does to a folder, and why it may stop. The clauses of `write_bundle` cite it, and those of
+-- cocoon_cli. It follows "Bundle files" in docs/FORMATS.md.
 use Rattle.std.specs.Prelude.{◌≡◌, ◌⊎◌, ℕ, ◌+◌, ◌≤◌, ◌<◌, List, [], ◌∷◌, length, take, slice_get, Option, Some, None}
 use Rattle.std.specs.FinMap.{get}
 use Rattle.cocoon_io.specs.Files.{Files}
-use Rattle.cocoon_io.specs.Told.{with_file, Rose}
+use Rattle.cocoon_io.specs.Calls.{with_file, Rose}
 use Rattle.cocoon_io.specs.declared.folder.FolderFault.TheVariants.{Failed}
 use Rattle.p4_ir.specs.NetTree.{NetData}
 use Rattle.net_bundle.specs.declared.file.BundleFile.{BundleFile}
 use Rattle.net_bundle.specs.declared.file.BundleFile.TheVariants.{Certificates}
 use Rattle.net_bundle.specs.declared.fault.BundleFault.{BundleFault}
 use Rattle.net_bundle.specs.declared.fault.BundleFault.TheVariants.{Folder, Limit, NoMemory}
-use Rattle.net_bundle.specs.BundleNames.{certificates_name, file_name, digest_of}
-use Rattle.net_bundle.specs.Bundle.{MadeFile, whole_name}
+use Rattle.net_bundle.specs.BundleNames.{file_name, digest_of}
+use Rattle.net_bundle.specs.Bundle.{MadeFile, whole_name, certificates_name}
 use Rattle.net_bundle.specs.Network.{Network, InBundle}
 
 -- ---- what was put in
 
--- the told files, with these of the bundle OUT put in one after another
+-- the content, with these files of the bundle OUT put in one after another
 abbrev pub with_files : (out : List ℕ) → List MadeFile → Option Files → Option Files
-with_files out [] told = told
-with_files out (f ∷ fs) told = with_files out fs (with_file told (whole_name out f.file) f.bytes)
+with_files out [] content = content
+with_files out (f ∷ fs) content = with_files out fs (with_file content (whole_name out f.file) f.bytes)
 
 -- the first of these files were put in, or all, and no other was touched
 abbrev pub SomeWritten : (out : List ℕ) → List MadeFile → (was is : Option Files) → Type 0
@@ -62,6 +63,11 @@ abbrev pub WriteFaultRose : Option ℕ → (old new : ℕ) → BundleFault → T
 WriteFaultRose last old new (Folder file fault) = Rose last old new
 WriteFaultRose last old new _ = Unit {0}
 
+-- A fault of the folder is about the file of its last call that failed.
+abbrev pub NamesFailure : (List ℕ → Type 0) → (out : List ℕ) → BundleFault → Type 0
+NamesFailure last_failure out (Folder file fault) = last_failure (whole_name out file)
+NamesFailure last_failure out _ = Unit {0}
+
 -- ---- what stands in the end
 
 -- The files `is` hold this network of this design, and names outside of the bundle hold what they held in `was`. The name of
@@ -71,8 +77,8 @@ pub record Holds (was is : Files) (out design : List ℕ) (net : NetData) (certi
   pub digest : network.file.design ≡ digest_of design
   pub others_same : (name : List ℕ) → ¬ InBundle out net.switches name → (name ≡ file_name out certificates_name → certificates ≡ None) → get is name ≡ get was name
 
--- the same of told files
-abbrev pub HoldsTold : (was is : Option Files) → (out design : List ℕ) → NetData → Option (List ℕ) → Type 0
-HoldsTold None is out design net certificates = Unit {0}
-HoldsTold (Some was) None out design net certificates = ⊥
-HoldsTold (Some was) (Some is) out design net certificates = Holds was is out design net certificates
+-- the same, where the content is known
+abbrev pub ContentHolds : (was is : Option Files) → (out design : List ℕ) → NetData → Option (List ℕ) → Type 0
+ContentHolds None is out design net certificates = Unit {0}
+ContentHolds (Some was) None out design net certificates = ⊥
+ContentHolds (Some was) (Some is) out design net certificates = Holds was is out design net certificates

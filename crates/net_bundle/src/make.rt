@@ -77,7 +77,7 @@ fn switch_files(alloc: Global, switches: &[SwitchFiles]) -> Result<Vec<MadeFile>
 
 /// What the file of the network keeps of another file.
 fn keep(alloc: Global, made: &MadeFile) -> Result<KeptDigest, NoMemory>
-    ensures { IfOk result (λ k. kept_of k ≡ spec.kept (made_of made.now)) }
+    ensures { IfOk result (λ k. kept_of k ≡ spec.kept_digest (made_of made.now)) }
 {
     Ok(KeptDigest {
         name: made.file.name(alloc)?,
@@ -87,7 +87,7 @@ fn keep(alloc: Global, made: &MadeFile) -> Result<KeptDigest, NoMemory>
 
 /// The same of all files, in their order.
 fn keep_all(alloc: Global, files: &[MadeFile]) -> Result<Vec<KeptDigest>, NoMemory>
-    ensures { IfOk result (λ v. map kept_of v.items ≡ map spec.kept (map made_of files.now)) }
+    ensures { IfOk result (λ v. map kept_of v.items ≡ map spec.kept_digest (map made_of files.now)) }
 {
     let mut kept = Vec::new(alloc);
     for made in files {

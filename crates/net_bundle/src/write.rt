@@ -4,7 +4,7 @@ ghost use Rattle.p4_ir.specs.NetFits.{net_fits};
 ghost use Rattle.p4_ir.specs.NetOf.{net_of};
 ghost use Rattle.net_bundle.specs.Bundle.{bundle};
 ghost use Rattle.net_bundle.specs.NetFileOf.{made_of};
-ghost use Rattle.net_bundle.specs.Writing.{AllFit, FirstOver, HoldsTold, NotWritten, WriteFaultRose, with_files};
+ghost use Rattle.net_bundle.specs.Writing.{AllFit, ContentHolds, FirstOver, NamesFailure, NotWritten, WriteFaultRose, with_files};
 
 use crate::fault::BundleFault;
 use crate::file::BundleFile;
@@ -27,7 +27,7 @@ fn check_lengths(files: &[MadeFile]) -> Result<(), BundleFault>
     Ok(())
 }
 
-/// What a fault of the folder at this file is told as.
+/// Why a bundle is not written, where this is the fault of the folder at this file.
 fn fault_at(file: BundleFile, fault: FolderFault) -> BundleFault
     ensures failed { fault ≡ FolderFault.Failed
         → result ≡ BundleFault.Folder file FolderFault.Failed }
@@ -47,12 +47,13 @@ fn write_file<F: Folder>(
     made: &MadeFile,
 ) -> Result<(), BundleFault>
     requires fit { AllFit (made_of made.now ∷ []) }
-    ensures written { OnOk result (F.told folder.new
-        ≡ with_files out.now (made_of made.now ∷ []) (F.told folder.old)) }
+    ensures written { OnOk result (F.content folder.new
+        ≡ with_files out.now (made_of made.now ∷ []) (F.content folder.old)) }
     ensures refused { IfErr result (NotWritten out.now
-        (made_of made.now ∷ []) (F.told folder.old) (F.told folder.new)) }
+        (made_of made.now ∷ []) (F.content folder.old) (F.content folder.new)) }
     ensures failed { IfErr result (WriteFaultRose F.last_write_fault
         (F.write_faults folder.old) (F.write_faults folder.new)) }
+    ensures named { IfErr result (NamesFailure (F.last_failure folder.new) out.now) }
     ensures reads { F.read_faults folder.new ≡ F.read_faults folder.old }
     ensures writes { F.write_faults folder.old ≤ F.write_faults folder.new }
 {
@@ -71,12 +72,13 @@ fn write_files<F: Folder>(
     files: &[MadeFile],
 ) -> Result<(), BundleFault>
     requires fit { AllFit (map made_of files.now) }
-    ensures written { OnOk result (F.told folder.new
-        ≡ with_files out.now (map made_of files.now) (F.told folder.old)) }
+    ensures written { OnOk result (F.content folder.new
+        ≡ with_files out.now (map made_of files.now) (F.content folder.old)) }
     ensures refused { IfErr result (NotWritten out.now
-        (map made_of files.now) (F.told folder.old) (F.told folder.new)) }
+        (map made_of files.now) (F.content folder.old) (F.content folder.new)) }
     ensures failed { IfErr result (WriteFaultRose F.last_write_fault
         (F.write_faults folder.old) (F.write_faults folder.new)) }
+    ensures named { IfErr result (NamesFailure (F.last_failure folder.new) out.now) }
     ensures reads { F.read_faults folder.new ≡ F.read_faults folder.old }
     ensures writes { F.write_faults folder.old ≤ F.write_faults folder.new }
 {
@@ -89,8 +91,9 @@ fn write_files<F: Folder>(
 /// Writes the bundle `out` of this network of a design: for each switch its program and its rows, then the certificates, if
 /// there are any, and the file of the network last.
 ///
-/// All bytes are made before the first write. `Limit` tells the first file that would have too many of them, and then nothing
-/// is written. `Folder` tells the file at which the writes stopped: those before it in that order stand, and none after it was touched.
+/// All bytes are made before the first write. `Limit` has the first file that would have too many of them, and then nothing
+/// is written. `Folder` has the file at which the writes stopped: those before it in that order stand, and none after it was
+/// touched.
 /// The network has to be one that can be read back: what that asks is `net_fits`, as docs/FORMATS.md has it under "How a bundle
 /// is read back".
 pub fn write_bundle<F: Folder>(
@@ -104,11 +107,11 @@ pub fn write_bundle<F: Folder>(
     requires fits { IsTrue (net_fits (net_of net.now)) }
 
     // the folder then has exactly these files set, and they give the network
-    ensures written { OnOk result (F.told folder.new
+    ensures written { OnOk result (F.content folder.new
         ≡ with_files out.now
         (bundle design.now (net_of net.now) (option_map (λ c. c.now) certificates.entry))
-        (F.told folder.old)) }
-    ensures holds { OnOk result (HoldsTold (F.told folder.old) (F.told folder.new)
+        (F.content folder.old)) }
+    ensures holds { OnOk result (ContentHolds (F.content folder.old) (F.content folder.new)
         out.now design.now (net_of net.now) (option_map (λ c. c.now) certificates.entry)) }
     ensures fit { OnOk result (AllFit
         (bundle design.now (net_of net.now) (option_map (λ c. c.now) certificates.entry))) }
@@ -116,9 +119,10 @@ pub fn write_bundle<F: Folder>(
     // any other answer has its cause, and what it leaves
     ensures refused { IfErr result (NotWritten out.now
         (bundle design.now (net_of net.now) (option_map (λ c. c.now) certificates.entry))
-        (F.told folder.old) (F.told folder.new)) }
+        (F.content folder.old) (F.content folder.new)) }
     ensures failed { IfErr result (WriteFaultRose F.last_write_fault
         (F.write_faults folder.old) (F.write_faults folder.new)) }
+    ensures named { IfErr result (NamesFailure (F.last_failure folder.new) out.now) }
     ensures reads { F.read_faults folder.new ≡ F.read_faults folder.old }
     ensures writes { F.write_faults folder.old ≤ F.write_faults folder.new }
 {

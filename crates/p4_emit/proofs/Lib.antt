@@ -4,6 +4,6 @@ pub mod P4Seams
 pub mod Numbers
 pub mod Prints
 pub mod Whole
-pub mod Found
+pub mod Lookups
 pub mod WellKinded
 pub mod Example

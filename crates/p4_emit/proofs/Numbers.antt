@@ -6,7 +6,7 @@ use Rattle.std.proofs.lemmas.Bool.Decides.{nat_tests}
 use Rattle.std.proofs.lemmas.List.{append-nil}
 use Rattle.std.proofs.Math.Nat.{pow-le-pow_right}
 use Rattle.std.proofs.lemmas.Fmt.{decimal_by_steps_wide}
-use Rattle.cocoon_num.specs.Tokens.{Kind, plain, literal, is_digit, is_word_byte, begins, dec_digit, digits_after, decimal_value, literal_value, literal_of, kept_if, before_w, after_w, number_kind}
+use Rattle.cocoon_num.specs.Tokens.{Kind, plain, literal, is_digit, is_run_byte, begins, dec_digit, digits_after, decimal_value, literal_value, literal_of, kept_if, before_w, after_w, number_kind}
 use Rattle.p4_emit.proofs.Seams.{Seams, leading_cons, Spells, number_spells, is_clear, all_word_bytes}
 
 abbrev all_digits : List ℕ → Bool
@@ -64,7 +64,7 @@ value_of : (n : ℕ) (ds : List ℕ) → Digits n ds → decimal_value ds ≡ So
 value_of n [] d = absurd (let f = d.first in cc)
 value_of n (b ∷ ds) d = d.value
 
-digit_in_word : (b : ℕ) → is_digit b ≡ true → is_word_byte b ≡ true
+digit_in_word : (b : ℕ) → is_digit b ≡ true → is_run_byte b ≡ true
 digit_in_word b h = grind (arith, nat_tests)
 
 word_digits : (ds es : List ℕ) → all_digits ds ≡ true → all_word_bytes es ≡ true → all_word_bytes (ds ++ es) ≡ true

@@ -5,19 +5,19 @@ use Rattle.std.proofs.lemmas.Bool.{cases_Bool, eqb-true, and_parts, false≢true
 use Rattle.std.proofs.lemmas.Bool.Decides.{nat_tests}
 use Rattle.cocoon_num.specs.Names.{same_name}
 use Rattle.cocoon_num.specs.Lists.{is_one_of}
-use Rattle.cocoon_num.specs.Tokens.{Kind, word, mark, is_letter, is_word_byte, word_kind}
+use Rattle.cocoon_num.specs.Tokens.{Kind, a_name, mark, is_letter, is_run_byte, run_kind}
 use Rattle.p4_ir.specs.P4Text.{p4_lexicon}
 use Rattle.p4_emit.proofs.Seams as seams
 use Rattle.p4_emit.proofs.Seams.{Seams, all_word_bytes, is_name}
 
-abbrev pub goes_on : ℕ → Bool
-goes_on b = (b == 61) || (b == 43) || (b == 38) || (b == 124)
+abbrev pub extends : ℕ → Bool
+extends b = (b == 61) || (b == 43) || (b == 38) || (b == 124)
 
-pub words_part : (b : ℕ) → is_word_byte b ≡ true → not (goes_on b) ≡ true
+pub words_part : (b : ℕ) → is_run_byte b ≡ true → not (extends b) ≡ true
 words_part b h = grind (arith, nat_tests)
 
 abbrev pub p4_seams : Seams
-p4_seams = record { lexicon = p4_lexicon; goes_on = goes_on; marks_steady = refl; no_slash = refl; line_parts = refl; word_parts = words_part }
+p4_seams = record { lexicon = p4_lexicon; extends = extends; marks_steady = refl; no_slash = refl; line_parts = refl; word_parts = words_part }
 
 abbrev pub bare : List ℕ → Option (List Kind)
 bare s = seams.bare p4_lexicon s
@@ -48,8 +48,8 @@ no_mark ((c ∷ m) ∷ ms) b rest h l =
     ] in
     ap₂ (λ u v. (u && same_name m rest) || v) other (no_mark ms b rest hs.1 l)
 
-pub word_spells : (w : List ℕ) → is_name w ≡ true → Spells w (word w ∷ [])
+pub word_spells : (w : List ℕ) → is_name w ≡ true → Spells w (a_name w ∷ [])
 word_spells [] h = cc
 word_spells (b ∷ rest) h =
-    let k : word_kind p4_lexicon (b ∷ rest) ≡ word (b ∷ rest) = ap (λ m. if m then mark (b ∷ rest) else word (b ∷ rest)) (no_mark p4_lexicon.marks b rest refl (and_parts (is_letter b) (all_word_bytes rest) h).0) in
+    let k : run_kind p4_lexicon (b ∷ rest) ≡ a_name (b ∷ rest) = ap (λ m. if m then mark (b ∷ rest) else a_name (b ∷ rest)) (no_mark p4_lexicon.marks b rest refl (and_parts (is_letter b) (all_word_bytes rest) h).0) in
     subst (λ (x : Kind). Spells (b ∷ rest) (x ∷ [])) k (seams.word_spells p4_seams (b ∷ rest) h)

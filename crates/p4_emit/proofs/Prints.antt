@@ -2,12 +2,12 @@
 use Rattle.std.proofs.Common.{◌≡◌, ℕ, zero, suc, ◌+◌, ◌^◌, ◌≤◌, ◌<◌, List, [], ◌∷◌, ◌++◌, true, false, Option, Some, None, refl, ap, sym, subst, ◌∙◌, arith, append_assoc}
 use Rattle.std.specs.Prelude.{codes, decimal, slice_get}
 use Rattle.cocoon_num.specs.Values.{UnaryOp, flip, not_, BinaryOp, add, sub, bits_and, bits_or, bits_xor, concat, equal, unequal, less, less_equal, greater, greater_equal, and_, or_, implies}
-use Rattle.cocoon_num.specs.Tokens.{Kind, word, plain, literal, mark}
+use Rattle.cocoon_num.specs.Tokens.{Kind, a_name, plain, literal, mark}
 use Rattle.p4_ir.specs.P4Tree.{P4Expr, p_lit, p_truth, p_meta, p_field, p_port, p_rid, p_unary, p_binary, p_slice, p_pick, P4Stmt, set_meta, set_header, apply_table, p_if, p_if_else, verdict, egress_port, group, p_return, P4Block, p_done, p_then, P4Field, P4Header, Program}
 use Rattle.p4_ir.specs.P4Kinds.{is_implies}
 use Rattle.std.proofs.lemmas.List.{append-nil}
-use Rattle.p4_ir.specs.P4Text.{said, of_found, table_name, action_name, meta_tokens, field_tokens, expr_tokens, stmt_tokens, block_tokens, unary_mark, binary_mark}
-use Rattle.p4_emit.specs.Printed.{new_line, literal_text, found_text, meta_text, field_text, unary_text, binary_text, expr_text, verdict_text, egress_port_text, group_text, if_text, else_text, end_text, stmt_text, block_text}
+use Rattle.p4_ir.specs.P4Text.{said, optional_tokens, table_name, action_name, meta_tokens, field_tokens, expr_tokens, stmt_tokens, block_tokens, unary_mark, binary_mark}
+use Rattle.p4_emit.specs.Printed.{new_line, literal_text, optional_text, meta_text, field_text, unary_text, binary_text, expr_text, verdict_text, egress_port_text, group_text, if_text, else_text, end_text, stmt_text, block_text}
 use Rattle.p4_emit.proofs.Joins as joins
 use Rattle.p4_emit.proofs.P4Seams.{p4_seams, is_clear, word_spells}
 use Rattle.p4_emit.proofs.Seams.{word_clear, all_word_bytes, is_name}
@@ -63,11 +63,11 @@ abbrev pub Each : {A : Type 0} → (A → Type 0) → List A → Type 0
 Each P [] = Unit {0}
 Each P (x ∷ xs) = P x × Each P xs
 
-abbrev pub Found : {A : Type 0} → (A → Type 0) → Option A → Type 0
-Found P None = Unit {0}
-Found P (Some x) = P x
+abbrev pub IfThere : {A : Type 0} → (A → Type 0) → Option A → Type 0
+IfThere P None = Unit {0}
+IfThere P (Some x) = P x
 
-pub each_found : {A : Type 0} (P : A → Type 0) (xs : List A) (i : ℕ) → Each P xs → Found P (slice_get xs i)
+pub each_found : {A : Type 0} (P : A → Type 0) (xs : List A) (i : ℕ) → Each P xs → IfThere P (slice_get xs i)
 each_found P [] i h = tt
 each_found P (x ∷ xs) zero h = h.0
 each_found P (x ∷ xs) (suc i) h = each_found P xs i h.1
@@ -88,7 +88,7 @@ pub record NamesFit (p : Program) : Type 0 where
   pub headers : Each HeaderFits p.headers
   pub meta : Each MetaFits p.meta
 
-pub word_part : (w : List ℕ) → is_name w ≡ true → Part w (word w ∷ [])
+pub word_part : (w : List ℕ) → is_name w ≡ true → Part w (a_name w ∷ [])
 word_part w h = record { spells = word_spells w h; clear = word_clear p4_seams w h }
 
 pub plain_part : (n : ℕ) → n < 2 ^ 32 → Part (decimal n) (plain n ∷ [])
@@ -100,22 +100,22 @@ literal_part w n low high fits = record { spells = literal_spells p4_seams w n l
 empty_part : Part [] []
 empty_part = record { spells = record { are = refl }; clear = refl }
 
-found_meta : (o : Option P4Field) → Found MetaFits o → Part (found_text (λ (f : P4Field). codes "m." ++ f.name) o) (of_found (λ (f : P4Field). said (codes "m.") ++ word f.name ∷ []) o)
+found_meta : (o : Option P4Field) → IfThere MetaFits o → Part (optional_text (λ (f : P4Field). codes "m." ++ f.name) o) (optional_tokens (λ (f : P4Field). said (codes "m.") ++ a_name f.name ∷ []) o)
 found_meta None h = empty_part
 found_meta (Some f) h = opens (codes "m.") refl (word_part f.name h.name)
 
 pub meta_part : (p : Program) (i : ℕ) → NamesFit p → Part (meta_text p i) (meta_tokens p i)
 meta_part p i h = found_meta (slice_get p.meta i) (each_found MetaFits p.meta i h.meta)
 
-found_field : (d : P4Header) (o : Option P4Field) → all_word_bytes d.name ≡ true → Found FieldFits o → Part (found_text (λ (x : P4Field). codes "h.h_" ++ (d.name ++ (codes ".f_" ++ x.name))) o) (of_found (λ (x : P4Field). said (codes "h.") ++ word (codes "h_" ++ d.name) ∷ said (codes ".") ++ word (codes "f_" ++ x.name) ∷ []) o)
+found_field : (d : P4Header) (o : Option P4Field) → all_word_bytes d.name ≡ true → IfThere FieldFits o → Part (optional_text (λ (x : P4Field). codes "h.h_" ++ (d.name ++ (codes ".f_" ++ x.name))) o) (optional_tokens (λ (x : P4Field). said (codes "h.") ++ a_name (codes "h_" ++ d.name) ∷ said (codes ".") ++ a_name (codes "f_" ++ x.name) ∷ []) o)
 found_field d None n h = empty_part
 found_field d (Some x) n h =
     opens (codes "h.") refl
     (follows (word_part (codes "h_" ++ d.name) n) (leads (codes ".") refl (word_part (codes "f_" ++ x.name) h.name)))
 
-found_header : (o : Option P4Header) (f : ℕ) → Found HeaderFits o →
-    Part (found_text (λ (d : P4Header). found_text (λ (x : P4Field). codes "h.h_" ++ (d.name ++ (codes ".f_" ++ x.name))) (slice_get d.fields f)) o)
-    (of_found (λ (d : P4Header). of_found (λ (x : P4Field). said (codes "h.") ++ word (codes "h_" ++ d.name) ∷ said (codes ".") ++ word (codes "f_" ++ x.name) ∷ []) (slice_get d.fields f)) o)
+found_header : (o : Option P4Header) (f : ℕ) → IfThere HeaderFits o →
+    Part (optional_text (λ (d : P4Header). optional_text (λ (x : P4Field). codes "h.h_" ++ (d.name ++ (codes ".f_" ++ x.name))) (slice_get d.fields f)) o)
+    (optional_tokens (λ (d : P4Header). optional_tokens (λ (x : P4Field). said (codes "h.") ++ a_name (codes "h_" ++ d.name) ∷ said (codes ".") ++ a_name (codes "f_" ++ x.name) ∷ []) (slice_get d.fields f)) o)
 found_header None f h = empty_part
 found_header (Some d) f h = found_field d (slice_get d.fields f) h.name (each_found FieldFits d.fields f h.fields)
 
@@ -203,8 +203,8 @@ pub brace : Lines (codes "}") (mark (codes "}") ∷ [])
 brace = ends (codes "}") refl
 
 -- X = E;
-sets : {s t : List ℕ} {ks ls : List Kind} → Part s ks → Part t ls → Part (s ++ (codes " = " ++ (t ++ codes ";"))) (ks ++ (mark (codes "=") ∷ (ls ++ mark (codes ";") ∷ [])))
-sets a b = follows a (leads (codes " = ") refl (follows b semicolon))
+assigns : {s t : List ℕ} {ks ls : List Kind} → Part s ks → Part t ls → Part (s ++ (codes " = " ++ (t ++ codes ";"))) (ks ++ (mark (codes "=") ∷ (ls ++ mark (codes ";") ∷ [])))
+assigns a b = follows a (leads (codes " = ") refl (follows b semicolon))
 
 pub table_part : (n : ℕ) → n < 2 ^ 32 → Part (codes "t" ++ decimal n) (table_name n ∷ [])
 table_part n h = word_part (codes "t" ++ decimal n) (decimal_word n (omega arith))
@@ -215,40 +215,40 @@ action_part n h = word_part (codes "a" ++ decimal n) (decimal_word n (omega arit
 regroup : (e f : List Kind) (c o r : Kind) (y : List Kind) → ((e ++ c ∷ []) ++ (o ∷ (f ++ r ∷ []))) ++ y ≡ e ++ (c ∷ o ∷ (f ++ r ∷ y))
 regroup e f c o r y = append_assoc (e ++ c ∷ []) (o ∷ (f ++ r ∷ [])) y ∙ append_assoc e (c ∷ []) ((o ∷ (f ++ r ∷ [])) ++ y) ∙ ap (λ z. e ++ (c ∷ o ∷ z)) (append_assoc f (r ∷ []) y)
 
-if_then : (p : Program) → NamesFit p → (e : P4Expr) → ExprFits e → {t : List ℕ} {ls : List Kind} → Lines t ls → Part (if_text p e ++ t) (word (codes "if") ∷ mark (codes "(") ∷ (expr_tokens p e ++ (mark (codes ")") ∷ mark (codes "{") ∷ ls)))
+if_then : (p : Program) → NamesFit p → (e : P4Expr) → ExprFits e → {t : List ℕ} {ls : List Kind} → Lines t ls → Part (if_text p e ++ t) (a_name (codes "if") ∷ mark (codes "(") ∷ (expr_tokens p e ++ (mark (codes ")") ∷ mark (codes "{") ∷ ls)))
 unfolding if_text
 if_then p n e f {t} {ls} h =
     let after_it = opens (codes "if (") refl (follows (expr_part p n e f) (between (codes ") {") refl h)) in
-    subst (λ s. Part s (word (codes "if") ∷ mark (codes "(") ∷ (expr_tokens p e ++ (mark (codes ")") ∷ mark (codes "{") ∷ ls)))) (ap (λ s. codes "if (" ++ s) (sym (append_assoc (expr_text p e) (codes ") {") t))) after_it
+    subst (λ s. Part s (a_name (codes "if") ∷ mark (codes "(") ∷ (expr_tokens p e ++ (mark (codes ")") ∷ mark (codes "{") ∷ ls)))) (ap (λ s. codes "if (" ++ s) (sym (append_assoc (expr_text p e) (codes ") {") t))) after_it
 
-else_then : (d : ℕ) {t : List ℕ} {ls : List Kind} → Lines t ls → Lines (else_text d ++ t) (mark (codes "}") ∷ word (codes "else") ∷ mark (codes "{") ∷ ls)
+else_then : (d : ℕ) {t : List ℕ} {ls : List Kind} → Lines t ls → Lines (else_text d ++ t) (mark (codes "}") ∷ a_name (codes "else") ∷ mark (codes "{") ∷ ls)
 unfolding else_text
 else_then d {t} {ls} h =
     let after_it = line d (lines_part (between (codes "} else {") refl h)) in
-    subst (λ s. Lines s (mark (codes "}") ∷ word (codes "else") ∷ mark (codes "{") ∷ ls)) (sym (append_assoc (new_line d) (codes "} else {") t)) after_it
+    subst (λ s. Lines s (mark (codes "}") ∷ a_name (codes "else") ∷ mark (codes "{") ∷ ls)) (sym (append_assoc (new_line d) (codes "} else {") t)) after_it
 
 at_end : (d : ℕ) → Lines (end_text d) (mark (codes "}") ∷ [])
 unfolding end_text
 at_end d = line d (lines_part brace)
 
-verdict_part : (v : ℕ) → v < 2 ^ 8 → Part (verdict_text v) (word (codes "verdict") ∷ mark (codes "=") ∷ literal 8 v ∷ mark (codes ";") ∷ [])
+verdict_part : (v : ℕ) → v < 2 ^ 8 → Part (verdict_text v) (a_name (codes "verdict") ∷ mark (codes "=") ∷ literal 8 v ∷ mark (codes ";") ∷ [])
 unfolding verdict_text
-verdict_part v f = sets (whole (codes "verdict") refl) (literal_part 8 v (omega arith) (omega arith) f)
+verdict_part v f = assigns (whole (codes "verdict") refl) (literal_part 8 v (omega arith) (omega arith) f)
 
 mutual
   unfolding egress_port_text group_text
 
   pub stmt_part : (p : Program) → NamesFit p → (d : ℕ) (s : P4Stmt) → StmtFits s → Part (stmt_text p d s) (stmt_tokens p s)
-  stmt_part p n d (set_meta i e) f = reads_as (sets (meta_part p i n) (expr_part p n e f)) (simp append_assoc)
-  stmt_part p n d (set_header h g e) f = reads_as (sets (field_part p h g n) (expr_part p n e f)) (simp append_assoc)
+  stmt_part p n d (set_meta i e) f = reads_as (assigns (meta_part p i n) (expr_part p n e f)) (simp append_assoc)
+  stmt_part p n d (set_header h g e) f = reads_as (assigns (field_part p h g n) (expr_part p n e f)) (simp append_assoc)
   stmt_part p n d (apply_table t) f = follows (table_part t f) (ends (codes ".apply();") refl)
   stmt_part p n d (p_if e first) f = reads_as (if_then p n e f.0 (after (block_lines p n (d + 2) first f.1) (at_end d))) (simp append_assoc)
   stmt_part p n d (p_if_else e first second) f =
       reads_as (if_then p n e f.0 (after (block_lines p n (d + 2) first f.1) (else_then d (after (block_lines p n (d + 2) second f.2) (at_end d)))))
-      (ap (λ z. word (codes "if") ∷ mark (codes "(") ∷ z) (sym (regroup (expr_tokens p e) (block_tokens p first) (mark (codes ")")) (mark (codes "{")) (mark (codes "}")) (word (codes "else") ∷ mark (codes "{") ∷ (block_tokens p second ++ mark (codes "}") ∷ [])))))
+      (ap (λ z. a_name (codes "if") ∷ mark (codes "(") ∷ z) (sym (regroup (expr_tokens p e) (block_tokens p first) (mark (codes ")")) (mark (codes "{")) (mark (codes "}")) (a_name (codes "else") ∷ mark (codes "{") ∷ (block_tokens p second ++ mark (codes "}") ∷ [])))))
   stmt_part p n d (verdict v) f = verdict_part v f
-  stmt_part p n d (egress_port e) f = sets (whole (codes "egress_port") refl) (expr_part p n e f)
-  stmt_part p n d (group e) f = sets (whole (codes "group") refl) (expr_part p n e f)
+  stmt_part p n d (egress_port e) f = assigns (whole (codes "egress_port") refl) (expr_part p n e f)
+  stmt_part p n d (group e) f = assigns (whole (codes "group") refl) (expr_part p n e f)
   stmt_part p n d p_return f = whole (codes "return;") refl
 
   pub block_lines : (p : Program) → NamesFit p → (d : ℕ) (b : P4Block) → BlockFits b → Lines (block_text p d b) (block_tokens p b)

@@ -4,17 +4,18 @@ use Rattle.std.specs.Prelude.{◌==◌, codes, slice_get, nat_le, nat_lt, option
 use Rattle.std.proofs.lemmas.Bool.{and_parts, or_cases, eqb-true, ltb-true, leb-true}
 use Rattle.cocoon_num.specs.Values.{UnaryOp, flip, not_, BinaryOp, add, sub, bits_and, bits_or, bits_xor, concat, equal, unequal, less, less_equal, greater, greater_equal, and_, or_, implies}
 use Rattle.cocoon_num.specs.Names.{same_name}
-use Rattle.cocoon_num.specs.Sorts.{Sort, bits_sort, truth_sort, unary_sort, binary_sort, slice_sort, pick_sort, of_two, of_three, has_sort, one_width, joined_sort, two_truths, same_sort, is_declared_width}
-use Rattle.cocoon_num.specs.Tokens.{is_run, is_letter, is_word_byte, is_shallow}
+use Rattle.cocoon_num.specs.Sorts.{Sort, bits_sort, truth_sort, unary_sort, binary_sort, slice_sort, pick_sort, has_sort, numbers_sort, joined_sort, truths_sort, same_sort, is_declared_width}
+use Rattle.cocoon_num.specs.Values.{with_both, with_all}
+use Rattle.cocoon_num.specs.Tokens.{is_run, is_letter, is_run_byte, is_shallow}
 use Rattle.p4_ir.specs.P4Tree.{P4Expr, p_lit, p_truth, p_meta, p_field, p_port, p_rid, p_unary, p_binary, p_slice, p_pick, P4Stmt, set_meta, set_header, apply_table, p_if, p_if_else, verdict, egress_port, group, p_return, P4Block, p_done, p_then, P4Field, P4Header, P4Table, Program, field_widths}
 use Rattle.p4_ir.specs.P4Text.{result_width, p4_bounds, program_tokens}
 use Rattle.cocoon_num.specs.Lists.{each, has_number, ascend, all_distinct}
-use Rattle.p4_ir.specs.P4Kinds.{is_meta_name, last_is_digit, names_fit, widths_fit, table_fits, tables_fit, numbers_of, Within, sort_if, meta_sort, field_sort, is_implies, p4_sort, sets, is_empty, stmt_fits, block_fits, is_well_kinded}
+use Rattle.p4_ir.specs.P4Kinds.{is_meta_name, last_is_digit, names_fit, widths_fit, table_fits, tables_fit, numbers_of, Within, sort_if, meta_sort, field_sort, is_implies, p4_sort, is_assignable, is_empty, stmt_fits, block_fits, is_well_kinded}
 use Rattle.p4_ir.specs.P4Reads.{P4Reads}
 use Rattle.cocoon_num.specs.Packets.{total}
 use Rattle.p4_emit.specs.Printed.{printed}
 use Rattle.p4_emit.proofs.Seams.{all_word_bytes, is_name}
-use Rattle.p4_emit.proofs.Prints.{Each, FieldFits, HeaderFits, MetaFits, Found, each_found, ExprFits, StmtFits, BlockFits}
+use Rattle.p4_emit.proofs.Prints.{Each, FieldFits, HeaderFits, MetaFits, IfThere, each_found, ExprFits, StmtFits, BlockFits}
 use Rattle.p4_emit.proofs.Whole.{TableFits, ProgramFits, printed_tokens}
 
 -- ---- lists
@@ -33,9 +34,9 @@ each_map : {A B : Type 0} (f : B → Bool) (g : A → B) (xs : List A) → each 
 each_map f g [] = refl
 each_map f g (x ∷ xs) = ap (λ b. f (g x) && b) (each_map f g xs)
 
-each_words : (w : List ℕ) → each is_word_byte w ≡ all_word_bytes w
+each_words : (w : List ℕ) → each is_run_byte w ≡ all_word_bytes w
 each_words [] = refl
-each_words (b ∷ w) = ap (λ c. is_word_byte b && c) (each_words w)
+each_words (b ∷ w) = ap (λ c. is_run_byte b && c) (each_words w)
 
 each_within : {A : Type 0} (P : A → Type 0) (xs : List A) (i : ℕ) → Each P xs → i < length xs → (x : A) × (slice_get xs i ≡ Some x) × P x
 each_within P [] i e h = absurd (omega arith)
@@ -57,11 +58,11 @@ same_name_is (x ∷ xs) [] h = cc
 meta_is_name : (w : List ℕ) → is_meta_name w ≡ true → is_name w ≡ true
 meta_is_name [] h = cc
 meta_is_name (b ∷ bs) h =
-    elim (or_cases (same_name (b ∷ bs) (codes "site")) (is_letter b && not (b == 95) && each is_word_byte bs && last_is_digit (b ∷ bs)) h) as (λ _. is_name (b ∷ bs) ≡ true) [
+    elim (or_cases (same_name (b ∷ bs) (codes "site")) (is_letter b && not (b == 95) && each is_run_byte bs && last_is_digit (b ∷ bs)) h) as (λ _. is_name (b ∷ bs) ≡ true) [
       | inl e ↦ ap is_name (same_name_is (b ∷ bs) (codes "site") e)
       | inr e ↦
-          let h1 = and_parts (is_letter b && not (b == 95) && each is_word_byte bs) (last_is_digit (b ∷ bs)) e in
-          let h2 = and_parts (is_letter b && not (b == 95)) (each is_word_byte bs) h1.0 in
+          let h1 = and_parts (is_letter b && not (b == 95) && each is_run_byte bs) (last_is_digit (b ∷ bs)) e in
+          let h2 = and_parts (is_letter b && not (b == 95)) (each is_run_byte bs) h1.0 in
           let h3 = and_parts (is_letter b) (not (b == 95)) h2.0 in
           ap₂ (λ u v. u && v) h3.0 (sym (each_words bs) ∙ h2.1)
     ]
@@ -113,11 +114,11 @@ true_if : (b : Bool) (s t : Sort) → sort_if b s ≡ Some t → b ≡ true
 true_if true s t h = refl
 true_if false s t h = cc
 
-narrow_found : (o : Option P4Field) (s : Sort) → Found (λ (f : P4Field). Wide f.width) o → option_map (λ (f : P4Field). bits_sort f.width) o ≡ Some s → Narrow s
+narrow_found : (o : Option P4Field) (s : Sort) → IfThere (λ (f : P4Field). Wide f.width) o → option_map (λ (f : P4Field). bits_sort f.width) o ≡ Some s → Narrow s
 narrow_found None s w h = cc
 narrow_found (Some f) s w h = let e : bits_sort f.width ≡ s = cc in subst Narrow e (omega (arith, w.narrow))
 
-narrow_field : (o : Option P4Header) (f : ℕ) (s : Sort) → Found (λ (h : P4Header). Each (λ (f : P4Field). Wide f.width) h.fields) o → option_and_then (λ (d : P4Header). option_map (λ (x : P4Field). bits_sort x.width) (slice_get d.fields f)) o ≡ Some s → Narrow s
+narrow_field : (o : Option P4Header) (f : ℕ) (s : Sort) → IfThere (λ (h : P4Header). Each (λ (f : P4Field). Wide f.width) h.fields) o → option_and_then (λ (d : P4Header). option_map (λ (x : P4Field). bits_sort x.width) (slice_get d.fields f)) o ≡ Some s → Narrow s
 narrow_field None f s w h = cc
 narrow_field (Some d) f s w h = narrow_found (slice_get d.fields f) s (each_found (λ (f : P4Field). Wide f.width) d.fields f w) h
 
@@ -131,12 +132,12 @@ some_if : (b : Bool) (s t : Sort) → (cond b (Some s) None) ≡ Some t → (b �
 some_if true s t h = let e : s ≡ t = cc in (refl, e)
 some_if false s t h = absurd (let e : None ≡ Some t = h in cc)
 
-narrow_one : (f : ℕ → Sort) → ((w : ℕ) → w ≤ 128 → Narrow (f w)) → (s t u : Sort) → one_width f s t ≡ Some u → Narrow t → Narrow u
+narrow_one : (f : ℕ → Sort) → ((w : ℕ) → w ≤ 128 → Narrow (f w)) → (s t u : Sort) → numbers_sort f s t ≡ Some u → Narrow t → Narrow u
 narrow_one f g (bits_sort v) (bits_sort w) u h n = subst Narrow (some_if (v == w) (f w) u h).1 (g w n)
 narrow_one f g (bits_sort v) truth_sort u h n = cc
 narrow_one f g truth_sort t u h n = cc
 
-narrow_truths : (s t u : Sort) → two_truths s t ≡ Some u → Narrow u
+narrow_truths : (s t u : Sort) → truths_sort s t ≡ Some u → Narrow u
 narrow_truths truth_sort truth_sort u h = let e : truth_sort ≡ u = cc in subst Narrow e tt
 narrow_truths truth_sort (bits_sort w) u h = cc
 narrow_truths (bits_sort v) t u h = cc
@@ -181,12 +182,12 @@ after_some : (f : Sort → Option Sort) (o : Option Sort) (t : Sort) → option_
 after_some f None t h = cc
 after_some f (Some s) t h = (s, refl, h)
 
-after_two : (f : Sort → Sort → Option Sort) (o p : Option Sort) (u : Sort) → of_two f o p ≡ Some u → (s : Sort) × (o ≡ Some s) × ((t : Sort) × (p ≡ Some t) × (f s t ≡ Some u))
+after_two : (f : Sort → Sort → Option Sort) (o p : Option Sort) (u : Sort) → with_both f o p ≡ Some u → (s : Sort) × (o ≡ Some s) × ((t : Sort) × (p ≡ Some t) × (f s t ≡ Some u))
 after_two f None p u h = cc
 after_two f (Some s) None u h = cc
 after_two f (Some s) (Some t) u h = (s, refl, (t, refl, h))
 
-after_three : (f : Sort → Sort → Sort → Option Sort) (o p q : Option Sort) (u : Sort) → of_three f o p q ≡ Some u → (s : Sort) × (o ≡ Some s) × (of_two (f s) p q ≡ Some u)
+after_three : (f : Sort → Sort → Sort → Option Sort) (o p q : Option Sort) (u : Sort) → with_all f o p q ≡ Some u → (s : Sort) × (o ≡ Some s) × (with_both (f s) p q ≡ Some u)
 after_three f None p q u h = cc
 after_three f (Some s) p q u h = (s, refl, h)
 
@@ -215,7 +216,7 @@ expr_fits c w (p_unary op a) s h =
     let f = expr_fits c w a r.0 r.1 in
     record { expr = f.expr; narrow = narrow_unary op r.0 s r.2 f.narrow }
 expr_fits c w (p_binary op a b) s h =
-    let i = no_implies (is_implies op) (of_two (binary_sort op) (p4_sort c a) (p4_sort c b)) s h in
+    let i = no_implies (is_implies op) (with_both (binary_sort op) (p4_sort c a) (p4_sort c b)) s h in
     let r = after_two (binary_sort op) (p4_sort c a) (p4_sort c b) s i.1 in
     let f = expr_fits c w a r.0 r.1 in
     let g = expr_fits c w b r.2.0 r.2.1 in
@@ -242,7 +243,7 @@ sort_there s (Some t) h = (t, refl)
 value_fits : (c : Within) → AllWide c.program → (s : Sort) (e : P4Expr) → has_sort s (p4_sort c e) ≡ true → ExprFits e
 value_fits c w s e h = let r = sort_there s (p4_sort c e) h in (expr_fits c w e r.0 r.1).expr
 
-set_fits : (c : Within) → AllWide c.program → (o : Option Sort) (e : P4Expr) → sets c o e ≡ true → ExprFits e
+set_fits : (c : Within) → AllWide c.program → (o : Option Sort) (e : P4Expr) → is_assignable c o e ≡ true → ExprFits e
 set_fits c w None e h = cc
 set_fits c w (Some s) e h = value_fits c w s e h
 

@@ -1,7 +1,7 @@
 -- The printed text of a program has its tokens.
 use Rattle.std.proofs.Common.{◌≡◌, ℕ, ◌^◌, ◌≤◌, ◌<◌, List, [], ◌∷◌, ◌++◌, Bool, true, false, Ok, refl, pow_pos, ap, sym, ◌∙◌, arith, append_assoc}
 use Rattle.std.specs.Prelude.{codes, flat_map}
-use Rattle.cocoon_num.specs.Tokens.{Kind, word, plain, literal, mark, finish, Token, lex, kinds}
+use Rattle.cocoon_num.specs.Tokens.{Kind, a_name, plain, literal, mark, finish, Token, lex, kinds}
 use Rattle.p4_ir.specs.P4Tree.{P4Field, P4Header, P4Table, Control, Program}
 use Rattle.p4_ir.specs.P4Text.{said, p4_lexicon, meta_tokens, action_name, table_name, architecture, header_tokens, member_tokens, meta_member_tokens, match_kind, result_width, table_tokens, program_tokens, declared, header_name, block_tokens}
 use Rattle.p4_emit.specs.declared.print.Fixed.TheVariants.{Architecture}
@@ -13,7 +13,7 @@ each_lines : {A : Type 0} (P : A → Type 0) (f : A → List ℕ) (g : A → Lis
 each_lines P f g h [] e = no_lines
 each_lines P f g h (x ∷ xs) e = after (h x e.0) (each_lines P f g h xs e.1)
 
-field_lines : (f : P4Field) → FieldFits f → Lines (header_field_text f) (declared f.width (word (codes "f_" ++ f.name)) ++ mark (codes ";") ∷ [])
+field_lines : (f : P4Field) → FieldFits f → Lines (header_field_text f) (declared f.width (a_name (codes "f_" ++ f.name)) ++ mark (codes ";") ∷ [])
 unfolding header_field_text
 field_lines f h =
     line 2 (opens (codes "bit<") refl (follows (plain_part f.width h.width)
@@ -63,20 +63,20 @@ each_unit : {A : Type 0} → (xs : List A) → Each (λ x. Unit {0}) xs
 each_unit [] = tt
 each_unit (x ∷ xs) = (tt, each_unit xs)
 
-keys_lines : (p : Program) → NamesFit p → (t : P4Table) → TableFits p t → Lines (keys_text p t) (word (codes "table") ∷ table_name t.number ∷ mark (codes "{") ∷ word (codes "key") ∷ mark (codes "=") ∷ mark (codes "{") ∷ (flat_map (λ i. meta_tokens p i ++ mark (codes ":") ∷ match_kind t.exact ∷ mark (codes ";") ∷ []) t.keys ++ mark (codes "}") ∷ []))
+keys_lines : (p : Program) → NamesFit p → (t : P4Table) → TableFits p t → Lines (keys_text p t) (a_name (codes "table") ∷ table_name t.number ∷ mark (codes "{") ∷ a_name (codes "key") ∷ mark (codes "=") ∷ mark (codes "{") ∷ (flat_map (λ i. meta_tokens p i ++ mark (codes ":") ∷ match_kind t.exact ∷ mark (codes ";") ∷ []) t.keys ++ mark (codes "}") ∷ []))
 unfolding keys_text
 keys_lines p n t f =
     leads (codes "\n  table ") refl (follows (table_part t.number f.number)
     (between (codes " {\n    key = {") refl (after (each_lines (λ i. Unit {0}) (key_text p t.exact) _ (key_lines p n t.exact) t.keys (each_unit t.keys)) (ends (codes " }") refl))))
 
 action_lines : (p : Program) → NamesFit p → (t : P4Table) → TableFits p t →
-    Lines (action_text p t) (word (codes "action") ∷ action_name t.number ∷ mark (codes "(") ∷ word (codes "bit") ∷ mark (codes "<") ∷ plain (result_width p t) ∷ mark (codes ">") ∷ word (codes "v") ∷ mark (codes ")") ∷ mark (codes "{") ∷ (meta_tokens p t.result ++ mark (codes "=") ∷ word (codes "v") ∷ mark (codes ";") ∷ mark (codes "}") ∷ []))
+    Lines (action_text p t) (a_name (codes "action") ∷ action_name t.number ∷ mark (codes "(") ∷ a_name (codes "bit") ∷ mark (codes "<") ∷ plain (result_width p t) ∷ mark (codes ">") ∷ a_name (codes "v") ∷ mark (codes ")") ∷ mark (codes "{") ∷ (meta_tokens p t.result ++ mark (codes "=") ∷ a_name (codes "v") ∷ mark (codes ";") ∷ mark (codes "}") ∷ []))
 unfolding action_text
 action_lines p n t f =
     line 2 (opens (codes "action ") refl (follows (action_part t.number f.number) (leads (codes "(bit<") refl
     (follows (plain_part (result_width p t) (omega (arith, f.narrow))) (leads (codes "> v) { ") refl (follows (meta_part p t.result n) (ends (codes " = v; }") refl)))))))
 
-default_lines : (p : Program) (t : P4Table) → TableFits p t → Lines (default_text p t) (word (codes "actions") ∷ mark (codes "=") ∷ mark (codes "{") ∷ action_name t.number ∷ mark (codes ";") ∷ mark (codes "}") ∷ word (codes "default_action") ∷ mark (codes "=") ∷ action_name t.number ∷ mark (codes "(") ∷ literal (result_width p t) 0 ∷ mark (codes ")") ∷ mark (codes ";") ∷ mark (codes "}") ∷ [])
+default_lines : (p : Program) (t : P4Table) → TableFits p t → Lines (default_text p t) (a_name (codes "actions") ∷ mark (codes "=") ∷ mark (codes "{") ∷ action_name t.number ∷ mark (codes ";") ∷ mark (codes "}") ∷ a_name (codes "default_action") ∷ mark (codes "=") ∷ action_name t.number ∷ mark (codes "(") ∷ literal (result_width p t) 0 ∷ mark (codes ")") ∷ mark (codes ";") ∷ mark (codes "}") ∷ [])
 unfolding default_text
 default_lines p t f =
     leads (codes "\n    actions = { ") refl (follows (action_part t.number f.number)
@@ -93,16 +93,16 @@ table_lines : (p : Program) → NamesFit p → (t : P4Table) → TableFits p t �
 table_lines p n t f =
     let k = flat_map (λ i. meta_tokens p i ++ mark (codes ":") ∷ match_kind t.exact ∷ mark (codes ";") ∷ []) t.keys in
     let a = action_name t.number in
-    let actions : List Kind = word (codes "actions") ∷ mark (codes "=") ∷ mark (codes "{") ∷ a ∷ mark (codes ";") ∷ mark (codes "}") ∷ [] in
-    let otherwise : List Kind = word (codes "default_action") ∷ mark (codes "=") ∷ a ∷ mark (codes "(") ∷ literal (result_width p t) 0 ∷ mark (codes ")") ∷ mark (codes ";") ∷ [] in
-    let set : List Kind = mark (codes "=") ∷ word (codes "v") ∷ [] in
+    let actions : List Kind = a_name (codes "actions") ∷ mark (codes "=") ∷ mark (codes "{") ∷ a ∷ mark (codes ";") ∷ mark (codes "}") ∷ [] in
+    let otherwise : List Kind = a_name (codes "default_action") ∷ mark (codes "=") ∷ a ∷ mark (codes "(") ∷ literal (result_width p t) 0 ∷ mark (codes ")") ∷ mark (codes ";") ∷ [] in
+    let set : List Kind = mark (codes "=") ∷ a_name (codes "v") ∷ [] in
     let b : List Kind = mark (codes "}") ∷ [] in
     lines_as (after (action_lines p n t f) (after (keys_lines p n t f) (default_lines p t f)))
-    (ap (λ z. word (codes "action") ∷ a ∷ mark (codes "(") ∷ word (codes "bit") ∷ mark (codes "<") ∷ plain (result_width p t) ∷ mark (codes ">") ∷ word (codes "v") ∷ mark (codes ")") ∷ mark (codes "{") ∷ z)
-    (append_assoc (meta_tokens p t.result) (mark (codes "=") ∷ word (codes "v") ∷ mark (codes ";") ∷ mark (codes "}") ∷ []) _
-    ∙ ap (λ y. meta_tokens p t.result ++ (mark (codes "=") ∷ word (codes "v") ∷ mark (codes ";") ∷ mark (codes "}") ∷ word (codes "table") ∷ table_name t.number ∷ mark (codes "{") ∷ word (codes "key") ∷ mark (codes "=") ∷ mark (codes "{") ∷ y))
+    (ap (λ z. a_name (codes "action") ∷ a ∷ mark (codes "(") ∷ a_name (codes "bit") ∷ mark (codes "<") ∷ plain (result_width p t) ∷ mark (codes ">") ∷ a_name (codes "v") ∷ mark (codes ")") ∷ mark (codes "{") ∷ z)
+    (append_assoc (meta_tokens p t.result) (mark (codes "=") ∷ a_name (codes "v") ∷ mark (codes ";") ∷ mark (codes "}") ∷ []) _
+    ∙ ap (λ y. meta_tokens p t.result ++ (mark (codes "=") ∷ a_name (codes "v") ∷ mark (codes ";") ∷ mark (codes "}") ∷ a_name (codes "table") ∷ table_name t.number ∷ mark (codes "{") ∷ a_name (codes "key") ∷ mark (codes "=") ∷ mark (codes "{") ∷ y))
     (append_assoc k b _ ∙ sym (out_of_four k b actions otherwise b))
-    ∙ sym (out_of_four (meta_tokens p t.result) set (mark (codes ";") ∷ []) b (word (codes "table") ∷ table_name t.number ∷ mark (codes "{") ∷ word (codes "key") ∷ mark (codes "=") ∷ mark (codes "{") ∷ ((((k ++ b) ++ actions) ++ otherwise) ++ b)))))
+    ∙ sym (out_of_four (meta_tokens p t.result) set (mark (codes ";") ∷ []) b (a_name (codes "table") ∷ table_name t.number ∷ mark (codes "{") ∷ a_name (codes "key") ∷ mark (codes "=") ∷ mark (codes "{") ∷ ((((k ++ b) ++ actions) ++ otherwise) ++ b)))))
 
 pub record ControlFits (p : Program) (c : Control) : Type 0 where
   pub tables : Each (TableFits p) c.tables
@@ -155,7 +155,7 @@ same_order : (a h m mm ex t1 b1 k1 t2 b2 k2 dep s1 s2 s3 s4 s5 s6 s7 s8 fin o c 
     ≡ a ++ h ++ s1 ++ (o ++ (m ++ c)) ++ s2 ++ (o ++ (mm ++ c)) ++ s3 ++ ex ++ s4 ++ s5 ++ (o ++ ((t1 ++ (w ++ ((b1 ++ k1) ++ c))) ++ c)) ++ s6 ++ (o ++ ((t2 ++ (w ++ ((b2 ++ k2) ++ c))) ++ c)) ++ s7 ++ dep ++ (c ++ (c ++ s8)) ++ fin
 same_order a h m mm ex t1 b1 k1 t2 b2 k2 dep s1 s2 s3 s4 s5 s6 s7 s8 fin o c w = simp append_assoc
 
--- some tokens of the printed text, at their places, which are the program's
+-- some tokens of the printed text, at their offsets, which are the program's
 pub printed_tokens : (p : Program) → ProgramFits p → (ts : List Token) × (lex p4_lexicon (printed p) ≡ Ok ts) × (kinds ts ≡ program_tokens p)
 printed_tokens p f =
     let l = spells_lexes (follows (heads_part p f) (after (ingress_lines p f) (egress_lines p f))).spells in (
@@ -167,5 +167,5 @@ printed_tokens p f =
           (said (codes "struct Headers")) (said (codes "struct Meta")) (said (codes "parser Prs(packet_in b, out Headers h, inout Meta m) { state start {")) (said (codes "transition accept; } }"))
           (said (codes "control Ing(inout Headers h, inout Meta m, in bit<16> port, out bit<8> verdict, out bit<16> egress_port, out bit<16> group)"))
           (said (codes "control Egr(inout Headers h, inout Meta m, in bit<64> rid, out bit<8> verdict, out bit<16> egress_port)")) (said (codes "control Dep(packet_out b, in Headers h) { apply {"))
-          (said (codes "CocoonSwitch(Prs(), Ing(), Egr(), Dep()) main;")) (finish ∷ []) (mark (codes "{") ∷ []) (mark (codes "}") ∷ []) (word (codes "apply") ∷ mark (codes "{") ∷ []),
+          (said (codes "CocoonSwitch(Prs(), Ing(), Egr(), Dep()) main;")) (finish ∷ []) (mark (codes "{") ∷ []) (mark (codes "}") ∷ []) (a_name (codes "apply") ∷ mark (codes "{") ∷ []),
     )

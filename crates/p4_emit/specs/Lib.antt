@@ -1,3 +1,2 @@
 pub mod Printed
-pub mod ExampleP4
 pub mod ExampleMP4

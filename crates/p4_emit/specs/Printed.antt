@@ -1,6 +1,6 @@
--- The text that is printed of a program: what each part adds, with a line feed before each line but the first. A
--- block's inside is indented by two blanks. It follows "The text" in docs/FORMATS.md. Optional headers, tags and versions of
--- rows are absent.
+-- The text that is printed of a program. The clauses of `emit` cite it, and those of net_bundle.
+-- Each part adds its text, with a line feed before each line but the first. A block's inside is indented by two blanks. It
+-- follows "The text" in docs/FORMATS.md. Optional headers, tags and versions of rows are absent.
 use Rattle.std.specs.Prelude.{ℕ, ◌+◌, Bool, true, false, List, [], ◌∷◌, ◌++◌, replicate, slice_get, Option, Some, None, decimal, codes}
 use Rattle.cocoon_num.specs.Values.{UnaryOp, flip, not_, BinaryOp, add, sub, bits_and, bits_or, bits_xor, concat, equal, unequal, less, less_equal, greater, greater_equal, and_, or_, implies}
 use Rattle.p4_ir.specs.P4Tree.{P4Expr, p_lit, p_truth, p_meta, p_field, p_port, p_rid, p_unary, p_binary, p_slice, p_pick, P4Stmt, set_meta, set_header, apply_table, p_if, p_if_else, verdict, egress_port, group, p_return, P4Block, p_done, p_then, P4Field, P4Header, P4Table, Program}
@@ -15,22 +15,22 @@ new_line indent = 10 ∷ replicate indent 32
 abbrev pub literal_text : ℕ → ℕ → List ℕ
 literal_text width n = decimal width ++ (119 ∷ decimal n)
 
-abbrev pub found_text : {A : Type 0} → (A → List ℕ) → Option A → List ℕ
-found_text f None = []
-found_text f (Some a) = f a
+abbrev pub optional_text : {A : Type 0} → (A → List ℕ) → Option A → List ℕ
+optional_text f None = []
+optional_text f (Some a) = f a
 
 abbrev pub each_text : {A : Type 0} → (A → List ℕ) → List A → List ℕ
 each_text f [] = []
 each_text f (x ∷ xs) = f x ++ each_text f xs
 
 abbrev pub meta_text : Program → ℕ → List ℕ
-meta_text p i = found_text (λ (f : P4Field). codes "m." ++ f.name) (slice_get p.meta i)
+meta_text p i = optional_text (λ (f : P4Field). codes "m." ++ f.name) (slice_get p.meta i)
 
 abbrev pub field_of_text : P4Header → ℕ → List ℕ
-field_of_text d f = found_text (λ (x : P4Field). codes "h.h_" ++ (d.name ++ (codes ".f_" ++ x.name))) (slice_get d.fields f)
+field_of_text d f = optional_text (λ (x : P4Field). codes "h.h_" ++ (d.name ++ (codes ".f_" ++ x.name))) (slice_get d.fields f)
 
 abbrev pub field_text : Program → ℕ → ℕ → List ℕ
-field_text p h f = found_text (λ (d : P4Header). field_of_text d f) (slice_get p.headers h)
+field_text p h f = optional_text (λ (d : P4Header). field_of_text d f) (slice_get p.headers h)
 
 -- ---- expressions
 

@@ -4,6 +4,3 @@
 pub mod print;
 
 pub use print::emit;
-
-#[cfg(test)]
-mod tests;

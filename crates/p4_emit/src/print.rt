@@ -99,7 +99,8 @@ fn new_line(out: &mut Vec<u8>, indent: u32) -> Result<(), NoMemory>
 }
 
 fn push_meta(out: &mut Vec<u8>, program: &Program, i: u32) -> Result<(), NoMemory>
-    ensures { OnOk result (out.new.items ≡ out.old.items ++ spec.meta_text (program_of program.now) i) }
+    ensures { OnOk result (out.new.items
+        ≡ out.old.items ++ spec.meta_text (program_of program.now) i) }
 {
     if let Some(field) = program.meta.items().get(i as usize) {
         push(out, "m.")?;
@@ -109,7 +110,8 @@ fn push_meta(out: &mut Vec<u8>, program: &Program, i: u32) -> Result<(), NoMemor
 }
 
 fn push_field_of(out: &mut Vec<u8>, header: &P4Header, f: u32) -> Result<(), NoMemory>
-    ensures { OnOk result (out.new.items ≡ out.old.items ++ spec.field_of_text (header_of header.now) f) }
+    ensures { OnOk result (out.new.items
+        ≡ out.old.items ++ spec.field_of_text (header_of header.now) f) }
 {
     if let Some(field) = header.fields.items().get(f as usize) {
         push(out, "h.h_")?;
@@ -121,7 +123,8 @@ fn push_field_of(out: &mut Vec<u8>, header: &P4Header, f: u32) -> Result<(), NoM
 }
 
 fn push_field(out: &mut Vec<u8>, program: &Program, h: u32, f: u32) -> Result<(), NoMemory>
-    ensures { OnOk result (out.new.items ≡ out.old.items ++ spec.field_text (program_of program.now) h f) }
+    ensures { OnOk result (out.new.items
+        ≡ out.old.items ++ spec.field_text (program_of program.now) h f) }
 {
     if let Some(header) = program.headers.items().get(h as usize) {
         push_field_of(out, header, f)?;
@@ -178,7 +181,8 @@ fn emit_expr(
     program: &Program,
     expr: &P4Expr,
 ) -> Result<(), NoMemory>
-    ensures { OnOk result (out.new.items ≡ out.old.items ++ spec.expr_text (program_of program.now) (expr_of expr.now)) }
+    ensures { OnOk result (out.new.items
+        ≡ out.old.items ++ spec.expr_text (program_of program.now) (expr_of expr.now)) }
 {
     match expr {
         P4Expr::Lit(bits) => push_literal(alloc, out, bits.width, bits.value),
@@ -226,7 +230,10 @@ fn push_value(
     program: &Program,
     value: &P4Expr,
 ) -> Result<(), NoMemory>
-    ensures { OnOk result (out.new.items ≡ out.old.items ++ (codes " = " ++ (spec.expr_text (program_of program.now) (expr_of value.now) ++ codes ";"))) }
+    ensures { OnOk result (out.new.items
+        ≡ out.old.items
+        ++ (codes " = " ++ (spec.expr_text
+        (program_of program.now) (expr_of value.now) ++ codes ";"))) }
 {
     push(out, " = ")?;
     emit_expr(alloc, out, program, value)?;
@@ -249,7 +256,8 @@ fn push_egress_port(
     program: &Program,
     value: &P4Expr,
 ) -> Result<(), NoMemory>
-    ensures { OnOk result (out.new.items ≡ out.old.items ++ spec.egress_port_text (program_of program.now) (expr_of value.now)) }
+    ensures { OnOk result (out.new.items
+        ≡ out.old.items ++ spec.egress_port_text (program_of program.now) (expr_of value.now)) }
 {
     push(out, "egress_port")?;
     push_value(alloc, out, program, value)
@@ -262,7 +270,8 @@ fn push_group(
     program: &Program,
     value: &P4Expr,
 ) -> Result<(), NoMemory>
-    ensures { OnOk result (out.new.items ≡ out.old.items ++ spec.group_text (program_of program.now) (expr_of value.now)) }
+    ensures { OnOk result (out.new.items
+        ≡ out.old.items ++ spec.group_text (program_of program.now) (expr_of value.now)) }
 {
     push(out, "group")?;
     push_value(alloc, out, program, value)
@@ -275,7 +284,8 @@ fn push_if(
     program: &Program,
     condition: &P4Expr,
 ) -> Result<(), NoMemory>
-    ensures { OnOk result (out.new.items ≡ out.old.items ++ spec.if_text (program_of program.now) (expr_of condition.now)) }
+    ensures { OnOk result (out.new.items
+        ≡ out.old.items ++ spec.if_text (program_of program.now) (expr_of condition.now)) }
 {
     push(out, "if (")?;
     emit_expr(alloc, out, program, condition)?;
@@ -316,7 +326,8 @@ fn emit_stmt(
     indent: u32,
     stmt: &P4Stmt,
 ) -> Result<(), NoMemory>
-    ensures { OnOk result (out.new.items ≡ out.old.items ++ spec.stmt_text (program_of program.now) indent (stmt_of stmt.now)) }
+    ensures { OnOk result (out.new.items
+        ≡ out.old.items ++ spec.stmt_text (program_of program.now) indent (stmt_of stmt.now)) }
 {
     match stmt {
         P4Stmt::SetMeta(i, e) => {
@@ -361,7 +372,10 @@ fn emit_block(
     indent: u32,
     stmts: &Vec<P4Stmt>,
 ) -> Result<(), NoMemory>
-    ensures { OnOk result (out.new.items ≡ out.old.items ++ spec.block_text (program_of program.now) indent (block_of (map stmt_of stmts.now.items))) }
+    ensures { OnOk result (out.new.items
+        ≡ out.old.items
+        ++ spec.block_text
+        (program_of program.now) indent (block_of (map stmt_of stmts.now.items))) }
 {
     for stmt in stmts {
         new_line(out, indent)?;
@@ -376,7 +390,9 @@ fn emit_body(
     program: &Program,
     stmts: &[P4Stmt],
 ) -> Result<(), NoMemory>
-    ensures { OnOk result (out.new.items ≡ out.old.items ++ spec.block_text (program_of program.now) 4 (block_of (map stmt_of stmts.now))) }
+    ensures { OnOk result (out.new.items
+        ≡ out.old.items
+        ++ spec.block_text (program_of program.now) 4 (block_of (map stmt_of stmts.now))) }
 {
     for stmt in stmts {
         new_line(out, 4)?;
@@ -387,7 +403,8 @@ fn emit_body(
 
 #[tactic(auto, unfolding(crate::specs::Printed::header_field_text))]
 fn push_header_field(alloc: Global, out: &mut Vec<u8>, field: &P4Field) -> Result<(), NoMemory>
-    ensures { OnOk result (out.new.items ≡ out.old.items ++ spec.header_field_text (field_of field.now)) }
+    ensures { OnOk result (out.new.items
+        ≡ out.old.items ++ spec.header_field_text (field_of field.now)) }
 {
     push(out, "\n  bit<")?;
     push_number(alloc, out, u32::from(field.width))?;
@@ -397,7 +414,8 @@ fn push_header_field(alloc: Global, out: &mut Vec<u8>, field: &P4Field) -> Resul
 }
 
 fn push_header_fields(alloc: Global, out: &mut Vec<u8>, fields: &[P4Field]) -> Result<(), NoMemory>
-    ensures { OnOk result (out.new.items ≡ out.old.items ++ spec.each_text spec.header_field_text (map field_of fields.now)) }
+    ensures { OnOk result (out.new.items
+        ≡ out.old.items ++ spec.each_text spec.header_field_text (map field_of fields.now)) }
 {
     for field in fields {
         push_header_field(alloc, out, field)?;
@@ -406,7 +424,8 @@ fn push_header_fields(alloc: Global, out: &mut Vec<u8>, fields: &[P4Field]) -> R
 }
 
 fn push_header(alloc: Global, out: &mut Vec<u8>, header: &P4Header) -> Result<(), NoMemory>
-    ensures { OnOk result (out.new.items ≡ out.old.items ++ spec.header_text (header_of header.now)) }
+    ensures { OnOk result (out.new.items
+        ≡ out.old.items ++ spec.header_text (header_of header.now)) }
 {
     push(out, "\nheader ht_")?;
     push_name(out, &header.name)?;
@@ -417,7 +436,8 @@ fn push_header(alloc: Global, out: &mut Vec<u8>, header: &P4Header) -> Result<()
 }
 
 fn push_headers(alloc: Global, out: &mut Vec<u8>, headers: &[P4Header]) -> Result<(), NoMemory>
-    ensures { OnOk result (out.new.items ≡ out.old.items ++ spec.each_text spec.header_text (map header_of headers.now)) }
+    ensures { OnOk result (out.new.items
+        ≡ out.old.items ++ spec.each_text spec.header_text (map header_of headers.now)) }
 {
     for header in headers {
         push_header(alloc, out, header)?;
@@ -427,7 +447,8 @@ fn push_headers(alloc: Global, out: &mut Vec<u8>, headers: &[P4Header]) -> Resul
 
 #[tactic(auto, unfolding(crate::specs::Printed::member_text))]
 fn push_member(out: &mut Vec<u8>, header: &P4Header) -> Result<(), NoMemory>
-    ensures { OnOk result (out.new.items ≡ out.old.items ++ spec.member_text (header_of header.now)) }
+    ensures { OnOk result (out.new.items
+        ≡ out.old.items ++ spec.member_text (header_of header.now)) }
 {
     push(out, "\n  ht_")?;
     push_name(out, &header.name)?;
@@ -437,7 +458,8 @@ fn push_member(out: &mut Vec<u8>, header: &P4Header) -> Result<(), NoMemory>
 }
 
 fn push_members(out: &mut Vec<u8>, headers: &[P4Header]) -> Result<(), NoMemory>
-    ensures { OnOk result (out.new.items ≡ out.old.items ++ spec.each_text spec.member_text (map header_of headers.now)) }
+    ensures { OnOk result (out.new.items
+        ≡ out.old.items ++ spec.each_text spec.member_text (map header_of headers.now)) }
 {
     for header in headers {
         push_member(out, header)?;
@@ -447,7 +469,8 @@ fn push_members(out: &mut Vec<u8>, headers: &[P4Header]) -> Result<(), NoMemory>
 
 #[tactic(auto, unfolding(crate::specs::Printed::meta_member_text))]
 fn push_meta_member(alloc: Global, out: &mut Vec<u8>, field: &P4Field) -> Result<(), NoMemory>
-    ensures { OnOk result (out.new.items ≡ out.old.items ++ spec.meta_member_text (field_of field.now)) }
+    ensures { OnOk result (out.new.items
+        ≡ out.old.items ++ spec.meta_member_text (field_of field.now)) }
 {
     push(out, "\n  bit<")?;
     push_number(alloc, out, u32::from(field.width))?;
@@ -457,7 +480,8 @@ fn push_meta_member(alloc: Global, out: &mut Vec<u8>, field: &P4Field) -> Result
 }
 
 fn push_meta_members(alloc: Global, out: &mut Vec<u8>, fields: &[P4Field]) -> Result<(), NoMemory>
-    ensures { OnOk result (out.new.items ≡ out.old.items ++ spec.each_text spec.meta_member_text (map field_of fields.now)) }
+    ensures { OnOk result (out.new.items
+        ≡ out.old.items ++ spec.each_text spec.meta_member_text (map field_of fields.now)) }
 {
     for field in fields {
         push_meta_member(alloc, out, field)?;
@@ -466,7 +490,8 @@ fn push_meta_members(alloc: Global, out: &mut Vec<u8>, fields: &[P4Field]) -> Re
 }
 
 fn push_extract(out: &mut Vec<u8>, header: &P4Header) -> Result<(), NoMemory>
-    ensures { OnOk result (out.new.items ≡ out.old.items ++ spec.extract_text (header_of header.now)) }
+    ensures { OnOk result (out.new.items
+        ≡ out.old.items ++ spec.extract_text (header_of header.now)) }
 {
     push(out, "\n    b.extract(h.h_")?;
     push_name(out, &header.name)?;
@@ -475,7 +500,8 @@ fn push_extract(out: &mut Vec<u8>, header: &P4Header) -> Result<(), NoMemory>
 }
 
 fn push_extracts(out: &mut Vec<u8>, headers: &[P4Header]) -> Result<(), NoMemory>
-    ensures { OnOk result (out.new.items ≡ out.old.items ++ spec.each_text spec.extract_text (map header_of headers.now)) }
+    ensures { OnOk result (out.new.items
+        ≡ out.old.items ++ spec.each_text spec.extract_text (map header_of headers.now)) }
 {
     for header in headers {
         push_extract(out, header)?;
@@ -484,7 +510,8 @@ fn push_extracts(out: &mut Vec<u8>, headers: &[P4Header]) -> Result<(), NoMemory
 }
 
 fn push_deparse(out: &mut Vec<u8>, header: &P4Header) -> Result<(), NoMemory>
-    ensures { OnOk result (out.new.items ≡ out.old.items ++ spec.deparse_text (header_of header.now)) }
+    ensures { OnOk result (out.new.items
+        ≡ out.old.items ++ spec.deparse_text (header_of header.now)) }
 {
     push(out, "\n    b.emit(h.h_")?;
     push_name(out, &header.name)?;
@@ -493,7 +520,8 @@ fn push_deparse(out: &mut Vec<u8>, header: &P4Header) -> Result<(), NoMemory>
 }
 
 fn push_deparses(out: &mut Vec<u8>, headers: &[P4Header]) -> Result<(), NoMemory>
-    ensures { OnOk result (out.new.items ≡ out.old.items ++ spec.each_text spec.deparse_text (map header_of headers.now)) }
+    ensures { OnOk result (out.new.items
+        ≡ out.old.items ++ spec.each_text spec.deparse_text (map header_of headers.now)) }
 {
     for header in headers {
         push_deparse(out, header)?;
@@ -509,7 +537,8 @@ fn kind_text<'a>(exact: bool) -> &'a str
 
 #[tactic(auto, unfolding(crate::specs::Printed::key_text))]
 fn push_key(out: &mut Vec<u8>, program: &Program, exact: bool, key: u32) -> Result<(), NoMemory>
-    ensures { OnOk result (out.new.items ≡ out.old.items ++ spec.key_text (program_of program.now) exact key) }
+    ensures { OnOk result (out.new.items
+        ≡ out.old.items ++ spec.key_text (program_of program.now) exact key) }
 {
     push(out, " ")?;
     push_meta(out, program, key)?;
@@ -522,7 +551,8 @@ fn push_keys(
     exact: bool,
     keys: &[u32],
 ) -> Result<(), NoMemory>
-    ensures { OnOk result (out.new.items ≡ out.old.items ++ spec.each_text (spec.key_text (program_of program.now) exact) keys.now) }
+    ensures { OnOk result (out.new.items
+        ≡ out.old.items ++ spec.each_text (spec.key_text (program_of program.now) exact) keys.now) }
 {
     for key in keys {
         push_key(out, program, exact, *key)?;
@@ -546,7 +576,8 @@ fn push_action(
     program: &Program,
     table: &Table,
 ) -> Result<(), NoMemory>
-    ensures { OnOk result (out.new.items ≡ out.old.items ++ spec.action_text (program_of program.now) (table_of table.now)) }
+    ensures { OnOk result (out.new.items
+        ≡ out.old.items ++ spec.action_text (program_of program.now) (table_of table.now)) }
 {
     push(out, "\n  action a")?;
     push_number(alloc, out, table.number)?;
@@ -564,7 +595,8 @@ fn push_table_keys(
     program: &Program,
     table: &Table,
 ) -> Result<(), NoMemory>
-    ensures { OnOk result (out.new.items ≡ out.old.items ++ spec.keys_text (program_of program.now) (table_of table.now)) }
+    ensures { OnOk result (out.new.items
+        ≡ out.old.items ++ spec.keys_text (program_of program.now) (table_of table.now)) }
 {
     push(out, "\n  table t")?;
     push_number(alloc, out, table.number)?;
@@ -580,7 +612,8 @@ fn push_default(
     program: &Program,
     table: &Table,
 ) -> Result<(), NoMemory>
-    ensures { OnOk result (out.new.items ≡ out.old.items ++ spec.default_text (program_of program.now) (table_of table.now)) }
+    ensures { OnOk result (out.new.items
+        ≡ out.old.items ++ spec.default_text (program_of program.now) (table_of table.now)) }
 {
     push(out, "\n    actions = { a")?;
     push_number(alloc, out, table.number)?;
@@ -598,7 +631,8 @@ fn push_table(
     program: &Program,
     table: &Table,
 ) -> Result<(), NoMemory>
-    ensures { OnOk result (out.new.items ≡ out.old.items ++ spec.table_text (program_of program.now) (table_of table.now)) }
+    ensures { OnOk result (out.new.items
+        ≡ out.old.items ++ spec.table_text (program_of program.now) (table_of table.now)) }
 {
     push_action(alloc, out, program, table)?;
     push_table_keys(alloc, out, program, table)?;
@@ -611,7 +645,9 @@ fn push_tables(
     program: &Program,
     tables: &[Table],
 ) -> Result<(), NoMemory>
-    ensures { OnOk result (out.new.items ≡ out.old.items ++ spec.each_text (spec.table_text (program_of program.now)) (map table_of tables.now)) }
+    ensures { OnOk result (out.new.items
+        ≡ out.old.items
+        ++ spec.each_text (spec.table_text (program_of program.now)) (map table_of tables.now)) }
 {
     for table in tables {
         push_table(alloc, out, program, table)?;
@@ -620,7 +656,8 @@ fn push_tables(
 }
 
 fn push_heads(alloc: Global, out: &mut Vec<u8>, program: &Program) -> Result<(), NoMemory>
-    ensures { OnOk result (out.new.items ≡ out.old.items ++ spec.heads_text (program_of program.now)) }
+    ensures { OnOk result (out.new.items
+        ≡ out.old.items ++ spec.heads_text (program_of program.now)) }
 {
     push_fixed(out, Fixed::Architecture)?;
     push_headers(alloc, out, program.headers.items())?;
@@ -634,7 +671,8 @@ fn push_heads(alloc: Global, out: &mut Vec<u8>, program: &Program) -> Result<(),
 }
 
 fn push_ingress(alloc: Global, out: &mut Vec<u8>, program: &Program) -> Result<(), NoMemory>
-    ensures { OnOk result (out.new.items ≡ out.old.items ++ spec.ingress_text (program_of program.now)) }
+    ensures { OnOk result (out.new.items
+        ≡ out.old.items ++ spec.ingress_text (program_of program.now)) }
 {
     push_fixed(out, Fixed::Ingress)?;
     push_tables(alloc, out, program, program.ingress.tables.items())?;
@@ -644,7 +682,8 @@ fn push_ingress(alloc: Global, out: &mut Vec<u8>, program: &Program) -> Result<(
 }
 
 fn push_egress(alloc: Global, out: &mut Vec<u8>, program: &Program) -> Result<(), NoMemory>
-    ensures { OnOk result (out.new.items ≡ out.old.items ++ spec.egress_text (program_of program.now)) }
+    ensures { OnOk result (out.new.items
+        ≡ out.old.items ++ spec.egress_text (program_of program.now)) }
 {
     push_fixed(out, Fixed::Egress)?;
     push_tables(alloc, out, program, program.egress.tables.items())?;

@@ -7,5 +7,6 @@ pub mod Switch
 pub mod NetTree
 pub mod NetRuns
 pub mod Loading
+pub mod Wiring
 pub mod NetFits
 pub mod NetOf

@@ -39,9 +39,9 @@ abbrev pub row_fits : Program → P4Table → KeyRow → Bool
 row_fits p t r = keys_fit p t.exact t.keys r.values r.masks && nat_lt r.result (2 ^ meta_width p t.result)
 
 -- the rows are of a table that the program has, and fit it
-abbrev pub rows_fit : Program → Option P4Table → TableRows → Bool
-rows_fit p None r = false
-rows_fit p (Some t) r = each (row_fits p t) r.rows && nat_lt r.otherwise (2 ^ meta_width p t.result)
+abbrev pub table_rows_fit : Program → Option P4Table → TableRows → Bool
+table_rows_fit p None r = false
+table_rows_fit p (Some t) r = each (row_fits p t) r.rows && nat_lt r.otherwise (2 ^ meta_width p t.result)
 
 abbrev pub all_tables : Program → List P4Table
 all_tables p = p.ingress.tables ++ p.egress.tables
@@ -55,10 +55,10 @@ group_fits g = not (g.number == 0) && ascend g.members
 
 -- The rows fit the program: each table of the program is given once and no other is, rows fit their tables, and
 -- groups have distinct numbers other than 0 and ascending members.
-abbrev pub loads : Program → RowsFile → Bool
-loads p r =
+abbrev pub rows_load : Program → RowsFile → Bool
+rows_load p r =
     no_repeats (table_numbers r.tables)
     && each (λ (t : P4Table). has_number t.number (table_numbers r.tables)) (all_tables p)
-    && each (λ (t : TableRows). rows_fit p (table_numbered (all_tables p) t.number) t) r.tables
+    && each (λ (t : TableRows). table_rows_fit p (table_numbered (all_tables p) t.number) t) r.tables
     && no_repeats (map (λ (g : Group). g.number) r.groups)
     && each group_fits r.groups

@@ -1,4 +1,5 @@
--- The rows and the networks of the definitions that values of the code stand for.
+-- Cited by the clauses of copies of rows, of `write_bundle` and of `lower`: the rows and the networks of the definitions
+-- that values of the code stand for.
 use Rattle.std.specs.Prelude.{map}
 use Rattle.p4_ir.specs.P4Tree as tree
 use Rattle.p4_ir.specs.NetTree as net

@@ -5,8 +5,9 @@ use Rattle.std.specs.Prelude.{ℕ, ◌-◌, ◌^◌, ◌%◌, ◌==◌, ◌&&◌
 use Rattle.cocoon_num.specs.Values.{BinaryOp, implies}
 use Rattle.cocoon_num.specs.Names.{same_name}
 use Rattle.cocoon_num.specs.Packets.{total}
-use Rattle.cocoon_num.specs.Tokens.{is_digit, is_letter, is_word_byte, is_run}
-use Rattle.cocoon_num.specs.Sorts.{is_declared_width, Sort, bits_sort, truth_sort, unary_sort, binary_sort, slice_sort, pick_sort, of_two, of_three, has_sort}
+use Rattle.cocoon_num.specs.Tokens.{is_digit, is_letter, is_run_byte, is_run}
+use Rattle.cocoon_num.specs.Sorts.{is_declared_width, Sort, bits_sort, truth_sort, unary_sort, binary_sort, slice_sort, pick_sort, has_sort}
+use Rattle.cocoon_num.specs.Values.{with_both, with_all}
 use Rattle.p4_ir.specs.P4Tree.{P4Expr, p_lit, p_truth, p_meta, p_field, p_port, p_rid, p_unary, p_binary, p_slice, p_pick, P4Stmt, set_meta, set_header, apply_table, p_if, p_if_else, verdict, egress_port, group, p_return, P4Block, p_done, p_then, P4Field, P4Header, P4Table, Program, field_widths}
 use Rattle.cocoon_num.specs.Lists.{all_distinct, each, has_number, ascend}
 
@@ -20,7 +21,7 @@ last_is_digit (b ∷ c ∷ bs) = last_is_digit (c ∷ bs)
 -- `site`, or a letter, then letters, digits and `_`, and a digit at the end
 abbrev pub is_meta_name : List ℕ → Bool
 is_meta_name [] = false
-is_meta_name (b ∷ bs) = same_name (b ∷ bs) (codes "site") || (is_letter b && not (b == 95) && each is_word_byte bs && last_is_digit (b ∷ bs))
+is_meta_name (b ∷ bs) = same_name (b ∷ bs) (codes "site") || (is_letter b && not (b == 95) && each is_run_byte bs && last_is_digit (b ∷ bs))
 
 abbrev pub names_fit : Program → Bool
 names_fit p =
@@ -80,14 +81,14 @@ p4_sort c (p_field h f) = field_sort c.program h f
 p4_sort c p_port = sort_if c.in_ingress (bits_sort 16)
 p4_sort c p_rid = sort_if (not c.in_ingress) (bits_sort 64)
 p4_sort c (p_unary op a) = option_and_then (unary_sort op) (p4_sort c a)
-p4_sort c (p_binary op a b) = if is_implies op then None else of_two (binary_sort op) (p4_sort c a) (p4_sort c b)
+p4_sort c (p_binary op a b) = if is_implies op then None else with_both (binary_sort op) (p4_sort c a) (p4_sort c b)
 p4_sort c (p_slice a high low) = option_and_then (λ s. slice_sort s high low) (p4_sort c a)
-p4_sort c (p_pick e a b) = of_three pick_sort (p4_sort c e) (p4_sort c a) (p4_sort c b)
+p4_sort c (p_pick e a b) = with_all pick_sort (p4_sort c e) (p4_sort c a) (p4_sort c b)
 
--- an expression of the sort of what it is set to
-abbrev pub sets : Within → Option Sort → P4Expr → Bool
-sets c None e = false
-sets c (Some s) e = has_sort s (p4_sort c e)
+-- the expression has the sort of what it is assigned to, which is there
+abbrev pub is_assignable : Within → Option Sort → P4Expr → Bool
+is_assignable c None e = false
+is_assignable c (Some s) e = has_sort s (p4_sort c e)
 
 abbrev pub is_empty : P4Block → Bool
 is_empty p_done = true
@@ -95,8 +96,8 @@ is_empty (p_then first rest) = false
 
 abbrev mutual
   pub stmt_fits : Within → P4Stmt → Bool
-  stmt_fits c (set_meta i e) = sets c (meta_sort c.program i) e
-  stmt_fits c (set_header h f e) = sets c (field_sort c.program h f) e
+  stmt_fits c (set_meta i e) = is_assignable c (meta_sort c.program i) e
+  stmt_fits c (set_header h f e) = is_assignable c (field_sort c.program h f) e
   stmt_fits c (apply_table n) = has_number n c.tables
   stmt_fits c (p_if e first) = has_sort truth_sort (p4_sort c e) && block_fits c first
   stmt_fits c (p_if_else e first second) = has_sort truth_sort (p4_sort c e) && block_fits c first && not (is_empty second) && block_fits c second

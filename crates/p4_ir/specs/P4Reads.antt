@@ -7,10 +7,6 @@ use Rattle.p4_ir.specs.P4Tree.{Program}
 use Rattle.p4_ir.specs.P4Text.{p4_lexicon, p4_bounds, program_tokens}
 use Rattle.p4_ir.specs.P4Kinds.{is_well_kinded}
 
--- what `emit` asks for: the kind rules, and a text that keeps the bounds on depth
-abbrev pub WellKinded : Program → Type 0
-WellKinded program = IsTrue (is_well_kinded program) × IsTrue (is_shallow p4_bounds (program_tokens program))
-
 pub record P4Reads (text : List ℕ) (program : Program) : Type 0 where
   pub tokens : List Token
   pub tokens_are : lex p4_lexicon text ≡ Ok tokens

@@ -4,7 +4,7 @@
 -- and versions of rows are absent.
 use Rattle.std.specs.Prelude.{ℕ, Bool, true, false, List, [], ◌∷◌, ◌++◌, flat_map, slice_get, Option, Some, None, decimal, codes}
 use Rattle.cocoon_num.specs.Values.{UnaryOp, flip, not_, BinaryOp, add, sub, bits_and, bits_or, bits_xor, concat, equal, unequal, less, less_equal, greater, greater_equal, and_, or_, implies}
-use Rattle.cocoon_num.specs.Tokens.{Kind, word, plain, literal, mark, finish, Lexicon, Bounds, said_by}
+use Rattle.cocoon_num.specs.Tokens.{Kind, a_name, plain, literal, mark, finish, Lexicon, Bounds, kinds_in}
 use Rattle.p4_ir.specs.P4Tree.{P4Expr, p_lit, p_truth, p_meta, p_field, p_port, p_rid, p_unary, p_binary, p_slice, p_pick, P4Stmt, set_meta, set_header, apply_table, p_if, p_if_else, verdict, egress_port, group, p_return, P4Block, p_done, p_then, P4Field, P4Header, P4Table, Control, Program}
 
 -- ---- tokens of P4 texts
@@ -25,38 +25,38 @@ p4_bounds = record {
 
 -- the tokens of a fixed piece of text
 abbrev pub said : List ℕ → List Kind
-said text = said_by p4_lexicon text
+said text = kinds_in p4_lexicon text
 
 -- ---- names
 
 abbrev pub header_type : List ℕ → Kind
-header_type name = word (codes "ht_" ++ name)
+header_type name = a_name (codes "ht_" ++ name)
 
 abbrev pub header_name : List ℕ → Kind
-header_name name = word (codes "h_" ++ name)
+header_name name = a_name (codes "h_" ++ name)
 
 abbrev pub field_name : List ℕ → Kind
-field_name name = word (codes "f_" ++ name)
+field_name name = a_name (codes "f_" ++ name)
 
 abbrev pub table_name : ℕ → Kind
-table_name n = word (codes "t" ++ decimal n)
+table_name n = a_name (codes "t" ++ decimal n)
 
 abbrev pub action_name : ℕ → Kind
-action_name n = word (codes "a" ++ decimal n)
+action_name n = a_name (codes "a" ++ decimal n)
 
--- the tokens of what is there
-abbrev pub of_found : {A : Type 0} → (A → List Kind) → Option A → List Kind
-of_found f None = []
-of_found f (Some a) = f a
+-- the tokens of what is there, or none
+abbrev pub optional_tokens : {A : Type 0} → (A → List Kind) → Option A → List Kind
+optional_tokens f None = []
+optional_tokens f (Some a) = f a
 
 -- m.NAME
 abbrev pub meta_tokens : Program → ℕ → List Kind
-meta_tokens p i = of_found (λ (f : P4Field). said (codes "m.") ++ word f.name ∷ []) (slice_get p.meta i)
+meta_tokens p i = optional_tokens (λ (f : P4Field). said (codes "m.") ++ a_name f.name ∷ []) (slice_get p.meta i)
 
 -- h.h_NAME.f_NAME
 abbrev pub field_tokens : Program → ℕ → ℕ → List Kind
 field_tokens p h f =
-    of_found (λ (d : P4Header). of_found (λ (x : P4Field). said (codes "h.") ++ header_name d.name ∷ said (codes ".") ++ field_name x.name ∷ []) (slice_get d.fields f))
+    optional_tokens (λ (d : P4Header). optional_tokens (λ (x : P4Field). said (codes "h.") ++ header_name d.name ∷ said (codes ".") ++ field_name x.name ∷ []) (slice_get d.fields f))
     (slice_get p.headers h)
 
 -- bit<W> NAME
@@ -92,12 +92,12 @@ in_parentheses ks = mark (codes "(") ∷ ks ++ mark (codes ")") ∷ []
 
 abbrev pub expr_tokens : Program → P4Expr → List Kind
 expr_tokens p (p_lit w n) = literal w n ∷ []
-expr_tokens p (p_truth true) = word (codes "true") ∷ []
-expr_tokens p (p_truth false) = word (codes "false") ∷ []
+expr_tokens p (p_truth true) = a_name (codes "true") ∷ []
+expr_tokens p (p_truth false) = a_name (codes "false") ∷ []
 expr_tokens p (p_meta i) = meta_tokens p i
 expr_tokens p (p_field h f) = field_tokens p h f
-expr_tokens p p_port = word (codes "port") ∷ []
-expr_tokens p p_rid = word (codes "rid") ∷ []
+expr_tokens p p_port = a_name (codes "port") ∷ []
+expr_tokens p p_rid = a_name (codes "rid") ∷ []
 expr_tokens p (p_unary op a) = in_parentheses (mark (unary_mark op) ∷ expr_tokens p a)
 expr_tokens p (p_binary op a b) = in_parentheses (expr_tokens p a ++ mark (binary_mark op) ∷ expr_tokens p b)
 expr_tokens p (p_slice a high low) = expr_tokens p a ++ mark (codes "[") ∷ plain high ∷ mark (codes ":") ∷ plain low ∷ mark (codes "]") ∷ []
@@ -117,12 +117,12 @@ abbrev mutual
   stmt_tokens p (set_meta i e) = assignment (meta_tokens p i) (expr_tokens p e)
   stmt_tokens p (set_header h f e) = assignment (field_tokens p h f) (expr_tokens p e)
   stmt_tokens p (apply_table n) = table_name n ∷ said (codes ".apply();")
-  stmt_tokens p (p_if e first) = word (codes "if") ∷ in_parentheses (expr_tokens p e) ++ in_braces (block_tokens p first)
+  stmt_tokens p (p_if e first) = a_name (codes "if") ∷ in_parentheses (expr_tokens p e) ++ in_braces (block_tokens p first)
   stmt_tokens p (p_if_else e first second) =
-      word (codes "if") ∷ in_parentheses (expr_tokens p e) ++ in_braces (block_tokens p first) ++ word (codes "else") ∷ in_braces (block_tokens p second)
-  stmt_tokens p (verdict n) = assignment (word (codes "verdict") ∷ []) (literal 8 n ∷ [])
-  stmt_tokens p (egress_port e) = assignment (word (codes "egress_port") ∷ []) (expr_tokens p e)
-  stmt_tokens p (group e) = assignment (word (codes "group") ∷ []) (expr_tokens p e)
+      a_name (codes "if") ∷ in_parentheses (expr_tokens p e) ++ in_braces (block_tokens p first) ++ a_name (codes "else") ∷ in_braces (block_tokens p second)
+  stmt_tokens p (verdict n) = assignment (a_name (codes "verdict") ∷ []) (literal 8 n ∷ [])
+  stmt_tokens p (egress_port e) = assignment (a_name (codes "egress_port") ∷ []) (expr_tokens p e)
+  stmt_tokens p (group e) = assignment (a_name (codes "group") ∷ []) (expr_tokens p e)
   stmt_tokens p p_return = said (codes "return;")
 
   pub block_tokens : Program → P4Block → List Kind
@@ -142,18 +142,18 @@ architecture =
 
 abbrev pub header_tokens : P4Header → List Kind
 header_tokens d =
-    word (codes "header") ∷ header_type d.name ∷ in_braces (flat_map (λ (f : P4Field). declared f.width (field_name f.name) ++ mark (codes ";") ∷ []) d.fields)
+    a_name (codes "header") ∷ header_type d.name ∷ in_braces (flat_map (λ (f : P4Field). declared f.width (field_name f.name) ++ mark (codes ";") ∷ []) d.fields)
 
 -- ht_NAME h_NAME;
 abbrev pub member_tokens : P4Header → List Kind
 member_tokens d = header_type d.name ∷ header_name d.name ∷ mark (codes ";") ∷ []
 
 abbrev pub meta_member_tokens : P4Field → List Kind
-meta_member_tokens f = declared f.width (word f.name) ++ mark (codes ";") ∷ []
+meta_member_tokens f = declared f.width (a_name f.name) ++ mark (codes ";") ∷ []
 
 abbrev pub match_kind : Bool → Kind
-match_kind true = word (codes "exact")
-match_kind false = word (codes "ternary")
+match_kind true = a_name (codes "exact")
+match_kind false = a_name (codes "ternary")
 
 abbrev pub result_width : Program → P4Table → ℕ
 result_width p t = elim (slice_get p.meta t.result) [ Some f ↦ f.width | None ↦ 0 ]
@@ -162,17 +162,17 @@ result_width p t = elim (slice_get p.meta t.result) [ Some f ↦ f.width | None 
 -- table tN { key = { m.K : ternary; } actions = { aN; } default_action = aN(Ww0); }
 abbrev pub table_tokens : Program → P4Table → List Kind
 table_tokens p t =
-    word (codes "action") ∷ action_name t.number ∷ in_parentheses (declared (result_width p t) (word (codes "v")))
-    ++ in_braces (assignment (meta_tokens p t.result) (word (codes "v") ∷ []))
-    ++ word (codes "table") ∷ table_name t.number ∷ in_braces
-    (word (codes "key") ∷ mark (codes "=") ∷ in_braces (flat_map (λ i. meta_tokens p i ++ mark (codes ":") ∷ match_kind t.exact ∷ mark (codes ";") ∷ []) t.keys)
-    ++ word (codes "actions") ∷ mark (codes "=") ∷ in_braces (action_name t.number ∷ mark (codes ";") ∷ [])
-    ++ assignment (word (codes "default_action") ∷ []) (action_name t.number ∷ in_parentheses (literal (result_width p t) 0 ∷ [])))
+    a_name (codes "action") ∷ action_name t.number ∷ in_parentheses (declared (result_width p t) (a_name (codes "v")))
+    ++ in_braces (assignment (meta_tokens p t.result) (a_name (codes "v") ∷ []))
+    ++ a_name (codes "table") ∷ table_name t.number ∷ in_braces
+    (a_name (codes "key") ∷ mark (codes "=") ∷ in_braces (flat_map (λ i. meta_tokens p i ++ mark (codes ":") ∷ match_kind t.exact ∷ mark (codes ";") ∷ []) t.keys)
+    ++ a_name (codes "actions") ∷ mark (codes "=") ∷ in_braces (action_name t.number ∷ mark (codes ";") ∷ [])
+    ++ assignment (a_name (codes "default_action") ∷ []) (action_name t.number ∷ in_parentheses (literal (result_width p t) 0 ∷ [])))
 
 -- the tables of a control, and its statements after what every control begins with
 abbrev pub control_tokens : Program → Control → List ℕ → List Kind
 control_tokens p c begin =
-    in_braces (flat_map (table_tokens p) c.tables ++ word (codes "apply") ∷ in_braces (said begin ++ block_tokens p c.body))
+    in_braces (flat_map (table_tokens p) c.tables ++ a_name (codes "apply") ∷ in_braces (said begin ++ block_tokens p c.body))
 
 abbrev pub program_tokens : Program → List Kind
 program_tokens p =

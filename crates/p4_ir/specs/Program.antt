@@ -1,5 +1,5 @@
--- The program of the definitions, which follow "Lowering and the P4 text" in docs/FORMATS.md, that a program in memory
--- stands for.
+-- Cited by the clauses of copies of programs, of `emit`, of `write_bundle` and of `lower`: the program of the definitions,
+-- which follow "Lowering and the P4 text" in docs/FORMATS.md, that a program in memory stands for.
 use Rattle.std.specs.Prelude.{List, [], ◌∷◌, map}
 use Rattle.cocoon_num.specs.Values.{UnaryOp, flip, not_, BinaryOp, add, sub, bits_and, bits_or, bits_xor, concat, equal, unequal, less, less_equal, greater, greater_equal, and_, or_}
 use Rattle.p4_ir.specs.P4Tree as tree

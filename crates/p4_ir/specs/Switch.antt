@@ -3,7 +3,7 @@
 -- keys, default actions and `return` are those of P4-16. Optional headers and versions of rows are absent, and with
 -- them the form of a visit that looks at a tag.
 use Rattle.std.specs.Prelude.{ℕ, zero, suc, ◌==◌, ◌&&◌, Bool, true, false, List, [], ◌∷◌, replicate, length, slice_get, bit_and, if◌then◌else◌, Option, Some, None, option_map, option_and_then}
-use Rattle.cocoon_num.specs.Values.{Value, number, truth, number_of, of_unary, of_binary, of_slice, of_pick, with_both, with_all}
+use Rattle.cocoon_num.specs.Values.{Value, number, truth, as_number, apply_unary, apply_binary, apply_slice, apply_pick, with_both, with_all}
 use Rattle.cocoon_num.specs.Lists.{has_number}
 use Rattle.cocoon_num.specs.Packets.{Packet, Layout, enter, leave}
 use Rattle.p4_ir.specs.P4Tree.{P4Expr, p_lit, p_truth, p_meta, p_field, p_port, p_rid, p_unary, p_binary, p_slice, p_pick, P4Stmt, set_meta, set_header, apply_table, p_if, p_if_else, verdict, egress_port, group, p_return, P4Block, p_done, p_then, P4Table, Program, KeyRow, TableRows, Group, RowsFile, field_widths, program_layout}
@@ -24,7 +24,7 @@ pub record Running : Type 0 where
   pub port : Option ℕ
   pub rid : Option ℕ
 
--- the list with x at place i, where there is such a place
+-- the list with x at index i, where the list is that long
 abbrev pub put : {A : Type 0} → List A → ℕ → A → List A
 put [] i x = []
 put (y ∷ ys) zero x = x ∷ ys
@@ -52,10 +52,10 @@ p4_value at s (p_meta i) = numbered (field_widths at.program.meta) s.meta i
 p4_value at s (p_field h f) = header_field (program_layout at.program) s.packet h f
 p4_value at s p_port = option_map (number 16) at.port
 p4_value at s p_rid = option_map (number 64) at.rid
-p4_value at s (p_unary op a) = option_and_then (of_unary op) (p4_value at s a)
-p4_value at s (p_binary op a b) = with_both (of_binary op) (p4_value at s a) (p4_value at s b)
-p4_value at s (p_slice a high low) = option_and_then (λ v. of_slice v high low) (p4_value at s a)
-p4_value at s (p_pick c a b) = with_all of_pick (p4_value at s c) (p4_value at s a) (p4_value at s b)
+p4_value at s (p_unary op a) = option_and_then (apply_unary op) (p4_value at s a)
+p4_value at s (p_binary op a b) = with_both (apply_binary op) (p4_value at s a) (p4_value at s b)
+p4_value at s (p_slice a high low) = option_and_then (λ v. apply_slice v high low) (p4_value at s a)
+p4_value at s (p_pick c a b) = with_all apply_pick (p4_value at s c) (p4_value at s a) (p4_value at s b)
 
 -- ---- tables
 
@@ -91,47 +91,47 @@ applied at s n =
 
 -- ---- statements
 
--- a run goes on from a state, or has returned with one
-pub data Ran : Type 0 where
-  goes_on returned : State → Ran
+-- a run proceeds from a state, or has returned with one
+pub data Outcome : Type 0 where
+  proceeds returned : State → Outcome
 
 abbrev pub set_in_header : Packet → ℕ → ℕ → ℕ → Packet
 set_in_header packet h f n = elim (slice_get packet h) [ None ↦ packet | Some ns ↦ put packet h (put ns f n) ]
 
--- goes on with the state that a number makes
-abbrev pub setting : Option Value → (ℕ → State) → Option Ran
-setting v f = option_map (λ n. goes_on (f n)) (option_and_then number_of v)
+-- proceeds from the state that a number makes
+abbrev pub setting : Option Value → (ℕ → State) → Option Outcome
+setting v f = option_map (λ n. proceeds (f n)) (option_and_then as_number v)
 
-abbrev pub choose : Option Value → Option Ran → Option Ran → Option Ran
+abbrev pub choose : Option Value → Option Outcome → Option Outcome → Option Outcome
 choose (Some (truth true)) a b = a
 choose (Some (truth false)) a b = b
 choose (Some (number w n)) a b = None
 choose None a b = None
 
 -- the rest is run unless the statement returned
-abbrev pub then_run : Option Ran → (State → Option Ran) → Option Ran
+abbrev pub then_run : Option Outcome → (State → Option Outcome) → Option Outcome
 then_run None f = None
-then_run (Some (goes_on s)) f = f s
+then_run (Some (proceeds s)) f = f s
 then_run (Some (returned s)) f = Some (returned s)
 
 abbrev mutual
-  pub p4_run : Running → P4Stmt → State → Option Ran
+  pub p4_run : Running → P4Stmt → State → Option Outcome
   p4_run at (set_meta i e) s = setting (p4_value at s e) (λ n. record s { meta = put s.meta i n })
   p4_run at (set_header h f e) s = setting (p4_value at s e) (λ n. record s { packet = set_in_header s.packet h f n })
-  p4_run at (apply_table n) s = option_map goes_on (applied at s n)
-  p4_run at (p_if e first) s = choose (p4_value at s e) (p4_run_all at first s) (Some (goes_on s))
+  p4_run at (apply_table n) s = option_map proceeds (applied at s n)
+  p4_run at (p_if e first) s = choose (p4_value at s e) (p4_run_all at first s) (Some (proceeds s))
   p4_run at (p_if_else e first second) s = choose (p4_value at s e) (p4_run_all at first s) (p4_run_all at second s)
-  p4_run at (verdict n) s = Some (goes_on (record s { verdict = n }))
+  p4_run at (verdict n) s = Some (proceeds (record s { verdict = n }))
   p4_run at (egress_port e) s = setting (p4_value at s e) (λ n. record s { egress_port = n })
   p4_run at (group e) s = setting (p4_value at s e) (λ n. record s { group = n })
   p4_run at p_return s = Some (returned s)
 
-  pub p4_run_all : Running → P4Block → State → Option Ran
-  p4_run_all at p_done s = Some (goes_on s)
+  pub p4_run_all : Running → P4Block → State → Option Outcome
+  p4_run_all at p_done s = Some (proceeds s)
   p4_run_all at (p_then first rest) s = then_run (p4_run at first s) (p4_run_all at rest)
 
-abbrev pub state_of : Ran → State
-state_of (goes_on s) = s
+abbrev pub state_of : Outcome → State
+state_of (proceeds s) = s
 state_of (returned s) = s
 
 -- ---- a visit

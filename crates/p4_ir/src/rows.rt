@@ -52,7 +52,8 @@ impl RowsFile {
 }
 
 fn copy_tables(alloc: Global, tables: &[TableRows]) -> Result<Vec<TableRows>, NoMemory>
-    ensures { IfOk result (λ copies. map table_rows_of copies.items ≡ map table_rows_of tables.now) }
+    ensures { IfOk result (λ copies.
+        map table_rows_of copies.items ≡ map table_rows_of tables.now) }
 {
     let mut copies = Vec::new(alloc);
     for table in tables {

@@ -1,7 +1,7 @@
 use Rattle.std.proofs.Common.{◌≡◌, ◌+◌, ◌≤◌, ◌++◌, ◌∷◌, [], All, length, map, take, drop, length-drop, sym, subst, ap, ◌∙◌, arith}
 use Rattle.std.proofs.lemmas.List.Elements.{All-push}
 use Rattle.cocoon_num.specs.Tokens.{gap, piece}
-use Rattle.cocoon_lex.specs.Fronts.{Spells, first_front}
+use Rattle.cocoon_lex.specs.Prefixes.{Spells, language_prefix}
 use Rattle.cocoon_lex.specs.Kinds.{IsSpelled, StandsIn, kind_of, token_of}
 use Rattle.cocoon_lex.proofs.Steps.{after, from, gap_step, piece_step, spelled, token_at}
 use Rattle.cocoon_lex.proofs.lexer.lex.Goals as goal
@@ -12,12 +12,12 @@ loop-at-preserved-in-Gap c =
     let at = c.loop-at.at in
     let n = c.in-Gap.size in
     let within : n ≤ length (drop at text) = subst (λ bs. n ≤ length bs) c.rest.ensures c.in-Gap.ensures.fits.1 in
-    let first : first_front (drop at text) ≡ gap n = ap first_front (sym c.rest.ensures) ∙ c.in-Gap.ensures.is in
+    let first : language_prefix (drop at text) ≡ gap n = ap language_prefix (sym c.rest.ensures) ∙ c.in-Gap.ensures.is in
     record {
       within = omega (arith, length-drop at text, within, c.loop-at-test.true);
-      places = c.loop-at.invariant.places;
+      offsets = c.loop-at.invariant.offsets;
       names = c.loop-at.invariant.names;
-      rest = c.loop-at.invariant.rest ∙ gap_step text (map (token_of text) c.loop-at.found.items) at n c.loop-at-test.true c.in-Gap.ensures.fits.0 within first;
+      rest = c.loop-at.invariant.rest ∙ gap_step text (map (token_of text) c.loop-at.tokens.items) at n c.loop-at-test.true c.in-Gap.ensures.fits.0 within first;
     }
 
 pub loop-at-preserved : goal.loop-at-preserved
@@ -26,17 +26,17 @@ loop-at-preserved c =
     let at = c.loop-at.at in
     let n = c.in-Piece.size in
     let kind = c.in-Piece.kind in
-    let found = c.loop-at.found.items in
+    let found = c.loop-at.tokens.items in
     let token = token_at text at n kind in
     let within : n ≤ length (drop at text) = subst (λ bs. n ≤ length bs) c.rest.ensures c.in-Piece.ensures.fits.1 in
     let spells : Spells kind (take n (drop at text)) = subst (λ bs. Spells kind (take n bs)) c.rest.ensures c.in-Piece.ensures.fits.2 in
-    let first : first_front (drop at text) ≡ piece (kind_of kind (take n (drop at text))) n =
-    subst (λ bs. first_front bs ≡ piece (kind_of kind (take n bs)) n) c.rest.ensures c.in-Piece.ensures.is in
+    let first : language_prefix (drop at text) ≡ piece (kind_of kind (take n (drop at text))) n =
+    subst (λ bs. language_prefix bs ≡ piece (kind_of kind (take n bs)) n) c.rest.ensures c.in-Piece.ensures.is in
     let inside : at + n ≤ length text = omega (arith, length-drop at text, within, c.loop-at-test.true) in
     let pushed : found ++ token ∷ [] ≡ c.push.new.self.items = sym c.in_ok-push-in-Piece.ensures.items in
     record {
       within = inside;
-      places = subst (λ ts. All (StandsIn text) ts) pushed (All-push (StandsIn text) found token c.loop-at.invariant.places (omega arith, inside));
+      offsets = subst (λ ts. All (StandsIn text) ts) pushed (All-push (StandsIn text) found token c.loop-at.invariant.offsets (omega arith, inside));
       names = subst (λ ts. All (IsSpelled text) ts) pushed (All-push (IsSpelled text) found token c.loop-at.invariant.names (spelled text at n kind spells));
       rest = c.loop-at.invariant.rest
           ∙ piece_step text found at n kind c.loop-at-test.true c.in-Piece.ensures.fits.0 within first

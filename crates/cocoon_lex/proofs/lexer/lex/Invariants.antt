@@ -4,13 +4,13 @@ use Rattle.cocoon_lex.specs.Kinds.{IsSpelled, StandsIn, token_of}
 use Rattle.cocoon_lex.proofs.Steps.{after, from}
 use Rattle.cocoon_lex.proofs.lexer.lex.Given as goal
 
--- the tokens so far, and then what comes from the place on, are those of the text
+-- the tokens so far, and then those from the offset on, are those of the text
 abbrev pub invariant-loop-at : goal.invariant-loop-at
 invariant-loop-at l = record {
   within : l.at ≤ length l.text;
-  places : All (StandsIn l.text) l.found.items;
-  names : All (IsSpelled l.text) l.found.items;
-  rest : lex language l.text ≡ after (map (token_of l.text) l.found.items) (from l.text l.at);
+  offsets : All (StandsIn l.text) l.tokens.items;
+  names : All (IsSpelled l.text) l.tokens.items;
+  rest : lex language l.text ≡ after (map (token_of l.text) l.tokens.items) (from l.text l.at);
 }
 
 abbrev pub decreases-loop-at : goal.decreases-loop-at

@@ -1,8 +1,8 @@
 use Rattle.std.proofs.Common.{rules, ◌≡◌, ◌+◌, ◌*◌, Some, drop, get_or, option_map, sym, ap, ◌∙◌, arith}
 use Rattle.std.proofs.lemmas.List.{drop_more}
 use Rattle.cocoon_num.specs.Tokens as tokens
-use Rattle.cocoon_lex.specs.Fronts.{base_of, capped, digit_of}
-use Rattle.cocoon_lex.proofs.Values.{next_digit}
+use Rattle.cocoon_lex.specs.Prefixes.{base_of, capped, digit_of}
+use Rattle.cocoon_lex.proofs.CappedValues.{next_digit}
 use Rattle.cocoon_lex.proofs.numbers.digits_value.Goals as goal
 
 pub loop-byte-preserved : goal.loop-byte-preserved

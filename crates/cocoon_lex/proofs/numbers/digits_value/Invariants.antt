@@ -1,6 +1,6 @@
 use Rattle.std.proofs.Common.{drop, ◌≡◌, ◌≤◌, ◌^◌, option_map}
 use Rattle.cocoon_num.specs.Tokens as tokens
-use Rattle.cocoon_lex.specs.Fronts.{base_of, capped, digit_of, value_of}
+use Rattle.cocoon_lex.specs.Prefixes.{base_of, capped, digit_of, value_of}
 use Rattle.cocoon_lex.proofs.numbers.digits_value.Given as goal
 
 abbrev pub invariant-loop-byte : goal.invariant-loop-byte

@@ -1,8 +1,8 @@
 use Rattle.std.proofs.Common.{rules, ◌≡◌, ◌+◌, None, Some, take, drop, option_map, sym, ap, ◌∙◌}
 use Rattle.cocoon_num.specs.Tokens as tokens
-use Rattle.cocoon_lex.specs.Fronts.{capped, literal_kind, value_of}
+use Rattle.cocoon_lex.specs.Prefixes.{capped, literal_kind, value_of}
 use Rattle.cocoon_lex.specs.declared.numbers.Radix.TheVariants.{Decimal}
-use Rattle.cocoon_lex.proofs.Values.{literal_is, no_value, no_w}
+use Rattle.cocoon_lex.proofs.CappedValues.{literal_is, no_value, no_w}
 use Rattle.cocoon_lex.proofs.numbers.literal.Goals as goal
 
 pub returns-then-width_len-run : goal.returns-then-width_len-run

@@ -1,8 +1,8 @@
 use Rattle.std.proofs.Common.{rules, arith, ◌≡◌, map, Err}
 use Rattle.cocoon_syntax.specs.TreeOf.{decl_of}
-use Rattle.cocoon_parse.specs.Levels.{stops_of}
-use Rattle.cocoon_parse.specs.Reader.{decl_from, many_from}
-use Rattle.cocoon_parse.proofs.Given.{fails_as, read_gives, gives_read, none_yet_of, many_more, many_broken, many_stop, all_read}
+use Rattle.cocoon_parse.specs.Phrases.{stops_of}
+use Rattle.cocoon_parse.specs.PlainParser.{decl_from, many_from}
+use Rattle.cocoon_parse.proofs.Eventually.{fails_as, eventual_read, agrees_read, none_yet_of, many_more, many_broken, many_stop, all_read}
 use Rattle.cocoon_parse.proofs.decls.decls.Goals as goal
 
 pub decls-init : goal.decls-init
@@ -16,15 +16,15 @@ pub decls-preserved : goal.decls-preserved
 decls-preserved c = record {
   forward = search rules;
   within = search rules;
-  so_far = many_more (decl_from c.args.source.now) (stops_of c.args.until c.args.source.now) decl_of c.decls.next c.decls.decls.items c.decls.invariant.so_far (search rules) (read_gives decl_of c.in_ok-decl.ensures.says) (search rules);
+  so_far = many_more (decl_from c.args.source.now) (stops_of c.args.until c.args.source.now) decl_of c.decls.next c.decls.decls.items c.decls.invariant.so_far (search rules) (eventual_read decl_of c.in_ok-decl.ensures.agrees) (search rules);
 }
 
-pub returns-in_err-decl-clause-says : goal.returns-in_err-decl-clause-says
-returns-in_err-decl-clause-says c =
+pub returns-in_err-decl-clause-agrees : goal.returns-in_err-decl-clause-agrees
+returns-in_err-decl-clause-agrees c =
     let e : c.from_residual.result ≡ Err c.in_err-decl.field-0.0 = search rules in
     fails_as decl_of (λ v. map decl_of v.items) c.in_err-decl.field-0.0 e
     (many_broken (decl_from c.args.source.now) (stops_of c.args.until c.args.source.now) c.decls.next c.decls.invariant.so_far (search rules))
-    (c.in_err-decl.ensures.says)
+    (c.in_err-decl.ensures.agrees)
 
-pub returns-clause-says : goal.returns-clause-says
-returns-clause-says c = gives_read (λ v. map decl_of v.items) (all_read c.decls.invariant.so_far (many_stop (decl_from c.args.source.now) (stops_of c.args.until c.args.source.now) c.decls.next (search rules)))
+pub returns-clause-agrees : goal.returns-clause-agrees
+returns-clause-agrees c = agrees_read (λ v. map decl_of v.items) (all_read c.decls.invariant.so_far (many_stop (decl_from c.args.source.now) (stops_of c.args.until c.args.source.now) c.decls.next (search rules)))

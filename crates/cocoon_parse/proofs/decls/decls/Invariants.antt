@@ -1,8 +1,8 @@
 use Rattle.std.proofs.Common.{length, map, ◌-◌, ◌≤◌}
 use Rattle.cocoon_syntax.specs.TreeOf.{decl_of}
-use Rattle.cocoon_parse.specs.Levels.{stops_of}
-use Rattle.cocoon_parse.specs.Reader.{decl_from, many_from}
-use Rattle.cocoon_parse.proofs.Given.{SoFar}
+use Rattle.cocoon_parse.specs.Phrases.{stops_of}
+use Rattle.cocoon_parse.specs.PlainParser.{decl_from, many_from}
+use Rattle.cocoon_parse.proofs.Eventually.{SoFar}
 use Rattle.cocoon_parse.proofs.decls.decls.Given as goal
 
 abbrev pub invariant-decls : goal.invariant-decls

@@ -1,7 +1,7 @@
 use Rattle.std.proofs.Common.{◌<◌, length, map, ◌-◌, ◌≤◌}
 use Rattle.cocoon_syntax.specs.TreeOf.{param_of}
-use Rattle.cocoon_parse.specs.Reader.{closes, header_field_from, many_from, some_from}
-use Rattle.cocoon_parse.proofs.Given.{SoFar}
+use Rattle.cocoon_parse.specs.PlainParser.{closes, header_field_from, many_from, some_from}
+use Rattle.cocoon_parse.proofs.Eventually.{SoFar}
 use Rattle.cocoon_parse.proofs.decls.fields.Given as goal
 
 abbrev pub invariant-fields : goal.invariant-fields

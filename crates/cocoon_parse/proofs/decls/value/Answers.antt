@@ -1,23 +1,21 @@
-use Rattle.std.proofs.Common.{rules, arith}
-use Rattle.cocoon_parse.specs.Reader.{after, marked, body_from}
+use Rattle.std.proofs.Common.{rules, ◌≡◌, false, slice_get, option_map, Err, codes}
+use Rattle.cocoon_syntax.specs.TreeOf.{expr_of}
+use Rattle.cocoon_parse.specs.PlainParser.{body_from, is_mark}
+use Rattle.cocoon_parse.proofs.Closings.{body_reads, body_fails}
+use Rattle.cocoon_parse.proofs.Eventually.{eventual_read, agrees_read, fails_as}
 use Rattle.cocoon_parse.proofs.decls.value.Goals as goal
 
-pub returns-in_err-expect-clause-says : goal.returns-in_err-expect-clause-says
-unfolding after marked body_from
-returns-in_err-expect-clause-says c = record { depth = 0; says = λ n h. let e0 = c.in_err-expect.ensures.is in search rules }
+pub returns-in_err-value-clause-agrees : goal.returns-in_err-value-clause-agrees
+returns-in_err-value-clause-agrees c =
+    let q : is_mark (codes ";") (slice_get c.args.source.now c.args.pos) ≡ false = search rules in
+    let e : c.from_residual.result ≡ Err c.in_err-value.field-0.0 = search rules in
+    fails_as expr_of (λ v. option_map expr_of v) c.in_err-value.field-0.0 e (λ k g. body_fails c.args.source.now c.args.pos q g) c.in_err-value.ensures.agrees
 
-pub returns-in_err-value-clause-says : goal.returns-in_err-value-clause-says
-unfolding after marked body_from
-returns-in_err-value-clause-says c = record { depth = c.in_err-value.ensures.says.depth; says = λ n h. let e0 = c.in_ok-expect.ensures.is in let e1 = c.in_err-value.ensures.says.says n (omega arith) in search rules }
+pub returns-clause-agrees : goal.returns-clause-agrees
+returns-clause-agrees c =
+    let q : is_mark (codes ";") (slice_get c.args.source.now c.args.pos) ≡ false = search rules in
+    agrees_read (λ v. option_map expr_of v) (body_reads c.args.source.now c.args.pos q (eventual_read expr_of c.in_ok-value.ensures.agrees))
 
-pub returns-in_err-expect-2-clause-says : goal.returns-in_err-expect-2-clause-says
-unfolding after marked body_from
-returns-in_err-expect-2-clause-says c = record { depth = c.in_ok-value.ensures.says.depth; says = λ n h. let e0 = c.in_ok-expect.ensures.is in let e1 = c.in_ok-value.ensures.says.says n (omega arith) in let e2 = c.in_err-expect-2.ensures.is in search rules }
-
-pub returns-clause-says : goal.returns-clause-says
-unfolding after marked body_from
-returns-clause-says c = record { depth = c.in_ok-value.ensures.says.depth; says = λ n h. let e0 = c.in_ok-expect.ensures.is in let e1 = c.in_ok-value.ensures.says.says n (omega arith) in let e2 = c.in_ok-expect-2.ensures.is in search rules }
-
-pub returns-then-is_mark-clause-says : goal.returns-then-is_mark-clause-says
-unfolding after marked body_from
-returns-then-is_mark-clause-says c = record { depth = 0; says = λ n h. search rules }
+pub returns-then-is_mark-clause-agrees : goal.returns-then-is_mark-clause-agrees
+unfolding body_from
+returns-then-is_mark-clause-agrees c = record { depth = 0; agrees = λ n h. search rules }

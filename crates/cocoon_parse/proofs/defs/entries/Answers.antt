@@ -1,7 +1,7 @@
 use Rattle.std.proofs.Common.{rules, ◌≡◌, map, Err}
 use Rattle.cocoon_syntax.specs.TreeOf.{entry_of}
-use Rattle.cocoon_parse.specs.Reader.{many_from, defs_from, entry_from, finishes}
-use Rattle.cocoon_parse.proofs.Given.{fails_as, read_gives, gives_read, none_yet_of, many_more, many_broken, many_stop, all_read}
+use Rattle.cocoon_parse.specs.PlainParser.{many_from, defs_from, entry_from, finishes}
+use Rattle.cocoon_parse.proofs.Eventually.{fails_as, eventual_read, agrees_read, none_yet_of, many_more, many_broken, many_stop, all_read}
 use Rattle.cocoon_parse.proofs.defs.entries.Goals as goal
 
 pub entries-init : goal.entries-init
@@ -10,7 +10,7 @@ entries-init c = record { within = search rules; so_far = none_yet_of entry_of (
 pub entries-preserved : goal.entries-preserved
 entries-preserved c = record {
   within = search rules;
-  so_far = many_more (entry_from c.args.source.now) (finishes c.args.source.now) entry_of c.entries.next c.entries.entries.items c.entries.invariant.so_far (search rules) (read_gives entry_of c.in_ok-entry.ensures.says) (search rules);
+  so_far = many_more (entry_from c.args.source.now) (finishes c.args.source.now) entry_of c.entries.next c.entries.entries.items c.entries.invariant.so_far (search rules) (eventual_read entry_of c.in_ok-entry.ensures.agrees) (search rules);
 }
 
 pub returns-in_err-entry : goal.returns-in_err-entry
@@ -19,8 +19,8 @@ returns-in_err-entry c =
     let e : c.from_residual.result ≡ Err c.in_err-entry.field-0.0 = search rules in
     fails_as entry_of (λ v. map entry_of v.items) c.in_err-entry.field-0.0 e
     (many_broken (entry_from c.args.source.now) (finishes c.args.source.now) c.entries.next c.entries.invariant.so_far (search rules))
-    c.in_err-entry.ensures.says
+    c.in_err-entry.ensures.agrees
 
 pub returns : goal.returns
 unfolding defs_from
-returns c = gives_read (λ v. map entry_of v.items) (all_read c.entries.invariant.so_far (many_stop (entry_from c.args.source.now) (finishes c.args.source.now) c.entries.next (search rules)))
+returns c = agrees_read (λ v. map entry_of v.items) (all_read c.entries.invariant.so_far (many_stop (entry_from c.args.source.now) (finishes c.args.source.now) c.entries.next (search rules)))

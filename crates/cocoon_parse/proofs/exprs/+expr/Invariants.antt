@@ -1,11 +1,11 @@
 use Rattle.std.proofs.Common.{length, ℕ, ◌+◌, ◌-◌, ◌*◌, ◌≤◌, ◌<◌, map}
 use Rattle.cocoon_num.specs.Reads.{of_expr, of_post}
 use Rattle.cocoon_syntax.specs.TreeOf.{expr_of}
-use Rattle.cocoon_parse.specs.Levels.{level_of}
-use Rattle.cocoon_parse.specs.Reader.{expr_from, rest_from, commas_from}
+use Rattle.cocoon_parse.specs.Phrases.{level_of}
+use Rattle.cocoon_parse.specs.PlainParser.{expr_from, rest_from, commas_from}
 use Rattle.cocoon_parse.specs.declared.operators.Chain.{Chain}
 use Rattle.cocoon_parse.specs.declared.operators.Chain.TheVariants.{Or, And, Concat, Bits, Sum}
-use Rattle.cocoon_parse.proofs.Given.{SoFar, tail_from}
+use Rattle.cocoon_parse.proofs.Eventually.{SoFar, tail_from}
 use Rattle.cocoon_parse.proofs.Chains.{Rest}
 use Rattle.cocoon_parse.proofs.exprs.+expr.Given as goal
 
@@ -19,6 +19,12 @@ rank Sum = 5
 
 abbrev pub decreases-exprs : goal.decreases-exprs
 decreases-exprs l = 32 * (length l.source.now - l.pos) + 16
+
+abbrev pub decreases-expr_then : goal.decreases-expr_then
+decreases-expr_then l = 32 * (length l.source.now - l.pos) + 16
+
+abbrev pub decreases-sides : goal.decreases-sides
+decreases-sides l = 32 * (length l.source.now - l.pos) + 17
 
 abbrev pub decreases-expr : goal.decreases-expr
 decreases-expr l = 32 * (length l.source.now - l.pos) + 15

@@ -1,7 +1,7 @@
 use Rattle.std.proofs.Common.{length, ◌+◌, ◌-◌, ◌*◌, ◌≤◌, map}
 use Rattle.cocoon_syntax.specs.TreeOf.{stmt_of}
-use Rattle.cocoon_parse.specs.Reader.{many_from, stmt_from, closes}
-use Rattle.cocoon_parse.proofs.Given.{SoFar}
+use Rattle.cocoon_parse.specs.PlainParser.{many_from, stmt_from, closes}
+use Rattle.cocoon_parse.proofs.Eventually.{SoFar}
 use Rattle.cocoon_parse.proofs.stmts.+stmt.Given as goal
 
 abbrev pub decreases-stmts : goal.decreases-stmts

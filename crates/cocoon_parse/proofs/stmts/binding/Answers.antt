@@ -1,23 +1,19 @@
-use Rattle.std.proofs.Common.{rules, arith}
-use Rattle.cocoon_parse.specs.Reader.{after, marked, let_from}
+use Rattle.std.proofs.Common.{rules, ◌≡◌, Err}
+use Rattle.cocoon_num.specs.Reads.{of_expr}
+use Rattle.cocoon_syntax.specs.TreeOf.{expr_of, stmt_of}
+use Rattle.cocoon_parse.specs.PlainParser.{after, let_from, expr_from}
+use Rattle.cocoon_parse.proofs.Closings.{let_reads, let_fails}
+use Rattle.cocoon_parse.proofs.Eventually.{eventual_read, agrees_read, fails_as}
 use Rattle.cocoon_parse.proofs.stmts.binding.Goals as goal
 
-pub returns-in_err-variable-clause-says : goal.returns-in_err-variable-clause-says
-unfolding after marked let_from
-returns-in_err-variable-clause-says c = record { depth = 0; says = λ n h. let e0 = c.in_err-variable.ensures.says in search rules }
+pub returns-in_err-variable-clause-agrees : goal.returns-in_err-variable-clause-agrees
+unfolding after let_from
+returns-in_err-variable-clause-agrees c = record { depth = 0; agrees = λ n h. let e0 = c.in_err-variable.ensures.agrees in search rules }
 
-pub returns-in_err-expect-clause-says : goal.returns-in_err-expect-clause-says
-unfolding after marked let_from
-returns-in_err-expect-clause-says c = record { depth = 0; says = λ n h. let e0 = c.in_ok-variable.ensures.says in let e1 = c.in_err-expect.ensures.is in search rules }
+pub returns-in_err-value-clause-agrees : goal.returns-in_err-value-clause-agrees
+returns-in_err-value-clause-agrees c =
+    let e : c.from_residual-in_err-value.result ≡ Err c.in_err-value.field-0.0 = search rules in
+    fails_as expr_of stmt_of c.in_err-value.field-0.0 e (λ k g. let_fails c.args.source.now (λ n. expr_from c.args.source.now n of_expr) c.args.pos c.in_ok-variable.ensures.agrees g) c.in_err-value.ensures.agrees
 
-pub returns-in_err-value-clause-says : goal.returns-in_err-value-clause-says
-unfolding after marked let_from
-returns-in_err-value-clause-says c = record { depth = c.in_err-value.ensures.says.depth; says = λ n h. let e0 = c.in_ok-variable.ensures.says in let e1 = c.in_ok-expect.ensures.is in let e2 = c.in_err-value.ensures.says.says n (omega arith) in search rules }
-
-pub returns-in_err-expect-2-clause-says : goal.returns-in_err-expect-2-clause-says
-unfolding after marked let_from
-returns-in_err-expect-2-clause-says c = record { depth = c.in_ok-value.ensures.says.depth; says = λ n h. let e0 = c.in_ok-variable.ensures.says in let e1 = c.in_ok-expect.ensures.is in let e2 = c.in_ok-value.ensures.says.says n (omega arith) in let e3 = c.in_err-expect-2.ensures.is in search rules }
-
-pub returns-clause-says : goal.returns-clause-says
-unfolding after marked let_from
-returns-clause-says c = record { depth = c.in_ok-value.ensures.says.depth; says = λ n h. let e0 = c.in_ok-variable.ensures.says in let e1 = c.in_ok-expect.ensures.is in let e2 = c.in_ok-value.ensures.says.says n (omega arith) in let e3 = c.in_ok-expect-2.ensures.is in search rules }
+pub returns-clause-agrees : goal.returns-clause-agrees
+returns-clause-agrees c = agrees_read stmt_of (let_reads c.args.source.now (λ n. expr_from c.args.source.now n of_expr) c.args.pos c.in_ok-variable.ensures.agrees (eventual_read expr_of c.in_ok-value.ensures.agrees) (search rules))

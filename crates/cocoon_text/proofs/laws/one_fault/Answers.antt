@@ -1,4 +1,4 @@
-use Rattle.cocoon_num.specs.Reads.{BeginsDefs, BeginsDesign}
+use Rattle.cocoon_num.specs.FirstFaults.{BeginsDefs, BeginsDesign}
 use Rattle.cocoon_text.proofs.OneFault.{definitions_begin, designs_begin, one_first_fault}
 use Rattle.cocoon_text.proofs.laws.one_fault.Goals as goal
 

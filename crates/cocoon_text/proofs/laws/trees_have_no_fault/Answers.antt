@@ -1,4 +1,4 @@
-use Rattle.cocoon_num.specs.Reads.{BeginsDefs, BeginsDesign}
+use Rattle.cocoon_num.specs.FirstFaults.{BeginsDefs, BeginsDesign}
 use Rattle.cocoon_text.proofs.OneFault.{definitions_all_begin, design_begins, no_fault}
 use Rattle.cocoon_text.proofs.laws.trees_have_no_fault.Goals as goal
 

@@ -1,5 +1,5 @@
 use Rattle.std.proofs.Common.{refl, arith}
-use Rattle.net_bundle.proofs.Placing.{fits_on, none_left, over_here, over_later}
+use Rattle.net_bundle.proofs.InOrder.{fits_on, none_left, over_here, over_later}
 use Rattle.net_bundle.proofs.write.check_lengths.Goals as goal
 
 pub returns-then-len-most-clause-over : goal.returns-then-len-most-clause-over

@@ -1,6 +1,6 @@
 use Rattle.std.proofs.Common.{◌∙◌}
 use Rattle.net_bundle.specs.NetFileOf.{made_of}
-use Rattle.net_bundle.proofs.Placing.{one_stops, one_left}
+use Rattle.net_bundle.proofs.InOrder.{one_stops, one_left}
 use Rattle.net_bundle.proofs.write.write_file.Goals as goal
 
 pub returns-in-Err-clause-refused : goal.returns-in-Err-clause-refused

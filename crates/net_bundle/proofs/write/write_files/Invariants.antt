@@ -5,7 +5,7 @@ use Rattle.net_bundle.proofs.write.write_files.Given as goal
 
 abbrev pub invariant-loop-made : goal.invariant-loop-made
 invariant-loop-made g l = record {
-  told : g.F.Folder.told l.folder ≡ with_files l.out (take l.made-index (map made_of l.files)) (g.F.Folder.told l.fn.folder);
+  content : g.F.Folder.content l.folder ≡ with_files l.out (take l.made-index (map made_of l.files)) (g.F.Folder.content l.fn.folder);
   reads : g.F.Folder.read_faults l.folder ≡ g.F.Folder.read_faults l.fn.folder;
   writes : g.F.Folder.write_faults l.fn.folder ≤ g.F.Folder.write_faults l.folder;
 }

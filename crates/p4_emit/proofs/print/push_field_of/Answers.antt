@@ -1,5 +1,5 @@
 use Rattle.std.proofs.Common.{rules, append_assoc}
-use Rattle.p4_emit.proofs.Found.{found_none, found_some}
+use Rattle.p4_emit.proofs.Lookups.{found_none, found_some}
 use Rattle.p4_ir.specs.Program.{field_of}
 use Rattle.p4_emit.proofs.print.push_field_of.Goals as goal
 

@@ -1,0 +1,135 @@
+-- By what is read of its files, a command has one outcome at most.
+use Rattle.std.proofs.Common.{◌≡◌, ◌≤◌, ◌<◌, ℕ, List, [], ◌∷◌, length, Option, Some, None, Result, Ok, Err, sym, ap, subst, ◌∙◌, inl, inr, arith}
+use Rattle.cocoon_num.specs.Tree as tree
+use Rattle.cocoon_num.specs.Reads.{Reads, ReadsDefs}
+use Rattle.cocoon_num.specs.FirstFaults.{BeginsDesign, BeginsDefs}
+use Rattle.cocoon_text.specs.TextFaults.{FirstFault}
+use Rattle.cocoon_text.specs.declared.fault.TextFault.{TextFault}
+use Rattle.p4_ir.specs.NetTree.{NetData}
+use Rattle.net_bundle.specs.Bundle.{MadeFile, bundle}
+use Rattle.net_bundle.specs.Writing.{AllFit, FirstOver, most_of}
+use Rattle.net_bundle.specs.declared.file.BundleFile.{BundleFile}
+use Rattle.lower_p4.specs.Accepts.{Accepts, AcceptsDefs, Lowers}
+use Rattle.cocoon_cli.specs.declared.files.CommandFile.TheVariants.{Design, Definitions, Bundle}
+use Rattle.cocoon_cli.specs.declared.refusal.InputFault.TheVariants.{NoTree}
+use Rattle.cocoon_cli.specs.declared.refusal.Refusal.{Refusal}
+use Rattle.cocoon_cli.specs.declared.refusal.Refusal.TheVariants as refusal
+use Rattle.cocoon_cli.specs.declared.report.Report.{Report}
+use Rattle.cocoon_cli.specs.declared.report.Report.TheVariants.{Compiled}
+use Rattle.command_line.specs.Command.{Command, compile}
+use Rattle.cocoon_cli.specs.Steps.{Inputs, Step, is_there, is_within, design_reads, design_accepted, definitions_read, definitions_accepted, bundle_within, bundle_written, steps, DesignIs, DefinitionsAre, Makes, MakesFiles, IsGood, Refuses, totals_of, Reports, HasOutcomeFrom, HasOutcome}
+
+-- that texts have one tree or one first fault, and that the compiler makes one network of two trees
+-- that it takes
+pub record Laws : Type 0 where
+  pub one_tree : (text : List ℕ) (x y : tree.Design) → Reads text x → Reads text y → x ≡ y
+  pub one_defs_tree : (text : List ℕ) (x y : tree.DefsText) → ReadsDefs text x → ReadsDefs text y → x ≡ y
+  pub one_fault : (text : List ℕ) (f g : TextFault) → FirstFault BeginsDesign text f → FirstFault BeginsDesign text g → f ≡ g
+  pub one_defs_fault : (text : List ℕ) (f g : TextFault) → FirstFault BeginsDefs text f → FirstFault BeginsDefs text g → f ≡ g
+  pub no_fault : (text : List ℕ) (d : tree.Design) (f : TextFault) → Reads text d → ¬ FirstFault BeginsDesign text f
+  pub no_defs_fault : (text : List ℕ) (d : tree.DefsText) (f : TextFault) → ReadsDefs text d → ¬ FirstFault BeginsDefs text f
+  pub one_net : (d : tree.Design) (e : tree.DefsText) (m n : NetData) → Lowers d e m → Lowers d e n → m ≡ n
+  pub accepted : (d : tree.Design) (e : tree.DefsText) (n : NetData) → Lowers d e n → Accepts d × AcceptsDefs d e
+
+-- ---- what is read
+
+same_bytes : (o : Option (List ℕ)) (x y : List ℕ) → o ≡ Some x → o ≡ Some y → x ≡ y
+same_bytes o x y p q = let e : ◌≡◌ {A = Option (List ℕ)} (Some x) (Some y) = sym p ∙ q in cc
+
+not_there : (o : Option (List ℕ)) (x : List ℕ) → o ≡ Some x → o ≡ None → ⊥
+not_there o x p q = let e : ◌≡◌ {A = Option (List ℕ)} (Some x) None = sym p ∙ q in cc
+
+same_design : Laws → (i : Inputs) (x y : tree.Design) → DesignIs i x → DesignIs i y → x ≡ y
+same_design laws i x y a b = laws.one_tree b.text x y (subst (λ t. Reads t x) (same_bytes (i Design) a.text b.text a.is b.is) a.reads) b.reads
+
+same_defs : Laws → (i : Inputs) (x y : tree.DefsText) → DefinitionsAre i x → DefinitionsAre i y → x ≡ y
+same_defs laws i x y a b = laws.one_defs_tree b.text x y (subst (λ t. ReadsDefs t x) (same_bytes (i Definitions) a.text b.text a.are b.are) a.read) b.read
+
+same_net : Laws → (i : Inputs) (m n : NetData) → Makes i m → Makes i n → m ≡ n
+same_net laws i m n a b =
+    let design : a.design ≡ b.design = same_design laws i a.design b.design a.design_is b.design_is in
+    let defs : a.defs ≡ b.defs = same_defs laws i a.defs b.defs a.defs_are b.defs_are in
+    laws.one_net b.design b.defs m n (subst (λ (e : tree.DefsText). Lowers b.design e m) defs (subst (λ (d : tree.Design). Lowers d a.defs m) design a.lowers)) b.lowers
+
+same_files : Laws → (i : Inputs) (fs gs : List MadeFile) → MakesFiles i fs → MakesFiles i gs → fs ≡ gs
+same_files laws i fs gs a b =
+    a.files_are
+    ∙ ap (λ (t : List ℕ). bundle t a.net None) (same_bytes (i Design) a.makes.design_is.text b.makes.design_is.text a.makes.design_is.is b.makes.design_is.is)
+    ∙ ap (λ (n : NetData). bundle b.makes.design_is.text n None) (same_net laws i a.net b.net a.makes b.makes)
+    ∙ sym b.files_are
+
+-- ---- limits
+
+one_over : (fs : List MadeFile) (f g : BundleFile) → FirstOver fs f → FirstOver fs g → f ≡ g
+one_over [] f g h k = absurd h
+one_over (x ∷ fs) f g (inl h) (inl k) = sym h.0 ∙ k.0
+one_over (x ∷ fs) f g (inl h) (inr k) = let a : most_of x.file < length x.bytes = h.1 in let b : length x.bytes ≤ most_of x.file = k.0 in let no : ⊥ = omega arith in absurd no
+one_over (x ∷ fs) f g (inr h) (inl k) = let a : most_of x.file < length x.bytes = k.1 in let b : length x.bytes ≤ most_of x.file = h.0 in let no : ⊥ = omega arith in absurd no
+one_over (x ∷ fs) f g (inr h) (inr k) = one_over fs f g h.1 k.1
+
+none_over : (fs : List MadeFile) (f : BundleFile) → AllFit fs → FirstOver fs f → ⊥
+none_over [] f a h = h
+none_over (x ∷ fs) f a (inl h) = let b : most_of x.file < length x.bytes = h.1 in let c : length x.bytes ≤ most_of x.file = a.0 in omega arith
+none_over (x ∷ fs) f a (inr h) = none_over fs f a.1 h.1
+
+-- ---- one step
+
+refuses_once : Laws → (i : Inputs) (s : Step) (r q : Refusal) → Refuses i s r → Refuses i s q → r ≡ q
+refuses_once laws i (is_there file) r q h k = h.1 ∙ sym k.1
+refuses_once laws i (is_within file most) r q h k = h.3 ∙ sym k.3
+refuses_once laws i design_reads r q h k =
+    let same : h.0 ≡ k.0 = same_bytes (i Design) h.0 k.0 h.2 k.2 in
+    let one : h.1 ≡ k.1 = laws.one_fault k.0 h.1 k.1 (subst (λ (t : List ℕ). FirstFault BeginsDesign t h.1) same h.3) k.3 in
+    h.4 ∙ ap (λ f. refusal.Language (NoTree f)) one ∙ sym k.4
+refuses_once laws i design_accepted r q h k = h.3 ∙ sym k.3
+refuses_once laws i definitions_read r q h k =
+    let same : h.0 ≡ k.0 = same_bytes (i Definitions) h.0 k.0 h.2 k.2 in
+    let one : h.1 ≡ k.1 = laws.one_defs_fault k.0 h.1 k.1 (subst (λ (t : List ℕ). FirstFault BeginsDefs t h.1) same h.3) k.3 in
+    h.4 ∙ ap (λ f. refusal.Definitions (NoTree f)) one ∙ sym k.4
+refuses_once laws i definitions_accepted r q h k = h.5 ∙ sym k.5
+refuses_once laws i bundle_within r q h k =
+    let same : h.0 ≡ k.0 = same_files laws i h.0 k.0 h.2 k.2 in
+    let one : h.1 ≡ k.1 = one_over k.0 h.1 k.1 (subst (λ (fs : List MadeFile). FirstOver fs h.1) same h.3) k.3 in
+    h.4 ∙ ap (λ (f : BundleFile). refusal.TooLong (Bundle f) (most_of f)) one ∙ sym k.4
+refuses_once laws i bundle_written r q h k = absurd h
+
+good_or_refused : Laws → (i : Inputs) (s : Step) (r : Refusal) → IsGood i s → Refuses i s r → ⊥
+good_or_refused laws i (is_there file) r g h = not_there (i file) g.0 g.1 h.0
+good_or_refused laws i (is_within file most) r g h =
+    let same : g.0 ≡ h.0 = same_bytes (i file) g.0 h.0 g.1 h.1 in
+    let short : length h.0 ≤ most = subst (λ (b : List ℕ). length b ≤ most) same g.2 in
+    let long : most < length h.0 = h.2 in
+    omega arith
+good_or_refused laws i design_reads r g h =
+    let d = g.1 in
+    laws.no_fault h.0 g.0 h.1 (subst (λ (t : List ℕ). Reads t g.0) (same_bytes (i Design) d.text h.0 d.is h.2) d.reads) h.3
+good_or_refused laws i design_accepted r g h = h.2 (subst (λ (d : tree.Design). Accepts d) (same_design laws i g.0 h.0 g.1 h.1) g.2)
+good_or_refused laws i definitions_read r g h =
+    let d = g.1 in
+    laws.no_defs_fault h.0 g.0 h.1 (subst (λ (t : List ℕ). ReadsDefs t g.0) (same_bytes (i Definitions) d.text h.0 d.are h.2) d.read) h.3
+good_or_refused laws i definitions_accepted r g h =
+    let m = g.1 in
+    let both = laws.accepted m.design m.defs g.0 m.lowers in
+    h.4 (subst (λ (e : tree.DefsText). AcceptsDefs h.0 e) (same_defs laws i m.defs h.1 m.defs_are h.3)
+    (subst (λ (d : tree.Design). AcceptsDefs d m.defs) (same_design laws i m.design h.0 m.design_is h.2) both.1))
+good_or_refused laws i bundle_within r g h =
+    none_over h.0 h.1 (subst (λ (fs : List MadeFile). AllFit fs) (same_files laws i g.0 h.0 g.1 h.2) g.2) h.3
+good_or_refused laws i bundle_written r g h = h
+
+-- ---- all steps
+
+one_report : Laws → (c : Command) (i : Inputs) (r q : Report) → Reports c i r → Reports c i q → q ≡ r
+one_report laws (compile d e o) i (Compiled t) (Compiled u) h k =
+    ap Compiled (k.2 ∙ ap totals_of (same_net laws i k.0 h.0 k.1 h.1) ∙ sym h.2)
+
+one_from : Laws → (c : Command) (i : Inputs) (ss : List Step) (outcome other : Result Report Refusal) → HasOutcomeFrom c i ss outcome → HasOutcomeFrom c i ss other → other ≡ outcome
+one_from laws c i [] (Ok r) (Ok q) h k = ap Ok (one_report laws c i r q h k)
+one_from laws c i [] (Ok r) (Err q) h k = absurd k
+one_from laws c i [] (Err r) other h k = absurd h
+one_from laws c i (s ∷ ss) outcome other (inl h) (inl k) = k.2 ∙ ap Err (refuses_once laws i s k.0 h.0 k.1 h.1) ∙ sym h.2
+one_from laws c i (s ∷ ss) outcome other (inl h) (inr k) = absurd (good_or_refused laws i s h.0 k.0 h.1)
+one_from laws c i (s ∷ ss) outcome other (inr h) (inl k) = absurd (good_or_refused laws i s k.0 h.0 k.1)
+one_from laws c i (s ∷ ss) outcome other (inr h) (inr k) = one_from laws c i ss outcome other h.1 k.1
+
+pub one : Laws → (c : Command) (i : Inputs) (outcome other : Result Report Refusal) → HasOutcome c i outcome → HasOutcome c i other → other ≡ outcome
+one laws c i outcome other h k = one_from laws c i (steps c) outcome other h k

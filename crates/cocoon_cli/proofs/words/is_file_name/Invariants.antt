@@ -1,7 +1,0 @@
-use Rattle.std.proofs.Common.{◌≡◌, drop}
-use Rattle.std.specs.List.{list_all}
-use Rattle.cocoon_cli.specs.Command.{is_name_byte}
-use Rattle.cocoon_cli.proofs.words.is_file_name.Given as goal
-
-abbrev pub invariant-loop-byte : goal.invariant-loop-byte
-invariant-loop-byte l = list_all is_name_byte l.word ≡ list_all is_name_byte (drop l.byte-index l.byte-items)

@@ -1,0 +1,6 @@
+use Rattle.std.proofs.Common.{sym}
+use Rattle.cocoon_lex.proofs.KeywordLookup.{is_name}
+use Rattle.cocoon_lex.proofs.spellings.run_kind.Goals as goal
+
+pub returns-in-None : goal.returns-in-None
+returns-in-None c = is_name c.args.run.now c.requires (sym c.if-same_bytes.ensures) c.in-None.ensures

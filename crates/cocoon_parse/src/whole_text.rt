@@ -1,0 +1,87 @@
+//! Whole texts of designs and of definitions.
+ghost use Rattle.std.specs.Prelude.{◌≡◌, ◌<◌, ◌≤◌, ◌^◌, ℕ, Err, IfOk, Ok, length, map};
+ghost use Rattle.cocoon_num.specs.Reads.{Reads, ReadsDefs};
+ghost use Rattle.cocoon_num.specs.FirstFaults.{BeginsDefs, BeginsDesign, TooDeep, Unexpected};
+ghost use Rattle.cocoon_num.specs.Tokens.{kinds, language, lex, language_bounds};
+ghost use Rattle.cocoon_lex.specs.Kinds.{token_of};
+ghost use Rattle.cocoon_syntax.specs.TreeOf.{design_of, entries_of};
+ghost use Rattle.cocoon_parse.specs.Depth.{FirstDeep};
+ghost use Rattle.cocoon_parse.specs.Faults as spec;
+ghost use Rattle.cocoon_parse.specs.Faults.{IndexFits, reach};
+
+use crate::cursor::Source;
+use crate::decls::design;
+use crate::deep::first_deep;
+use crate::defs::entries;
+use crate::fault::{ParseFault, Stop};
+use cocoon_lex::Token;
+use cocoon_syntax::{DefsText, Design};
+use std::alloc::Global;
+
+/// The tree of a text of a design with these tokens, or its first fault, at a token index.
+pub fn parse_design(alloc: Global, text: &[u8], tokens: &[Token]) -> Result<Design, ParseFault>
+    requires small { length text.now < 2 ^ 32 }
+    requires tokens { lex language text.now ≡ Ok (map (token_of text.now) tokens.now) }
+    ensures reads { IfOk result (λ d. Reads text.now (design_of d)) }
+    ensures unexpected { (i : ℕ) → result ≡ Err (ParseFault.Unexpected i)
+        → Unexpected language_bounds BeginsDesign (kinds (map (token_of text.now) tokens.now)) i }
+    ensures too_deep { (i : ℕ) → result ≡ Err (ParseFault.TooDeep i)
+        → TooDeep language_bounds BeginsDesign (kinds (map (token_of text.now) tokens.now)) i }
+{
+    let deep = first_deep(tokens);
+    let source = Source::new(text, up_to(tokens, deep));
+    match design(alloc, &source) {
+        Ok((design, _)) => Ok(design),
+        Err(stop) => Err(fault_of(stop, deep)),
+    }
+}
+
+/// The tree of a text of definitions with these tokens, or its first fault, at a token index.
+pub fn parse_defs(alloc: Global, text: &[u8], tokens: &[Token]) -> Result<DefsText, ParseFault>
+    requires small { length text.now < 2 ^ 32 }
+    requires tokens { lex language text.now ≡ Ok (map (token_of text.now) tokens.now) }
+    ensures reads { IfOk result (λ d. ReadsDefs text.now (entries_of d)) }
+    ensures unexpected { (i : ℕ) → result ≡ Err (ParseFault.Unexpected i)
+        → Unexpected language_bounds BeginsDefs (kinds (map (token_of text.now) tokens.now)) i }
+    ensures too_deep { (i : ℕ) → result ≡ Err (ParseFault.TooDeep i)
+        → TooDeep language_bounds BeginsDefs (kinds (map (token_of text.now) tokens.now)) i }
+{
+    let deep = first_deep(tokens);
+    let source = Source::new(text, up_to(tokens, deep));
+    match entries(alloc, &source) {
+        Ok((entries, _)) => Ok(DefsText { entries }),
+        Err(stop) => Err(fault_of(stop, deep)),
+    }
+}
+
+/// The tokens up to and with the first deep one, or all.
+fn up_to(tokens: &[Token], deep: Option<usize>) -> &[Token]
+    requires small { length tokens.now ≤ 2 ^ 32 }
+    requires deep { FirstDeep tokens.now deep }
+    ensures { result.now ≡ reach deep tokens.now }
+{
+    match deep {
+        Some(at) => &tokens[..at + 1],
+        None => tokens,
+    }
+}
+
+/// The fault of a text, of which no more is read than the first deep token.
+fn fault_of(stop: Stop, deep: Option<usize>) -> ParseFault
+    requires { IndexFits (spec.fault_of deep stop) }
+    ensures { result ≡ spec.fault_of deep stop }
+{
+    match stop {
+        Stop::Unexpected(at) => match deep {
+            Some(first) => {
+                if first < at {
+                    ParseFault::TooDeep(first as u32)
+                } else {
+                    ParseFault::Unexpected(at as u32)
+                }
+            }
+            None => ParseFault::Unexpected(at as u32),
+        },
+        Stop::NoMemory => ParseFault::NoMemory,
+    }
+}

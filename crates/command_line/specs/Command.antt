@@ -1,0 +1,6 @@
+-- What the words ask for: a command with its names. It follows the section "Commands" of README.md.
+use Rattle.std.specs.Prelude.{ℕ, List}
+
+-- what a command asks for
+pub data Command : Type 0 where
+  compile : (design defs out : List ℕ) → Command

@@ -1,0 +1,40 @@
+-- The command line as `clap` states one: subcommands, each with its arguments. It follows the
+-- section "Commands" of README.md.
+use Rattle.std.specs.Prelude.{List, [], ◌∷◌, Some, true, codes}
+use Rattle.clap.specs.Words.{App, Rule, Text, new_app, new_rule, with_rule, with_subcommand}
+use Rattle.clap.specs.declared.builder.ArgAction.TheVariants.{Set}
+
+-- an argument that has to be there, with one value
+abbrev pub required_argument : Text → Rule
+required_argument id = record (new_rule id) { required = true; action = Some Set }
+
+-- the argument for the file of a design
+abbrev pub design_argument : Text
+design_argument = codes "DESIGN"
+
+-- that for the file of the definitions
+abbrev pub defs_argument : Text
+defs_argument = codes "DEFS"
+
+-- that for the name of a bundle
+abbrev pub out_argument : Text
+out_argument = codes "OUT"
+
+-- a command with these arguments, in their order
+abbrev pub with_arguments : App → List Text → App
+with_arguments app [] = app
+with_arguments app (id ∷ ids) = with_arguments (with_rule app (required_argument id)) ids
+
+-- a command with these subcommands
+abbrev pub with_subcommands : App → List App → App
+with_subcommands app [] = app
+with_subcommands app (sub ∷ subs) = with_subcommands (with_subcommand app sub.top) subs
+
+-- the subcommand `compile`
+abbrev pub compile_app : App
+compile_app =
+    with_arguments (new_app (codes "compile")) (design_argument ∷ defs_argument ∷ out_argument ∷ [])
+
+-- the whole command line
+abbrev pub cocoon_app : App
+cocoon_app = with_subcommands (new_app (codes "cocoon")) (compile_app ∷ [])

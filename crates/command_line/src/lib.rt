@@ -1,0 +1,10 @@
+//! The command line: which command the words give. `clap` reads them, by the one command that
+//! `syntax` states; what stands on this crate sees the command alone.
+#![tactic(auto)]
+
+pub mod command;
+pub mod parse;
+pub mod syntax;
+
+pub use command::{Command, Compile};
+pub use parse::parse_command;

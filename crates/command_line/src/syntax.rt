@@ -1,0 +1,69 @@
+//! The command line as `clap` states one: subcommands, each with its arguments.
+ghost use Rattle.std.specs.Prelude.{◌≡◌, IfOk, false, map};
+ghost use Rattle.clap.specs.Words.{app_of, rule_of, with_subcommand};
+ghost use Rattle.clap.specs.declared.builder.Command.TheViews.{out-Command};
+ghost use Rattle.command_line.specs.Syntax.{cocoon_app, compile_app, required_argument, with_arguments};
+
+use clap::{Arg, ArgAction, Command};
+use cocoon_num::NoMemory;
+use std::alloc::Global;
+
+/// The argument for the file of the design.
+pub const DESIGN: &str = "DESIGN";
+
+/// That for the file of the definitions.
+pub const DEFS: &str = "DEFS";
+
+/// That for the name of the bundle.
+pub const OUT: &str = "OUT";
+
+/// An argument that has to be there.
+fn required_argument<'w>(alloc: Global, id: &'w str) -> Arg<'w>
+    ensures rule { rule_of result ≡ required_argument id.entry.now }
+    ensures local { result.global ≡ false }
+{
+    Arg::new(alloc, id).required(true).action(ArgAction::Set)
+}
+
+/// The command with these arguments, in their order.
+fn with_arguments<'w>(
+    alloc: Global,
+    command: Command<'w>,
+    ids: &[&'w str],
+) -> Result<Command<'w>, NoMemory>
+    ensures app { IfOk result (λ c. app_of c
+        ≡ with_arguments (app_of command.entry) (map (λ id. id.now) ids.now)) }
+    ensures local { IfOk result (λ c. (out-Command c).has_globals
+        ≡ (out-Command command.entry).has_globals) }
+{
+    let mut command = command;
+    for id in ids {
+        command = command.arg(required_argument(alloc, id))?;
+    }
+    Ok(command)
+}
+
+/// The subcommand `compile`.
+fn compile_app<'w>(alloc: Global) -> Result<Command<'w>, NoMemory>
+    ensures app { IfOk result (λ c. app_of c ≡ compile_app) }
+    ensures local { IfOk result (λ c. (out-Command c).has_globals ≡ false) }
+{
+    with_arguments(alloc, Command::new(alloc, "compile"), &[DESIGN, DEFS, OUT])
+}
+
+/// The command with one more subcommand.
+fn with_subcommand<'w>(command: Command<'w>, sub: Command<'w>) -> Result<Command<'w>, NoMemory>
+    requires { (out-Command sub).has_globals ≡ false }
+    ensures { IfOk result (λ c. app_of c
+        ≡ with_subcommand (app_of command.entry) (app_of sub.entry).top) }
+{
+    Ok(command.subcommand(sub)?)
+}
+
+/// The whole command line.
+pub fn cocoon_app<'w>(alloc: Global) -> Result<Command<'w>, NoMemory>
+    ensures { IfOk result (λ c. app_of c ≡ cocoon_app) }
+{
+    let command = Command::new(alloc, "cocoon");
+    with_subcommand(command, compile_app(alloc)?)
+}
