@@ -1,0 +1,15 @@
+pub mod ProgramLists
+pub mod ProgramReader
+pub mod ProgramSpells
+pub mod ProgramReads
+pub mod ProgramBlocks
+pub mod ProgramDeclarations
+pub mod ProgramWhole
+pub mod SameValues
+pub mod DeliveryDesign
+pub mod DeliveryNetwork
+pub mod NetworkFile
+pub mod NetworkRows
+pub mod NetworkReads
+pub mod ExampleNetwork
+pub mod ExampleBundle

@@ -1,0 +1,2 @@
+pub mod ExampleP4
+pub mod ExampleNet
