@@ -1,14 +1,14 @@
 #!/bin/sh
 # Measures how long reading takes: a design of 1 MiB and one of half, definitions of 4 MiB and of 2 MiB. Each is read by
-# the built program `read_texts` five times, or as often as the first word says, and the least wall time counts. Build it
-# before: `rt run -- design <stdin` in crates/read_texts.
+# the built program `reading_tests` five times, or as often as the first word says, and the least wall time counts. Build
+# it before: `rt run -- design <data/c.ccn` in crates/reading_tests.
 
 top=$(CDPATH='' cd -- "$(dirname -- "$0")/.." && pwd) || exit 2
-program=$top/crates/read_texts/out/read_texts
+program=$top/crates/reading_tests/out/reading_tests
 runs=${1:-5}
 
 if ! [ -x "$program" ]; then
-  echo 'read.sh: run `rt run -- design <stdin` in crates/read_texts first' >&2
+  echo 'read.sh: run `rt run -- design <data/c.ccn` in crates/reading_tests first' >&2
   exit 2
 fi
 
@@ -97,4 +97,4 @@ design 524288 >"$folder/half"
 compare design || { echo 'read.sh: a design does not read' >&2; exit 1; }
 definitions 4194304 >"$folder/whole"
 definitions 2097152 >"$folder/half"
-compare defs || { echo 'read.sh: definitions do not read' >&2; exit 1; }
+compare definitions || { echo 'read.sh: definitions do not read' >&2; exit 1; }

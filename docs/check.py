@@ -1,0 +1,310 @@
+#!/usr/bin/env python3
+"""Checks that the pages say what is there.
+
+    docs/check.py             all of the below
+    docs/check.py believed    the table of what is believed is what the headline's definition imports, with its lengths
+    docs/check.py clauses     each clause, law, test and field that a table of docs/PROMISES.md names exists
+    docs/check.py links       each link and each path of a crate's file leads somewhere; MAP.md has each crate and each file of definitions
+    docs/check.py cases       a program of tests is given each file of cases, and its copies of the examples are as they are in examples/
+    docs/check.py commands    each command of a page, run with the built program, prints what the page shows
+
+A command is a line that begins with `$ ` in a block marked `console`; the lines after it are all that it prints on the standard output (a last
+line feed that is not printed is not missed). The
+commands of one page run one after another, in one shell and in one new directory, which has `cocoon` and a copy of `examples`.
+It prints a line for each thing that is wrong, and ends with status 1 if there is one.
+"""
+
+import itertools
+import pathlib
+import re
+import shutil
+import subprocess
+import sys
+import tempfile
+
+TOP = pathlib.Path(__file__).resolve().parent.parent
+CRATES = TOP / "crates"
+PROMISES = TOP / "docs" / "PROMISES.md"
+HEADLINE = ("cocoon_cli", "Headline")
+# The most lines of definitions that a reader has to believe, without comments, blank lines and imports.
+MOST_BELIEVED = 2500
+
+
+def crate_names():
+    lines = (TOP / "crates.txt").read_text().splitlines()
+    return [line.split(":")[0].split()[0] for line in lines if ":" in line and not line.startswith("#")]
+
+
+def pages():
+    return [TOP / "README.md", *sorted((TOP / "docs").glob("*.md")), *sorted((TOP / "examples").rglob("*.md"))]
+
+
+def said(page):
+    return page.relative_to(TOP)
+
+
+# ---- what is believed
+
+IMPORT = re.compile(r"^use Rattle\.(\w+)\.specs\.([\w.]+?)(?:\.\{| as |$)", re.M)
+
+
+def file_of(crate, module):
+    return CRATES / crate / "specs" / (module.replace(".", "/") + ".antt")
+
+
+def imports(crate, module):
+    """The files of definitions that one imports, of this repository's crates. What a crate's code declares is no such file."""
+    for other, name in IMPORT.findall(file_of(crate, module).read_text()):
+        if (CRATES / other).is_dir() and not name.startswith("declared"):
+            yield other, name
+
+
+def closure():
+    """The files that the headline's definition stands on, with its own."""
+    found, left = set(), [HEADLINE]
+    while left:
+        one = left.pop()
+        if one not in found:
+            found.add(one)
+            left += imports(*one)
+    return found
+
+
+def weight(path):
+    """The lines of a file that are no comment, no import and not blank."""
+    lines = (line.strip() for line in path.read_text().splitlines())
+    return sum(1 for line in lines if line and not line.startswith(("--", "use ", "pub mod ")))
+
+
+def opening(path):
+    """The comment that a file begins with."""
+    return "".join(itertools.takewhile(lambda line: line.startswith("--"), path.open()))
+
+
+def check_believed():
+    text = PROMISES.read_text()
+    section = re.search(r"^## What is believed$(.*?)(?=^## |\Z)", text, re.M | re.S)
+    if not section:
+        return ["docs/PROMISES.md has no section `What is believed`"]
+    rows = re.findall(r"^\| `(\w+)/specs/([\w/]+)\.antt` \| (\d+) \|", section[1], re.M)
+    listed = [(crate, name.replace("/", ".")) for crate, name, _ in rows]
+    wrong = [f"docs/PROMISES.md: {c}/specs/{m}.antt is listed twice" for c, m in set(listed) if listed.count((c, m)) > 1]
+    stands = closure()
+    wrong += [f"docs/PROMISES.md: {c}/specs/{m}.antt is not listed, and the headline stands on it" for c, m in sorted(stands - set(listed))]
+    wrong += [f"docs/PROMISES.md: {c}/specs/{m}.antt is listed, and the headline does not stand on it" for c, m in sorted(set(listed) - stands)]
+    for (crate, module), (_, _, length) in zip(listed, rows):
+        if (crate, module) in stands and weight(file_of(crate, module)) != int(length):
+            wrong.append(f"docs/PROMISES.md: {crate}/specs/{module}.antt has {weight(file_of(crate, module))} lines, and not {length}")
+    total = sum(weight(file_of(*one)) for one in stands)
+    if f"{len(stands)} files with {total:,} lines" not in section[1]:
+        wrong.append(f"docs/PROMISES.md: `What is believed` does not say `{len(stands)} files with {total:,} lines`")
+    if total > MOST_BELIEVED:
+        wrong.append(f"the headline stands on {total:,} lines of definitions, and at most {MOST_BELIEVED:,} are to be believed")
+    for path in sorted(CRATES.glob("*/specs/**/*.antt")):
+        one = (path.relative_to(CRATES).parts[0], ".".join(path.relative_to(path.parents[len(path.relative_to(CRATES).parts) - 3]).with_suffix("").parts))
+        if path.name != "Lib.antt" and one not in stands and "cite" not in opening(path).lower():
+            wrong.append(f"{path.relative_to(TOP)}: the opening comment does not say which clauses cite it")
+    return wrong
+
+
+# ---- the clauses that pages name
+
+FUNCTION = re.compile(r"^(?P<indent> *)(?:pub(?:\([^)]*\))? )?(?:const )?fn (?P<name>\w+)", re.M)
+CLAUSE = re.compile(r"\b(ensures|requires)(?: (\w+))? \{")
+
+
+def functions_of(crate):
+    """The names of a crate's functions, each with the names of its clauses; `` is a clause without a name."""
+    found = {}
+    for path in sorted((CRATES / crate / "src").rglob("*.rt")):
+        text = path.read_text()
+        starts = [*FUNCTION.finditer(text)]
+        for one, after in zip(starts, [*starts[1:], None]):
+            part = text[one.start() : after.start() if after else len(text)]
+            body = re.search(rf"^{one['indent']}\{{$", part, re.M)
+            head = part[: body.start()] if body else part
+            found.setdefault(one["name"], set()).update((kind, name) for kind, name in CLAUSE.findall(head))
+    return found
+
+
+def types_of(crate):
+    """The types, traits and modules of a crate's code, and the names of a type's conditions."""
+    sources = "\n".join(path.read_text() for path in (CRATES / crate / "src").rglob("*.rt"))
+    return set(re.findall(r"\b(?:struct|enum|trait|mod) (\w+)", sources)) | set(re.findall(r"^ +ghost (\w+):", sources, re.M))
+
+
+def fields_of(crate):
+    """The fields of the records of a crate's definitions."""
+    texts = [path.read_text() for path in (CRATES / crate / "specs").rglob("*.antt")]
+    return {name for text in texts for names in re.findall(r"^  (?:pub )?([\w ]+) : ", text, re.M) for name in names.split()}
+
+
+class Names:
+    """What the crates have, by name."""
+
+    def __init__(self):
+        self.functions = {crate: functions_of(crate) for crate in crate_names()}
+        self.types = {crate: types_of(crate) for crate in crate_names()}
+        self.fields = {crate: fields_of(crate) for crate in crate_names()}
+
+    def has(self, crate, name):
+        last = name.split("::")[-1]
+        return last in self.functions[crate] or last in self.types[crate]
+
+    def lacks_clause(self, crate, function, kind, clause):
+        return (kind, clause) not in self.functions[crate].get(function.split("::")[-1], set())
+
+
+def wrong_in_cell(cell, crate, names):
+    """What one cell of a column `Clause` names that is not there. Its pieces are parted by `;`: functions, `:`, and their clauses, or their
+    conditions; `field` and `fields` come before names of fields, and `(its clause)` after a function with a clause without a name."""
+    functions = []
+    for piece in cell.split(";"):
+        owners = [name for name in re.findall(r"\bof `(\w+)`", piece) if name in names.functions]
+        home = owners[-1] if owners else crate
+        is_condition = re.match(r"\s*conditions?\b", piece)
+        asks = is_condition or re.search(r":\s*conditions?\b", piece)
+        named, _, fields = re.sub(r" of `\w+`", "", piece).partition("field")
+        head, _, tail = ("", ":", named) if is_condition else re.sub(r"\(.*", "", named).replace("` :", "`:").partition("`:")
+        functions = functions if is_condition else re.findall(r"`([\w:]+)", head)
+        unnamed = [""] if re.search(r"(its|their) clause", piece) else []
+        yield from (f"`{it}` is nothing of {home}" for it in functions if not names.has(home, it))
+        yield from (f"`{it}` is no field of {home}" for it in re.findall(r"`(\w+)`", fields) if it not in names.fields[home])
+        for clause in re.findall(r"`(\w+)`", tail) + unnamed:
+            kind = "requires" if asks else "ensures"
+            yield from (f"`{it}` has no clause `{clause}`" for it in functions if names.lacks_clause(home, it, kind, clause))
+
+
+def check_clauses():
+    names, wrong, crate, column = Names(), [], "", None
+    for number, line in enumerate(PROMISES.read_text().splitlines(), 1):
+        if line.startswith("## "):
+            last = line.split(": ")[-1].strip("`")
+            crate, column = last if last in names.functions else "cocoon_cli", None
+        cells = [cell.strip("| ") for cell in line.split(" | ")]
+        if not line.startswith("|"):
+            column = None
+        elif column is None:
+            column = cells.index("Clause") if "Clause" in cells else -1
+        elif 0 <= column < len(cells):
+            wrong += [f"docs/PROMISES.md:{number}: {it}" for it in wrong_in_cell(cells[column], crate, names)]
+    return wrong
+
+
+# ---- links, paths and the map
+
+LINK = re.compile(r"\]\(([^)\s]+)\)")
+PATH = re.compile(r"`(\w+/(?:src|specs|proofs|must-fail)/[\w/+.-]+)`")
+
+
+def anchors(page):
+    heads = re.findall(r"^#+ (.*)$", page.read_text(), re.M)
+    return {re.sub(r"[^\w\- ]", "", head.lower()).replace(" ", "-") for head in heads}
+
+
+def is_there(path):
+    """Whether there is this file of a crate; NAME stands for any."""
+    return "NAME" in path or (CRATES / path).exists()
+
+
+def check_links():
+    wrong = []
+    for page in pages():
+        for number, line in enumerate(page.read_text().splitlines(), 1):
+            for link in LINK.findall(line):
+                target, _, anchor = link.partition("#")
+                to = (page.parent / target).resolve() if target else page
+                if "://" not in link and (not to.exists() or anchor and anchor not in anchors(to)):
+                    wrong.append(f"{said(page)}:{number}: the link {link} leads nowhere")
+            wrong += [f"{said(page)}:{number}: there is no {path}" for path in PATH.findall(line) if not is_there(path)]
+    return wrong + check_map()
+
+
+def check_map():
+    """The map has a row for each crate, which names each of its files of definitions."""
+    rows = {}
+    for crate, row in re.findall(r"^\| `(\w+)` \| (.*) \|$", (TOP / "docs" / "MAP.md").read_text(), re.M):
+        rows[crate] = rows.get(crate, "") + row
+    wrong = [f"docs/MAP.md has no row of {crate}" for crate in crate_names() if crate not in rows]
+    for path in sorted(CRATES.glob("*/specs/**/*.antt")):
+        crate = path.relative_to(CRATES).parts[0]
+        if path.stem != "Lib" and f"`{path.stem}`" not in rows.get(crate, ""):
+            wrong.append(f"docs/MAP.md: the row of {crate} does not name `{path.stem}`")
+    return wrong
+
+
+# ---- cases
+
+
+def check_cases():
+    wrong = []
+    for args in sorted(CRATES.glob("*/args")):
+        words, data = args.read_text().split(), args.parent / "data"
+        for path in [*data.glob("*.cases"), *data.glob("*.txt")]:
+            if path.name not in words:
+                wrong.append(f"{args.relative_to(TOP)} does not name {path.name}")
+    for example in sorted((TOP / "examples").glob("*.*")):
+        for path in CRATES.glob(f"*/data/{example.name}"):
+            if example.suffix in (".ccn", ".defs") and path.read_bytes() != example.read_bytes():
+                wrong.append(f"{path.relative_to(TOP)} is not as {example.relative_to(TOP)}")
+    return wrong
+
+
+# ---- the commands that pages show
+
+
+def commands_of(page):
+    """The commands of a page: the line of each, the command, and what it prints."""
+    found, inside = [], False
+    for number, line in enumerate(page.read_text().splitlines(), 1):
+        if line.startswith("```"):
+            inside = line.strip() == "```console"
+        elif inside and line.startswith("$ "):
+            found.append((number, line[2:], []))
+        elif inside and found:
+            found[-1][2].append(line + "\n")
+    return [(number, command, "".join(printed)) for number, command, printed in found]
+
+
+MARK = "-- the command above has ended --"
+
+
+def check_page(page):
+    commands = commands_of(page)
+    if not commands:
+        return []
+    with tempfile.TemporaryDirectory() as room:
+        (pathlib.Path(room) / "cocoon").symlink_to(TOP / "cocoon")
+        shutil.copytree(TOP / "examples", pathlib.Path(room) / "examples")
+        # each command finds the status of the one before it in $?
+        script = "".join(f"(exit $status); {command}\nstatus=$?; echo '{MARK}'\n" for _, command, _ in commands)
+        ran = subprocess.run(["sh", "-c", f"status=0\n{script}"], cwd=room, stdin=subprocess.DEVNULL, stdout=subprocess.PIPE, text=True)
+    printed = ran.stdout.split(f"{MARK}\n")
+    wrong = []
+    for (number, command, wanted), got in zip(commands, [*printed, *[""] * len(commands)]):
+        got += "" if not got or got.endswith("\n") else "\n"
+        if got != wanted:
+            wrong.append(f"{said(page)}:{number}: `{command}` prints\n{got}and not\n{wanted}")
+    return wrong
+
+
+def check_commands():
+    # built first, so that no page's first command builds it
+    subprocess.run([TOP / "cocoon"], stdin=subprocess.DEVNULL, stdout=subprocess.DEVNULL, check=False)
+    return [wrong for page in pages() for wrong in check_page(page)]
+
+
+CHECKS = {"believed": check_believed, "clauses": check_clauses, "links": check_links, "cases": check_cases, "commands": check_commands}
+
+
+def main():
+    asked = sys.argv[1:] or list(CHECKS)
+    if not set(asked) <= set(CHECKS):
+        sys.exit(__doc__)
+    wrong = [line for name in asked for line in CHECKS[name]()]
+    print("\n".join([*wrong, f"pages: {len(wrong)} wrong" if wrong else "pages: all is as they say"]))
+    return 1 if wrong else 0
+
+
+if __name__ == "__main__":
+    sys.exit(main())
