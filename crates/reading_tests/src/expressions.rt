@@ -37,15 +37,11 @@ fn put_node(out: &mut Printer, index: u32, kind: &ExprKind) {
             put_exprs(out, args);
         }
         ExprKind::Unary(op, a) => {
-            out.put(" (");
-            out.put_debug(op);
-            out.put_token_index(index);
+            out.open_operator(op, index);
             put_expr(out, a);
         }
         ExprKind::Binary(op, left, right) => {
-            out.put(" (");
-            out.put_debug(op);
-            out.put_token_index(index);
+            out.open_operator(op, index);
             put_expr(out, left);
             put_expr(out, right);
         }

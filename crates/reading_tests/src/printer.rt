@@ -114,6 +114,13 @@ impl Printer {
         self.put_token_index(index);
     }
 
+    /// The beginning of a node of an operator, as ` (Sub@3`.
+    pub fn open_operator<T: Debug>(&mut self, op: &T, index: u32) {
+        self.put(" (");
+        self.put_debug(op);
+        self.put_token_index(index);
+    }
+
     /// The beginning of a node without a token index, as ` (role`.
     pub fn open_plain(&mut self, kind: &str) {
         self.put(" (");
