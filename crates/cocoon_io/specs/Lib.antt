@@ -1,4 +1,5 @@
 pub mod Files
+pub mod CodedFiles
 pub mod Calls
 pub mod Entries
 pub mod Plans

@@ -2,7 +2,8 @@
 use Rattle.std.specs.Prelude.{ℕ, ◌+◌, ◌-◌, ◌^◌, Bool, ◌&&◌, if◌then◌else◌, nat_lt, nat_eq, min, List, refl}
 use Rattle.std.specs.List.{list_any}
 use Rattle.std.specs.Coded.{Coded, code_by, coded×, coded_ℕ, coded_list}
-use Rattle.cocoon_io.specs.Files.{Files, coded_files}
+use Rattle.cocoon_io.specs.Files.{Files}
+use Rattle.cocoon_io.specs.CodedFiles.{coded_files}
 
 -- the numbers of the calls that fail, counted from 1, and how many calls there were
 pub record PlannedCalls : Type 0 where

@@ -18,7 +18,8 @@ pub struct HonestFolder {
 }
 
 impl Model for HonestFolder {
-    ghost use Rattle.cocoon_io.specs.Files.{Files, coded_files};
+    ghost use Rattle.cocoon_io.specs.CodedFiles.{coded_files};
+    ghost use Rattle.cocoon_io.specs.Files.{Files};
     ghost use Rattle.cocoon_io.specs.Entries.{files_of};
 
     ghost Value = { Files };

@@ -33,7 +33,8 @@ impl<T: Drop> From<AllocFailed<T>> for LexFault {
 /// The tokens of a text, with one `End` at its length, or the first fault.
 pub fn lex(alloc: Global, text: &[u8]) -> Result<Vec<Token>, LexFault>
     requires { length text.now < 2 ^ 32 }
-    ensures ok { IfOk result (λ v. tokens_of language text.now ≡ Ok (map (token_of text.now) v.items)) }
+    ensures ok { IfOk result (λ v.
+        tokens_of language text.now ≡ Ok (map (token_of text.now) v.items)) }
     ensures offsets { IfOk result (λ v. All (StandsIn text.now) v.items) }
     ensures names { IfOk result (λ v. All (IsSpelled text.now) v.items) }
     ensures fault { IfErr result (λ f. HasFault text.now f) }

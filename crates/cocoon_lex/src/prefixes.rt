@@ -81,7 +81,8 @@ fn letter_prefix(text: &[u8]) -> Prefix
 }
 
 fn mark_prefix(text: &[u8]) -> Prefix
-    ensures is { tokens.mark_prefix (tokens.beginning tokens.language.marks text.now) ≡ prefix_of text.now result }
+    ensures is { tokens.mark_prefix (tokens.beginning tokens.language.marks text.now)
+        ≡ prefix_of text.now result }
     ensures fits { Fits text.now result }
 {
     match mark(text) {

@@ -1,12 +1,12 @@
 -- Numbers packed by their widths and cut again, `leave` after `enter`, and `enter` after `leave`.
-use Rattle.std.specs.Prelude.{◌≡◌, ℕ, zero, suc, ◌+◌, ◌*◌, ◌/◌, ◌%◌, ◌^◌, ◌<◌, Bool, true, false, List, [], ◌∷◌, ◌++◌, length, take, drop, nat_lt, Option, Some, None, ◌⊎◌, cond, refl}
+use Rattle.std.specs.Prelude.{◌≡◌, ℕ, zero, suc, ◌+◌, ◌*◌, ◌/◌, ◌%◌, ◌^◌, ◌<◌, Bool, true, false, List, [], ◌∷◌, ◌++◌, length, take, drop, nat_lt, Option, Some, None, option_map, ◌⊎◌, cond, refl}
 use Rattle.std.proofs.Common.{sym, ◌∙◌, ap, arith, inl, inr, length-take}
 use Rattle.std.proofs.lemmas.List.{length-append, take-append-drop}
 use Rattle.std.proofs.lemmas.Bool.{ltb-false, le-ltb}
 use Rattle.std.proofs.lemmas.Nat.{pow-add, mod-pow-add, field_of, mod_low, shr_high}
 use Rattle.std.proofs.Math.Pow.{pow_pos}
 use Rattle.std.proofs.Math.Nat.{mod-eq_of_lt, mod-lt}
-use Rattle.cocoon_num.specs.Packets.{Packet, Layout, total, packed, cut, eights, byte_count, header_fields, header_bytes, with_header, enter, leave}
+use Rattle.cocoon_num.specs.Packets.{Packet, Layout, total, packed, cut, eights, byte_count, header_fields, header_bytes, enter, leave}
 use Rattle.cocoon_num.specs.PacketForms.{FieldsFit, PacketFits, AreBytes, AllWhole}
 
 low_of : (w k n : ℕ) → n % 2 ^ (w + k) % 2 ^ k ≡ n % 2 ^ k
@@ -86,6 +86,10 @@ payload_or d (Some r) = r.1
 chosen : (b : Bool) (x y z : Entered) → cond b x y ≡ z → ((b ≡ true) × (x ≡ z)) ⊎ ((b ≡ false) × (y ≡ z))
 chosen true x y z h = inl (refl, h)
 chosen false x y z h = inr (refl, h)
+
+-- one more header of a packet that enters
+abbrev with_header : List ℕ → Option (Packet × List ℕ) → Option (Packet × List ℕ)
+with_header fields entered = option_map (λ e. (fields ∷ e.0, e.1)) entered
 
 -- `leave` undoes `enter`
 one_header : (ws : List ℕ) (layout : Layout) (bs : List ℕ) (o : Entered) (packet : Packet) (payload : List ℕ)

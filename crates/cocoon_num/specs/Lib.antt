@@ -2,9 +2,14 @@ pub mod Values
 pub mod Tree
 pub mod Names
 pub mod Lists
+pub mod Rows
 pub mod Packets
 pub mod PacketForms
 pub mod Sorts
 pub mod Tokens
 pub mod Reads
 pub mod FirstFaults
+pub mod BitsOf
+pub mod FunTables
+pub mod LimitNames
+pub mod Spelled

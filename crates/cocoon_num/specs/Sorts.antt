@@ -1,7 +1,7 @@
 -- The types of expressions: a width, or truth. It follows the section "Rules of a design" of docs/LANGUAGE.md; operands
 -- of P4 programs have the same types.
 use Rattle.std.specs.Prelude.{ℕ, ◌+◌, ◌-◌, ◌==◌, ◌&&◌, nat_le, nat_lt, Bool, true, false, if◌then◌else◌, Option, Some, None}
-use Rattle.cocoon_num.specs.Values.{UnaryOp, flip, not_, BinaryOp, add, sub, bits_and, bits_or, bits_xor, concat, equal, unequal, less, less_equal, greater, greater_equal, and_, or_, implies}
+use Rattle.cocoon_num.specs.Values.{UnaryOp, flip, not_, BinaryOp, Work, computes, compares, combines, joins, work}
 
 pub data Sort : Type 0 where
   bits_sort : (width : ℕ) → Sort
@@ -21,35 +21,16 @@ unary_sort flip (bits_sort w) = Some (bits_sort w)
 unary_sort not_ truth_sort = Some truth_sort
 unary_sort _ _ = None
 
--- two numbers of one width, with this answer
-abbrev pub numbers_sort : (ℕ → Sort) → Sort → Sort → Option Sort
-numbers_sort f (bits_sort v) (bits_sort w) = if v == w then Some (f w) else None
-numbers_sort f _ _ = None
-
-abbrev pub truths_sort : Sort → Sort → Option Sort
-truths_sort truth_sort truth_sort = Some truth_sort
-truths_sort _ _ = None
-
-abbrev pub joined_sort : Sort → Sort → Option Sort
-joined_sort (bits_sort v) (bits_sort w) = if nat_le (v + w) 128 then Some (bits_sort (v + w)) else None
-joined_sort _ _ = None
+-- what an operator's work has of operands of these types
+abbrev pub work_sort : Work → Sort → Sort → Option Sort
+work_sort (computes f) (bits_sort v) (bits_sort w) = if v == w then Some (bits_sort w) else None
+work_sort (compares f) (bits_sort v) (bits_sort w) = if v == w then Some truth_sort else None
+work_sort (combines f) truth_sort truth_sort = Some truth_sort
+work_sort joins (bits_sort v) (bits_sort w) = if nat_le (v + w) 128 then Some (bits_sort (v + w)) else None
+work_sort _ _ _ = None
 
 abbrev pub binary_sort : BinaryOp → Sort → Sort → Option Sort
-binary_sort add = numbers_sort bits_sort
-binary_sort sub = numbers_sort bits_sort
-binary_sort bits_and = numbers_sort bits_sort
-binary_sort bits_or = numbers_sort bits_sort
-binary_sort bits_xor = numbers_sort bits_sort
-binary_sort concat = joined_sort
-binary_sort equal = numbers_sort (λ w. truth_sort)
-binary_sort unequal = numbers_sort (λ w. truth_sort)
-binary_sort less = numbers_sort (λ w. truth_sort)
-binary_sort less_equal = numbers_sort (λ w. truth_sort)
-binary_sort greater = numbers_sort (λ w. truth_sort)
-binary_sort greater_equal = numbers_sort (λ w. truth_sort)
-binary_sort and_ = truths_sort
-binary_sort or_ = truths_sort
-binary_sort implies = truths_sort
+binary_sort op = work_sort (work op)
 
 abbrev pub slice_sort : Sort → ℕ → ℕ → Option Sort
 slice_sort (bits_sort w) high low = if nat_le low high && nat_lt high w then Some (bits_sort (high - low + 1)) else None
@@ -62,3 +43,7 @@ pick_sort (bits_sort w) s t = None
 abbrev pub has_sort : Sort → Option Sort → Bool
 has_sort s None = false
 has_sort s (Some t) = same_sort s t
+
+-- both have one type
+abbrev pub are_same : Option Sort → Option Sort → Bool
+are_same s t = elim s [ None ↦ false | Some sort ↦ has_sort sort t ]

@@ -2,6 +2,8 @@
 -- taken. Two texts have such tokens, by a lexicon of their own each: designs with definitions, and P4 programs.
 -- It follows the section "Texts" of docs/LANGUAGE.md, and for P4 programs "The text" in docs/FORMATS.md.
 use Rattle.std.specs.Prelude.{ℕ, zero, suc, ◌+◌, ◌-◌, ◌*◌, ◌^◌, ◌==◌, ◌&&◌, ◌||◌, Bool, true, false, not, nat_le, nat_lt, List, [], ◌∷◌, length, map, drop, if◌then◌else◌, Option, Some, None, option_map, option_and_then, Result, Ok, Err, codes}
+use Rattle.std.specs.List.{find, list_any}
+use Rattle.cocoon_num.specs.Values.{with_both}
 use Rattle.cocoon_num.specs.Names.{same_name}
 use Rattle.cocoon_num.specs.Lists.{each, is_one_of}
 
@@ -58,8 +60,7 @@ begins (p ∷ ps) (b ∷ text) = (p == b) && begins ps text
 
 -- the first of these with which the text begins
 abbrev pub beginning : List (List ℕ) → List ℕ → Option (List ℕ)
-beginning [] text = None
-beginning (m ∷ ms) text = if begins m text then Some m else beginning ms text
+beginning ms text = find (λ m. begins m text) ms
 
 -- the first bytes, as long as they pass a test
 abbrev pub leading : (ℕ → Bool) → List ℕ → List ℕ
@@ -102,10 +103,8 @@ kept_if false x = None
 
 -- a width and a value with the letter `w` between
 abbrev pub literal_of : ℕ → Option ℕ → Option ℕ → Option Kind
-literal_of widest None value = None
-literal_of widest (Some width) None = None
-literal_of widest (Some width) (Some n) =
-    kept_if (nat_le 1 width && nat_le width widest && nat_lt n (2 ^ width)) (literal width n)
+literal_of widest =
+    with_both (λ width n. kept_if (nat_le 1 width && nat_le width widest && nat_lt n (2 ^ width)) (literal width n))
 
 -- the bytes before the first `w`, and those after it
 abbrev pub before_w : List ℕ → List ℕ
@@ -216,13 +215,9 @@ without_finish [] = []
 without_finish (finish ∷ ks) = []
 without_finish (k ∷ ks) = k ∷ without_finish ks
 
-abbrev pub kinds_or_none : Lexed → List Kind
-kinds_or_none (Ok ts) = without_finish (kinds ts)
-kinds_or_none (Err e) = []
-
 -- the tokens of a fixed piece of text, by a lexicon
 abbrev pub kinds_in : Lexicon → List ℕ → List Kind
-kinds_in lexicon text = kinds_or_none (lex lexicon text)
+kinds_in lexicon text = elim (lex lexicon text) [ Ok ts ↦ without_finish (kinds ts) | Err e ↦ [] ]
 
 -- ---- designs and definitions
 
@@ -256,8 +251,7 @@ same_kind (a_name a) (a_name b) = same_name a b
 same_kind _ _ = false
 
 abbrev pub is_kind_of : List Kind → Kind → Bool
-is_kind_of [] k = false
-is_kind_of (x ∷ xs) k = same_kind x k || is_kind_of xs k
+is_kind_of xs k = list_any (λ x. same_kind x k) xs
 
 abbrev pub brackets_after : ℕ → Kind → ℕ
 brackets_after n k =

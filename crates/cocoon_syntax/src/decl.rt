@@ -6,8 +6,8 @@ ghost use Rattle.cocoon_syntax.specs.TreeOf.{assume_of, body_of, decl_of, design
 use crate::expr::Expr;
 use crate::name::Name;
 use crate::stmt::{Stmt, copy_stmts};
-use crate::tree::{Tree, both, copy_list};
-use cocoon_num::NoMemory;
+use cocoon_num::copies::{Copied, copy_list};
+use cocoon_num::{NoMemory, both, three};
 use std::alloc::Global;
 
 /// A name with a width: a parameter, or a field of a header.
@@ -101,7 +101,7 @@ pub struct Design {
     pub refines: Vec<Refine>,
 }
 
-impl Tree for Param {
+impl Copied for Param {
     ghost Meaning = { Parameter };
 
     ghost meaning = { param_of };
@@ -120,12 +120,10 @@ impl FunctionDecl {
     fn copy(&self, alloc: Global) -> Result<FunctionDecl, NoMemory>
         ensures { IfOk result (λ copy. function_of copy ≡ function_of self.now) }
     {
-        let (name, (params, body)) = both(
+        let (name, params, body) = three(
             self.name.copy(alloc),
-            both(
-                copy_list(alloc, &self.params),
-                copy_value(alloc, &self.body),
-            ),
+            copy_list(alloc, &self.params),
+            copy_value(alloc, &self.body),
         )?;
         Ok(FunctionDecl {
             name,
@@ -192,7 +190,7 @@ impl SwitchDecl {
     }
 }
 
-impl Tree for Decl {
+impl Copied for Decl {
     ghost Meaning = { Declared };
 
     ghost meaning = { decl_of };
@@ -210,7 +208,7 @@ impl Tree for Decl {
     }
 }
 
-impl Tree for Refine {
+impl Copied for Refine {
     ghost Meaning = { Refined };
 
     ghost meaning = { refine_of };
@@ -218,16 +216,17 @@ impl Tree for Refine {
     fn copy(&self, alloc: Global) -> Result<Refine, NoMemory>
         ensures { IfOk result (λ copy. refine_of copy ≡ refine_of self.now) }
     {
+        let (roles, decls) = both(copy_list(alloc, &self.roles), copy_list(alloc, &self.decls))?;
         Ok(Refine {
             at: self.at,
-            roles: copy_list(alloc, &self.roles)?,
+            roles,
             within: self.within,
-            decls: copy_list(alloc, &self.decls)?,
+            decls,
         })
     }
 }
 
-impl Tree for HeaderDecl {
+impl Copied for HeaderDecl {
     ghost Meaning = { Header };
 
     ghost meaning = { header_of };
@@ -245,10 +244,15 @@ impl Design {
     pub fn copy(&self, alloc: Global) -> Result<Design, NoMemory>
         ensures { IfOk result (λ copy. design_of copy ≡ design_of self.now) }
     {
+        let (headers, decls, refines) = three(
+            copy_list(alloc, &self.headers),
+            copy_list(alloc, &self.decls),
+            copy_list(alloc, &self.refines),
+        )?;
         Ok(Design {
-            headers: copy_list(alloc, &self.headers)?,
-            decls: copy_list(alloc, &self.decls)?,
-            refines: copy_list(alloc, &self.refines)?,
+            headers,
+            decls,
+            refines,
         })
     }
 }

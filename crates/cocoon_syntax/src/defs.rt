@@ -4,7 +4,7 @@ ghost use Rattle.cocoon_num.specs.Tree.{Entry as Given};
 ghost use Rattle.cocoon_syntax.specs.TreeOf.{entries_of, entry_of};
 
 use crate::name::Name;
-use crate::tree::{Tree, copy_list};
+use cocoon_num::copies::{Copied, copy_list};
 use cocoon_num::{Bits, NoMemory};
 use std::alloc::Global;
 
@@ -38,7 +38,7 @@ pub struct DefsText {
     pub entries: Vec<Entry>,
 }
 
-impl Tree for Entry {
+impl Copied for Entry {
     ghost Meaning = { Given };
 
     ghost meaning = { entry_of };

@@ -3,8 +3,8 @@ ghost use Rattle.std.specs.Prelude.{◌≡◌, IfOk, map};
 ghost use Rattle.cocoon_syntax.specs.TreeOf.{expr_of, kind_of};
 
 use crate::name::Name;
-use crate::tree::{Tree, both};
-use cocoon_num::{Bits, NoMemory, Text};
+use cocoon_num::copies::Copied;
+use cocoon_num::{Bits, NoMemory, Text, both, three};
 use std::alloc::Global;
 
 #[derive(Clone, Copy, Debug, Drop)]
@@ -102,9 +102,10 @@ fn copy_kind(alloc: Global, kind: &ExprKind) -> Result<ExprKind, NoMemory>
         }
         ExprKind::Slice(a, high, low) => Ok(ExprKind::Slice(copy_boxed(alloc, a)?, *high, *low)),
         ExprKind::Pick(condition, first, second) => {
-            let (condition, (first, second)) = both(
+            let (condition, first, second) = three(
                 copy_boxed(alloc, condition),
-                both(copy_boxed(alloc, first), copy_boxed(alloc, second)),
+                copy_boxed(alloc, first),
+                copy_boxed(alloc, second),
             )?;
             Ok(ExprKind::Pick(condition, first, second))
         }

@@ -11,7 +11,6 @@ pub mod defs;
 pub mod expr;
 pub mod name;
 pub mod stmt;
-mod tree;
 
 pub use decl::{
     AssumeDecl, Decl, Design, FunctionDecl, HeaderDecl, HostDecl, Param, Refine, ResultKind, Role,

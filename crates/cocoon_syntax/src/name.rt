@@ -3,7 +3,7 @@ ghost use Rattle.std.specs.Prelude.{◌≡◌, IfOk};
 ghost use Rattle.cocoon_num.specs.Tree.{Name as Called};
 ghost use Rattle.cocoon_syntax.specs.TreeOf.{name_of};
 
-use crate::tree::Tree;
+use cocoon_num::copies::Copied;
 use cocoon_num::{NoMemory, Text};
 use std::alloc::Global;
 
@@ -14,7 +14,7 @@ pub struct Name {
     pub text: Text,
 }
 
-impl Tree for Name {
+impl Copied for Name {
     ghost Meaning = { Called };
 
     ghost meaning = { name_of };

@@ -4,8 +4,8 @@ ghost use Rattle.cocoon_syntax.specs.TreeOf.{stmt_kind_of, stmt_of};
 
 use crate::expr::{Expr, copy_exprs};
 use crate::name::Name;
-use crate::tree::{Tree, both};
-use cocoon_num::NoMemory;
+use cocoon_num::copies::Copied;
+use cocoon_num::{NoMemory, both, three};
 use std::alloc::Global;
 
 /// A statement, and the index of its first token.
@@ -66,16 +66,18 @@ fn copy_kind(alloc: Global, kind: &StmtKind) -> Result<StmtKind, NoMemory>
             Ok(StmtKind::Let(name, *width, value))
         }
         StmtKind::SetField(header, field, value) => {
-            let (header, (field, value)) = both(
+            let (header, field, value) = three(
                 header.copy(alloc),
-                both(field.copy(alloc), value.copy(alloc)),
+                field.copy(alloc),
+                value.copy(alloc),
             )?;
             Ok(StmtKind::SetField(header, field, value))
         }
         StmtKind::If(condition, first, second) => {
-            let (condition, (first, second)) = both(
+            let (condition, first, second) = three(
                 condition.copy(alloc),
-                both(copy_stmts(alloc, first), copy_stmts(alloc, second)),
+                copy_stmts(alloc, first),
+                copy_stmts(alloc, second),
             )?;
             Ok(StmtKind::If(condition, first, second))
         }
@@ -87,9 +89,10 @@ fn copy_kind(alloc: Global, kind: &StmtKind) -> Result<StmtKind, NoMemory>
         }
         StmtKind::Assume(condition) => Ok(StmtKind::Assume(condition.copy(alloc)?)),
         StmtKind::Fork(name, width, condition, body) => {
-            let (name, (condition, body)) = both(
+            let (name, condition, body) = three(
                 name.copy(alloc),
-                both(condition.copy(alloc), copy_stmts(alloc, body)),
+                condition.copy(alloc),
+                copy_stmts(alloc, body),
             )?;
             Ok(StmtKind::Fork(name, *width, condition, body))
         }

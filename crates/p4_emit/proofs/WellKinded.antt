@@ -2,15 +2,15 @@
 use Rattle.std.proofs.Common.{◌≡◌, ℕ, zero, suc, ◌+◌, ◌-◌, ◌^◌, ◌%◌, ◌≤◌, ◌<◌, List, [], ◌∷◌, ◌++◌, Bool, true, false, cond, not, ◌&&◌, ◌||◌, Option, Some, None, refl, ap, ap₂, sym, subst, ◌∙◌, arith, length, map, inl, inr}
 use Rattle.std.specs.Prelude.{◌==◌, codes, slice_get, nat_le, nat_lt, option_map, option_and_then}
 use Rattle.std.proofs.lemmas.Bool.{and_parts, or_cases, eqb-true, ltb-true, leb-true}
-use Rattle.cocoon_num.specs.Values.{UnaryOp, flip, not_, BinaryOp, add, sub, bits_and, bits_or, bits_xor, concat, equal, unequal, less, less_equal, greater, greater_equal, and_, or_, implies}
+use Rattle.cocoon_num.specs.Values.{UnaryOp, flip, not_, BinaryOp, Work, computes, compares, combines, joins, work}
 use Rattle.cocoon_num.specs.Names.{same_name}
-use Rattle.cocoon_num.specs.Sorts.{Sort, bits_sort, truth_sort, unary_sort, binary_sort, slice_sort, pick_sort, has_sort, numbers_sort, joined_sort, truths_sort, same_sort, is_declared_width}
+use Rattle.cocoon_num.specs.Sorts.{Sort, bits_sort, truth_sort, unary_sort, binary_sort, slice_sort, pick_sort, has_sort, work_sort, are_same, same_sort, is_declared_width}
 use Rattle.cocoon_num.specs.Values.{with_both, with_all}
-use Rattle.cocoon_num.specs.Tokens.{is_run, is_letter, is_run_byte, is_shallow}
-use Rattle.p4_ir.specs.P4Tree.{P4Expr, p_lit, p_truth, p_meta, p_field, p_port, p_rid, p_unary, p_binary, p_slice, p_pick, P4Stmt, set_meta, set_header, apply_table, p_if, p_if_else, verdict, egress_port, group, p_return, P4Block, p_done, p_then, P4Field, P4Header, P4Table, Program, field_widths}
-use Rattle.p4_ir.specs.P4Text.{result_width, p4_bounds, program_tokens}
+use Rattle.cocoon_num.specs.Tokens.{is_run, is_letter, is_run_byte, is_shallow, kept_if}
+use Rattle.p4_ir.specs.P4Tree.{P4Expr, p_lit, p_truth, p_meta, p_field, p_port, p_rid, p_unary, p_binary, p_slice, p_pick, P4Stmt, set_meta, set_header, apply_table, p_if, p_if_else, verdict, egress_port, group, p_return, P4Block, p_done, p_then, P4Field, P4Header, P4Table, Program, field_widths, meta_width}
+use Rattle.p4_ir.specs.P4Text.{p4_bounds, program_tokens}
 use Rattle.cocoon_num.specs.Lists.{each, has_number, ascend, all_distinct}
-use Rattle.p4_ir.specs.P4Kinds.{is_meta_name, last_is_digit, names_fit, widths_fit, table_fits, tables_fit, numbers_of, Within, sort_if, meta_sort, field_sort, is_implies, p4_sort, is_assignable, is_empty, stmt_fits, block_fits, is_well_kinded}
+use Rattle.p4_ir.specs.P4Kinds.{is_meta_name, last_is_digit, names_fit, widths_fit, table_fits, tables_fit, numbers_of, Within, meta_sort, field_sort, is_implies, p4_sort, is_empty, stmt_fits, block_fits, is_well_kinded}
 use Rattle.p4_ir.specs.P4Reads.{P4Reads}
 use Rattle.cocoon_num.specs.Packets.{total}
 use Rattle.p4_emit.specs.Printed.{printed}
@@ -106,11 +106,11 @@ record Fits (e : P4Expr) (s : Sort) : Type 0 where
   expr : ExprFits e
   narrow : Narrow s
 
-narrow_if : (b : Bool) (s t : Sort) → sort_if b s ≡ Some t → Narrow s → Narrow t
+narrow_if : (b : Bool) (s t : Sort) → kept_if b s ≡ Some t → Narrow s → Narrow t
 narrow_if true s t h n = let e : s ≡ t = cc in subst Narrow e n
 narrow_if false s t h n = cc
 
-true_if : (b : Bool) (s t : Sort) → sort_if b s ≡ Some t → b ≡ true
+true_if : (b : Bool) (s t : Sort) → kept_if b s ≡ Some t → b ≡ true
 true_if true s t h = refl
 true_if false s t h = cc
 
@@ -132,37 +132,15 @@ some_if : (b : Bool) (s t : Sort) → (cond b (Some s) None) ≡ Some t → (b �
 some_if true s t h = let e : s ≡ t = cc in (refl, e)
 some_if false s t h = absurd (let e : None ≡ Some t = h in cc)
 
-narrow_one : (f : ℕ → Sort) → ((w : ℕ) → w ≤ 128 → Narrow (f w)) → (s t u : Sort) → numbers_sort f s t ≡ Some u → Narrow t → Narrow u
-narrow_one f g (bits_sort v) (bits_sort w) u h n = subst Narrow (some_if (v == w) (f w) u h).1 (g w n)
-narrow_one f g (bits_sort v) truth_sort u h n = cc
-narrow_one f g truth_sort t u h n = cc
-
-narrow_truths : (s t u : Sort) → truths_sort s t ≡ Some u → Narrow u
-narrow_truths truth_sort truth_sort u h = let e : truth_sort ≡ u = cc in subst Narrow e tt
-narrow_truths truth_sort (bits_sort w) u h = cc
-narrow_truths (bits_sort v) t u h = cc
-
-narrow_joined : (s t u : Sort) → joined_sort s t ≡ Some u → Narrow u
-narrow_joined (bits_sort v) (bits_sort w) u h = let e = some_if (nat_le (v + w) 128) (bits_sort (v + w)) u h in subst Narrow e.1 (leb-true (v + w) 128 e.0)
-narrow_joined (bits_sort v) truth_sort u h = cc
-narrow_joined truth_sort t u h = cc
+narrow_work : (k : Work) (s t u : Sort) → work_sort k s t ≡ Some u → Narrow t → Narrow u
+narrow_work (computes f) (bits_sort v) (bits_sort w) u h n = subst Narrow (some_if (v == w) (bits_sort w) u h).1 n
+narrow_work (compares f) (bits_sort v) (bits_sort w) u h n = subst Narrow (some_if (v == w) truth_sort u h).1 tt
+narrow_work (combines f) truth_sort truth_sort u h n = let e : truth_sort ≡ u = cc in subst Narrow e tt
+narrow_work joins (bits_sort v) (bits_sort w) u h n = let e = some_if (nat_le (v + w) 128) (bits_sort (v + w)) u h in subst Narrow e.1 (leb-true (v + w) 128 e.0)
+narrow_work k s t u h n = cc
 
 narrow_binary : (op : BinaryOp) (s t u : Sort) → binary_sort op s t ≡ Some u → Narrow t → Narrow u
-narrow_binary add s t u h n = narrow_one bits_sort (λ w l. l) s t u h n
-narrow_binary sub s t u h n = narrow_one bits_sort (λ w l. l) s t u h n
-narrow_binary bits_and s t u h n = narrow_one bits_sort (λ w l. l) s t u h n
-narrow_binary bits_or s t u h n = narrow_one bits_sort (λ w l. l) s t u h n
-narrow_binary bits_xor s t u h n = narrow_one bits_sort (λ w l. l) s t u h n
-narrow_binary concat s t u h n = narrow_joined s t u h
-narrow_binary equal s t u h n = narrow_one (λ w. truth_sort) (λ w l. tt) s t u h n
-narrow_binary unequal s t u h n = narrow_one (λ w. truth_sort) (λ w l. tt) s t u h n
-narrow_binary less s t u h n = narrow_one (λ w. truth_sort) (λ w l. tt) s t u h n
-narrow_binary less_equal s t u h n = narrow_one (λ w. truth_sort) (λ w l. tt) s t u h n
-narrow_binary greater s t u h n = narrow_one (λ w. truth_sort) (λ w l. tt) s t u h n
-narrow_binary greater_equal s t u h n = narrow_one (λ w. truth_sort) (λ w l. tt) s t u h n
-narrow_binary and_ s t u h n = narrow_truths s t u h
-narrow_binary or_ s t u h n = narrow_truths s t u h
-narrow_binary implies s t u h n = narrow_truths s t u h
+narrow_binary op s t u h n = narrow_work (work op) s t u h n
 
 slice_fits : (s t : Sort) (high low : ℕ) → slice_sort s high low ≡ Some t → Narrow s → (high < 128) × (low < 128) × Narrow t
 slice_fits (bits_sort w) t high low h n =
@@ -243,7 +221,7 @@ sort_there s (Some t) h = (t, refl)
 value_fits : (c : Within) → AllWide c.program → (s : Sort) (e : P4Expr) → has_sort s (p4_sort c e) ≡ true → ExprFits e
 value_fits c w s e h = let r = sort_there s (p4_sort c e) h in (expr_fits c w e r.0 r.1).expr
 
-set_fits : (c : Within) → AllWide c.program → (o : Option Sort) (e : P4Expr) → is_assignable c o e ≡ true → ExprFits e
+set_fits : (c : Within) → AllWide c.program → (o : Option Sort) (e : P4Expr) → are_same o (p4_sort c e) ≡ true → ExprFits e
 set_fits c w None e h = cc
 set_fits c w (Some s) e h = value_fits c w s e h
 
@@ -295,7 +273,7 @@ table_of_kind p w t h =
     let h2 = and_parts (not (length t.keys == 0) && each (λ i. nat_lt i (length p.meta)) t.keys) (nat_lt t.result (length p.meta)) h1.0 in
     let small : t.number < 2 ^ 32 - 1 = ltb-true t.number (2 ^ 32 - 1) h1.1 in
     let f = each_within (λ (f : P4Field). Wide f.width) p.meta t.result w.meta (ltb-true t.result (length p.meta) h2.1) in
-    let e : result_width p t ≡ (f.0).width = width_found (slice_get p.meta t.result) f.0 f.1 in
+    let e : meta_width p t.result ≡ (f.0).width = width_found (slice_get p.meta t.result) f.0 f.1 in
     record { number = omega arith; some = rw e f.2.some; narrow = rw e (omega (arith, f.2.narrow)) }
 
 number_small : (p : Program) (ts : List P4Table) → Each (TableFits p) ts → Each (λ m. m < 2 ^ 32) (numbers_of ts)

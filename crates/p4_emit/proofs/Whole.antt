@@ -2,8 +2,8 @@
 use Rattle.std.proofs.Common.{◌≡◌, ℕ, ◌^◌, ◌≤◌, ◌<◌, List, [], ◌∷◌, ◌++◌, Bool, true, false, Ok, refl, pow_pos, ap, sym, ◌∙◌, arith, append_assoc}
 use Rattle.std.specs.Prelude.{codes, flat_map}
 use Rattle.cocoon_num.specs.Tokens.{Kind, a_name, plain, literal, mark, finish, Token, lex, kinds}
-use Rattle.p4_ir.specs.P4Tree.{P4Field, P4Header, P4Table, Control, Program}
-use Rattle.p4_ir.specs.P4Text.{said, p4_lexicon, meta_tokens, action_name, table_name, architecture, header_tokens, member_tokens, meta_member_tokens, match_kind, result_width, table_tokens, program_tokens, declared, header_name, block_tokens}
+use Rattle.p4_ir.specs.P4Tree.{P4Field, P4Header, P4Table, Control, Program, meta_width}
+use Rattle.p4_ir.specs.P4Text.{said, p4_lexicon, meta_tokens, action_name, table_name, architecture, header_tokens, member_tokens, meta_member_tokens, match_kind, table_tokens, program_tokens, declared, header_name, block_tokens}
 use Rattle.p4_emit.specs.declared.print.Fixed.TheVariants.{Architecture}
 use Rattle.p4_emit.specs.Printed.{each_text, fixed as fixed_text, header_field_text, header_text, member_text, meta_member_text, extract_text, deparse_text, kind_text, key_text, keys_text, action_text, default_text, table_text, heads_text, ingress_text, egress_text, printed}
 use Rattle.p4_emit.proofs.Seams.{spells_lexes}
@@ -48,8 +48,8 @@ deparse_lines h f = line 4 (opens (codes "b.emit(h.") refl (follows (word_part (
 
 pub record TableFits (p : Program) (t : P4Table) : Type 0 where
   pub number : t.number < 2 ^ 32
-  pub some : 1 ≤ result_width p t
-  pub narrow : result_width p t ≤ 128
+  pub some : 1 ≤ meta_width p t.result
+  pub narrow : meta_width p t.result ≤ 128
 
 kind_lines : (exact : Bool) → Lines (kind_text exact) (mark (codes ":") ∷ match_kind exact ∷ mark (codes ";") ∷ [])
 kind_lines true = ends (codes " : exact;") refl
@@ -70,18 +70,18 @@ keys_lines p n t f =
     (between (codes " {\n    key = {") refl (after (each_lines (λ i. Unit {0}) (key_text p t.exact) _ (key_lines p n t.exact) t.keys (each_unit t.keys)) (ends (codes " }") refl))))
 
 action_lines : (p : Program) → NamesFit p → (t : P4Table) → TableFits p t →
-    Lines (action_text p t) (a_name (codes "action") ∷ action_name t.number ∷ mark (codes "(") ∷ a_name (codes "bit") ∷ mark (codes "<") ∷ plain (result_width p t) ∷ mark (codes ">") ∷ a_name (codes "v") ∷ mark (codes ")") ∷ mark (codes "{") ∷ (meta_tokens p t.result ++ mark (codes "=") ∷ a_name (codes "v") ∷ mark (codes ";") ∷ mark (codes "}") ∷ []))
+    Lines (action_text p t) (a_name (codes "action") ∷ action_name t.number ∷ mark (codes "(") ∷ a_name (codes "bit") ∷ mark (codes "<") ∷ plain (meta_width p t.result) ∷ mark (codes ">") ∷ a_name (codes "v") ∷ mark (codes ")") ∷ mark (codes "{") ∷ (meta_tokens p t.result ++ mark (codes "=") ∷ a_name (codes "v") ∷ mark (codes ";") ∷ mark (codes "}") ∷ []))
 unfolding action_text
 action_lines p n t f =
     line 2 (opens (codes "action ") refl (follows (action_part t.number f.number) (leads (codes "(bit<") refl
-    (follows (plain_part (result_width p t) (omega (arith, f.narrow))) (leads (codes "> v) { ") refl (follows (meta_part p t.result n) (ends (codes " = v; }") refl)))))))
+    (follows (plain_part (meta_width p t.result) (omega (arith, f.narrow))) (leads (codes "> v) { ") refl (follows (meta_part p t.result n) (ends (codes " = v; }") refl)))))))
 
-default_lines : (p : Program) (t : P4Table) → TableFits p t → Lines (default_text p t) (a_name (codes "actions") ∷ mark (codes "=") ∷ mark (codes "{") ∷ action_name t.number ∷ mark (codes ";") ∷ mark (codes "}") ∷ a_name (codes "default_action") ∷ mark (codes "=") ∷ action_name t.number ∷ mark (codes "(") ∷ literal (result_width p t) 0 ∷ mark (codes ")") ∷ mark (codes ";") ∷ mark (codes "}") ∷ [])
+default_lines : (p : Program) (t : P4Table) → TableFits p t → Lines (default_text p t) (a_name (codes "actions") ∷ mark (codes "=") ∷ mark (codes "{") ∷ action_name t.number ∷ mark (codes ";") ∷ mark (codes "}") ∷ a_name (codes "default_action") ∷ mark (codes "=") ∷ action_name t.number ∷ mark (codes "(") ∷ literal (meta_width p t.result) 0 ∷ mark (codes ")") ∷ mark (codes ";") ∷ mark (codes "}") ∷ [])
 unfolding default_text
 default_lines p t f =
     leads (codes "\n    actions = { ") refl (follows (action_part t.number f.number)
     (leads (codes "; }\n    default_action = ") refl (follows (action_part t.number f.number) (leads (codes "(") refl
-    (follows (literal_part (result_width p t) 0 f.some f.narrow (pow_pos (result_width p t))) (ends (codes ");\n  }") refl))))))
+    (follows (literal_part (meta_width p t.result) 0 f.some f.narrow (pow_pos (meta_width p t.result))) (ends (codes ");\n  }") refl))))))
 
 out_of_three : (a b c d : List Kind) → ((a ++ b) ++ c) ++ d ≡ a ++ (b ++ (c ++ d))
 out_of_three a b c d = append_assoc (a ++ b) c d ∙ append_assoc a b (c ++ d)
@@ -94,11 +94,11 @@ table_lines p n t f =
     let k = flat_map (λ i. meta_tokens p i ++ mark (codes ":") ∷ match_kind t.exact ∷ mark (codes ";") ∷ []) t.keys in
     let a = action_name t.number in
     let actions : List Kind = a_name (codes "actions") ∷ mark (codes "=") ∷ mark (codes "{") ∷ a ∷ mark (codes ";") ∷ mark (codes "}") ∷ [] in
-    let otherwise : List Kind = a_name (codes "default_action") ∷ mark (codes "=") ∷ a ∷ mark (codes "(") ∷ literal (result_width p t) 0 ∷ mark (codes ")") ∷ mark (codes ";") ∷ [] in
+    let otherwise : List Kind = a_name (codes "default_action") ∷ mark (codes "=") ∷ a ∷ mark (codes "(") ∷ literal (meta_width p t.result) 0 ∷ mark (codes ")") ∷ mark (codes ";") ∷ [] in
     let set : List Kind = mark (codes "=") ∷ a_name (codes "v") ∷ [] in
     let b : List Kind = mark (codes "}") ∷ [] in
     lines_as (after (action_lines p n t f) (after (keys_lines p n t f) (default_lines p t f)))
-    (ap (λ z. a_name (codes "action") ∷ a ∷ mark (codes "(") ∷ a_name (codes "bit") ∷ mark (codes "<") ∷ plain (result_width p t) ∷ mark (codes ">") ∷ a_name (codes "v") ∷ mark (codes ")") ∷ mark (codes "{") ∷ z)
+    (ap (λ z. a_name (codes "action") ∷ a ∷ mark (codes "(") ∷ a_name (codes "bit") ∷ mark (codes "<") ∷ plain (meta_width p t.result) ∷ mark (codes ">") ∷ a_name (codes "v") ∷ mark (codes ")") ∷ mark (codes "{") ∷ z)
     (append_assoc (meta_tokens p t.result) (mark (codes "=") ∷ a_name (codes "v") ∷ mark (codes ";") ∷ mark (codes "}") ∷ []) _
     ∙ ap (λ y. meta_tokens p t.result ++ (mark (codes "=") ∷ a_name (codes "v") ∷ mark (codes ";") ∷ mark (codes "}") ∷ a_name (codes "table") ∷ table_name t.number ∷ mark (codes "{") ∷ a_name (codes "key") ∷ mark (codes "=") ∷ mark (codes "{") ∷ y))
     (append_assoc k b _ ∙ sym (out_of_four k b actions otherwise b))

@@ -3,8 +3,7 @@
 -- follows "The text" in docs/FORMATS.md. Optional headers, tags and versions of rows are absent.
 use Rattle.std.specs.Prelude.{ℕ, ◌+◌, Bool, true, false, List, [], ◌∷◌, ◌++◌, replicate, slice_get, Option, Some, None, decimal, codes}
 use Rattle.cocoon_num.specs.Values.{UnaryOp, flip, not_, BinaryOp, add, sub, bits_and, bits_or, bits_xor, concat, equal, unequal, less, less_equal, greater, greater_equal, and_, or_, implies}
-use Rattle.p4_ir.specs.P4Tree.{P4Expr, p_lit, p_truth, p_meta, p_field, p_port, p_rid, p_unary, p_binary, p_slice, p_pick, P4Stmt, set_meta, set_header, apply_table, p_if, p_if_else, verdict, egress_port, group, p_return, P4Block, p_done, p_then, P4Field, P4Header, P4Table, Program}
-use Rattle.p4_ir.specs.P4Text.{result_width}
+use Rattle.p4_ir.specs.P4Tree.{P4Expr, p_lit, p_truth, p_meta, p_field, p_port, p_rid, p_unary, p_binary, p_slice, p_pick, P4Stmt, set_meta, set_header, apply_table, p_if, p_if_else, verdict, egress_port, group, p_return, P4Block, p_done, p_then, P4Field, P4Header, P4Table, Program, meta_width}
 use Rattle.p4_emit.specs.declared.print.Fixed.{Fixed}
 use Rattle.p4_emit.specs.declared.print.Fixed.TheVariants.{Architecture, Headers, Meta, Parser, Ingress, IngressBegin, Egress, EgressBegin, Deparser, Main}
 
@@ -154,13 +153,13 @@ unfoldable pub key_text : Program → Bool → ℕ → List ℕ
 key_text p exact i = codes " " ++ (meta_text p i ++ kind_text exact)
 
 unfoldable pub action_text : Program → P4Table → List ℕ
-action_text p t = codes "\n  action a" ++ (decimal t.number ++ (codes "(bit<" ++ (decimal (result_width p t) ++ (codes "> v) { " ++ (meta_text p t.result ++ codes " = v; }")))))
+action_text p t = codes "\n  action a" ++ (decimal t.number ++ (codes "(bit<" ++ (decimal (meta_width p t.result) ++ (codes "> v) { " ++ (meta_text p t.result ++ codes " = v; }")))))
 
 unfoldable pub keys_text : Program → P4Table → List ℕ
 keys_text p t = codes "\n  table t" ++ (decimal t.number ++ (codes " {\n    key = {" ++ (each_text (key_text p t.exact) t.keys ++ codes " }")))
 
 unfoldable pub default_text : Program → P4Table → List ℕ
-default_text p t = codes "\n    actions = { a" ++ (decimal t.number ++ (codes "; }\n    default_action = a" ++ (decimal t.number ++ (codes "(" ++ (literal_text (result_width p t) 0 ++ codes ");\n  }")))))
+default_text p t = codes "\n    actions = { a" ++ (decimal t.number ++ (codes "; }\n    default_action = a" ++ (decimal t.number ++ (codes "(" ++ (literal_text (meta_width p t.result) 0 ++ codes ");\n  }")))))
 
 abbrev pub table_text : Program → P4Table → List ℕ
 table_text p t = action_text p t ++ (keys_text p t ++ default_text p t)

@@ -2,7 +2,8 @@
 ghost use Rattle.std.specs.Prelude.{◌≡◌, ◌+◌, ◌^◌, ◌<◌, ◌++◌, ◌∷◌, [], IsTrue, OnOk, IfOk, map, decimal, codes};
 ghost use Rattle.p4_ir.specs.P4Kinds.{is_well_kinded};
 ghost use Rattle.p4_ir.specs.P4Reads.{P4Reads};
-ghost use Rattle.p4_ir.specs.P4Text.{result_width, p4_bounds, program_tokens};
+ghost use Rattle.p4_ir.specs.P4Text.{p4_bounds, program_tokens};
+ghost use Rattle.p4_ir.specs.P4Tree.{meta_width};
 ghost use Rattle.cocoon_num.specs.Tokens.{is_shallow};
 ghost use Rattle.p4_emit.specs.Printed as spec;
 ghost use Rattle.p4_ir.specs.Program.{expr_of, stmt_of, block_of, field_of, header_of, table_of, control_of, program_of, unary_of, binary_of};
@@ -562,7 +563,7 @@ fn push_keys(
 
 /// The width of a table's result.
 fn result_width(program: &Program, table: &Table) -> u8
-    ensures { result ≡ result_width (program_of program.now) (table_of table.now) }
+    ensures { result ≡ meta_width (program_of program.now) (table_of table.now).result }
 {
     match program.meta.items().get(table.result as usize) {
         Some(field) => field.width,

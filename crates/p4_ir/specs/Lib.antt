@@ -1,4 +1,5 @@
 pub mod P4Tree
+pub mod NoRows
 pub mod P4Text
 pub mod P4Kinds
 pub mod P4Reads

@@ -1,8 +1,8 @@
 -- Which rows may be loaded into a program. It follows "How a bundle is read back" in docs/FORMATS.md. Versions of rows are
 -- absent.
-use Rattle.std.specs.Prelude.{ℕ, ◌+◌, ◌^◌, ◌==◌, ◌&&◌, ◌||◌, Bool, true, false, not, nat_lt, nat_le, List, [], ◌∷◌, ◌++◌, map, length, slice_get, Option, Some, None}
+use Rattle.std.specs.Prelude.{ℕ, ◌+◌, ◌^◌, ◌==◌, ◌&&◌, ◌||◌, Bool, true, false, not, nat_lt, nat_le, List, [], ◌∷◌, ◌++◌, map, length, Option, Some, None}
 use Rattle.cocoon_num.specs.Lists.{each, ascend, has_number, no_repeats}
-use Rattle.p4_ir.specs.P4Tree.{P4Table, Program, KeyRow, TableRows, Group, RowsFile}
+use Rattle.p4_ir.specs.P4Tree.{P4Table, Program, KeyRow, TableRows, Group, RowsFile, meta_width}
 use Rattle.p4_ir.specs.Switch.{table_numbered}
 
 -- ---- numbers
@@ -22,9 +22,6 @@ abbrev pub rows_file_fits : RowsFile → Bool
 rows_file_fits r = each table_numbers_fit r.tables && each group_numbers_fit r.groups
 
 -- ---- loading
-
-abbrev pub meta_width : Program → ℕ → ℕ
-meta_width p i = elim (slice_get p.meta i) [ Some f ↦ f.width | None ↦ 0 ]
 
 -- a value and a mask of a key: both fit its width, and the mask of an exact key is all ones
 abbrev pub key_fits : Bool → ℕ → ℕ → ℕ → Bool

@@ -1,12 +1,12 @@
 -- What a network delivers: visits of switches along links, from the attachment of a host to a host. It follows the
 -- section "The network" of docs/FORMATS.md. Visits look at no tag, and rows have one version.
 use Rattle.std.specs.Prelude.{◌≡◌, ℕ, zero, suc, ◌==◌, ◌&&◌, List, [], ◌∷◌, ◌++◌, if◌then◌else◌, Option, Some, None}
+use Rattle.std.specs.List.{find}
 use Rattle.p4_ir.specs.Switch.{switch_go}
 use Rattle.p4_ir.specs.NetTree.{LinkEnd, to_switch, to_host, Link, HostPort, SwitchFiles, NetData}
 
 abbrev pub switch_at : List SwitchFiles → ℕ → Option SwitchFiles
-switch_at [] s = None
-switch_at (f ∷ fs) s = if f.number == s then Some f else switch_at fs s
+switch_at fs s = find (λ (f : SwitchFiles). f.number == s) fs
 
 abbrev pub link_at : List Link → ℕ → ℕ → Option LinkEnd
 link_at [] s p = None

@@ -5,8 +5,8 @@ use Rattle.std.specs.Prelude.{ℕ, ◌-◌, ◌^◌, ◌%◌, ◌==◌, ◌&&◌
 use Rattle.cocoon_num.specs.Values.{BinaryOp, implies}
 use Rattle.cocoon_num.specs.Names.{same_name}
 use Rattle.cocoon_num.specs.Packets.{total}
-use Rattle.cocoon_num.specs.Tokens.{is_digit, is_letter, is_run_byte, is_run}
-use Rattle.cocoon_num.specs.Sorts.{is_declared_width, Sort, bits_sort, truth_sort, unary_sort, binary_sort, slice_sort, pick_sort, has_sort}
+use Rattle.cocoon_num.specs.Tokens.{is_digit, is_letter, is_run_byte, is_run, kept_if}
+use Rattle.cocoon_num.specs.Sorts.{is_declared_width, Sort, bits_sort, truth_sort, unary_sort, binary_sort, slice_sort, pick_sort, has_sort, are_same}
 use Rattle.cocoon_num.specs.Values.{with_both, with_all}
 use Rattle.p4_ir.specs.P4Tree.{P4Expr, p_lit, p_truth, p_meta, p_field, p_port, p_rid, p_unary, p_binary, p_slice, p_pick, P4Stmt, set_meta, set_header, apply_table, p_if, p_if_else, verdict, egress_port, group, p_return, P4Block, p_done, p_then, P4Field, P4Header, P4Table, Program, field_widths}
 use Rattle.cocoon_num.specs.Lists.{all_distinct, each, has_number, ascend}
@@ -59,10 +59,6 @@ pub record Within : Type 0 where
   pub in_ingress : Bool
   pub tables : List ℕ
 
-abbrev pub sort_if : Bool → Sort → Option Sort
-sort_if true s = Some s
-sort_if false s = None
-
 abbrev pub meta_sort : Program → ℕ → Option Sort
 meta_sort p i = option_map (λ (f : P4Field). bits_sort f.width) (slice_get p.meta i)
 
@@ -74,21 +70,16 @@ is_implies implies = true
 is_implies _ = false
 
 abbrev pub p4_sort : Within → P4Expr → Option Sort
-p4_sort c (p_lit w n) = sort_if (nat_le 1 w && nat_le w 128 && nat_lt n (2 ^ w)) (bits_sort w)
+p4_sort c (p_lit w n) = kept_if (nat_le 1 w && nat_le w 128 && nat_lt n (2 ^ w)) (bits_sort w)
 p4_sort c (p_truth b) = Some truth_sort
 p4_sort c (p_meta i) = meta_sort c.program i
 p4_sort c (p_field h f) = field_sort c.program h f
-p4_sort c p_port = sort_if c.in_ingress (bits_sort 16)
-p4_sort c p_rid = sort_if (not c.in_ingress) (bits_sort 64)
+p4_sort c p_port = kept_if c.in_ingress (bits_sort 16)
+p4_sort c p_rid = kept_if (not c.in_ingress) (bits_sort 64)
 p4_sort c (p_unary op a) = option_and_then (unary_sort op) (p4_sort c a)
 p4_sort c (p_binary op a b) = if is_implies op then None else with_both (binary_sort op) (p4_sort c a) (p4_sort c b)
 p4_sort c (p_slice a high low) = option_and_then (λ s. slice_sort s high low) (p4_sort c a)
 p4_sort c (p_pick e a b) = with_all pick_sort (p4_sort c e) (p4_sort c a) (p4_sort c b)
-
--- the expression has the sort of what it is assigned to, which is there
-abbrev pub is_assignable : Within → Option Sort → P4Expr → Bool
-is_assignable c None e = false
-is_assignable c (Some s) e = has_sort s (p4_sort c e)
 
 abbrev pub is_empty : P4Block → Bool
 is_empty p_done = true
@@ -96,8 +87,8 @@ is_empty (p_then first rest) = false
 
 abbrev mutual
   pub stmt_fits : Within → P4Stmt → Bool
-  stmt_fits c (set_meta i e) = is_assignable c (meta_sort c.program i) e
-  stmt_fits c (set_header h f e) = is_assignable c (field_sort c.program h f) e
+  stmt_fits c (set_meta i e) = are_same (meta_sort c.program i) (p4_sort c e)
+  stmt_fits c (set_header h f e) = are_same (field_sort c.program h f) (p4_sort c e)
   stmt_fits c (apply_table n) = has_number n c.tables
   stmt_fits c (p_if e first) = has_sort truth_sort (p4_sort c e) && block_fits c first
   stmt_fits c (p_if_else e first second) = has_sort truth_sort (p4_sort c e) && block_fits c first && not (is_empty second) && block_fits c second

@@ -3,9 +3,10 @@
 -- case for each production. It follows "The text" in docs/FORMATS.md; the subset is one of P4-16. Optional headers, tags
 -- and versions of rows are absent.
 use Rattle.std.specs.Prelude.{ℕ, Bool, true, false, List, [], ◌∷◌, ◌++◌, flat_map, slice_get, Option, Some, None, decimal, codes}
-use Rattle.cocoon_num.specs.Values.{UnaryOp, flip, not_, BinaryOp, add, sub, bits_and, bits_or, bits_xor, concat, equal, unequal, less, less_equal, greater, greater_equal, and_, or_, implies}
+use Rattle.cocoon_num.specs.Values.{UnaryOp, flip, not_, BinaryOp, and_, or_, implies}
 use Rattle.cocoon_num.specs.Tokens.{Kind, a_name, plain, literal, mark, finish, Lexicon, Bounds, kinds_in}
-use Rattle.p4_ir.specs.P4Tree.{P4Expr, p_lit, p_truth, p_meta, p_field, p_port, p_rid, p_unary, p_binary, p_slice, p_pick, P4Stmt, set_meta, set_header, apply_table, p_if, p_if_else, verdict, egress_port, group, p_return, P4Block, p_done, p_then, P4Field, P4Header, P4Table, Control, Program}
+use Rattle.cocoon_num.specs.Reads.{operator}
+use Rattle.p4_ir.specs.P4Tree.{P4Expr, p_lit, p_truth, p_meta, p_field, p_port, p_rid, p_unary, p_binary, p_slice, p_pick, P4Stmt, set_meta, set_header, apply_table, p_if, p_if_else, verdict, egress_port, group, p_return, P4Block, p_done, p_then, P4Field, P4Header, P4Table, Control, Program, meta_width}
 
 -- ---- tokens of P4 texts
 
@@ -69,23 +70,12 @@ abbrev pub unary_mark : UnaryOp → List ℕ
 unary_mark flip = codes "~"
 unary_mark not_ = codes "!"
 
--- `implies` is no operator of P4
+-- as in a design, but for the reserved words there; `implies` is no operator of P4
 abbrev pub binary_mark : BinaryOp → List ℕ
-binary_mark add = codes "+"
-binary_mark sub = codes "-"
-binary_mark bits_and = codes "&"
-binary_mark bits_or = codes "|"
-binary_mark bits_xor = codes "^"
-binary_mark concat = codes "++"
-binary_mark equal = codes "=="
-binary_mark unequal = codes "!="
-binary_mark less = codes "<"
-binary_mark less_equal = codes "<="
-binary_mark greater = codes ">"
-binary_mark greater_equal = codes ">="
 binary_mark and_ = codes "&&"
 binary_mark or_ = codes "||"
 binary_mark implies = []
+binary_mark op = elim (operator op) [ mark text ↦ text | _ ↦ [] ]
 
 abbrev pub in_parentheses : List Kind → List Kind
 in_parentheses ks = mark (codes "(") ∷ ks ++ mark (codes ")") ∷ []
@@ -155,19 +145,16 @@ abbrev pub match_kind : Bool → Kind
 match_kind true = a_name (codes "exact")
 match_kind false = a_name (codes "ternary")
 
-abbrev pub result_width : Program → P4Table → ℕ
-result_width p t = elim (slice_get p.meta t.result) [ Some f ↦ f.width | None ↦ 0 ]
-
 -- action aN(bit<W> v) { m.R = v; }
 -- table tN { key = { m.K : ternary; } actions = { aN; } default_action = aN(Ww0); }
 abbrev pub table_tokens : Program → P4Table → List Kind
 table_tokens p t =
-    a_name (codes "action") ∷ action_name t.number ∷ in_parentheses (declared (result_width p t) (a_name (codes "v")))
+    a_name (codes "action") ∷ action_name t.number ∷ in_parentheses (declared (meta_width p t.result) (a_name (codes "v")))
     ++ in_braces (assignment (meta_tokens p t.result) (a_name (codes "v") ∷ []))
     ++ a_name (codes "table") ∷ table_name t.number ∷ in_braces
     (a_name (codes "key") ∷ mark (codes "=") ∷ in_braces (flat_map (λ i. meta_tokens p i ++ mark (codes ":") ∷ match_kind t.exact ∷ mark (codes ";") ∷ []) t.keys)
     ++ a_name (codes "actions") ∷ mark (codes "=") ∷ in_braces (action_name t.number ∷ mark (codes ";") ∷ [])
-    ++ assignment (a_name (codes "default_action") ∷ []) (action_name t.number ∷ in_parentheses (literal (result_width p t) 0 ∷ [])))
+    ++ assignment (a_name (codes "default_action") ∷ []) (action_name t.number ∷ in_parentheses (literal (meta_width p t.result) 0 ∷ [])))
 
 -- the tables of a control, and its statements after what every control begins with
 abbrev pub control_tokens : Program → Control → List ℕ → List Kind

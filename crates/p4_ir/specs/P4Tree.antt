@@ -1,7 +1,7 @@
 -- Programs of the P4-16 subset, and the rows that tables are filled with. Meta fields, headers and fields are named
 -- by their numbers, from 0. It follows "Lowering and the P4 text" in docs/FORMATS.md. Optional headers, tags and versions
 -- of rows are absent.
-use Rattle.std.specs.Prelude.{ℕ, Bool, List, [], map}
+use Rattle.std.specs.Prelude.{ℕ, Bool, List, map, slice_get, Some, None}
 use Rattle.cocoon_num.specs.Values.{UnaryOp, BinaryOp}
 use Rattle.cocoon_num.specs.Packets.{Layout}
 
@@ -79,10 +79,6 @@ pub record RowsFile : Type 0 where
   pub tables : List TableRows
   pub groups : List Group
 
--- no table and no group
-abbrev pub no_rows : RowsFile
-no_rows = record { tables = []; groups = [] }
-
 -- ---- widths
 
 abbrev pub field_widths : List P4Field → List ℕ
@@ -90,3 +86,7 @@ field_widths fields = map (λ (f : P4Field). f.width) fields
 
 abbrev pub program_layout : Program → Layout
 program_layout p = map (λ (h : P4Header). field_widths h.fields) p.headers
+
+-- the width of a meta field
+abbrev pub meta_width : Program → ℕ → ℕ
+meta_width p i = elim (slice_get p.meta i) [ Some f ↦ f.width | None ↦ 0 ]

@@ -2,9 +2,11 @@
 -- its member, and the deparser. It follows "One visit" and "Rows" in docs/FORMATS.md; parsers, `exact` and `ternary`
 -- keys, default actions and `return` are those of P4-16. Optional headers and versions of rows are absent, and with
 -- them the form of a visit that looks at a tag.
-use Rattle.std.specs.Prelude.{ℕ, zero, suc, ◌==◌, ◌&&◌, Bool, true, false, List, [], ◌∷◌, replicate, length, slice_get, bit_and, if◌then◌else◌, Option, Some, None, option_map, option_and_then}
+use Rattle.std.specs.Prelude.{ℕ, ◌==◌, List, [], ◌∷◌, replicate, length, slice_get, if◌then◌else◌, Option, Some, None, option_map, option_and_then}
+use Rattle.std.specs.List.{find, slice_set}
 use Rattle.cocoon_num.specs.Values.{Value, number, truth, as_number, apply_unary, apply_binary, apply_slice, apply_pick, with_both, with_all}
 use Rattle.cocoon_num.specs.Lists.{has_number}
+use Rattle.cocoon_num.specs.Rows.{all_fit, first_match}
 use Rattle.cocoon_num.specs.Packets.{Packet, Layout, enter, leave}
 use Rattle.p4_ir.specs.P4Tree.{P4Expr, p_lit, p_truth, p_meta, p_field, p_port, p_rid, p_unary, p_binary, p_slice, p_pick, P4Stmt, set_meta, set_header, apply_table, p_if, p_if_else, verdict, egress_port, group, p_return, P4Block, p_done, p_then, P4Table, Program, KeyRow, TableRows, Group, RowsFile, field_widths, program_layout}
 
@@ -24,22 +26,11 @@ pub record Running : Type 0 where
   pub port : Option ℕ
   pub rid : Option ℕ
 
--- the list with x at index i, where the list is that long
-abbrev pub put : {A : Type 0} → List A → ℕ → A → List A
-put [] i x = []
-put (y ∷ ys) zero x = x ∷ ys
-put (y ∷ ys) (suc i) x = y ∷ put ys i x
-
 -- ---- expressions
-
-abbrev pub both : Option ℕ → Option ℕ → Option Value
-both None n = None
-both (Some w) None = None
-both (Some w) (Some n) = Some (number w n)
 
 -- the number at i, with its width
 abbrev pub numbered : List ℕ → List ℕ → ℕ → Option Value
-numbered widths ns i = both (slice_get widths i) (slice_get ns i)
+numbered widths ns i = with_both (λ w n. Some (number w n)) (slice_get widths i) (slice_get ns i)
 
 abbrev pub header_field : Layout → Packet → ℕ → ℕ → Option Value
 header_field layout packet h f =
@@ -59,23 +50,15 @@ p4_value at s (p_pick c a b) = with_all apply_pick (p4_value at s c) (p4_value a
 
 -- ---- tables
 
-abbrev pub all_fit : List ℕ → List ℕ → List ℕ → Bool
-all_fit [] [] [] = true
-all_fit (v ∷ vs) (m ∷ ms) (x ∷ xs) = (bit_and x m == bit_and v m) && all_fit vs ms xs
-all_fit _ _ _ = false
-
 -- the result of the first row that matches all keys, else the default
 abbrev pub table_result : List KeyRow → ℕ → List ℕ → ℕ
-table_result [] otherwise xs = otherwise
-table_result (r ∷ rows) otherwise xs = if all_fit r.values r.masks xs then r.result else table_result rows otherwise xs
+table_result rows otherwise xs = first_match (λ (r : KeyRow). all_fit r.values r.masks xs) (λ (r : KeyRow). r.result) rows otherwise
 
 abbrev pub table_numbered : List P4Table → ℕ → Option P4Table
-table_numbered [] n = None
-table_numbered (t ∷ ts) n = if t.number == n then Some t else table_numbered ts n
+table_numbered ts n = find (λ (t : P4Table). t.number == n) ts
 
 abbrev pub rows_numbered : List TableRows → ℕ → Option TableRows
-rows_numbered [] n = None
-rows_numbered (t ∷ ts) n = if t.number == n then Some t else rows_numbered ts n
+rows_numbered ts n = find (λ (t : TableRows). t.number == n) ts
 
 -- all of the list, where each is there
 abbrev pub all_there : List ℕ → List ℕ → Option (List ℕ)
@@ -86,7 +69,7 @@ all_there ns (i ∷ is) = option_and_then (λ n. option_map (λ rest. n ∷ rest
 abbrev pub applied : Running → State → ℕ → Option State
 applied at s n =
     option_and_then (λ (t : P4Table). option_and_then (λ (r : TableRows). option_map
-    (λ xs. record s { meta = put s.meta t.result (table_result r.rows r.otherwise xs) }) (all_there s.meta t.keys))
+    (λ xs. record s { meta = slice_set s.meta t.result (table_result r.rows r.otherwise xs) }) (all_there s.meta t.keys))
     (rows_numbered at.rows n)) (table_numbered at.tables n)
 
 -- ---- statements
@@ -96,17 +79,15 @@ pub data Outcome : Type 0 where
   proceeds returned : State → Outcome
 
 abbrev pub set_in_header : Packet → ℕ → ℕ → ℕ → Packet
-set_in_header packet h f n = elim (slice_get packet h) [ None ↦ packet | Some ns ↦ put packet h (put ns f n) ]
+set_in_header packet h f n = elim (slice_get packet h) [ None ↦ packet | Some ns ↦ slice_set packet h (slice_set ns f n) ]
 
 -- proceeds from the state that a number makes
 abbrev pub setting : Option Value → (ℕ → State) → Option Outcome
 setting v f = option_map (λ n. proceeds (f n)) (option_and_then as_number v)
 
 abbrev pub choose : Option Value → Option Outcome → Option Outcome → Option Outcome
-choose (Some (truth true)) a b = a
-choose (Some (truth false)) a b = b
-choose (Some (number w n)) a b = None
-choose None a b = None
+choose (Some (truth c)) a b = if c then a else b
+choose _ a b = None
 
 -- the rest is run unless the statement returned
 abbrev pub then_run : Option Outcome → (State → Option Outcome) → Option Outcome
@@ -116,7 +97,7 @@ then_run (Some (returned s)) f = Some (returned s)
 
 abbrev mutual
   pub p4_run : Running → P4Stmt → State → Option Outcome
-  p4_run at (set_meta i e) s = setting (p4_value at s e) (λ n. record s { meta = put s.meta i n })
+  p4_run at (set_meta i e) s = setting (p4_value at s e) (λ n. record s { meta = slice_set s.meta i n })
   p4_run at (set_header h f e) s = setting (p4_value at s e) (λ n. record s { packet = set_in_header s.packet h f n })
   p4_run at (apply_table n) s = option_map proceeds (applied at s n)
   p4_run at (p_if e first) s = choose (p4_value at s e) (p4_run_all at first s) (Some (proceeds s))
@@ -138,8 +119,7 @@ state_of (returned s) = s
 
 -- the members of a group; an unknown one has none
 abbrev pub members : List Group → ℕ → List ℕ
-members [] n = []
-members (g ∷ gs) n = if g.number == n then g.members else members gs n
+members gs n = elim (find (λ (g : Group). g.number == n) gs) [ None ↦ [] | Some g ↦ g.members ]
 
 -- the state that ingress leaves of some headers
 abbrev pub ingress_of : Program → RowsFile → ℕ → Packet → Option State

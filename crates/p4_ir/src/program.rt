@@ -1,8 +1,10 @@
 //! Programs of the P4-16 subset.
 ghost use Rattle.std.specs.Prelude.{◌≡◌, IfOk, map};
+ghost use Rattle.p4_ir.specs.P4Tree as tree;
 ghost use Rattle.p4_ir.specs.Program.{control_of, expr_of, field_of, header_of, program_of, stmt_of, table_of};
 
-use cocoon_num::{Bits, List, NoMemory, Text};
+use cocoon_num::copies::{Copied, copy_list};
+use cocoon_num::{Bits, List, NoMemory, Text, both, three};
 use std::alloc::Global;
 
 #[derive(Clone, Copy, Debug, Drop)]
@@ -95,11 +97,16 @@ impl Program {
     pub fn copy(&self, alloc: Global) -> Result<Program, NoMemory>
         ensures { IfOk result (λ copy. program_of copy ≡ program_of self.now) }
     {
+        let (headers, meta) = both(
+            copy_list(alloc, self.headers.items()),
+            copy_list(alloc, self.meta.items()),
+        )?;
+        let (ingress, egress) = both(self.ingress.copy(alloc), self.egress.copy(alloc))?;
         Ok(Program {
-            headers: List::from(copy_headers(alloc, self.headers.items())?),
-            meta: List::from(copy_fields(alloc, self.meta.items())?),
-            ingress: self.ingress.copy(alloc)?,
-            egress: self.egress.copy(alloc)?,
+            headers: List::from(headers),
+            meta: List::from(meta),
+            ingress,
+            egress,
         })
     }
 }
@@ -108,27 +115,23 @@ impl Control {
     fn copy(&self, alloc: Global) -> Result<Control, NoMemory>
         ensures { IfOk result (λ copy. control_of copy ≡ control_of self.now) }
     {
+        let (tables, body) = both(
+            copy_list(alloc, self.tables.items()),
+            copy_stmts(alloc, self.body.items()),
+        )?;
         Ok(Control {
-            tables: List::from(copy_tables(alloc, self.tables.items())?),
-            body: List::from(copy_stmts(alloc, self.body.items())?),
+            tables: List::from(tables),
+            body: List::from(body),
         })
     }
 }
 
-fn copy_tables(alloc: Global, tables: &[Table]) -> Result<Vec<Table>, NoMemory>
-    ensures { IfOk result (λ copies. map table_of copies.items ≡ map table_of tables.now) }
-{
-    let mut copies = Vec::new(alloc);
-    for table in tables {
-        copies.push(table.copy(alloc)?)?;
-    }
-    Ok(copies)
-}
+impl Copied for Table {
+    ghost Meaning = { tree.P4Table };
 
-impl Table {
-    fn copy(&self, alloc: Global) -> Result<Table, NoMemory>
-        ensures { IfOk result (λ copy. table_of copy ≡ table_of self.now) }
-    {
+    ghost meaning = { table_of };
+
+    fn copy(&self, alloc: Global) -> Result<Table, NoMemory> {
         Ok(Table {
             number: self.number,
             exact: self.exact,
@@ -138,41 +141,29 @@ impl Table {
     }
 }
 
-fn copy_headers(alloc: Global, headers: &[P4Header]) -> Result<Vec<P4Header>, NoMemory>
-    ensures { IfOk result (λ copies. map header_of copies.items ≡ map header_of headers.now) }
-{
-    let mut copies = Vec::new(alloc);
-    for header in headers {
-        copies.push(header.copy(alloc)?)?;
-    }
-    Ok(copies)
-}
+impl Copied for P4Header {
+    ghost Meaning = { tree.P4Header };
 
-impl P4Header {
-    fn copy(&self, alloc: Global) -> Result<P4Header, NoMemory>
-        ensures { IfOk result (λ copy. header_of copy ≡ header_of self.now) }
-    {
+    ghost meaning = { header_of };
+
+    fn copy(&self, alloc: Global) -> Result<P4Header, NoMemory> {
+        let (name, fields) = both(
+            Text::from(alloc, self.name.bytes()),
+            copy_list(alloc, self.fields.items()),
+        )?;
         Ok(P4Header {
-            name: Text::from(alloc, self.name.bytes())?,
-            fields: List::from(copy_fields(alloc, self.fields.items())?),
+            name,
+            fields: List::from(fields),
         })
     }
 }
 
-fn copy_fields(alloc: Global, fields: &[P4Field]) -> Result<Vec<P4Field>, NoMemory>
-    ensures { IfOk result (λ copies. map field_of copies.items ≡ map field_of fields.now) }
-{
-    let mut copies = Vec::new(alloc);
-    for field in fields {
-        copies.push(field.copy(alloc)?)?;
-    }
-    Ok(copies)
-}
+impl Copied for P4Field {
+    ghost Meaning = { tree.P4Field };
 
-impl P4Field {
-    fn copy(&self, alloc: Global) -> Result<P4Field, NoMemory>
-        ensures { IfOk result (λ copy. field_of copy ≡ field_of self.now) }
-    {
+    ghost meaning = { field_of };
+
+    fn copy(&self, alloc: Global) -> Result<P4Field, NoMemory> {
         Ok(P4Field {
             name: Text::from(alloc, self.name.bytes())?,
             width: self.width,
@@ -202,13 +193,17 @@ fn copy_stmt(alloc: Global, stmt: &P4Stmt) -> Result<P4Stmt, NoMemory>
         }
         P4Stmt::Apply(number) => Ok(P4Stmt::Apply(*number)),
         P4Stmt::If(condition, first) => {
-            Ok(P4Stmt::If(copy_expr(alloc, condition)?, copy_stmts(alloc, first)?))
+            let (condition, first) = both(copy_expr(alloc, condition), copy_stmts(alloc, first))?;
+            Ok(P4Stmt::If(condition, first))
         }
-        P4Stmt::IfElse(condition, first, second) => Ok(P4Stmt::IfElse(
-            copy_expr(alloc, condition)?,
-            copy_stmts(alloc, first)?,
-            copy_stmts(alloc, second)?,
-        )),
+        P4Stmt::IfElse(condition, first, second) => {
+            let (condition, first, second) = three(
+                copy_expr(alloc, condition),
+                copy_stmts(alloc, first),
+                copy_stmts(alloc, second),
+            )?;
+            Ok(P4Stmt::IfElse(condition, first, second))
+        }
         P4Stmt::Verdict(verdict) => Ok(P4Stmt::Verdict(*verdict)),
         P4Stmt::EgressPort(port) => Ok(P4Stmt::EgressPort(copy_expr(alloc, port)?)),
         P4Stmt::Group(group) => Ok(P4Stmt::Group(copy_expr(alloc, group)?)),
@@ -229,14 +224,18 @@ fn copy_expr(alloc: Global, expr: &P4Expr) -> Result<P4Expr, NoMemory>
         P4Expr::Rid => Ok(P4Expr::Rid),
         P4Expr::Unary(op, a) => Ok(P4Expr::Unary(*op, copy_boxed(alloc, a)?)),
         P4Expr::Binary(op, left, right) => {
-            Ok(P4Expr::Binary(*op, copy_boxed(alloc, left)?, copy_boxed(alloc, right)?))
+            let (left, right) = both(copy_boxed(alloc, left), copy_boxed(alloc, right))?;
+            Ok(P4Expr::Binary(*op, left, right))
         }
         P4Expr::Slice(a, high, low) => Ok(P4Expr::Slice(copy_boxed(alloc, a)?, *high, *low)),
-        P4Expr::Pick(condition, first, second) => Ok(P4Expr::Pick(
-            copy_boxed(alloc, condition)?,
-            copy_boxed(alloc, first)?,
-            copy_boxed(alloc, second)?,
-        )),
+        P4Expr::Pick(condition, first, second) => {
+            let (condition, first, second) = three(
+                copy_boxed(alloc, condition),
+                copy_boxed(alloc, first),
+                copy_boxed(alloc, second),
+            )?;
+            Ok(P4Expr::Pick(condition, first, second))
+        }
     }
 }
 

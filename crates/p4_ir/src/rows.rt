@@ -1,8 +1,10 @@
 //! The rows of a program's tables, and the groups of copies.
-ghost use Rattle.std.specs.Prelude.{◌≡◌, IfOk, map};
+ghost use Rattle.std.specs.Prelude.{◌≡◌, IfOk};
 ghost use Rattle.p4_ir.specs.NetOf.{group_of, key_row_of, rows_of, table_rows_of};
+ghost use Rattle.p4_ir.specs.P4Tree as tree;
 
-use cocoon_num::{List, NoMemory};
+use cocoon_num::copies::{Copied, copy_list};
+use cocoon_num::{List, NoMemory, both};
 use std::alloc::Global;
 
 /// One row of a table: it matches where each key is the value in the bits of the mask.
@@ -44,75 +46,64 @@ impl RowsFile {
     pub fn copy(&self, alloc: Global) -> Result<RowsFile, NoMemory>
         ensures { IfOk result (λ copy. rows_of copy ≡ rows_of self.now) }
     {
+        let (tables, groups) = both(
+            copy_list(alloc, self.tables.items()),
+            copy_list(alloc, self.groups.items()),
+        )?;
         Ok(RowsFile {
-            tables: List::from(copy_tables(alloc, self.tables.items())?),
-            groups: List::from(copy_groups(alloc, self.groups.items())?),
+            tables: List::from(tables),
+            groups: List::from(groups),
         })
     }
 }
 
-fn copy_tables(alloc: Global, tables: &[TableRows]) -> Result<Vec<TableRows>, NoMemory>
-    ensures { IfOk result (λ copies.
-        map table_rows_of copies.items ≡ map table_rows_of tables.now) }
+fn copy_numbers(alloc: Global, numbers: &List<u64>) -> Result<List<u64>, NoMemory>
+    ensures { IfOk result (λ copy. copy ≡ numbers.now) }
 {
-    let mut copies = Vec::new(alloc);
-    for table in tables {
-        copies.push(table.copy(alloc)?)?;
-    }
-    Ok(copies)
+    Ok(List::from(numbers.items().to_vec(alloc)?))
 }
 
-impl TableRows {
-    fn copy(&self, alloc: Global) -> Result<TableRows, NoMemory>
-        ensures { IfOk result (λ copy. table_rows_of copy ≡ table_rows_of self.now) }
-    {
+impl Copied for TableRows {
+    ghost Meaning = { tree.TableRows };
+
+    ghost meaning = { table_rows_of };
+
+    fn copy(&self, alloc: Global) -> Result<TableRows, NoMemory> {
         Ok(TableRows {
             number: self.number,
             default: self.default,
-            rows: List::from(copy_rows(alloc, self.rows.items())?),
+            rows: List::from(copy_list(alloc, self.rows.items())?),
         })
     }
 }
 
-fn copy_rows(alloc: Global, rows: &[KeyRow]) -> Result<Vec<KeyRow>, NoMemory>
-    ensures { IfOk result (λ copies. map key_row_of copies.items ≡ map key_row_of rows.now) }
-{
-    let mut copies = Vec::new(alloc);
-    for row in rows {
-        copies.push(row.copy(alloc)?)?;
-    }
-    Ok(copies)
-}
+impl Copied for KeyRow {
+    ghost Meaning = { tree.KeyRow };
 
-impl KeyRow {
-    fn copy(&self, alloc: Global) -> Result<KeyRow, NoMemory>
-        ensures { IfOk result (λ copy. key_row_of copy ≡ key_row_of self.now) }
-    {
+    ghost meaning = { key_row_of };
+
+    fn copy(&self, alloc: Global) -> Result<KeyRow, NoMemory> {
+        let (values, masks) = both(
+            copy_numbers(alloc, &self.values),
+            copy_numbers(alloc, &self.masks),
+        )?;
         Ok(KeyRow {
-            values: List::from(self.values.items().to_vec(alloc)?),
-            masks: List::from(self.masks.items().to_vec(alloc)?),
+            values,
+            masks,
             result: self.result,
         })
     }
 }
 
-fn copy_groups(alloc: Global, groups: &[Group]) -> Result<Vec<Group>, NoMemory>
-    ensures { IfOk result (λ copies. map group_of copies.items ≡ map group_of groups.now) }
-{
-    let mut copies = Vec::new(alloc);
-    for group in groups {
-        copies.push(group.copy(alloc)?)?;
-    }
-    Ok(copies)
-}
+impl Copied for Group {
+    ghost Meaning = { tree.Group };
 
-impl Group {
-    fn copy(&self, alloc: Global) -> Result<Group, NoMemory>
-        ensures { IfOk result (λ copy. group_of copy ≡ group_of self.now) }
-    {
+    ghost meaning = { group_of };
+
+    fn copy(&self, alloc: Global) -> Result<Group, NoMemory> {
         Ok(Group {
             number: self.number,
-            members: List::from(self.members.items().to_vec(alloc)?),
+            members: copy_numbers(alloc, &self.members)?,
         })
     }
 }
