@@ -2,22 +2,22 @@
 use Rattle.std.specs.Prelude.{◌≡◌, ℕ, zero, suc, ◌+◌, ◌==◌, Bool, true, false, List, [], ◌∷◌, map, slice_get, Option, Some, None, Result, Ok, Err, if◌then◌else◌, codes, refl}
 use Rattle.std.proofs.Common.{Vec, Global, sym, ◌∙◌, ap, subst}
 use Rattle.std.proofs.lemmas.Bool.{eq-eqb, eqb-true}
-use Rattle.cocoon_num.specs.Values.{BinaryOp}
+use Rattle.cocoon_num.specs.Values.{BinaryOp, flip, not_}
 use Rattle.cocoon_num.specs.Tokens.{Kind, a_name, keyword, plain, literal, mark, finish}
-use Rattle.cocoon_num.specs.Tree.{Expr, Exprs, expr, no_exprs, binary, slice, pick, token_index, Stmt, Block, stmt, no_stmts}
-use Rattle.cocoon_num.specs.Reads.{of_expr, of_post, of_prim}
+use Rattle.cocoon_num.specs.Tree.{Name, Expr, Exprs, call, expr, no_exprs, unary, binary, slice, pick, token_index, Stmt, Block, stmt, no_stmts}
+use Rattle.cocoon_num.specs.Reads.{Level, of_expr, of_unary, of_post, of_prim}
 use Rattle.cocoon_syntax.specs.TreeOf.{expr_of, exprs_of, block_of, stmt_of}
 use Rattle.cocoon_syntax.specs.declared.expr.Expr.{Expr as CodeExpr}
 use Rattle.cocoon_syntax.specs.declared.stmt.Stmt.{Stmt as CodeStmt}
-use Rattle.cocoon_parse.specs.Phrases.{level_of, part_of, then_mark, Sides, sides_from, RangeAt, leaf_from}
-use Rattle.cocoon_parse.specs.PlainParser.{Outcome, good, bad, spent, after, marked, picked, is_mark, op_at, expr_from, rest_from, exprs_from, commas_from, many_from, stmt_from, stmts_from, closes, sliced, by_op, prim_of, path_from, reserved}
-use Rattle.cocoon_parse.specs.Agrees.{Agrees, AgreesDeep, is_name_token}
+use Rattle.cocoon_parse.specs.Phrases.{level_of, name_or_call, part_of, then_mark, Sides, sides_from, sides_of, RangeAt, leaf_from}
+use Rattle.plain_parser.specs.PlainParser.{Outcome, good, bad, spent, after, marked, named, name_at, picked, bracketed, implied, is_mark, is_keyword, op_at, expr_from, rest_from, exprs_from, commas_from, many_from, stmt_from, stmts_from, closes, sliced, by_op, prim_of, path_from, reserved}
+use Rattle.cocoon_parse.specs.Agrees.{Agrees, AgreesDeep, Makes, is_name_token, with_first, with_mark}
 use Rattle.cocoon_num.specs.Names.{same_name}
 use Rattle.cocoon_parse.specs.declared.fault.Stop.{Stop}
 use Rattle.cocoon_parse.specs.declared.fault.Stop.TheVariants.{Unexpected, NoMemory}
 use Rattle.cocoon_parse.specs.declared.operators.Chain.{Chain}
 use Rattle.cocoon_parse.specs.declared.operators.Chain.TheVariants.{Or, And, Concat, Bits, Sum}
-use Rattle.cocoon_parse.proofs.Eventually.{Eventually, by_one, by_two, deeper, flat}
+use Rattle.cocoon_parse.proofs.Eventually.{Eventually, by_one, by_two, deeper, flat, agrees_deeper, eventual_read, fails_as, agrees_as, agrees_made, agrees_marked, agrees_with_first, after_read, then_same}
 
 -- what G gives, F gives
 pub record Rest {A : Type 0} (F G : ℕ → Outcome A) : Type 0 where
@@ -69,6 +69,31 @@ chain_broken ts c a j k op s t q i p = s.carries (bad i) (deeper (by_one (subst 
 pub chain_ends : (ts : List Kind) (c : Chain) (a : Expr) (j : ℕ) {F : ℕ → Outcome Expr} → Rest F (λ n. rest_from ts n (level_of c) a j) → op_at (level_of c) (slice_get ts j) ≡ None → Eventually F (good a j)
 chain_ends ts c a j s t = s.carries (good a j) (deeper (flat (λ n. stops ts n c a j t)))
 
+-- the next part of a chain, and what is made of it
+pub chain_goes : (ts : List Kind) (c : Chain) (a : Expr) (j k : ℕ) (op : BinaryOp) {F : ℕ → Outcome Expr} (read : Result (CodeExpr × ℕ) Stop) (both : CodeExpr) {l : ℕ} → Rest F (λ n. rest_from ts n (level_of c) a j) → op_at (level_of c) (slice_get ts j) ≡ Some op → k ≡ suc j → AgreesDeep (λ n. expr_from ts n (part_of c) k) expr_of read → Makes expr_of expr_of (λ b. binary (token_index a) op a b) read (Ok (both, l)) → Rest F (λ n. rest_from ts n (level_of c) (expr_of both) l)
+chain_goes ts c a j k op {F = F} (Ok found) both s t q r e = subst (λ z. Rest F (λ n. rest_from ts n (level_of c) (expr_of both) z)) (sym e.1) (chain_more ts c a j k op s t q (eventual_read expr_of r) e.0)
+chain_goes ts c a j k op {F = F} (Err stop) both s t q r e = absurd cc
+
+pub chain_stopped : (ts : List Kind) (c : Chain) (a : Expr) (j k : ℕ) (op : BinaryOp) {F : ℕ → Outcome Expr} (read : Result (CodeExpr × ℕ) Stop) (stop : Stop) {result : Result (CodeExpr × ℕ) Stop} → Rest F (λ n. rest_from ts n (level_of c) a j) → op_at (level_of c) (slice_get ts j) ≡ Some op → k ≡ suc j → AgreesDeep (λ n. expr_from ts n (part_of c) k) expr_of read → Makes expr_of expr_of (λ b. binary (token_index a) op a b) read (Err stop) → result ≡ Err stop → AgreesDeep F expr_of result
+chain_stopped ts c a j k op {F = F} (Ok found) stop s t q r e w = subst (AgreesDeep F expr_of) (sym (w ∙ ap (λ z. Err z) e)) (record { depth = 0; agrees = λ n h. tt })
+chain_stopped ts c a j k op (Err other) stop s t q r e w = fails_as expr_of expr_of other (w ∙ e) (chain_broken ts c a j k op s t q) r
+
+-- ---- one operator at most
+
+pub joined : (ts : List Kind) (l m k : Level) (i : ℕ) (op : BinaryOp) {a : Expr} {j : ℕ} (from : ℕ) (read result : Result (CodeExpr × ℕ) Stop) → Eventually (λ n. expr_from ts n m i) (good a j) → Some op ≡ op_at l (slice_get ts j) → from ≡ suc j → AgreesDeep (λ n. expr_from ts n k from) expr_of read →
+    Makes expr_of expr_of (λ b. binary (token_index a) op a b) read result → AgreesDeep (λ n. after (expr_from ts n m i) (λ a j. implied (op_at l (slice_get ts j)) a j (expr_from ts n k (suc j)))) expr_of result
+joined ts l m k i op {a = a} {j = j} from read result p o q r e = after_read _ expr_of p (agrees_as (λ n. same (op_at l (slice_get ts j)) (expr_from ts n k (suc j)) (sym o))
+    (agrees_made (λ n. expr_from ts n k (suc j)) expr_of expr_of (λ b. binary (token_index a) op a b) read result (subst (λ z. AgreesDeep (λ n. expr_from ts n k z) expr_of read) q r) e))
+  where
+    same : (o : Option BinaryOp) (r : Outcome Expr) → o ≡ Some op → implied o a j r ≡ after r (λ b k. good (binary (token_index a) op a b) k)
+    same o r e = rw e refl
+
+pub alone : (ts : List Kind) (l m k : Level) (i : ℕ) {a : CodeExpr} {j : ℕ} → AgreesDeep (λ n. expr_from ts n m i) expr_of (Ok (a, j)) → None ≡ op_at l (slice_get ts j) → AgreesDeep (λ n. after (expr_from ts n m i) (λ a j. implied (op_at l (slice_get ts j)) a j (expr_from ts n k (suc j)))) expr_of (Ok (a, j))
+alone ts l m k i {a = a} {j = j} p o = after_read _ expr_of (eventual_read expr_of p) (record { depth = 0; agrees = λ n h. same (op_at l (slice_get ts j)) (expr_from ts n k (suc j)) (sym o) })
+  where
+    same : (o : Option BinaryOp) (r : Outcome Expr) → o ≡ None → implied o (expr_of a) j r ≡ good (expr_of a) j
+    same o r e = rw e refl
+
 -- ---- choices
 
 -- a choice, with both its sides
@@ -96,13 +121,41 @@ picked_same ts e c (good a j) = by (is_mark (codes ":") (slice_get ts j))
     by false = refl
     by true = second (e (suc j))
 
-pub picked_fails : (ts : List Kind) (c : Expr) (i k : ℕ) → Eventually (λ n. sides_from ts (expr_from ts n of_expr) i) (bad k) → Eventually (λ n. after (expr_from ts n of_expr i) (picked ts (expr_from ts n of_expr) c)) (bad k)
-unfolding after
-picked_fails ts c i k p = by_one p (λ n e. picked_same ts (expr_from ts n of_expr) c (expr_from ts n of_expr i) ∙ ap (λ z. after z (chosen c)) e)
+pub picked_agrees : (ts : List Kind) (c : Expr) (i : ℕ) (read : Result ((CodeExpr × CodeExpr) × ℕ) Stop) (result : Result (CodeExpr × ℕ) Stop) → AgreesDeep (λ n. sides_from ts (expr_from ts n of_expr) i) sides_of read → Makes sides_of expr_of (λ p. pick (token_index c) c p.first p.second) read result → AgreesDeep (λ n. after (expr_from ts n of_expr i) (picked ts (expr_from ts n of_expr) c)) expr_of result
+picked_agrees ts c i read result p e = agrees_as (λ n. picked_same ts (expr_from ts n of_expr) c (expr_from ts n of_expr i)) (agrees_made (λ n. sides_from ts (expr_from ts n of_expr) i) sides_of expr_of (λ p. pick (token_index c) c p.first p.second) read result p e)
 
-pub picked_reads : (ts : List Kind) (c : Expr) (i : ℕ) {p : Sides} {k : ℕ} {both : Expr} → Eventually (λ n. sides_from ts (expr_from ts n of_expr) i) (good p k) → both ≡ pick (token_index c) c p.first p.second → Eventually (λ n. after (expr_from ts n of_expr i) (picked ts (expr_from ts n of_expr) c)) (good both k)
+-- both sides
+pub sides_agree : (ts : List Kind) (i : ℕ) {a : CodeExpr} {j : ℕ} (read : Result (CodeExpr × ℕ) Stop) (result : Result ((CodeExpr × CodeExpr) × ℕ) Stop) → AgreesDeep (λ n. then_mark ts (codes ":") (expr_from ts n of_expr i)) expr_of (Ok (a, j)) → AgreesDeep (λ n. then_mark ts (codes ")") (expr_from ts n of_expr j)) expr_of read → result ≡ with_first a read → AgreesDeep (λ n. sides_from ts (expr_from ts n of_expr) i) sides_of result
+sides_agree ts i read result p q e = agrees_with_first expr_of (λ n j. then_mark ts (codes ")") (expr_from ts n of_expr j)) expr_of (λ x y. record { first = x; second = y }) read result p q e
+
+-- what stands in brackets
+pub choice : (ts : List Kind) (i : ℕ) {a : CodeExpr} {j : ℕ} (from : ℕ) (result : Result (CodeExpr × ℕ) Stop) → AgreesDeep (λ n. expr_from ts n of_expr i) expr_of (Ok (a, j)) → is_mark (codes "?") (slice_get ts j) ≡ true → from ≡ suc j →
+    AgreesDeep (λ n. after (expr_from ts n of_expr from) (picked ts (expr_from ts n of_expr) (expr_of a))) expr_of result → AgreesDeep (λ n. after (expr_from ts n of_expr i) (bracketed ts (expr_from ts n of_expr))) expr_of result
+choice ts i {a = a} from result p t q r = after_read _ expr_of (eventual_read expr_of p) (agrees_as (λ n. rw t refl) (subst (λ z. AgreesDeep (λ n. after (expr_from ts n of_expr z) (picked ts (expr_from ts n of_expr) (expr_of a))) expr_of result) q r))
+
+pub closed : (ts : List Kind) (i : ℕ) {a : CodeExpr} {j : ℕ} (result : Result (CodeExpr × ℕ) Stop) → AgreesDeep (λ n. expr_from ts n of_expr i) expr_of (Ok (a, j)) → is_mark (codes "?") (slice_get ts j) ≡ false → result ≡ with_mark ts (codes ")") (Ok (a, j)) → AgreesDeep (λ n. after (expr_from ts n of_expr i) (bracketed ts (expr_from ts n of_expr))) expr_of result
 unfolding after
-picked_reads ts c i {k = k} p q = by_one p (λ n e. picked_same ts (expr_from ts n of_expr) c (expr_from ts n of_expr i) ∙ ap (λ z. after z (chosen c)) e ∙ ap (λ z. good z k) (sym q))
+closed ts i {a = a} {j = j} result p t e = after_read _ expr_of (eventual_read expr_of p) (agrees_as (λ n. rw t refl) (agrees_marked ts (codes ")") (λ n. good (expr_of a) j) expr_of (Ok (a, j)) result (record { depth = 0; agrees = λ n h. refl }) e))
+
+-- ---- operators before their part
+
+pub flipped : (ts : List Kind) (i at from : ℕ) (read result : Result (CodeExpr × ℕ) Stop) → at ≡ i → is_mark (codes "~") (slice_get ts i) ≡ true → from ≡ suc i → AgreesDeep (λ n. expr_from ts n of_unary from) expr_of read → Makes expr_of expr_of (λ a. unary at flip a) read result → AgreesDeep (λ n. expr_from ts n of_unary i) expr_of result
+flipped ts i at from read result s t q p e = agrees_deeper (agrees_as (λ n. rw t refl)
+    (agrees_made (λ n. expr_from ts n of_unary (suc i)) expr_of expr_of (λ a. unary i flip a) read result (subst (λ z. AgreesDeep (λ n. expr_from ts n of_unary z) expr_of read) q p) (subst (λ z. Makes expr_of expr_of (λ a. unary z flip a) read result) s e)))
+
+pub negated : (ts : List Kind) (i at from : ℕ) (read result : Result (CodeExpr × ℕ) Stop) → at ≡ i → is_mark (codes "~") (slice_get ts i) ≡ false → is_keyword (codes "not") (slice_get ts i) ≡ true → from ≡ suc i → AgreesDeep (λ n. expr_from ts n of_unary from) expr_of read → Makes expr_of expr_of (λ a. unary at not_ a) read result → AgreesDeep (λ n. expr_from ts n of_unary i) expr_of result
+negated ts i at from read result s o t q p e = agrees_deeper (agrees_as (λ n. rw (o, t) refl)
+    (agrees_made (λ n. expr_from ts n of_unary (suc i)) expr_of expr_of (λ a. unary i not_ a) read result (subst (λ z. AgreesDeep (λ n. expr_from ts n of_unary z) expr_of read) q p) (subst (λ z. Makes expr_of expr_of (λ a. unary z not_ a) read result) s e)))
+
+-- ---- calls
+
+pub called : (ts : List Kind) (i at : ℕ) (x : Name) (args read : Result (Vec CodeExpr Global × ℕ) Stop) (result : Result (CodeExpr × ℕ) Stop) → at ≡ i → name_at i (slice_get ts i) ≡ Some x → is_mark (codes "(") (slice_get ts (i + 1)) ≡ true → AgreesDeep (λ n. exprs_from ts n (i + 2)) (λ v. exprs_of (map expr_of v.items)) args → read ≡ with_mark ts (codes ")") args →
+    Makes (λ v. exprs_of (map expr_of v.items)) expr_of (λ xs. call at x xs) read result → AgreesDeep (λ n. named ts i (name_or_call ts (exprs_from ts n) i)) expr_of result
+unfolding named
+called ts i at x args read result s w t p q e = agrees_as (λ n. rw (w, t) (then_same ts (codes ")") (exprs_from ts n (i + 2)) (λ xs j. good (call i x xs) j)))
+    (agrees_made (λ n. then_mark ts (codes ")") (exprs_from ts n (i + 2))) (λ v. exprs_of (map expr_of v.items)) expr_of (λ xs. call i x xs) read result
+    (agrees_marked ts (codes ")") (λ n. exprs_from ts n (i + 2)) (λ v. exprs_of (map expr_of v.items)) args read p q)
+    (subst (λ z. Makes (λ v. exprs_of (map expr_of v.items)) expr_of (λ xs. call z x xs) read result) s e))
 
 -- ---- slices
 

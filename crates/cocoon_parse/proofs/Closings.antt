@@ -3,27 +3,20 @@ use Rattle.std.specs.Prelude.{◌≡◌, ℕ, suc, ◌+◌, Bool, true, false, L
 use Rattle.std.proofs.Common.{sym, ◌∙◌, ap, subst, arith}
 use Rattle.std.proofs.Math.Numerals.{add-one}
 use Rattle.cocoon_num.specs.Tokens.{Kind}
-use Rattle.cocoon_num.specs.Tree.{Name, Expr, Stmt, let_, set_field, Param, Decl, an_assumption, a_host, a_switch}
+use Rattle.cocoon_num.specs.Tree.{Name, Expr, Stmt, let_, set_field, havoc_field, havoc_var, Param, Decl, an_assumption, a_host, a_switch}
 use Rattle.cocoon_num.specs.Reads.{of_expr}
-use Rattle.cocoon_syntax.specs.TreeOf.{decl_of}
+use Rattle.cocoon_syntax.specs.TreeOf.{decl_of, expr_of, param_of, stmt_of}
+use Rattle.cocoon_syntax.specs.declared.decl.Param.{Param as CodeParam}
+use Rattle.cocoon_syntax.specs.declared.expr.Expr.{Expr as CodeExpr}
+use Rattle.cocoon_syntax.specs.declared.name.Name.{Name as CodeName}
+use Rattle.cocoon_syntax.specs.declared.stmt.Stmt.{Stmt as CodeStmt}
 use Rattle.cocoon_syntax.specs.declared.decl.Decl.{Decl as CodeDecl}
-use Rattle.cocoon_parse.specs.Phrases.{then_mark, assigned_from, paired, PairAt, counted, PortsAt}
-use Rattle.cocoon_parse.specs.PlainParser.{Outcome, good, bad, spent, after, marked, reserved, numbered, is_mark, expr_from, ended, Path, path_from, param_from, let_from, setting_from, body_from, optional_params_from, assumption_from, host_from, switch_from}
-use Rattle.cocoon_parse.specs.Agrees.{Agrees}
+use Rattle.cocoon_parse.specs.Phrases.{then_mark, assigned_from, havoc_field_from, havoc_variable_from, paired, PairAt, counted, PortsAt}
+use Rattle.plain_parser.specs.PlainParser.{Outcome, good, bad, after, marked, reserved, numbered, is_mark, expr_from, ended, Path, path_from, param_from, let_from, setting_from, body_from, optional_params_from, assumption_from, host_from, switch_from}
+use Rattle.cocoon_parse.specs.Agrees.{Agrees, AgreesDeep, Makes, path_of, with_mark}
 use Rattle.cocoon_parse.specs.declared.fault.Stop.{Stop}
 use Rattle.cocoon_parse.specs.declared.fault.Stop.TheVariants.{Unexpected, NoMemory}
-use Rattle.cocoon_parse.proofs.Eventually.{Eventually, flat, by_one, by_two, first_reads}
-
--- the mark is read with the phrase, or after it
-then_same : {A B : Type 0} (ts : List Kind) (m : List ℕ) (r : Outcome A) (g : A → ℕ → Outcome B) → after r (λ x k. marked ts m k (g x (suc k))) ≡ after (then_mark ts m r) g
-unfolding after marked
-then_same ts m (bad i) g = refl
-then_same ts m spent g = refl
-then_same ts m (good x k) g = by (is_mark m (slice_get ts k))
-  where
-    by : (t : Bool) → (if t then g x (suc k) else bad k) ≡ after (if t then good x (suc k) else bad k) g
-    by true = refl
-    by false = refl
+use Rattle.cocoon_parse.proofs.Eventually.{Eventually, flat, by_one, by_two, agrees_as, agrees_made, agrees_marked, after_read, at_once, once, then_same}
 
 -- ---- an expression up to ";"
 
@@ -53,21 +46,35 @@ assigned_fails : {A : Type 0} (ts : List Kind) (E : ℕ → ℕ → Outcome Expr
 unfolding after
 assigned_fails ts E f j p = by_one p (λ n d. assigned_same ts (E n) f j ∙ ap (λ z. after z (λ x k. good (f x) k)) d)
 
-pub let_reads : (ts : List Kind) (E : ℕ → ℕ → Outcome Expr) (i : ℕ) {p : Param} {j : ℕ} {x : Expr} {k : ℕ} {y : Stmt} → param_from ts (i + 1) ≡ good p j → Eventually (λ n. assigned_from ts (E n) j) (good x k) → y ≡ let_ i p.name p.width x → Eventually (λ n. let_from ts (E n) i) (good y k)
+-- ---- statements that end with an expression
+
+pub ended_made : (ts : List Kind) (i : ℕ) (make : Expr → Stmt) (read : Result (CodeExpr × ℕ) Stop) (result : Result (CodeStmt × ℕ) Stop) → AgreesDeep (λ n. then_mark ts (codes ";") (expr_from ts n of_expr i)) expr_of read → Makes expr_of stmt_of make read result → AgreesDeep (λ n. ended ts (expr_from ts n of_expr) i make) stmt_of result
+ended_made ts i make read result p e = agrees_as (λ n. then_same ts (codes ";") (expr_from ts n of_expr i) (λ x k. good (make x) k)) (agrees_made (λ n. then_mark ts (codes ";") (expr_from ts n of_expr i)) expr_of stmt_of make read result p e)
+
+assigned_made : (ts : List Kind) (j : ℕ) (make : Expr → Stmt) (read : Result (CodeExpr × ℕ) Stop) (result : Result (CodeStmt × ℕ) Stop) → AgreesDeep (λ n. assigned_from ts (expr_from ts n of_expr) j) expr_of read → Makes expr_of stmt_of make read result → AgreesDeep (λ n. marked ts (codes "=") j (ended ts (expr_from ts n of_expr) (suc j) make)) stmt_of result
+assigned_made ts j make read result p e = agrees_as (λ n. assigned_same ts (expr_from ts n of_expr) make j) (agrees_made (λ n. assigned_from ts (expr_from ts n of_expr) j) expr_of stmt_of make read result p e)
+
+pub let_agrees : (ts : List Kind) (i at : ℕ) {p : Param} {j : ℕ} (read : Result (CodeExpr × ℕ) Stop) (result : Result (CodeStmt × ℕ) Stop) → at ≡ i → param_from ts (i + 1) ≡ good p j → AgreesDeep (λ n. assigned_from ts (expr_from ts n of_expr) j) expr_of read → Makes expr_of stmt_of (λ x. let_ at p.name p.width x) read result → AgreesDeep (λ n. let_from ts (expr_from ts n of_expr) i) stmt_of result
 unfolding let_from
-let_reads ts E i {p = p} {j = j} q d e = first_reads _ (flat (λ n. subst (λ z. param_from ts z ≡ good p j) (add-one i) q)) (assigned_reads ts E (λ x. let_ i p.name p.width x) j d e)
+let_agrees ts i at {p = p} {j = j} read result s q r e = after_read (λ n p j. marked ts (codes "=") j (ended ts (expr_from ts n of_expr) (suc j) (λ x. let_ i p.name p.width x))) stmt_of (flat (λ n. subst (λ z. param_from ts z ≡ good p j) (add-one i) q)) (assigned_made ts j (λ x. let_ i p.name p.width x) read result r (subst (λ z. Makes expr_of stmt_of (λ x. let_ z p.name p.width x) read result) s e))
 
-pub let_fails : (ts : List Kind) (E : ℕ → ℕ → Outcome Expr) (i : ℕ) {p : Param} {j k : ℕ} → param_from ts (i + 1) ≡ good p j → Eventually (λ n. assigned_from ts (E n) j) (bad k) → Eventually (λ n. let_from ts (E n) i) (bad k)
-unfolding let_from
-let_fails ts E i {p = p} {j = j} q d = first_reads _ (flat (λ n. subst (λ z. param_from ts z ≡ good p j) (add-one i) q)) (assigned_fails ts E (λ x. let_ i p.name p.width x) j d)
-
-pub setting_reads : (ts : List Kind) (E : ℕ → ℕ → Outcome Expr) (i : ℕ) {p : Path} {j : ℕ} {x : Expr} {k : ℕ} {y : Stmt} → path_from ts i ≡ good p j → Eventually (λ n. assigned_from ts (E n) j) (good x k) → y ≡ set_field i p.header p.field x → Eventually (λ n. setting_from ts (E n) i) (good y k)
+pub setting_agrees : (ts : List Kind) (i at : ℕ) {p : Path} {j : ℕ} (read : Result (CodeExpr × ℕ) Stop) (result : Result (CodeStmt × ℕ) Stop) → at ≡ i → path_from ts i ≡ good p j → AgreesDeep (λ n. assigned_from ts (expr_from ts n of_expr) j) expr_of read → Makes expr_of stmt_of (λ x. set_field at p.header p.field x) read result → AgreesDeep (λ n. setting_from ts (expr_from ts n of_expr) i) stmt_of result
 unfolding setting_from
-setting_reads ts E i {p = p} {j = j} q d e = first_reads _ (flat (λ n. q)) (assigned_reads ts E (λ x. set_field i p.header p.field x) j d e)
+setting_agrees ts i at {p = p} {j = j} read result s q r e = after_read (λ n p j. marked ts (codes "=") j (ended ts (expr_from ts n of_expr) (suc j) (λ x. set_field i p.header p.field x))) stmt_of (flat (λ n. q)) (assigned_made ts j (λ x. set_field i p.header p.field x) read result r (subst (λ z. Makes expr_of stmt_of (λ x. set_field z p.header p.field x) read result) s e))
 
-pub setting_fails : (ts : List Kind) (E : ℕ → ℕ → Outcome Expr) (i : ℕ) {p : Path} {j k : ℕ} → path_from ts i ≡ good p j → Eventually (λ n. assigned_from ts (E n) j) (bad k) → Eventually (λ n. setting_from ts (E n) i) (bad k)
-unfolding setting_from
-setting_fails ts E i {p = p} {j = j} q d = first_reads _ (flat (λ n. q)) (assigned_fails ts E (λ x. set_field i p.header p.field x) j d)
+-- ---- havocs
+
+pub havoc_field_agrees : (ts : List Kind) (i at : ℕ) (read one : Result ((CodeName × CodeName) × ℕ) Stop) (result : Result (CodeStmt × ℕ) Stop) → at ≡ i → Agrees (path_from ts (i + 1)) path_of read → one ≡ with_mark ts (codes ";") read → Makes path_of stmt_of (λ p. havoc_field at p.header p.field) one result → Agrees (havoc_field_from ts i) stmt_of result
+havoc_field_agrees ts i at read one result s p q e = once (agrees_as (λ n. then_same ts (codes ";") (path_from ts (suc i)) (λ p k. good (havoc_field i p.header p.field) k))
+    (agrees_made (λ n. then_mark ts (codes ";") (path_from ts (suc i))) path_of stmt_of (λ p. havoc_field i p.header p.field) one result
+    (agrees_marked ts (codes ";") (λ n. path_from ts (suc i)) path_of read one (at_once (subst (λ z. Agrees (path_from ts z) path_of read) (add-one i) p)) q)
+    (subst (λ z. Makes path_of stmt_of (λ p. havoc_field z p.header p.field) one result) s e)))
+
+pub havoc_variable_agrees : (ts : List Kind) (i at : ℕ) (read one : Result (CodeParam × ℕ) Stop) (result : Result (CodeStmt × ℕ) Stop) → at ≡ i → Agrees (param_from ts (i + 1)) param_of read → one ≡ with_mark ts (codes ";") read → Makes param_of stmt_of (λ p. havoc_var at p.name p.width) one result → Agrees (havoc_variable_from ts i) stmt_of result
+havoc_variable_agrees ts i at read one result s p q e = once (agrees_as (λ n. then_same ts (codes ";") (param_from ts (suc i)) (λ p k. good (havoc_var i p.name p.width) k))
+    (agrees_made (λ n. then_mark ts (codes ";") (param_from ts (suc i))) param_of stmt_of (λ p. havoc_var i p.name p.width) one result
+    (agrees_marked ts (codes ";") (λ n. param_from ts (suc i)) param_of read one (at_once (subst (λ z. Agrees (param_from ts z) param_of read) (add-one i) p)) q)
+    (subst (λ z. Makes param_of stmt_of (λ p. havoc_var z p.name p.width) one result) s e)))
 
 pub body_reads : (ts : List Kind) (i : ℕ) {x : Expr} {k : ℕ} → is_mark (codes ";") (slice_get ts i) ≡ false → Eventually (λ n. assigned_from ts (expr_from ts n of_expr) i) (good x k) → Eventually (λ n. body_from ts n i) (good (Some x) k)
 unfolding body_from

@@ -1,10 +1,12 @@
 -- What a reading gives from some depth on: how the reading of a phrase is that of its parts.
-use Rattle.std.specs.Prelude.{◌≡◌, ℕ, zero, suc, ◌+◌, ◌≤◌, Bool, true, false, List, [], ◌∷◌, ◌++◌, map, slice_get, Option, None, Result, Ok, Err, if◌then◌else◌, codes, refl}
-use Rattle.std.proofs.Common.{sym, ◌∙◌, ap, subst, arith}
+use Rattle.std.specs.Prelude.{◌≡◌, ℕ, zero, suc, ◌+◌, ◌<◌, ◌≤◌, Bool, true, false, List, [], ◌∷◌, ◌++◌, length, map, slice_get, Option, Some, None, Result, Ok, Err, if◌then◌else◌, codes, refl}
+use Rattle.std.proofs.Common.{sym, ◌∙◌, ap, subst, add-one, arith}
 use Rattle.std.proofs.lemmas.List.{append_assoc, append-nil, map-append}
+use Rattle.std.proofs.lemmas.Option.{slice_get_within}
 use Rattle.cocoon_num.specs.Tokens.{Kind}
-use Rattle.cocoon_parse.specs.PlainParser.{Outcome, good, bad, spent, after, is_mark, plain_of, many_from, some_from, commas_from}
-use Rattle.cocoon_parse.specs.Agrees.{Agrees, AgreesDeep, TokenAt, NumberAt}
+use Rattle.plain_parser.specs.PlainParser.{Outcome, good, bad, spent, after, marked, is_mark, many_from, some_from, commas_from}
+use Rattle.cocoon_parse.specs.Phrases.{then_mark}
+use Rattle.cocoon_parse.specs.Agrees.{Agrees, AgreesDeep, Moves, Advances, Makes, TokenAt, with_mark, with_first}
 use Rattle.cocoon_parse.specs.declared.fault.Stop.{Stop}
 use Rattle.cocoon_parse.specs.declared.fault.Stop.TheVariants.{Unexpected, NoMemory}
 
@@ -39,6 +41,13 @@ agrees_deeper {F = F} {f = f} {result = result} p = record { depth = suc p.depth
     from zero h = absurd (omega arith)
     from (suc n) h = p.agrees n (omega arith)
 
+mark_within : (m : List ℕ) (ts : List Kind) (i : ℕ) → is_mark m (slice_get ts i) ≡ true → i < length ts
+mark_within m ts i t = by (slice_get ts i) refl t
+  where
+    by : (k : Option Kind) → slice_get ts i ≡ k → is_mark m k ≡ true → i < length ts
+    by None q t = absurd cc
+    by (Some k) q t = slice_get_within ts i k q
+
 -- what agrees with a phrase that was read
 pub eventual_read : {A B : Type 0} {F : ℕ → Outcome B} (f : A → B) {x : A} {j : ℕ} → AgreesDeep F f (Ok (x, j)) → Eventually F (good (f x) j)
 eventual_read f p = record { depth = p.depth; equal = p.agrees }
@@ -71,16 +80,134 @@ token_stops f {r = r} pos b s t e k = subst (Agrees r f) (sym e) (by s t)
     by (Unexpected i) t = k t.0 ∙ ap bad (sym t.1)
     by NoMemory t = tt
 
-pub number_stops : {A B : Type 0} (f : A → B) {r : Outcome B} (pos : ℕ) (k : Option Kind) (s : Stop) {result : Result (A × ℕ) Stop} → NumberAt pos k (Err s) → result ≡ Err s → (plain_of k ≡ None → r ≡ bad pos) → Agrees r f result
-number_stops f {r = r} pos k s t e h = subst (Agrees r f) (sym e) (by s t)
-  where
-    by : (s : Stop) → NumberAt pos k (Err s) → Agrees r f (Err s)
-    by (Unexpected i) t = h t.0 ∙ ap bad (sym t.1)
-    by NoMemory t = tt
-
 -- what agrees at every depth
 pub at_once : {A B : Type 0} {r : Outcome B} {f : A → B} {result : Result (A × ℕ) Stop} → Agrees r f result → AgreesDeep (λ n. r) f result
 at_once p = record { depth = 0; agrees = λ n h. p }
+
+-- the same reading, put in other words
+pub agrees_as : {A B : Type 0} {F G : ℕ → Outcome B} {f : A → B} {result : Result (A × ℕ) Stop} → ((n : ℕ) → G n ≡ F n) → AgreesDeep F f result → AgreesDeep G f result
+agrees_as {f = f} {result = result} e p = record { depth = p.depth; agrees = λ n h. subst (λ r. Agrees r f result) (sym (e n)) (p.agrees n h) }
+
+-- what agrees after a phrase that was read
+pub after_read : {A B C : Type 0} {F : ℕ → Outcome A} (K : ℕ → A → ℕ → Outcome B) (g : C → B) {x : A} {j : ℕ} {result : Result (C × ℕ) Stop} → Eventually F (good x j) → AgreesDeep (λ n. K n x j) g result → AgreesDeep (λ n. after (F n) (K n)) g result
+unfolding after
+after_read K g {result = result} p q = record { depth = p.depth + q.depth; agrees = λ n h. subst (λ r. Agrees r g result) (sym (ap (λ z. after z (K n)) (p.equal n (omega arith)))) (q.agrees n (omega arith)) }
+
+-- a phrase, and the mark after it
+pub agrees_marked : {A B : Type 0} (ts : List Kind) (m : List ℕ) (F : ℕ → Outcome B) (f : A → B) (read result : Result (A × ℕ) Stop) → AgreesDeep F f read → result ≡ with_mark ts m read → AgreesDeep (λ n. then_mark ts m (F n)) f result
+unfolding after marked
+agrees_marked {A} ts m F f read result p e = subst (AgreesDeep (λ n. then_mark ts m (F n)) f) (sym e) (by read p)
+  where
+    by : (read : Result (A × ℕ) Stop) → AgreesDeep F f read → AgreesDeep (λ n. then_mark ts m (F n)) f (with_mark ts m read)
+    by (Ok found) p = at (is_mark m (slice_get ts found.1)) refl
+      where
+        at : (b : Bool) → is_mark m (slice_get ts found.1) ≡ b → AgreesDeep (λ n. then_mark ts m (F n)) f (if b then Ok (found.0, found.1 + 1) else Err (Unexpected found.1))
+        at true t = record { depth = p.depth; agrees = λ n h. rw (p.agrees n h, t) (ap (good (f found.0)) (sym (add-one found.1))) }
+        at false t = record { depth = p.depth; agrees = λ n h. rw (p.agrees n h, t) refl }
+    by (Err (Unexpected i)) p = record { depth = p.depth; agrees = λ n h. rw (p.agrees n h) refl }
+    by (Err NoMemory) p = record { depth = 0; agrees = λ n h. tt }
+
+-- the tree that is made of a phrase
+pub agrees_made : {A B C D : Type 0} (F : ℕ → Outcome C) (f : A → C) (g : B → D) (make : C → D) (read : Result (A × ℕ) Stop) (result : Result (B × ℕ) Stop) → AgreesDeep F f read → Makes f g make read result → AgreesDeep (λ n. after (F n) (λ x j. good (make x) j)) g result
+unfolding after
+agrees_made F f g make (Ok found) (Ok made) p e = record { depth = p.depth; agrees = λ n h. rw (p.agrees n h, e.0, e.1) refl }
+agrees_made F f g make (Ok found) (Err (Unexpected i)) p e = absurd cc
+agrees_made F f g make (Ok found) (Err NoMemory) p e = record { depth = 0; agrees = λ n h. tt }
+agrees_made {B = B} F f g make (Err stop) result p e = subst (AgreesDeep (λ n. after (F n) (λ x j. good (make x) j)) g) (sym e) (by stop p)
+  where
+    by : (s : Stop) → AgreesDeep F f (Err s) → AgreesDeep {A = B} (λ n. after (F n) (λ x j. good (make x) j)) g (Err s)
+    by (Unexpected i) p = record { depth = p.depth; agrees = λ n h. rw (p.agrees n h) refl }
+    by NoMemory p = record { depth = 0; agrees = λ n h. tt }
+
+-- the mark is read with the phrase, or after it
+pub then_same : {A B : Type 0} (ts : List Kind) (m : List ℕ) (r : Outcome A) (g : A → ℕ → Outcome B) → after r (λ x k. marked ts m k (g x (suc k))) ≡ after (then_mark ts m r) g
+unfolding after marked
+then_same ts m (bad i) g = refl
+then_same ts m spent g = refl
+then_same ts m (good x k) g = by (is_mark m (slice_get ts k))
+  where
+    by : (t : Bool) → (if t then g x (suc k) else bad k) ≡ after (if t then good x (suc k) else bad k) g
+    by true = refl
+    by false = refl
+
+-- what was read before, and what is read after it
+pub agrees_with_first : {A B C D E : Type 0} {F : ℕ → Outcome C} (f : A → C) (G : ℕ → ℕ → Outcome D) (g : B → D) (make : C → D → E) {a : A} {j : ℕ} (read : Result (B × ℕ) Stop) (result : Result ((A × B) × ℕ) Stop) → AgreesDeep F f (Ok (a, j)) → AgreesDeep (λ n. G n j) g read → result ≡ with_first a read →
+    AgreesDeep (λ n. after (F n) (λ x j. after (G n j) (λ y k. good (make x y) k))) (λ p. make (f p.0) (g p.1)) result
+agrees_with_first {A = A} {B = B} {F = F} f G g make {a = a} {j = j} read result p q e = after_read (λ n x j. after (G n j) (λ y k. good (make x y) k)) (λ p. make (f p.0) (g p.1)) (eventual_read f p) (subst (AgreesDeep (λ n. after (G n j) (λ y k. good (make (f a) y) k)) (λ p. make (f p.0) (g p.1))) (sym e) (by read q))
+  where
+    by : (read : Result (B × ℕ) Stop) → AgreesDeep (λ n. G n j) g read → AgreesDeep (λ n. after (G n j) (λ y k. good (make (f a) y) k)) (λ p. make (f p.0) (g p.1)) (with_first a read)
+    by (Ok found) q = agrees_made (λ n. G n j) g (λ p. make (f p.0) (g p.1)) (make (f a)) (Ok found) (Ok ((a, found.0), found.1)) q (refl, refl)
+    by (Err stop) q = agrees_made (λ n. G n j) g (λ p. make (f p.0) (g p.1)) (make (f a)) (Err stop) (Err stop) q refl
+
+-- the same of two marks
+pub two_marks : {A B : Type 0} (ts : List Kind) (m l : List ℕ) (r : Outcome A) (K : A → ℕ → Outcome B) → after r (λ x j. marked ts m j (marked ts l (j + 1) (K x (j + 2)))) ≡ after (then_mark ts l (then_mark ts m r)) K
+unfolding after marked
+two_marks ts m l (bad i) K = refl
+two_marks ts m l spent K = refl
+two_marks ts m l (good x j) K = by (is_mark m (slice_get ts j))
+  where
+    shift : marked ts l (j + 1) (K x (j + 2)) ≡ marked ts l (suc j) (K x (suc (suc j)))
+    shift = ap (λ z. marked ts l z (K x (j + 2))) (add-one j) ∙ ap (λ z. marked ts l (suc j) (K x z)) (let e : j + 2 ≡ suc (suc j) = omega arith in e)
+
+    last : (t : Bool) → (if t then K x (suc (suc j)) else bad (suc j)) ≡ after (if t then good x (suc (suc j)) else bad (suc j)) K
+    last true = refl
+    last false = refl
+
+    by : (t : Bool) → (if t then marked ts l (j + 1) (K x (j + 2)) else bad j) ≡ after (then_mark ts l (if t then good x (suc j) else bad j)) K
+    by true = shift ∙ last (is_mark l (slice_get ts (suc j)))
+    by false = refl
+
+-- a pair is made of its second part
+pub with_first_makes : {A B D E : Type 0} (g : B → D) (f : A × B → E) (make : D → E) (a : A) (read : Result (B × ℕ) Stop) (result : Result ((A × B) × ℕ) Stop) → ((y : B) → f (a, y) ≡ make (g y)) → result ≡ with_first a read → Makes g f make read result
+with_first_makes {B = B} g f make a read result q e = subst (Makes g f make read) (sym e) (by read)
+  where
+    by : (read : Result (B × ℕ) Stop) → Makes g f make read (with_first a read)
+    by (Ok found) = (q found.0, refl)
+    by (Err stop) = refl
+
+-- ---- where they end
+
+pub moves_marked : {A : Type 0} (ts : List Kind) (m : List ℕ) (pos from : ℕ) (read result : Result (A × ℕ) Stop) → pos ≤ from → Moves from (length ts) read → result ≡ with_mark ts m read → Moves pos (length ts) result
+moves_marked {A} ts m pos from read result l p e = subst (Moves pos (length ts)) (sym e) (by read p)
+  where
+    by : (read : Result (A × ℕ) Stop) → Moves from (length ts) read → Moves pos (length ts) (with_mark ts m read)
+    by (Ok found) p = at (is_mark m (slice_get ts found.1)) refl
+      where
+        at : (b : Bool) → is_mark m (slice_get ts found.1) ≡ b → Moves {A = A} pos (length ts) (if b then Ok (found.0, found.1 + 1) else Err (Unexpected found.1))
+        at true t = let w = mark_within m ts found.1 t in (omega (arith, l, p.0), omega (arith, w))
+        at false t = tt
+    by (Err stop) p = tt
+
+pub advances_marked : {A : Type 0} (ts : List Kind) (m : List ℕ) (pos from : ℕ) (read result : Result (A × ℕ) Stop) → pos ≤ from → Advances from (length ts) read → result ≡ with_mark ts m read → Moves pos (length ts) result
+advances_marked {A} ts m pos from read result l p e = subst (Moves pos (length ts)) (sym e) (by read p)
+  where
+    by : (read : Result (A × ℕ) Stop) → Advances from (length ts) read → Moves pos (length ts) (with_mark ts m read)
+    by (Ok found) p = at (is_mark m (slice_get ts found.1)) refl
+      where
+        at : (b : Bool) → is_mark m (slice_get ts found.1) ≡ b → Moves {A = A} pos (length ts) (if b then Ok (found.0, found.1 + 1) else Err (Unexpected found.1))
+        at true t = let w = mark_within m ts found.1 t in (omega (arith, l, p.0), omega (arith, w))
+        at false t = tt
+    by (Err stop) p = tt
+
+pub moves_made : {A B C D : Type 0} (f : A → C) (g : B → D) (make : C → D) (pos from end : ℕ) (read : Result (A × ℕ) Stop) (result : Result (B × ℕ) Stop) → pos ≤ from → Moves from end read → Makes f g make read result → Moves pos end result
+moves_made f g make pos from end (Ok found) (Ok made) l p e = (omega (arith, l, p.0, e.1), omega (arith, p.1, e.1))
+moves_made f g make pos from end (Ok found) (Err stop) l p e = tt
+moves_made {B = B} f g make pos from end (Err stop) result l p e = subst (Moves pos end) (sym e) (let t : Moves {A = B} pos end (Err stop) = tt in t)
+
+pub advances_made : {A B C D : Type 0} (f : A → C) (g : B → D) (make : C → D) (pos from end : ℕ) (read : Result (A × ℕ) Stop) (result : Result (B × ℕ) Stop) → pos < from → Advances from end read → Makes f g make read result → Moves pos end result
+advances_made f g make pos from end (Ok found) (Ok made) l p e = (omega (arith, l, p.0, e.1), omega (arith, p.1, e.1))
+advances_made f g make pos from end (Ok found) (Err stop) l p e = tt
+advances_made {B = B} f g make pos from end (Err stop) result l p e = subst (Moves pos end) (sym e) (let t : Moves {A = B} pos end (Err stop) = tt in t)
+
+pub moves_with_first : {A B : Type 0} (x : A) (pos from end : ℕ) (read : Result (B × ℕ) Stop) (result : Result ((A × B) × ℕ) Stop) → pos ≤ from → Moves from end read → result ≡ with_first x read → Moves pos end result
+moves_with_first {A} {B} x pos from end read result l p e = subst (Moves pos end) (sym e) (by read p)
+  where
+    by : (read : Result (B × ℕ) Stop) → Moves from end read → Moves pos end (with_first x read)
+    by (Ok found) p = (omega (arith, l, p.0), p.1)
+    by (Err stop) p = tt
+
+pub once : {A B : Type 0} {r : Outcome B} {f : A → B} {result : Result (A × ℕ) Stop} → AgreesDeep (λ n. r) f result → Agrees r f result
+once p = p.agrees p.depth (omega arith)
 
 -- ---- lists
 

@@ -1,6 +1,6 @@
 -- When the answer of a parsing function agrees with what the plain parser gives of the same tokens. Private clauses of all
 -- modules cite it. An answer that is out of memory agrees with all.
-use Rattle.std.specs.Prelude.{◌≡◌, ◌<◌, ◌≤◌, ℕ, List, map, slice_range, Bool, true, false, ⊤, Option, Some, None, Result, Ok, Err}
+use Rattle.std.specs.Prelude.{◌≡◌, ◌+◌, ◌<◌, ◌≤◌, ℕ, List, map, slice_get, slice_range, Bool, true, false, if◌then◌else◌, ⊤, Option, Some, None, Result, Ok, Err}
 use Rattle.cocoon_num.specs.Tokens.{Kind, a_name}
 use Rattle.cocoon_num.specs.declared.bits.Bits.{Bits}
 use Rattle.cocoon_lex.specs.Kinds.{kind_of}
@@ -9,8 +9,8 @@ use Rattle.cocoon_syntax.specs.declared.name.Name.{Name}
 use Rattle.cocoon_syntax.specs.TreeOf.{name_of}
 use Rattle.cocoon_parse.specs.declared.fault.Stop.{Stop}
 use Rattle.cocoon_parse.specs.declared.fault.Stop.TheVariants.{Unexpected, NoMemory}
-use Rattle.cocoon_parse.specs.PlainParser as parser
-use Rattle.cocoon_parse.specs.PlainParser.{Outcome, good, bad, Path, name_at, plain_of}
+use Rattle.plain_parser.specs.PlainParser as parser
+use Rattle.plain_parser.specs.PlainParser.{Outcome, good, bad, Path, is_mark, name_at, plain_of}
 
 -- the kind of a token of a text
 abbrev pub kind_at : List ℕ → Token → Kind
@@ -82,3 +82,19 @@ Moves pos end (Err stop) = Unit {0}
 abbrev pub Advances : {A : Type 0} → ℕ → ℕ → Result (A × ℕ) Stop → Type 0
 Advances pos end (Ok found) = (pos ≤ found.1) × (found.1 ≤ end)
 Advances pos end (Err stop) = Unit {0}
+
+-- what was read, and the mark after it
+abbrev pub with_mark : {A : Type 0} → List Kind → List ℕ → Result (A × ℕ) Stop → Result (A × ℕ) Stop
+with_mark ts m (Ok found) = if is_mark m (slice_get ts found.1) then Ok (found.0, found.1 + 1) else Err (Unexpected found.1)
+with_mark ts m (Err stop) = Err stop
+
+-- what was read, and this before it
+abbrev pub with_first : {A B : Type 0} → A → Result (B × ℕ) Stop → Result ((A × B) × ℕ) Stop
+with_first x (Ok found) = Ok ((x, found.0), found.1)
+with_first x (Err stop) = Err stop
+
+-- the tree that is made of what was read, unless memory ran out
+abbrev pub Makes : {A B C D : Type 0} → (A → C) → (B → D) → (C → D) → Result (A × ℕ) Stop → Result (B × ℕ) Stop → Type 0
+Makes f g make (Ok found) (Ok made) = (g made.0 ≡ make (f found.0)) × (made.1 ≡ found.1)
+Makes f g make (Ok found) (Err stop) = stop ≡ NoMemory
+Makes f g make (Err stop) result = result ≡ Err stop

@@ -1,17 +1,12 @@
 -- The first fault of a text, by where a reading of its tokens up to the first deep one stops. Private clauses of
 -- `whole_text` cite it, and of cocoon_text.
-use Rattle.std.specs.Prelude.{◌+◌, ◌<◌, ◌^◌, ℕ, nat_lt, List, take, Option, Some, None, if◌then◌else◌}
+use Rattle.std.specs.Prelude.{◌<◌, ◌^◌, ℕ, nat_lt, List, Option, Some, None, if◌then◌else◌}
 use Rattle.cocoon_num.specs.Tokens.{Kind, language_bounds}
 use Rattle.cocoon_num.specs.FirstFaults as first_faults
 use Rattle.cocoon_parse.specs.declared.fault.ParseFault.{ParseFault}
 use Rattle.cocoon_parse.specs.declared.fault.ParseFault.TheVariants as fault
 use Rattle.cocoon_parse.specs.declared.fault.Stop.{Stop}
 use Rattle.cocoon_parse.specs.declared.fault.Stop.TheVariants as stop
-
--- the tokens up to and with the first deep one, or all
-abbrev pub reach : {A : Type 0} → Option ℕ → List A → List A
-reach None ts = ts
-reach (Some d) ts = take (d + 1) ts
 
 -- a reading that stops past the first deep token has met no other fault
 abbrev pub fault_of : Option ℕ → Stop → ParseFault

@@ -1,5 +1,4 @@
 pub mod Depth
 pub mod Faults
 pub mod Phrases
-pub mod PlainParser
 pub mod Agrees

@@ -1,13 +1,16 @@
 //! Declarations, refinements, headers and designs.
 ghost use Rattle.std.specs.Prelude.{◌≡◌, ◌+◌, ◌<◌, ◌≤◌, ◌^◌, IfOk, length, map, option_map, slice_get, true};
-ghost use Rattle.cocoon_syntax.specs.TreeOf.{body_of, decl_of, design_of, expr_of, header_of, param_of, refine_of, result_of};
-ghost use Rattle.cocoon_parse.specs.Phrases.{PairAt, PortsAt, stops_of};
-ghost use Rattle.cocoon_parse.specs.PlainParser as parser;
-ghost use Rattle.cocoon_parse.specs.Agrees.{Advances, Moves, Agrees, AgreesDeep};
+ghost use Rattle.cocoon_num.specs.Tree.{a_function, a_role};
+ghost use Rattle.cocoon_lex.specs.Kinds.{mark_text};
+ghost use Rattle.cocoon_syntax.specs.TreeOf.{body_of, decl_of, design_of, expr_of, header_of, name_of, param_of, refine_of, result_of};
+ghost use Rattle.cocoon_parse.specs.Phrases.{LimitAt, PairAt, PortsAt, answer_from, answer_of, duty_from, duty_of, head_from, head_of, headed, refinement, stops_of};
+ghost use Rattle.plain_parser.specs.PlainParser as parser;
+ghost use Rattle.cocoon_parse.specs.Agrees.{Advances, Makes, Moves, Agrees, AgreesDeep};
 
 use crate::cursor::Source;
 use crate::exprs::{expr, expr_then};
 use crate::fault::Stop;
+use crate::joins::{both, then};
 use crate::names::{bits, names, param, params};
 use crate::stmts::{assigned, block};
 use cocoon_lex::{Keyword, Mark};
@@ -18,7 +21,7 @@ use cocoon_syntax::{
 use std::alloc::Global;
 
 /// `bool` or `bit<N>`.
-#[tactic(auto, unfolding(crate::specs::PlainParser::result_from, crate::specs::PlainParser::after))]
+#[tactic(auto, unfolding(plain_parser::specs::PlainParser::result_from, plain_parser::specs::PlainParser::after))]
 fn result_kind(source: &Source, pos: usize) -> Result<(ResultKind, usize), Stop>
     ensures agrees { Agrees (parser.result_from source.now pos) result_of result }
     ensures moves { Moves pos (length source.now) result }
@@ -77,13 +80,62 @@ fn function(alloc: Global, source: &Source, pos: usize) -> Result<(Decl, usize),
     ensures agrees { AgreesDeep (λ n. parser.function_from source.now n pos) decl_of result }
     ensures moves { Moves pos (length source.now) result }
 {
-    let name = source.name(alloc, pos + 1)?;
-    source.expect(pos + 2, Mark::OpenParen)?;
-    let (params, close) = params(alloc, source, pos + 3)?;
-    source.expect(close, Mark::CloseParen)?;
-    source.expect(close + 1, Mark::Colon)?;
-    let (result, next) = result_kind(source, close + 2)?;
-    let (body, end) = value(alloc, source, next)?;
+    let ((name, params), next) = head(
+        alloc,
+        source,
+        pos + 1,
+        Mark::OpenParen,
+        Mark::CloseParen,
+        Mark::Colon,
+    )?;
+    function_node(name, params, answer(alloc, source, next))
+}
+
+/// `r ..` of a function: what it gives, and its value, if it has one.
+fn answer(
+    alloc: Global,
+    source: &Source,
+    pos: usize,
+) -> Result<((ResultKind, Option<Expr>), usize), Stop>
+    ensures agrees { AgreesDeep (λ n. answer_from source.now n pos) answer_of result }
+    ensures moves { Moves pos (length source.now) result }
+{
+    let (kind, next) = result_kind(source, pos)?;
+    both(kind, value(alloc, source, next))
+}
+
+/// `f(x: bit<N>, ..):`, or with other marks: a name, its parameters, and the mark after them.
+fn head(
+    alloc: Global,
+    source: &Source,
+    pos: usize,
+    left: Mark,
+    right: Mark,
+    last: Mark,
+) -> Result<((Name, Vec<Param>), usize), Stop>
+    ensures agrees { AgreesDeep (λ n. head_from source.now n
+        (mark_text left) (mark_text right) (mark_text last) pos) head_of result }
+    ensures moves { Moves pos (length source.now) result }
+{
+    let name = source.name(alloc, pos)?;
+    source.expect(pos + 1, left)?;
+    let params = then(source, params(alloc, source, pos + 2), right);
+    both(name, then(source, params, last))
+}
+
+fn function_node(
+    name: Name,
+    params: Vec<Param>,
+    answer: Result<((ResultKind, Option<Expr>), usize), Stop>,
+) -> Result<(Decl, usize), Stop>
+    ensures { Makes answer_of decl_of (λ a. a_function (record {
+      name = name_of name;
+      params = map param_of params.items;
+      result = a.kind;
+      body = a.body;
+    })) answer result }
+{
+    let ((result, body), end) = answer?;
     let function = FunctionDecl {
         name,
         params,
@@ -114,13 +166,43 @@ fn role(alloc: Global, source: &Source, pos: usize) -> Result<(Decl, usize), Sto
     ensures agrees { AgreesDeep (λ n. parser.role_from source.now n pos) decl_of result }
     ensures moves { Moves pos (length source.now) result }
 {
-    let name = source.name(alloc, pos + 1)?;
-    source.expect(pos + 2, Mark::OpenBracket)?;
-    let (params, close) = params(alloc, source, pos + 3)?;
-    source.expect(close, Mark::CloseBracket)?;
-    source.expect(close + 1, Mark::Or)?;
-    let (guard, next) = expr(alloc, source, close + 2)?;
-    let (body, end) = body(alloc, source, next)?;
+    let ((name, params), next) = head(
+        alloc,
+        source,
+        pos + 1,
+        Mark::OpenBracket,
+        Mark::CloseBracket,
+        Mark::Or,
+    )?;
+    role_node(name, params, duty(alloc, source, next))
+}
+
+/// `a ..` of a role: its guard, and its body, if it has one.
+fn duty(
+    alloc: Global,
+    source: &Source,
+    pos: usize,
+) -> Result<((Expr, Option<Vec<Stmt>>), usize), Stop>
+    ensures agrees { AgreesDeep (λ n. duty_from source.now n pos) duty_of result }
+    ensures moves { Moves pos (length source.now) result }
+{
+    let (guard, next) = expr(alloc, source, pos)?;
+    both(guard, body(alloc, source, next))
+}
+
+fn role_node(
+    name: Name,
+    params: Vec<Param>,
+    duty: Result<((Expr, Option<Vec<Stmt>>), usize), Stop>,
+) -> Result<(Decl, usize), Stop>
+    ensures { Makes duty_of decl_of (λ d. a_role (record {
+      name = name_of name;
+      params = map param_of params.items;
+      guard = d.guard;
+      body = d.body;
+    })) duty result }
+{
+    let ((guard, body), end) = duty?;
     let role = Role {
         name,
         params,
@@ -131,7 +213,7 @@ fn role(alloc: Global, source: &Source, pos: usize) -> Result<(Decl, usize), Sto
 }
 
 /// `(r, s)`, after the token at this index.
-#[tactic(auto, unfolding(crate::specs::PlainParser::marked, crate::specs::PlainParser::named))]
+#[tactic(auto, unfolding(plain_parser::specs::PlainParser::marked, plain_parser::specs::PlainParser::named))]
 fn pair(alloc: Global, source: &Source, pos: usize) -> Result<(Name, Name), Stop>
     requires { pos < 2 ^ 32 }
     ensures is { PairAt source.now pos result }
@@ -179,7 +261,7 @@ fn switch(alloc: Global, source: &Source, pos: usize) -> Result<(Decl, usize), S
 }
 
 /// `ports n;`.
-#[tactic(auto, unfolding(crate::specs::PlainParser::reserved, crate::specs::PlainParser::numbered, crate::specs::PlainParser::marked))]
+#[tactic(auto, unfolding(plain_parser::specs::PlainParser::reserved, plain_parser::specs::PlainParser::numbered, plain_parser::specs::PlainParser::marked))]
 fn ports(source: &Source, pos: usize) -> Result<u32, Stop>
     ensures is { PortsAt source.now pos result }
     ensures within { IfOk
@@ -215,7 +297,7 @@ fn decl(alloc: Global, source: &Source, pos: usize) -> Result<(Decl, usize), Sto
 }
 
 /// What stands after the declarations of a level.
-#[derive(Clone, Copy, Debug, Drop, PartialEq, Eq)]
+#[derive(Clone, Copy, Drop)]
 enum Until {
     /// The closing brace of a refinement.
     Brace,
@@ -261,20 +343,43 @@ fn refine(alloc: Global, source: &Source, pos: usize) -> Result<(Refine, usize),
     ensures moves { Moves pos (length source.now) result }
 {
     source.expect_keyword(pos, Keyword::Refine)?;
-    let at = source.token_index(pos);
     let (roles, next) = names(alloc, source, pos + 1)?;
-    source.expect_keyword(next, Keyword::Within)?;
-    let within = source.number(next + 1)?;
-    source.expect(next + 2, Mark::OpenBrace)?;
-    let (decls, end) = decls(alloc, source, next + 3, Until::Brace)?;
-    source.expect(end, Mark::CloseBrace)?;
+    let within = limit(source, next)?;
+    let decls = decls(alloc, source, next + 3, Until::Brace);
+    let decls = then(source, decls, Mark::CloseBrace);
+    refine_node(source.token_index(pos), roles, within, decls)
+}
+
+/// `within n {`.
+#[tactic(auto, unfolding(plain_parser::specs::PlainParser::reserved, plain_parser::specs::PlainParser::numbered, plain_parser::specs::PlainParser::marked))]
+fn limit(source: &Source, pos: usize) -> Result<u32, Stop>
+    ensures is { LimitAt source.now pos result }
+    ensures within { IfOk
+        result (λ _. (pos + 3 ≤ length source.now) × (length source.now ≤ 2 ^ 32)) }
+{
+    source.expect_keyword(pos, Keyword::Within)?;
+    let limit = source.number(pos + 1)?;
+    source.expect(pos + 2, Mark::OpenBrace)?;
+    Ok(limit)
+}
+
+fn refine_node(
+    at: u32,
+    roles: Vec<Name>,
+    within: u32,
+    decls: Result<(Vec<Decl>, usize), Stop>,
+) -> Result<(Refine, usize), Stop>
+    ensures { Makes (λ v. map decl_of v.items) refine_of (refinement at
+        (map name_of roles.items) within) decls result }
+{
+    let (decls, end) = decls?;
     let refine = Refine {
         at,
         roles,
         within,
         decls,
     };
-    Ok((refine, end + 1))
+    Ok((refine, end))
 }
 
 /// All refinements, up to the end of the text.
@@ -296,14 +401,11 @@ fn refines(alloc: Global, source: &Source, pos: usize) -> Result<(Vec<Refine>, u
 }
 
 /// `x: bit<N>;`.
-#[tactic(auto, unfolding(crate::specs::PlainParser::header_field_from, crate::specs::PlainParser::after, crate::specs::PlainParser::marked))]
 fn header_field(alloc: Global, source: &Source, pos: usize) -> Result<(Param, usize), Stop>
     ensures agrees { Agrees (parser.header_field_from source.now pos) param_of result }
     ensures moves { Moves pos (length source.now) result }
 {
-    let (field, end) = param(alloc, source, pos)?;
-    source.expect(end, Mark::Semicolon)?;
-    Ok((field, end + 1))
+    then(source, param(alloc, source, pos), Mark::Semicolon)
 }
 
 /// One or more fields, up to a closing brace.
@@ -331,9 +433,18 @@ fn header(alloc: Global, source: &Source, pos: usize) -> Result<(HeaderDecl, usi
     source.expect_keyword(pos, Keyword::Header)?;
     let name = source.name(alloc, pos + 1)?;
     source.expect(pos + 2, Mark::OpenBrace)?;
-    let (fields, end) = fields(alloc, source, pos + 3)?;
-    source.expect(end, Mark::CloseBrace)?;
-    Ok((HeaderDecl { name, fields }, end + 1))
+    let fields = then(source, fields(alloc, source, pos + 3), Mark::CloseBrace);
+    header_node(name, fields)
+}
+
+fn header_node(
+    name: Name,
+    fields: Result<(Vec<Param>, usize), Stop>,
+) -> Result<(HeaderDecl, usize), Stop>
+    ensures { Makes (λ v. map param_of v.items) header_of (headed (name_of name)) fields result }
+{
+    let (fields, end) = fields?;
+    Ok((HeaderDecl { name, fields }, end))
 }
 
 /// One or more headers, up to a closing brace.

@@ -1,16 +1,18 @@
 //! Definitions.
 ghost use Rattle.std.specs.Prelude.{◌<◌, ◌^◌, length, map};
-ghost use Rattle.cocoon_syntax.specs.TreeOf.{const_of, entry_of, pattern_of};
-ghost use Rattle.cocoon_parse.specs.PlainParser as parser;
-ghost use Rattle.cocoon_parse.specs.Agrees.{Moves, Agrees, AgreesDeep};
+ghost use Rattle.cocoon_num.specs.Tree.{a_row};
+ghost use Rattle.cocoon_syntax.specs.TreeOf.{const_of, entry_of, name_of, pattern_of};
+ghost use Rattle.plain_parser.specs.PlainParser as parser;
+ghost use Rattle.cocoon_parse.specs.Agrees.{Makes, Moves, Agrees, AgreesDeep};
 
 use crate::cursor::Source;
 use crate::fault::Stop;
+use crate::joins::then;
 use cocoon_lex::{Keyword, Mark};
-use cocoon_syntax::{Const, Entry, Pattern};
+use cocoon_syntax::{Const, Entry, Name, Pattern};
 use std::alloc::Global;
 
-#[tactic(auto, unfolding(crate::specs::PlainParser::const_from))]
+#[tactic(auto, unfolding(plain_parser::specs::PlainParser::const_from))]
 fn constant(source: &Source, pos: usize) -> Result<(Const, usize), Stop>
     ensures agrees { Agrees (parser.const_from source.now pos) const_of result }
     ensures moves { Moves pos (length source.now) result }
@@ -26,7 +28,7 @@ fn constant(source: &Source, pos: usize) -> Result<(Const, usize), Stop>
 }
 
 /// A literal, a literal with its mask, or `_`.
-#[tactic(auto, unfolding(crate::specs::PlainParser::pattern_from))]
+#[tactic(auto, unfolding(plain_parser::specs::PlainParser::pattern_from))]
 fn pattern(source: &Source, pos: usize) -> Result<(Pattern, usize), Stop>
     ensures agrees { Agrees (parser.pattern_from source.now pos) pattern_of result }
     ensures moves { Moves pos (length source.now) result }
@@ -43,7 +45,7 @@ fn pattern(source: &Source, pos: usize) -> Result<(Pattern, usize), Stop>
 }
 
 /// `default f = v;`, from its first token on.
-#[tactic(auto, unfolding(crate::specs::PlainParser::default_from, crate::specs::PlainParser::named, crate::specs::PlainParser::marked, crate::specs::PlainParser::after))]
+#[tactic(auto, unfolding(plain_parser::specs::PlainParser::default_from, plain_parser::specs::PlainParser::named, plain_parser::specs::PlainParser::marked, plain_parser::specs::PlainParser::after))]
 fn default(alloc: Global, source: &Source, pos: usize) -> Result<(Entry, usize), Stop>
     requires { pos < 2 ^ 32 }
     ensures agrees { Agrees (parser.default_from source.now pos) entry_of result }
@@ -75,7 +77,6 @@ fn patterns(alloc: Global, source: &Source, pos: usize) -> Result<(Vec<Pattern>,
 }
 
 /// `define f(p, ..) = v;`, from its first token on.
-#[tactic(auto, unfolding(crate::specs::PlainParser::row_from, crate::specs::PlainParser::named, crate::specs::PlainParser::marked, crate::specs::PlainParser::after))]
 fn row(alloc: Global, source: &Source, pos: usize) -> Result<(Entry, usize), Stop>
     requires { pos < 2 ^ 32 }
     ensures agrees { AgreesDeep (λ n. parser.row_from source.now n pos) entry_of result }
@@ -83,16 +84,29 @@ fn row(alloc: Global, source: &Source, pos: usize) -> Result<(Entry, usize), Sto
 {
     let function = source.name(alloc, pos + 1)?;
     source.expect(pos + 2, Mark::OpenParen)?;
-    let (patterns, closing) = patterns(alloc, source, pos + 3)?;
-    source.expect(closing, Mark::CloseParen)?;
-    source.expect(closing + 1, Mark::Assign)?;
-    let (value, next) = constant(source, closing + 2)?;
-    source.expect(next, Mark::Semicolon)?;
-    Ok((Entry::Define(function, patterns, value), next + 1))
+    let patterns = then(source, patterns(alloc, source, pos + 3), Mark::CloseParen);
+    let (patterns, next) = then(source, patterns, Mark::Assign)?;
+    row_node(
+        function,
+        patterns,
+        then(source, constant(source, next), Mark::Semicolon),
+    )
+}
+
+fn row_node(
+    function: Name,
+    patterns: Vec<Pattern>,
+    value: Result<(Const, usize), Stop>,
+) -> Result<(Entry, usize), Stop>
+    ensures { Makes const_of entry_of
+        (λ v. a_row (name_of function) (map pattern_of patterns.items) v) value result }
+{
+    let (value, end) = value?;
+    Ok((Entry::Define(function, patterns, value), end))
 }
 
 /// A default or a row.
-#[tactic(auto, unfolding(crate::specs::PlainParser::entry_from))]
+#[tactic(auto, unfolding(plain_parser::specs::PlainParser::entry_from))]
 fn entry(alloc: Global, source: &Source, pos: usize) -> Result<(Entry, usize), Stop>
     ensures agrees { AgreesDeep (λ n. parser.entry_from source.now n pos) entry_of result }
     ensures moves { Moves pos (length source.now) result }

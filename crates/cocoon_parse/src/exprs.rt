@@ -5,11 +5,12 @@ ghost use Rattle.cocoon_num.specs.Tree as tree;
 ghost use Rattle.cocoon_lex.specs.Kinds.{mark_text};
 ghost use Rattle.cocoon_syntax.specs.TreeOf.{binary_of, expr_of, exprs_of, kind_of, name_of, unary_of};
 ghost use Rattle.cocoon_parse.specs.Phrases.{RangeAt, leaf_from, level_of, name_or_call, part_of, sides_from, sides_of, then_mark};
-ghost use Rattle.cocoon_parse.specs.PlainParser as parser;
-ghost use Rattle.cocoon_parse.specs.Agrees.{Moves, Agrees, AgreesDeep};
+ghost use Rattle.plain_parser.specs.PlainParser as parser;
+ghost use Rattle.cocoon_parse.specs.Agrees.{Makes, Moves, Agrees, AgreesDeep};
 
 use crate::cursor::Source;
 use crate::fault::Stop;
+use crate::joins::{both, then};
 use crate::names::path;
 use crate::operators::Chain;
 use cocoon_lex::{Keyword, Mark};
@@ -25,11 +26,7 @@ pub fn expr(alloc: Global, source: &Source, pos: usize) -> Result<(Expr, usize),
 {
     let (left, next) = chain(alloc, source, Chain::Or, pos)?;
     match source.implied(next) {
-        Some(op) => {
-            let (right, end) = expr(alloc, source, next + 1)?;
-            let both = binary(alloc, op, left, right)?;
-            Ok((both, end))
-        }
+        Some(op) => binary(alloc, op, left, expr(alloc, source, next + 1)),
         None => Ok((left, next)),
     }
 }
@@ -43,8 +40,9 @@ fn chain(alloc: Global, source: &Source, level: Chain, pos: usize) -> Result<(Ex
 {
     let (mut left, mut next) = part(alloc, source, level, pos)?;
     'chain: while let Some(op) = source.chained(next, level) {
-        let (right, after) = part(alloc, source, level, next + 1)?;
-        left = binary(alloc, op, left, right)?;
+        let right = part(alloc, source, level, next + 1);
+        let (both, after) = binary(alloc, op, left, right)?;
+        left = both;
         next = after;
     }
     Ok((left, next))
@@ -74,11 +72,12 @@ fn comparison(alloc: Global, source: &Source, pos: usize) -> Result<(Expr, usize
 {
     let (left, next) = chain(alloc, source, Chain::Concat, pos)?;
     match source.compared(next) {
-        Some(op) => {
-            let (right, end) = chain(alloc, source, Chain::Concat, next + 1)?;
-            let both = binary(alloc, op, left, right)?;
-            Ok((both, end))
-        }
+        Some(op) => binary(
+            alloc,
+            op,
+            left,
+            chain(alloc, source, Chain::Concat, next + 1),
+        ),
         None => Ok((left, next)),
     }
 }
@@ -90,14 +89,12 @@ fn unary(alloc: Global, source: &Source, pos: usize) -> Result<(Expr, usize), St
     ensures moves { Moves pos (length source.now) result }
 {
     if source.is_mark(pos, Mark::Flip) {
-        let (inner, next) = unary(alloc, source, pos + 1)?;
-        let flipped = with_unary(alloc, source.token_index(pos), UnaryOp::Flip, inner)?;
-        return Ok((flipped, next));
+        let inner = unary(alloc, source, pos + 1);
+        return with_unary(alloc, source.token_index(pos), UnaryOp::Flip, inner);
     }
     if source.is_keyword(pos, Keyword::Not) {
-        let (inner, next) = unary(alloc, source, pos + 1)?;
-        let negated = with_unary(alloc, source.token_index(pos), UnaryOp::Not, inner)?;
-        return Ok((negated, next));
+        let inner = unary(alloc, source, pos + 1);
+        return with_unary(alloc, source.token_index(pos), UnaryOp::Not, inner);
     }
     sliced(alloc, source, pos)
 }
@@ -145,8 +142,7 @@ fn bracketed(alloc: Global, source: &Source, pos: usize) -> Result<(Expr, usize)
     if source.is_mark(next, Mark::Question) {
         return picked(alloc, source, first, next);
     }
-    source.expect(next, Mark::CloseParen)?;
-    Ok((first, next + 1))
+    then(source, Ok((first, next)), Mark::CloseParen)
 }
 
 /// What follows the condition of a choice, from the question mark on.
@@ -164,9 +160,7 @@ fn picked(
         expr_of result }
     ensures moves { Moves pos (length source.now) result }
 {
-    let ((first, second), end) = sides(alloc, source, pos + 1)?;
-    let choice = pick(alloc, condition, first, second)?;
-    Ok((choice, end))
+    pick(alloc, condition, sides(alloc, source, pos + 1))
 }
 
 /// `a : b)`: both sides of a choice.
@@ -177,8 +171,7 @@ fn sides(alloc: Global, source: &Source, pos: usize) -> Result<((Expr, Expr), us
     ensures moves { Moves pos (length source.now) result }
 {
     let (first, next) = expr_then(alloc, source, pos, Mark::Colon)?;
-    let (second, end) = expr_then(alloc, source, next, Mark::CloseParen)?;
-    Ok(((first, second), end))
+    both(first, expr_then(alloc, source, next, Mark::CloseParen))
 }
 
 /// An expression, and this mark after it.
@@ -194,9 +187,7 @@ pub fn expr_then(
         expr_of result }
     ensures moves { Moves pos (length source.now) result }
 {
-    let (first, next) = expr(alloc, source, pos)?;
-    source.expect(next, mark)?;
-    Ok((first, next + 1))
+    then(source, expr(alloc, source, pos), mark)
 }
 
 /// A variable, or a call: `f(a, ..)`.
@@ -211,9 +202,8 @@ fn variable_or_call(alloc: Global, source: &Source, pos: usize) -> Result<(Expr,
     if !source.is_mark(pos + 1, Mark::OpenParen) {
         return Ok((variable(at, name.text), pos + 1));
     }
-    let (args, next) = exprs(alloc, source, pos + 2)?;
-    source.expect(next, Mark::CloseParen)?;
-    Ok((call(at, name, args), next + 1))
+    let args = exprs(alloc, source, pos + 2);
+    call(at, name, then(source, args, Mark::CloseParen))
 }
 
 /// One or more expressions with commas between.
@@ -235,7 +225,7 @@ pub fn exprs(alloc: Global, source: &Source, pos: usize) -> Result<(Vec<Expr>, u
 }
 
 /// A literal, a truth value, or a field.
-#[tactic(auto, unfolding(crate::specs::PlainParser::after, crate::specs::PlainParser::path_from, crate::specs::PlainParser::reserved))]
+#[tactic(auto, unfolding(plain_parser::specs::PlainParser::after, plain_parser::specs::PlainParser::path_from, plain_parser::specs::PlainParser::reserved))]
 fn leaf(alloc: Global, source: &Source, pos: usize) -> Result<(Expr, usize), Stop>
     ensures agrees { Agrees (leaf_from source.now pos) expr_of result }
     ensures moves { Moves pos (length source.now) result }
@@ -272,7 +262,7 @@ fn leaf_at(at: u32, kind: ExprKind) -> Expr
 }
 
 /// `[high:low]`, from the open bracket on: the highest bit and the lowest.
-#[tactic(auto, unfolding(crate::specs::PlainParser::numbered, crate::specs::PlainParser::marked))]
+#[tactic(auto, unfolding(plain_parser::specs::PlainParser::numbered, plain_parser::specs::PlainParser::marked))]
 fn range(source: &Source, pos: usize) -> Result<(u32, u32), Stop>
     requires { pos < 2 ^ 32 }
     ensures agrees { RangeAt source.now pos result }
@@ -297,25 +287,33 @@ fn variable(at: u32, name: Text) -> Expr
     }
 }
 
-fn call(at: u32, function: Name, args: Vec<Expr>) -> Expr
-    ensures { expr_of result ≡ tree.call at (name_of function) (exprs_of (map expr_of args.items)) }
+fn call(
+    at: u32,
+    function: Name,
+    args: Result<(Vec<Expr>, usize), Stop>,
+) -> Result<(Expr, usize), Stop>
+    ensures { Makes (λ v. exprs_of (map expr_of v.items)) expr_of
+        (λ xs. tree.call at (name_of function) xs) args result }
 {
-    Expr {
-        at,
-        kind: ExprKind::Call(function, args),
-    }
+    let (args, end) = args?;
+    let kind = ExprKind::Call(function, args);
+    Ok((Expr { at, kind }, end))
 }
 
-fn binary(alloc: Global, op: BinaryOp, left: Expr, right: Expr) -> Result<Expr, NoMemory>
-    ensures { IfOk result (λ e. expr_of e ≡
-        tree.binary (tree.token_index (expr_of left)) (binary_of op) (expr_of left) (expr_of right)) }
+fn binary(
+    alloc: Global,
+    op: BinaryOp,
+    left: Expr,
+    right: Result<(Expr, usize), Stop>,
+) -> Result<(Expr, usize), Stop>
+    ensures { Makes expr_of expr_of
+        (λ b. tree.binary (tree.token_index (expr_of left)) (binary_of op) (expr_of left) b) right result }
 {
+    let (right, end) = right?;
     let at = left.at;
     let (left, right) = boxed(alloc, left, right)?;
-    Ok(Expr {
-        at,
-        kind: ExprKind::Binary(op, left, right),
-    })
+    let kind = ExprKind::Binary(op, left, right);
+    Ok((Expr { at, kind }, end))
 }
 
 /// Two expressions, each in a box.
@@ -327,11 +325,17 @@ fn boxed(alloc: Global, first: Expr, second: Expr) -> Result<(Box<Expr>, Box<Exp
     Ok((first, second))
 }
 
-fn with_unary(alloc: Global, at: u32, op: UnaryOp, inner: Expr) -> Result<Expr, NoMemory>
-    ensures { IfOk result (λ e. expr_of e ≡ tree.unary at (unary_of op) (expr_of inner)) }
+fn with_unary(
+    alloc: Global,
+    at: u32,
+    op: UnaryOp,
+    inner: Result<(Expr, usize), Stop>,
+) -> Result<(Expr, usize), Stop>
+    ensures { Makes expr_of expr_of (λ a. tree.unary at (unary_of op) a) inner result }
 {
+    let (inner, end) = inner?;
     let kind = ExprKind::Unary(op, Box::new(alloc, inner)?);
-    Ok(Expr { at, kind })
+    Ok((Expr { at, kind }, end))
 }
 
 fn slice(alloc: Global, number: Expr, high: u32, low: u32) -> Result<Expr, NoMemory>
@@ -343,15 +347,18 @@ fn slice(alloc: Global, number: Expr, high: u32, low: u32) -> Result<Expr, NoMem
     Ok(Expr { at, kind })
 }
 
-fn pick(alloc: Global, condition: Expr, first: Expr, second: Expr) -> Result<Expr, NoMemory>
-    ensures { IfOk result (λ e. expr_of e ≡ tree.pick
-        (tree.token_index (expr_of condition)) (expr_of condition) (expr_of first) (expr_of second)) }
+fn pick(
+    alloc: Global,
+    condition: Expr,
+    sides: Result<((Expr, Expr), usize), Stop>,
+) -> Result<(Expr, usize), Stop>
+    ensures { Makes sides_of expr_of (λ p. tree.pick
+        (tree.token_index (expr_of condition)) (expr_of condition) p.first p.second) sides result }
 {
+    let ((first, second), end) = sides?;
     let at = condition.at;
     let condition = Box::new(alloc, condition)?;
     let (first, second) = boxed(alloc, first, second)?;
-    Ok(Expr {
-        at,
-        kind: ExprKind::Pick(condition, first, second),
-    })
+    let kind = ExprKind::Pick(condition, first, second);
+    Ok((Expr { at, kind }, end))
 }

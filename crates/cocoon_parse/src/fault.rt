@@ -3,7 +3,7 @@ use cocoon_num::NoMemory;
 use std::alloc::AllocFailed;
 
 /// The first fault of a text, with the index of its token.
-#[derive(Clone, Copy, Debug, Drop, PartialEq, Eq)]
+#[derive(Clone, Copy, Drop)]
 pub enum ParseFault {
     /// The tokens before this one begin some text, and those up to and with it begin none.
     Unexpected(u32),
@@ -13,7 +13,7 @@ pub enum ParseFault {
 }
 
 /// Why a phrase was not read.
-#[derive(Clone, Copy, Debug, Drop, PartialEq, Eq)]
+#[derive(Clone, Copy, Drop)]
 pub enum Stop {
     /// The token at this index cannot be taken.
     Unexpected(usize),

@@ -9,7 +9,7 @@ mod deep;
 mod defs;
 mod exprs;
 pub mod fault;
-pub mod laws;
+mod joins;
 mod names;
 mod operators;
 mod stmts;

@@ -5,13 +5,13 @@ ghost use Rattle.cocoon_lex.specs.Kinds.{kind_of};
 ghost use Rattle.cocoon_syntax.specs.TreeOf.{binary_of};
 ghost use Rattle.cocoon_parse.specs.Depth.{mark_kind};
 ghost use Rattle.cocoon_parse.specs.Phrases.{level_of};
-ghost use Rattle.cocoon_parse.specs.PlainParser.{op_at, op_in, ops_of};
+ghost use Rattle.plain_parser.specs.PlainParser.{op_at, op_in, ops_of};
 
 use cocoon_lex::{Keyword, Mark, TokenKind};
 use cocoon_syntax::BinaryOp;
 
 /// A level of operators that group to the left, from the loosest on.
-#[derive(Clone, Copy, Debug, Drop, PartialEq, Eq)]
+#[derive(Clone, Copy, Drop)]
 pub enum Chain {
     Or,
     And,

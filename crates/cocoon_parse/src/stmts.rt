@@ -2,14 +2,15 @@
 ghost use Rattle.std.specs.Prelude.{◌≡◌, ◌+◌, ◌<◌, ◌≤◌, ◌^◌, length, map};
 ghost use Rattle.cocoon_num.specs.Reads.{of_expr};
 ghost use Rattle.cocoon_num.specs.Tree as tree;
-ghost use Rattle.cocoon_syntax.specs.TreeOf.{block_of, expr_of, exprs_of, name_of, stmt_kind_of, stmt_of};
-ghost use Rattle.cocoon_parse.specs.Phrases.{assigned_from, havoc_field_from, havoc_variable_from};
-ghost use Rattle.cocoon_parse.specs.PlainParser as parser;
-ghost use Rattle.cocoon_parse.specs.Agrees.{Advances, Moves, Agrees, AgreesDeep};
+ghost use Rattle.cocoon_syntax.specs.TreeOf.{block_of, expr_of, exprs_of, name_of, param_of, stmt_of};
+ghost use Rattle.cocoon_parse.specs.Phrases.{assigned_from, choosing_from, choosing_of, guarded_from, guarded_of, havoc_field_from, havoc_variable_from, otherwise_from, tested_from};
+ghost use Rattle.plain_parser.specs.PlainParser as parser;
+ghost use Rattle.cocoon_parse.specs.Agrees.{Advances, Makes, Moves, Agrees, AgreesDeep, path_of};
 
 use crate::cursor::Source;
 use crate::exprs::{expr, expr_then, exprs};
 use crate::fault::Stop;
+use crate::joins::{both, then};
 use crate::names::{param, path};
 use cocoon_lex::{Keyword, Mark};
 use cocoon_syntax::{Expr, Name, Param, Stmt, StmtKind};
@@ -56,9 +57,7 @@ pub fn block(alloc: Global, source: &Source, pos: usize) -> Result<(Vec<Stmt>, u
     ensures moves { Moves pos (length source.now) result }
 {
     source.expect(pos, Mark::OpenBrace)?;
-    let (stmts, end) = stmts(alloc, source, pos + 1)?;
-    source.expect(end, Mark::CloseBrace)?;
-    Ok((stmts, end + 1))
+    then(source, stmts(alloc, source, pos + 1), Mark::CloseBrace)
 }
 
 /// Statements up to a closing brace.
@@ -89,16 +88,36 @@ fn conditional(alloc: Global, source: &Source, pos: usize) -> Result<(Stmt, usiz
         (parser.block_from source.now n) pos) stmt_of result }
     ensures moves { Moves pos (length source.now) result }
 {
-    let at = source.token_index(pos);
-    source.expect(pos + 1, Mark::OpenParen)?;
-    let (condition, close) = expr(alloc, source, pos + 2)?;
-    source.expect(close, Mark::CloseParen)?;
-    let (first, next) = block(alloc, source, close + 1)?;
-    if !source.is_keyword(next, Keyword::Else) {
-        return Ok((if_node(at, condition, first, Vec::new(alloc)), next));
+    let ((condition, first), next) = guarded(alloc, source, pos + 1)?;
+    let second = otherwise(alloc, source, next);
+    if_node(source.token_index(pos), condition, first, second)
+}
+
+/// `(a) { .. }`: a condition and its block.
+#[cycle(stmt)]
+fn guarded(alloc: Global, source: &Source, pos: usize) -> Result<((Expr, Vec<Stmt>), usize), Stop>
+    ensures agrees { AgreesDeep (λ n. guarded_from source.now
+        (parser.expr_from source.now n of_expr) (parser.block_from source.now n) pos)
+        guarded_of result }
+    ensures moves { Moves pos (length source.now) result }
+{
+    let (condition, open) = tested(alloc, source, pos)?;
+    both(condition, block(alloc, source, open))
+}
+
+/// `else { .. }`, or nothing.
+#[cycle(stmt)]
+fn otherwise(alloc: Global, source: &Source, pos: usize) -> Result<(Vec<Stmt>, usize), Stop>
+    requires { pos ≤ length source.now }
+    ensures agrees { AgreesDeep
+        (λ n. otherwise_from source.now (parser.block_from source.now n) pos)
+        (λ v. block_of (map stmt_of v.items)) result }
+    ensures moves { Advances pos (length source.now) result }
+{
+    if source.is_keyword(pos, Keyword::Else) {
+        return block(alloc, source, pos + 1);
     }
-    let (second, end) = block(alloc, source, next + 1)?;
-    Ok((if_node(at, condition, first, second), end))
+    Ok((Vec::new(alloc), pos))
 }
 
 /// `fork (x: bit<N> | a) { .. }`, from its first token on.
@@ -111,14 +130,30 @@ fn fork(alloc: Global, source: &Source, pos: usize) -> Result<(Stmt, usize), Sto
         (parser.block_from source.now n) pos) stmt_of result }
     ensures moves { Moves pos (length source.now) result }
 {
-    let at = source.token_index(pos);
-    source.expect(pos + 1, Mark::OpenParen)?;
-    let (variable, bar) = param(alloc, source, pos + 2)?;
-    source.expect(bar, Mark::Or)?;
-    let (condition, close) = expr(alloc, source, bar + 1)?;
-    source.expect(close, Mark::CloseParen)?;
-    let (body, end) = block(alloc, source, close + 1)?;
-    Ok((fork_node(at, variable, condition, body), end))
+    let ((variable, condition), open) = choosing(alloc, source, pos + 1)?;
+    let body = block(alloc, source, open);
+    fork_node(source.token_index(pos), variable, condition, body)
+}
+
+/// `(x: bit<N> | a)`.
+fn choosing(alloc: Global, source: &Source, pos: usize) -> Result<((Param, Expr), usize), Stop>
+    ensures agrees { AgreesDeep (λ n. choosing_from source.now
+        (parser.expr_from source.now n of_expr) pos) choosing_of result }
+    ensures moves { Moves pos (length source.now) result }
+{
+    source.expect(pos, Mark::OpenParen)?;
+    let (variable, next) = then(source, param(alloc, source, pos + 1), Mark::Or)?;
+    both(variable, expr_then(alloc, source, next, Mark::CloseParen))
+}
+
+/// `(a)`: a condition.
+fn tested(alloc: Global, source: &Source, pos: usize) -> Result<(Expr, usize), Stop>
+    ensures agrees { AgreesDeep
+        (λ n. tested_from source.now (parser.expr_from source.now n of_expr) pos) expr_of result }
+    ensures moves { Moves pos (length source.now) result }
+{
+    source.expect(pos, Mark::OpenParen)?;
+    expr_then(alloc, source, pos + 1, Mark::CloseParen)
 }
 
 /// `let x: bit<N> = a;`, from its first token on.
@@ -130,10 +165,9 @@ fn binding(alloc: Global, source: &Source, pos: usize) -> Result<(Stmt, usize), 
         stmt_of result }
     ensures moves { Moves pos (length source.now) result }
 {
-    let at = source.token_index(pos);
     let (variable, next) = param(alloc, source, pos + 1)?;
-    let (value, end) = assigned(alloc, source, next)?;
-    Ok((let_node(at, variable, value), end))
+    let value = assigned(alloc, source, next);
+    let_node(source.token_index(pos), variable, value)
 }
 
 /// `pkt.h.f = a;`.
@@ -144,10 +178,9 @@ fn setting(alloc: Global, source: &Source, pos: usize) -> Result<(Stmt, usize), 
         stmt_of result }
     ensures moves { Moves pos (length source.now) result }
 {
-    let at = source.token_index(pos);
     let ((header, field), next) = path(alloc, source, pos)?;
-    let (value, end) = assigned(alloc, source, next)?;
-    Ok((set_node(at, header, field, value), end))
+    let value = assigned(alloc, source, next);
+    set_node(source.token_index(pos), header, field, value)
 }
 
 /// `= a;`: what is set.
@@ -168,9 +201,8 @@ fn filter(alloc: Global, source: &Source, pos: usize) -> Result<(Stmt, usize), S
         (parser.expr_from source.now n of_expr) (pos + 1) (λ x. tree.filter pos x)) stmt_of result }
     ensures moves { Moves pos (length source.now) result }
 {
-    let at = source.token_index(pos);
-    let (condition, end) = expr_then(alloc, source, pos + 1, Mark::Semicolon)?;
-    Ok((filter_node(at, condition), end))
+    let condition = expr_then(alloc, source, pos + 1, Mark::Semicolon);
+    filter_node(source.token_index(pos), condition)
 }
 
 /// `assume a;`, from its first token on.
@@ -181,13 +213,11 @@ fn assume(alloc: Global, source: &Source, pos: usize) -> Result<(Stmt, usize), S
         (parser.expr_from source.now n of_expr) (pos + 1) (λ x. tree.assume pos x)) stmt_of result }
     ensures moves { Moves pos (length source.now) result }
 {
-    let at = source.token_index(pos);
-    let (condition, end) = expr_then(alloc, source, pos + 1, Mark::Semicolon)?;
-    Ok((assume_node(at, condition), end))
+    let condition = expr_then(alloc, source, pos + 1, Mark::Semicolon);
+    assume_node(source.token_index(pos), condition)
 }
 
 /// `havoc x: bit<N>;` or `havoc pkt.h.f;`, from its first token on.
-#[tactic(auto, unfolding(crate::specs::PlainParser::havoc_from))]
 fn havoc(alloc: Global, source: &Source, pos: usize) -> Result<(Stmt, usize), Stop>
     requires small { pos < 2 ^ 32 }
     requires within { pos < length source.now }
@@ -195,39 +225,29 @@ fn havoc(alloc: Global, source: &Source, pos: usize) -> Result<(Stmt, usize), St
     ensures moves { Moves pos (length source.now) result }
 {
     if source.is_keyword(pos + 1, Keyword::Pkt) {
-        havoc_field(alloc, source, pos)
-    } else {
-        havoc_variable(alloc, source, pos)
+        return havoc_field(alloc, source, pos);
     }
+    havoc_variable(alloc, source, pos)
 }
 
-#[tactic(auto, unfolding(crate::specs::PlainParser::after, crate::specs::PlainParser::marked))]
 fn havoc_field(alloc: Global, source: &Source, pos: usize) -> Result<(Stmt, usize), Stop>
     requires small { pos < 2 ^ 32 }
     requires within { pos < length source.now }
     ensures agrees { Agrees (havoc_field_from source.now pos) stmt_of result }
     ensures moves { Moves pos (length source.now) result }
 {
-    let at = source.token_index(pos);
-    let ((header, field), end) = path(alloc, source, pos + 1)?;
-    source.expect(end, Mark::Semicolon)?;
-    Ok((node(at, StmtKind::HavocField(header, field)), end + 1))
+    let field = then(source, path(alloc, source, pos + 1), Mark::Semicolon);
+    havoc_field_node(source.token_index(pos), field)
 }
 
-#[tactic(auto, unfolding(crate::specs::PlainParser::after, crate::specs::PlainParser::marked))]
 fn havoc_variable(alloc: Global, source: &Source, pos: usize) -> Result<(Stmt, usize), Stop>
     requires small { pos < 2 ^ 32 }
     requires within { pos < length source.now }
     ensures agrees { Agrees (havoc_variable_from source.now pos) stmt_of result }
     ensures moves { Moves pos (length source.now) result }
 {
-    let at = source.token_index(pos);
-    let (variable, end) = param(alloc, source, pos + 1)?;
-    source.expect(end, Mark::Semicolon)?;
-    Ok((
-        node(at, StmtKind::HavocVar(variable.name, variable.width)),
-        end + 1,
-    ))
+    let variable = then(source, param(alloc, source, pos + 1), Mark::Semicolon);
+    havoc_variable_node(source.token_index(pos), variable)
 }
 
 /// `send r[a, ..];`, from its first token on.
@@ -238,70 +258,119 @@ fn send(alloc: Global, source: &Source, pos: usize) -> Result<(Stmt, usize), Sto
         (λ n. parser.send_from source.now (parser.exprs_from source.now n) pos) stmt_of result }
     ensures moves { Moves pos (length source.now) result }
 {
-    let at = source.token_index(pos);
     let role = source.name(alloc, pos + 1)?;
     source.expect(pos + 2, Mark::OpenBracket)?;
-    let (args, close) = exprs(alloc, source, pos + 3)?;
-    source.expect(close, Mark::CloseBracket)?;
-    source.expect(close + 1, Mark::Semicolon)?;
-    Ok((send_node(at, role, args), close + 2))
+    let args = then(source, exprs(alloc, source, pos + 3), Mark::CloseBracket);
+    let args = then(source, args, Mark::Semicolon);
+    send_node(source.token_index(pos), role, args)
 }
 
 // ---- nodes
 
-fn node(at: u32, kind: StmtKind) -> Stmt
-    ensures { stmt_of result ≡ stmt_kind_of kind at }
+fn havoc_field_node(
+    at: u32,
+    field: Result<((Name, Name), usize), Stop>,
+) -> Result<(Stmt, usize), Stop>
+    ensures { Makes path_of stmt_of (λ p. tree.havoc_field at p.header p.field) field result }
 {
-    Stmt { at, kind }
+    let ((header, field), end) = field?;
+    let kind = StmtKind::HavocField(header, field);
+    Ok((Stmt { at, kind }, end))
 }
 
-fn let_node(at: u32, variable: Param, value: Expr) -> Stmt
-    ensures { stmt_of result ≡ tree.let_ at (name_of variable.name) variable.width (expr_of value) }
+fn havoc_variable_node(
+    at: u32,
+    variable: Result<(Param, usize), Stop>,
+) -> Result<(Stmt, usize), Stop>
+    ensures { Makes param_of stmt_of (λ p. tree.havoc_var at p.name p.width) variable result }
 {
+    let (variable, end) = variable?;
+    let kind = StmtKind::HavocVar(variable.name, variable.width);
+    Ok((Stmt { at, kind }, end))
+}
+
+fn let_node(
+    at: u32,
+    variable: Param,
+    value: Result<(Expr, usize), Stop>,
+) -> Result<(Stmt, usize), Stop>
+    ensures { Makes expr_of stmt_of
+        (λ x. tree.let_ at (name_of variable.name) variable.width x) value result }
+{
+    let (value, end) = value?;
     let kind = StmtKind::Let(variable.name, variable.width, value);
-    Stmt { at, kind }
+    Ok((Stmt { at, kind }, end))
 }
 
-fn set_node(at: u32, header: Name, field: Name, value: Expr) -> Stmt
-    ensures { stmt_of result ≡ tree.set_field at (name_of header) (name_of field) (expr_of value) }
+fn set_node(
+    at: u32,
+    header: Name,
+    field: Name,
+    value: Result<(Expr, usize), Stop>,
+) -> Result<(Stmt, usize), Stop>
+    ensures { Makes expr_of stmt_of
+        (λ x. tree.set_field at (name_of header) (name_of field) x) value result }
 {
+    let (value, end) = value?;
     let kind = StmtKind::SetField(header, field, value);
-    Stmt { at, kind }
+    Ok((Stmt { at, kind }, end))
 }
 
-fn filter_node(at: u32, condition: Expr) -> Stmt
-    ensures { stmt_of result ≡ tree.filter at (expr_of condition) }
+fn filter_node(at: u32, condition: Result<(Expr, usize), Stop>) -> Result<(Stmt, usize), Stop>
+    ensures { Makes expr_of stmt_of (λ x. tree.filter at x) condition result }
 {
+    let (condition, end) = condition?;
     let kind = StmtKind::Filter(condition);
-    Stmt { at, kind }
+    Ok((Stmt { at, kind }, end))
 }
 
-fn assume_node(at: u32, condition: Expr) -> Stmt
-    ensures { stmt_of result ≡ tree.assume at (expr_of condition) }
+fn assume_node(at: u32, condition: Result<(Expr, usize), Stop>) -> Result<(Stmt, usize), Stop>
+    ensures { Makes expr_of stmt_of (λ x. tree.assume at x) condition result }
 {
+    let (condition, end) = condition?;
     let kind = StmtKind::Assume(condition);
-    Stmt { at, kind }
+    Ok((Stmt { at, kind }, end))
 }
 
-fn if_node(at: u32, condition: Expr, first: Vec<Stmt>, second: Vec<Stmt>) -> Stmt
-    ensures { stmt_of result ≡ tree.if_ at (expr_of condition)
-        (block_of (map stmt_of first.items)) (block_of (map stmt_of second.items)) }
+fn if_node(
+    at: u32,
+    condition: Expr,
+    first: Vec<Stmt>,
+    second: Result<(Vec<Stmt>, usize), Stop>,
+) -> Result<(Stmt, usize), Stop>
+    ensures { Makes (λ v. block_of (map stmt_of v.items)) stmt_of
+        (λ b. tree.if_ at (expr_of condition) (block_of (map stmt_of first.items)) b)
+        second result }
 {
+    let (second, end) = second?;
     let kind = StmtKind::If(condition, first, second);
-    Stmt { at, kind }
+    Ok((Stmt { at, kind }, end))
 }
 
-fn fork_node(at: u32, variable: Param, condition: Expr, body: Vec<Stmt>) -> Stmt
-    ensures { stmt_of result ≡ tree.fork at (name_of variable.name)
-        variable.width (expr_of condition) (block_of (map stmt_of body.items)) }
+fn fork_node(
+    at: u32,
+    variable: Param,
+    condition: Expr,
+    body: Result<(Vec<Stmt>, usize), Stop>,
+) -> Result<(Stmt, usize), Stop>
+    ensures { Makes (λ v. block_of (map stmt_of v.items)) stmt_of
+        (λ b. tree.fork at (name_of variable.name) variable.width (expr_of condition) b)
+        body result }
 {
+    let (body, end) = body?;
     let kind = StmtKind::Fork(variable.name, variable.width, condition, body);
-    Stmt { at, kind }
+    Ok((Stmt { at, kind }, end))
 }
 
-fn send_node(at: u32, role: Name, args: Vec<Expr>) -> Stmt
-    ensures { stmt_of result ≡ tree.send at (name_of role) (exprs_of (map expr_of args.items)) }
+fn send_node(
+    at: u32,
+    role: Name,
+    args: Result<(Vec<Expr>, usize), Stop>,
+) -> Result<(Stmt, usize), Stop>
+    ensures { Makes (λ v. exprs_of (map expr_of v.items)) stmt_of
+        (λ xs. tree.send at (name_of role) xs) args result }
 {
+    let (args, end) = args?;
     let kind = StmtKind::Send(role, args);
-    Stmt { at, kind }
+    Ok((Stmt { at, kind }, end))
 }

@@ -7,7 +7,8 @@ ghost use Rattle.cocoon_lex.specs.Kinds.{token_of};
 ghost use Rattle.cocoon_syntax.specs.TreeOf.{design_of, entries_of};
 ghost use Rattle.cocoon_parse.specs.Depth.{FirstDeep};
 ghost use Rattle.cocoon_parse.specs.Faults as spec;
-ghost use Rattle.cocoon_parse.specs.Faults.{IndexFits, reach};
+ghost use Rattle.cocoon_parse.specs.Faults.{IndexFits};
+ghost use Rattle.plain_parser.specs.Reading.{reach};
 
 use crate::cursor::Source;
 use crate::decls::design;
@@ -16,6 +17,7 @@ use crate::defs::entries;
 use crate::fault::{ParseFault, Stop};
 use cocoon_lex::Token;
 use cocoon_syntax::{DefsText, Design};
+use plain_parser::texts::{definitions, designs, tokens_end};
 use std::alloc::Global;
 
 /// The tree of a text of a design with these tokens, or its first fault, at a token index.
@@ -28,6 +30,8 @@ pub fn parse_design(alloc: Global, text: &[u8], tokens: &[Token]) -> Result<Desi
     ensures too_deep { (i : ℕ) → result ≡ Err (ParseFault.TooDeep i)
         → TooDeep language_bounds BeginsDesign (kinds (map (token_of text.now) tokens.now)) i }
 {
+    tokens_end();
+    designs();
     let deep = first_deep(tokens);
     let source = Source::new(text, up_to(tokens, deep));
     match design(alloc, &source) {
@@ -46,6 +50,8 @@ pub fn parse_defs(alloc: Global, text: &[u8], tokens: &[Token]) -> Result<DefsTe
     ensures too_deep { (i : ℕ) → result ≡ Err (ParseFault.TooDeep i)
         → TooDeep language_bounds BeginsDefs (kinds (map (token_of text.now) tokens.now)) i }
 {
+    tokens_end();
+    definitions();
     let deep = first_deep(tokens);
     let source = Source::new(text, up_to(tokens, deep));
     match entries(alloc, &source) {

@@ -2,6 +2,7 @@
 use Rattle.std.specs.Prelude.{◌≡◌, ◌&&◌, ℕ, zero, suc, Bool, true, false, IsTrue, List, [], ◌∷◌, All, map, slice_get, slice_range, Some, Ok, refl}
 use Rattle.std.proofs.Common.{subst, arith}
 use Rattle.cocoon_num.specs.Lists.{each}
+use Rattle.cocoon_num.specs.Spelled.{header_is_spelled, is_spelled}
 use Rattle.cocoon_num.specs.Tree.{Design, HeaderDecl, Name, Param}
 use Rattle.cocoon_num.specs.Tokens.{Kind, a_name, is_run, kinds, language, lex}
 use Rattle.cocoon_num.specs.Reads.{Many, no_more, one_more, Named, HeaderFieldAt, the_field, HeaderAt, the_header, Reads}
@@ -9,7 +10,6 @@ use Rattle.cocoon_lex.specs.declared.token.Token.{Token}
 use Rattle.cocoon_lex.specs.declared.token.TokenKind.{TokenKind}
 use Rattle.cocoon_lex.specs.declared.token.TokenKind.TheVariants as kind
 use Rattle.cocoon_lex.specs.Kinds.{IsSpelled, kind_of, token_of}
-use Rattle.cocoon_text.specs.TextFaults.{is_spelled, header_is_spelled}
 
 -- the names among tokens are spelled as names
 abbrev pub AreSpelled : List Kind → Type 0

@@ -1,9 +1,7 @@
 -- Cited by the clauses of `read_design` and `read_defs`, by the laws of this crate, and by the clauses of cocoon_cli on
 -- refusals: the first fault of a text of designs or of definitions, by the offset at which it begins, with its position.
-use Rattle.std.specs.Prelude.{◌≡◌, ◌&&◌, ℕ, Bool, List, slice_get, Some, Ok, Err, codes}
-use Rattle.cocoon_num.specs.Lists.{each}
-use Rattle.cocoon_num.specs.Tree.{Design, HeaderDecl, Param}
-use Rattle.cocoon_num.specs.Tokens.{Kind, Token, is_run, kinds, language, language_bounds, lex}
+use Rattle.std.specs.Prelude.{◌≡◌, ℕ, List, slice_get, Some, Ok, Err, codes}
+use Rattle.cocoon_num.specs.Tokens.{Kind, Token, kinds, language, language_bounds, lex}
 use Rattle.cocoon_num.specs.Tokens as lexing
 use Rattle.cocoon_num.specs.FirstFaults as first_faults
 use Rattle.cocoon_lex.specs.Position.{column_of, line_of}
@@ -42,11 +40,3 @@ kind_name kind.BadNumber = codes "BadNumber"
 kind_name kind.OpenComment = codes "OpenComment"
 kind_name kind.Unexpected = codes "Unexpected"
 kind_name kind.TooDeep = codes "TooDeep"
-
--- the names of a header and of its fields are one or more letters, digits and `_`
-abbrev pub header_is_spelled : HeaderDecl → Bool
-header_is_spelled h = is_run h.name.text && each (λ (p : Param). is_run p.name.text) h.fields
-
--- those of each header
-abbrev pub is_spelled : Design → Bool
-is_spelled d = each header_is_spelled d.headers

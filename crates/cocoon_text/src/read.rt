@@ -1,13 +1,14 @@
 //! The tree of a whole text, or its first fault.
 ghost use Rattle.std.specs.Prelude.{All, ◌≡◌, ◌<◌, ◌≤◌, ◌^◌, ◌⊎◌, IfErr, IfOk, IsTrue, Ok, length, map};
 ghost use Rattle.cocoon_num.specs.Reads.{Reads, ReadsDefs};
+ghost use Rattle.cocoon_num.specs.Spelled.{is_spelled};
 ghost use Rattle.cocoon_num.specs.FirstFaults.{BeginsDefs, BeginsDesign};
 ghost use Rattle.cocoon_num.specs.Tokens.{kinds, language, lex as tokens_of};
 ghost use Rattle.cocoon_lex.specs.Kinds.{HasFault, StandsIn, token_of};
 ghost use Rattle.cocoon_lex.specs.Position.{column_of, line_of};
 ghost use Rattle.cocoon_parse.specs.Faults.{IsFirstFault};
 ghost use Rattle.cocoon_syntax.specs.TreeOf.{design_of, entries_of};
-ghost use Rattle.cocoon_text.specs.TextFaults.{IsUnread, is_spelled};
+ghost use Rattle.cocoon_text.specs.TextFaults.{IsUnread};
 ghost use Rattle.cocoon_text.specs.OfToken.{OfToken};
 
 use crate::fault::{FaultKind, TextFault, Unread};

@@ -1,35 +1,18 @@
-use Rattle.std.proofs.Common.{rules, arith, ◌+◌}
-use Rattle.cocoon_parse.specs.PlainParser.{after, marked, named, function_from}
+use Rattle.std.proofs.Common.{rules, arith, ◌≡◌, map, Err}
+use Rattle.cocoon_num.specs.Tree.{a_function}
+use Rattle.cocoon_syntax.specs.TreeOf.{decl_of, name_of, param_of}
+use Rattle.cocoon_parse.specs.Phrases.{head_of, answer_of}
+use Rattle.cocoon_parse.proofs.Eventually.{fails_as, moves_made}
+use Rattle.cocoon_parse.proofs.Heads.{function_agrees, function_fails}
 use Rattle.cocoon_parse.proofs.decls.function.Goals as goal
 
 pub returns-in_err-name-clause-agrees : goal.returns-in_err-name-clause-agrees
-unfolding after marked named function_from
-returns-in_err-name-clause-agrees c = record { depth = 0; agrees = λ n h. let e0 = c.in_err-name.ensures.is in search rules }
-
-pub returns-in_err-expect-clause-agrees : goal.returns-in_err-expect-clause-agrees
-unfolding after marked named function_from
-returns-in_err-expect-clause-agrees c = record { depth = 0; agrees = λ n h. let e0 = c.in_ok-name.ensures.is in let e1 = c.in_err-expect.ensures.is in search rules }
-
-pub returns-in_err-params-clause-agrees : goal.returns-in_err-params-clause-agrees
-unfolding after marked named function_from
-returns-in_err-params-clause-agrees c = record { depth = c.in_err-params.ensures.agrees.depth; agrees = λ n h. let e0 = c.in_ok-name.ensures.is in let e1 = c.in_ok-expect.ensures.is in let e2 = c.in_err-params.ensures.agrees.agrees n (omega arith) in search rules }
-
-pub returns-in_err-expect-2-clause-agrees : goal.returns-in_err-expect-2-clause-agrees
-unfolding after marked named function_from
-returns-in_err-expect-2-clause-agrees c = record { depth = c.in_ok-params.ensures.agrees.depth; agrees = λ n h. let e0 = c.in_ok-name.ensures.is in let e1 = c.in_ok-expect.ensures.is in let e2 = c.in_ok-params.ensures.agrees.agrees n (omega arith) in let e3 = c.in_err-expect-2.ensures.is in search rules }
-
-pub returns-in_err-expect-3-clause-agrees : goal.returns-in_err-expect-3-clause-agrees
-unfolding after marked named function_from
-returns-in_err-expect-3-clause-agrees c = record { depth = c.in_ok-params.ensures.agrees.depth; agrees = λ n h. let e0 = c.in_ok-name.ensures.is in let e1 = c.in_ok-expect.ensures.is in let e2 = c.in_ok-params.ensures.agrees.agrees n (omega arith) in let e3 = c.in_ok-expect-2.ensures.is in let e4 = c.in_err-expect-3.ensures.is in search rules }
-
-pub returns-in_err-result-clause-agrees : goal.returns-in_err-result-clause-agrees
-unfolding after marked named function_from
-returns-in_err-result-clause-agrees c = record { depth = c.in_ok-params.ensures.agrees.depth; agrees = λ n h. let e0 = c.in_ok-name.ensures.is in let e1 = c.in_ok-expect.ensures.is in let e2 = c.in_ok-params.ensures.agrees.agrees n (omega arith) in let e3 = c.in_ok-expect-2.ensures.is in let e4 = c.in_ok-expect-3.ensures.is in let e5 = c.in_err-result.ensures.agrees in search rules }
-
-pub returns-in_err-body-clause-agrees : goal.returns-in_err-body-clause-agrees
-unfolding after marked named function_from
-returns-in_err-body-clause-agrees c = record { depth = c.in_ok-params.ensures.agrees.depth + c.in_err-body.ensures.agrees.depth; agrees = λ n h. let e0 = c.in_ok-name.ensures.is in let e1 = c.in_ok-expect.ensures.is in let e2 = c.in_ok-params.ensures.agrees.agrees n (omega arith) in let e3 = c.in_ok-expect-2.ensures.is in let e4 = c.in_ok-expect-3.ensures.is in let e5 = c.in_ok-result.ensures.agrees in let e6 = c.in_err-body.ensures.agrees.agrees n (omega arith) in search rules }
+returns-in_err-name-clause-agrees c =
+    let e : c.from_residual.result ≡ Err c.in_err-name.field-0.0 = search rules in
+    fails_as head_of decl_of c.in_err-name.field-0.0 e (λ k g. function_fails c.args.source.now c.args.pos k g) c.in_err-name.ensures.agrees
 
 pub returns-clause-agrees : goal.returns-clause-agrees
-unfolding after marked named function_from
-returns-clause-agrees c = record { depth = c.in_ok-params.ensures.agrees.depth + c.in_ok-body.ensures.agrees.depth; agrees = λ n h. let e0 = c.in_ok-name.ensures.is in let e1 = c.in_ok-expect.ensures.is in let e2 = c.in_ok-params.ensures.agrees.agrees n (omega arith) in let e3 = c.in_ok-expect-2.ensures.is in let e4 = c.in_ok-expect-3.ensures.is in let e5 = c.in_ok-result.ensures.agrees in let e6 = c.in_ok-body.ensures.agrees.agrees n (omega arith) in search rules }
+returns-clause-agrees c = function_agrees c.args.source.now c.args.pos (c.in_ok-name.name, c.in_ok-name.params) _ _ c.in_ok-name.ensures.agrees c.answer.ensures.agrees c.function_node.ensures
+
+pub returns-clause-moves : goal.returns-clause-moves
+returns-clause-moves c = moves_made answer_of decl_of (λ a. a_function (record { name = name_of c.in_ok-name.name; params = map param_of c.in_ok-name.params.items; result = a.kind; body = a.body })) c.args.pos _ _ _ _ (let h = c.in_ok-name.ensures.moves in omega (arith, h.0)) c.answer.ensures.moves c.function_node.ensures

@@ -1,10 +1,12 @@
-use Rattle.std.proofs.Common.{rules, arith, ◌≡◌, ◌+◌, true, false, map, subst, add-one, slice_get, codes, Err}
-use Rattle.cocoon_syntax.specs.TreeOf.{stmt_of}
-use Rattle.cocoon_parse.specs.PlainParser.{after, marked, if_from, fork_from, many_from, stmt_from, closes, is_keyword, ended, expr_from}
+use Rattle.std.proofs.Common.{rules, arith, ◌≡◌, true, false, map, subst, add-one, slice_get, codes, Err}
+use Rattle.cocoon_syntax.specs.TreeOf.{expr_of, name_of, stmt_of}
+use Rattle.cocoon_parse.specs.Phrases.{guarded_of, choosing_of}
+use Rattle.cocoon_parse.proofs.Blocks.{blocks, block_agrees, guarded_agrees, if_agrees, if_fails, fork_agrees, fork_fails}
+use Rattle.plain_parser.specs.PlainParser.{after, marked, many_from, stmt_from, closes, is_keyword, ended, expr_from}
 use Rattle.cocoon_parse.specs.Agrees.{Agrees}
 use Rattle.cocoon_num.specs.Reads.{of_expr}
 use Rattle.cocoon_num.specs.Tree as tree
-use Rattle.cocoon_parse.proofs.Eventually.{agrees_deeper, eventual_read, agrees_read, fails_as, none_yet_of, many_more, many_broken, many_stop, all_read}
+use Rattle.cocoon_parse.proofs.Eventually.{first_fails, advances_marked, advances_made, moves_made, moves_with_first, agrees_deeper, eventual_read, agrees_read, fails_as, none_yet_of, many_more, many_broken, many_stop, all_read}
 use Rattle.cocoon_parse.proofs.Chains.{as_block}
 use Rattle.cocoon_parse.proofs.stmts.+stmt.Goals as goal
 
@@ -12,73 +14,50 @@ pub block-returns-in_err-expect-clause-agrees : goal.block-returns-in_err-expect
 unfolding after marked
 block-returns-in_err-expect-clause-agrees t c = agrees_deeper (record { depth = 0; agrees = λ n h. let e0 = c.in_err-expect.ensures.is in search rules })
 
-pub block-returns-in_err-stmts-clause-agrees : goal.block-returns-in_err-stmts-clause-agrees
-unfolding after marked
-block-returns-in_err-stmts-clause-agrees t c = agrees_deeper (record { depth = c.in_err-stmts.ensures.agrees.depth; agrees = λ n h. let e0 = c.in_ok-expect.ensures.is in let e1 = c.in_err-stmts.ensures.agrees.agrees n (omega arith) in search rules })
-
-pub block-returns-in_err-expect-2-clause-agrees : goal.block-returns-in_err-expect-2-clause-agrees
-unfolding after marked
-block-returns-in_err-expect-2-clause-agrees t c = agrees_deeper (record { depth = c.in_ok-stmts.ensures.agrees.depth; agrees = λ n h. let e0 = c.in_ok-expect.ensures.is in let e1 = c.in_ok-stmts.ensures.agrees.agrees n (omega arith) in let e2 = c.in_err-expect-2.ensures.is in search rules })
-
 pub block-returns-clause-agrees : goal.block-returns-clause-agrees
-unfolding after marked
-block-returns-clause-agrees t c = agrees_deeper (record { depth = c.in_ok-stmts.ensures.agrees.depth; agrees = λ n h. let e0 = c.in_ok-expect.ensures.is in let e1 = c.in_ok-stmts.ensures.agrees.agrees n (omega arith) in let e2 = c.in_ok-expect-2.ensures.is in search rules })
+block-returns-clause-agrees t c = block_agrees c.args.source.now c.args.pos _ _ _ (search rules) (omega arith) c.stmts.ensures.agrees c.then.ensures
 
-pub conditional-returns-in_err-expect-clause-agrees : goal.conditional-returns-in_err-expect-clause-agrees
-unfolding after marked if_from
-conditional-returns-in_err-expect-clause-agrees t c = record { depth = 0; agrees = λ n h. let e0 = c.in_err-expect.ensures.is in search rules }
+pub block-returns-clause-moves : goal.block-returns-clause-moves
+block-returns-clause-moves t c = advances_marked c.args.source.now (codes "}") c.args.pos _ c.stmts.result _ (omega arith) c.stmts.ensures.moves c.then.ensures
+
+pub guarded-returns-in_err-condition-clause-agrees : goal.guarded-returns-in_err-condition-clause-agrees
+guarded-returns-in_err-condition-clause-agrees t c =
+    let e : c.from_residual.result ≡ Err c.in_err-condition.field-0.0 = search rules in
+    fails_as expr_of guarded_of c.in_err-condition.field-0.0 e (λ k g. first_fails _ g) c.in_err-condition.ensures.agrees
+
+pub guarded-returns-clause-agrees : goal.guarded-returns-clause-agrees
+guarded-returns-clause-agrees t c = guarded_agrees c.args.source.now c.args.pos _ _ c.in_ok-condition.ensures.agrees c.block.ensures.agrees c.both.ensures
+
+pub guarded-returns-clause-moves : goal.guarded-returns-clause-moves
+guarded-returns-clause-moves t c = moves_with_first _ c.args.pos _ _ _ _ (let h = c.in_ok-condition.ensures.moves in omega (arith, h.0)) c.block.ensures.moves c.both.ensures
+
+pub otherwise-returns-then-is_keyword-clause-agrees : goal.otherwise-returns-then-is_keyword-clause-agrees
+otherwise-returns-then-is_keyword-clause-agrees t c = record { depth = c.block.ensures.agrees.depth; agrees = λ n h. let e0 = c.block.ensures.agrees.agrees n (omega arith) in search rules }
+
+pub otherwise-returns-clause-agrees : goal.otherwise-returns-clause-agrees
+otherwise-returns-clause-agrees t c = record { depth = 0; agrees = λ n h. search rules }
 
 pub conditional-returns-in_err-condition-clause-agrees : goal.conditional-returns-in_err-condition-clause-agrees
-unfolding after marked if_from
-conditional-returns-in_err-condition-clause-agrees t c = record { depth = c.in_err-condition.ensures.agrees.depth; agrees = λ n h. let e0 = c.in_ok-expect.ensures.is in let e1 = c.in_err-condition.ensures.agrees.agrees n (omega arith) in search rules }
-
-pub conditional-returns-in_err-expect-2-clause-agrees : goal.conditional-returns-in_err-expect-2-clause-agrees
-unfolding after marked if_from
-conditional-returns-in_err-expect-2-clause-agrees t c = record { depth = c.in_ok-condition.ensures.agrees.depth; agrees = λ n h. let e0 = c.in_ok-expect.ensures.is in let e1 = c.in_ok-condition.ensures.agrees.agrees n (omega arith) in let e2 = c.in_err-expect-2.ensures.is in search rules }
-
-pub conditional-returns-in_err-first-clause-agrees : goal.conditional-returns-in_err-first-clause-agrees
-unfolding after marked if_from
-conditional-returns-in_err-first-clause-agrees t c = record { depth = c.in_ok-condition.ensures.agrees.depth + c.in_err-first.ensures.agrees.depth; agrees = λ n h. let e0 = c.in_ok-expect.ensures.is in let e1 = c.in_ok-condition.ensures.agrees.agrees n (omega arith) in let e2 = c.in_ok-expect-2.ensures.is in let e3 = c.in_err-first.ensures.agrees.agrees n (omega arith) in search rules }
-
-pub conditional-returns-then-not-is_keyword-clause-agrees : goal.conditional-returns-then-not-is_keyword-clause-agrees
-unfolding after marked if_from
-conditional-returns-then-not-is_keyword-clause-agrees t c = record { depth = c.in_ok-condition.ensures.agrees.depth + c.in_ok-first.ensures.agrees.depth; agrees = λ n h. let e0 = c.in_ok-expect.ensures.is in let e1 = c.in_ok-condition.ensures.agrees.agrees n (omega arith) in let e2 = c.in_ok-expect-2.ensures.is in let e3 = c.in_ok-first.ensures.agrees.agrees n (omega arith) in search rules }
-
-pub conditional-returns-in_err-second-clause-agrees : goal.conditional-returns-in_err-second-clause-agrees
-unfolding after marked if_from
-conditional-returns-in_err-second-clause-agrees t c = record { depth = c.in_ok-condition.ensures.agrees.depth + c.in_ok-first.ensures.agrees.depth + c.in_err-second.ensures.agrees.depth; agrees = λ n h. let e0 = c.in_ok-expect.ensures.is in let e1 = c.in_ok-condition.ensures.agrees.agrees n (omega arith) in let e2 = c.in_ok-expect-2.ensures.is in let e3 = c.in_ok-first.ensures.agrees.agrees n (omega arith) in let e4 = c.in_err-second.ensures.agrees.agrees n (omega arith) in search rules }
+conditional-returns-in_err-condition-clause-agrees t c =
+    let e : c.from_residual.result ≡ Err c.in_err-condition.field-0.0 = search rules in
+    fails_as guarded_of stmt_of c.in_err-condition.field-0.0 e (λ k g. if_fails c.args.source.now c.args.pos k g) c.in_err-condition.ensures.agrees
 
 pub conditional-returns-clause-agrees : goal.conditional-returns-clause-agrees
-unfolding after marked if_from
-conditional-returns-clause-agrees t c = record { depth = c.in_ok-condition.ensures.agrees.depth + c.in_ok-first.ensures.agrees.depth + c.in_ok-second.ensures.agrees.depth; agrees = λ n h. let e0 = c.in_ok-expect.ensures.is in let e1 = c.in_ok-condition.ensures.agrees.agrees n (omega arith) in let e2 = c.in_ok-expect-2.ensures.is in let e3 = c.in_ok-first.ensures.agrees.agrees n (omega arith) in let e4 = c.in_ok-second.ensures.agrees.agrees n (omega arith) in search rules }
+conditional-returns-clause-agrees t c = if_agrees c.args.source.now c.args.pos c.token_index.result (c.in_ok-condition.condition, c.in_ok-condition.first) _ _ c.token_index.ensures c.in_ok-condition.ensures.agrees c.otherwise-second.ensures.agrees c.if_node.ensures
 
-pub fork-returns-in_err-expect-clause-agrees : goal.fork-returns-in_err-expect-clause-agrees
-unfolding after marked fork_from
-fork-returns-in_err-expect-clause-agrees t c = record { depth = 0; agrees = λ n h. let e0 = c.in_err-expect.ensures.is in search rules }
+pub conditional-returns-clause-moves : goal.conditional-returns-clause-moves
+conditional-returns-clause-moves t c = advances_made blocks stmt_of (λ b. tree.if_ c.token_index.result (expr_of c.in_ok-condition.condition) (blocks c.in_ok-condition.first) b) c.args.pos _ _ _ _ (let h = c.in_ok-condition.ensures.moves in omega (arith, h.0)) c.otherwise-second.ensures.moves c.if_node.ensures
 
 pub fork-returns-in_err-variable-clause-agrees : goal.fork-returns-in_err-variable-clause-agrees
-unfolding after marked fork_from
-fork-returns-in_err-variable-clause-agrees t c = record { depth = 0; agrees = λ n h. let e0 = c.in_ok-expect.ensures.is in let e1 = c.in_err-variable.ensures.agrees in search rules }
-
-pub fork-returns-in_err-expect-2-clause-agrees : goal.fork-returns-in_err-expect-2-clause-agrees
-unfolding after marked fork_from
-fork-returns-in_err-expect-2-clause-agrees t c = record { depth = 0; agrees = λ n h. let e0 = c.in_ok-expect.ensures.is in let e1 = c.in_ok-variable.ensures.agrees in let e2 = c.in_err-expect-2.ensures.is in search rules }
-
-pub fork-returns-in_err-condition-clause-agrees : goal.fork-returns-in_err-condition-clause-agrees
-unfolding after marked fork_from
-fork-returns-in_err-condition-clause-agrees t c = record { depth = c.in_err-condition.ensures.agrees.depth; agrees = λ n h. let e0 = c.in_ok-expect.ensures.is in let e1 = c.in_ok-variable.ensures.agrees in let e2 = c.in_ok-expect-2.ensures.is in let e3 = c.in_err-condition.ensures.agrees.agrees n (omega arith) in search rules }
-
-pub fork-returns-in_err-expect-3-clause-agrees : goal.fork-returns-in_err-expect-3-clause-agrees
-unfolding after marked fork_from
-fork-returns-in_err-expect-3-clause-agrees t c = record { depth = c.in_ok-condition.ensures.agrees.depth; agrees = λ n h. let e0 = c.in_ok-expect.ensures.is in let e1 = c.in_ok-variable.ensures.agrees in let e2 = c.in_ok-expect-2.ensures.is in let e3 = c.in_ok-condition.ensures.agrees.agrees n (omega arith) in let e4 = c.in_err-expect-3.ensures.is in search rules }
-
-pub fork-returns-in_err-body-clause-agrees : goal.fork-returns-in_err-body-clause-agrees
-unfolding after marked fork_from
-fork-returns-in_err-body-clause-agrees t c = record { depth = c.in_ok-condition.ensures.agrees.depth + c.in_err-body.ensures.agrees.depth; agrees = λ n h. let e0 = c.in_ok-expect.ensures.is in let e1 = c.in_ok-variable.ensures.agrees in let e2 = c.in_ok-expect-2.ensures.is in let e3 = c.in_ok-condition.ensures.agrees.agrees n (omega arith) in let e4 = c.in_ok-expect-3.ensures.is in let e5 = c.in_err-body.ensures.agrees.agrees n (omega arith) in search rules }
+fork-returns-in_err-variable-clause-agrees t c =
+    let e : c.from_residual.result ≡ Err c.in_err-variable.field-0.0 = search rules in
+    fails_as choosing_of stmt_of c.in_err-variable.field-0.0 e (λ k g. fork_fails c.args.source.now c.args.pos k g) c.in_err-variable.ensures.agrees
 
 pub fork-returns-clause-agrees : goal.fork-returns-clause-agrees
-unfolding after marked fork_from
-fork-returns-clause-agrees t c = record { depth = c.in_ok-condition.ensures.agrees.depth + c.in_ok-body.ensures.agrees.depth; agrees = λ n h. let e0 = c.in_ok-expect.ensures.is in let e1 = c.in_ok-variable.ensures.agrees in let e2 = c.in_ok-expect-2.ensures.is in let e3 = c.in_ok-condition.ensures.agrees.agrees n (omega arith) in let e4 = c.in_ok-expect-3.ensures.is in let e5 = c.in_ok-body.ensures.agrees.agrees n (omega arith) in search rules }
+fork-returns-clause-agrees t c = fork_agrees c.args.source.now c.args.pos c.token_index.result (c.in_ok-variable.variable, c.in_ok-variable.condition) _ _ c.token_index.ensures c.in_ok-variable.ensures.agrees c.block-body.ensures.agrees c.fork_node.ensures
+
+pub fork-returns-clause-moves : goal.fork-returns-clause-moves
+fork-returns-clause-moves t c = moves_made blocks stmt_of (λ b. tree.fork c.token_index.result (name_of c.in_ok-variable.variable.name) c.in_ok-variable.variable.width (expr_of c.in_ok-variable.condition) b) c.args.pos _ _ _ _ (let h = c.in_ok-variable.ensures.moves in omega (arith, h.0)) c.block-body.ensures.moves c.fork_node.ensures
 
 pub stmt-returns-then-is_keyword-clause-agrees : goal.stmt-returns-then-is_keyword-clause-agrees
 stmt-returns-then-is_keyword-clause-agrees t c = agrees_deeper (record { depth = c.binding.ensures.agrees.depth; agrees = λ n h. let e0 = c.binding.ensures.agrees.agrees n (omega arith) in search rules })

@@ -1,6 +1,6 @@
 use Rattle.std.proofs.Common.{length, ◌+◌, ◌-◌, ◌*◌, ◌≤◌, map}
 use Rattle.cocoon_syntax.specs.TreeOf.{stmt_of}
-use Rattle.cocoon_parse.specs.PlainParser.{many_from, stmt_from, closes}
+use Rattle.plain_parser.specs.PlainParser.{many_from, stmt_from, closes}
 use Rattle.cocoon_parse.proofs.Eventually.{SoFar}
 use Rattle.cocoon_parse.proofs.stmts.+stmt.Given as goal
 
@@ -12,6 +12,12 @@ decreases-stmt l = 4 * (length l.source.now - l.pos) + 2
 
 abbrev pub decreases-conditional : goal.decreases-conditional
 decreases-conditional l = 4 * (length l.source.now - l.pos) + 1
+
+abbrev pub decreases-guarded : goal.decreases-guarded
+decreases-guarded l = 4 * (length l.source.now - l.pos) + 1
+
+abbrev pub decreases-otherwise : goal.decreases-otherwise
+decreases-otherwise l = 4 * (length l.source.now - l.pos) + 1
 
 abbrev pub decreases-fork : goal.decreases-fork
 decreases-fork l = 4 * (length l.source.now - l.pos) + 1

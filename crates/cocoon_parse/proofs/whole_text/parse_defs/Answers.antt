@@ -4,51 +4,50 @@ use Rattle.cocoon_num.specs.FirstFaults.{BeginsDefs}
 use Rattle.cocoon_num.specs.Tokens.{kinds}
 use Rattle.cocoon_lex.specs.Kinds.{token_of}
 use Rattle.cocoon_syntax.specs.TreeOf.{entry_of}
-use Rattle.cocoon_parse.specs.Faults.{reach}
+use Rattle.plain_parser.specs.PlainParser.{defs_from}
 use Rattle.cocoon_parse.specs.Agrees.{kind_at, kinds_at}
-use Rattle.cocoon_parse.specs.PlainParser.{defs_from}
 use Rattle.cocoon_parse.specs.declared.fault.ParseFault.TheVariants.{Unexpected, TooDeep}
-use Rattle.cocoon_parse.proofs.WholeTexts.{definitions, kinds_are, few_tokens, reach_few, definitions_read, whole_fault, fault_fits, is_unexpected, is_too_deep}
+use Rattle.cocoon_parse.proofs.WholeTexts.{Read, kinds_are, few_tokens, reach_few, definitions_read, whole_fault, fault_fits, is_unexpected, is_too_deep}
 use Rattle.cocoon_parse.proofs.whole_text.parse_defs.Goals as goal
 
 pub up_to-requires-clause-small : goal.up_to-requires-clause-small
-up_to-requires-clause-small c = let h = few_tokens c.args.text.now c.args.tokens.now c.requires.tokens in omega arith
+up_to-requires-clause-small c = let h = few_tokens c.args.text.now c.args.tokens.now (c.tokens_end.ensures _ _ c.requires.tokens) in omega arith
 
 pub new-source-requires : goal.new-source-requires
 new-source-requires c =
-    let h = few_tokens c.args.text.now c.args.tokens.now c.requires.tokens in
+    let h = few_tokens c.args.text.now c.args.tokens.now (c.tokens_end.ensures _ _ c.requires.tokens) in
     let f : length c.up_to.result.now ≤ length c.args.tokens.now = subst (λ ts. length ts ≤ length c.args.tokens.now) (sym c.up_to.ensures) (reach_few c.args.tokens.now c.first_deep-deep.result) in omega arith
 
 pub fault_of-requires : goal.fault_of-requires
 fault_of-requires c =
     let text = c.args.text.now in
     let tokens = c.args.tokens.now in
-    let from : c.new-source.result ≡ kinds_at text (reach c.first_deep-deep.result tokens) = c.new-source.ensures ∙ ap (kinds_at text) c.up_to.ensures in
-    let h = few_tokens text tokens c.requires.tokens in
+    let end = c.tokens_end.ensures _ _ c.requires.tokens in
+    let h = few_tokens text tokens end in
     let few : length (kinds (map (token_of text) tokens)) ≤ 2 ^ 32 = omega (arith, h, ap length (kinds_are text tokens), length-map tokens (kind_at text)) in
-    fault_fits BeginsDefs (kinds (map (token_of text) tokens)) _ few
-    (whole_fault defs_from definitions text tokens c.first_deep-deep.result c.new-source.result c.requires.tokens c.first_deep-deep.ensures from (λ v. map entry_of v.items) c.in-Err.stop c.in-Err.ensures)
+    let r : Read text tokens c.first_deep-deep.result c.new-source.result = record { tokens_of = end; first_deep = c.first_deep-deep.ensures; source_is = c.new-source.ensures ∙ ap (kinds_at text) c.up_to.ensures } in
+    fault_fits BeginsDefs (kinds (map (token_of text) tokens)) _ few (whole_fault defs_from c.definitions.ensures text tokens c.first_deep-deep.result c.new-source.result r (λ v. map entry_of v.items) c.in-Err.stop c.in-Err.ensures)
 
 pub returns-in-Err-clause-unexpected : goal.returns-in-Err-clause-unexpected
 returns-in-Err-clause-unexpected c i e =
     let text = c.args.text.now in
     let tokens = c.args.tokens.now in
-    let from : c.new-source.result ≡ kinds_at text (reach c.first_deep-deep.result tokens) = c.new-source.ensures ∙ ap (kinds_at text) c.up_to.ensures in
+    let r : Read text tokens c.first_deep-deep.result c.new-source.result = record { tokens_of = c.tokens_end.ensures _ _ c.requires.tokens; first_deep = c.first_deep-deep.ensures; source_is = c.new-source.ensures ∙ ap (kinds_at text) c.up_to.ensures } in
     let same : c.fault_of.result ≡ Unexpected i = cc in
-    is_unexpected BeginsDefs (kinds (map (token_of text) tokens)) _ i (whole_fault defs_from definitions text tokens c.first_deep-deep.result c.new-source.result c.requires.tokens c.first_deep-deep.ensures from (λ v. map entry_of v.items) c.in-Err.stop c.in-Err.ensures) (sym c.fault_of.ensures ∙ same)
+    is_unexpected BeginsDefs (kinds (map (token_of text) tokens)) _ i (whole_fault defs_from c.definitions.ensures text tokens c.first_deep-deep.result c.new-source.result r (λ v. map entry_of v.items) c.in-Err.stop c.in-Err.ensures) (sym c.fault_of.ensures ∙ same)
 
 pub returns-in-Err-clause-too_deep : goal.returns-in-Err-clause-too_deep
 returns-in-Err-clause-too_deep c i e =
     let text = c.args.text.now in
     let tokens = c.args.tokens.now in
-    let from : c.new-source.result ≡ kinds_at text (reach c.first_deep-deep.result tokens) = c.new-source.ensures ∙ ap (kinds_at text) c.up_to.ensures in
+    let r : Read text tokens c.first_deep-deep.result c.new-source.result = record { tokens_of = c.tokens_end.ensures _ _ c.requires.tokens; first_deep = c.first_deep-deep.ensures; source_is = c.new-source.ensures ∙ ap (kinds_at text) c.up_to.ensures } in
     let same : c.fault_of.result ≡ TooDeep i = cc in
-    is_too_deep BeginsDefs (kinds (map (token_of text) tokens)) _ i (whole_fault defs_from definitions text tokens c.first_deep-deep.result c.new-source.result c.requires.tokens c.first_deep-deep.ensures from (λ v. map entry_of v.items) c.in-Err.stop c.in-Err.ensures) (sym c.fault_of.ensures ∙ same)
+    is_too_deep BeginsDefs (kinds (map (token_of text) tokens)) _ i (whole_fault defs_from c.definitions.ensures text tokens c.first_deep-deep.result c.new-source.result r (λ v. map entry_of v.items) c.in-Err.stop c.in-Err.ensures) (sym c.fault_of.ensures ∙ same)
 
 pub returns-in-Ok-clause-reads : goal.returns-in-Ok-clause-reads
 returns-in-Ok-clause-reads c =
     let text = c.args.text.now in
     let tokens = c.args.tokens.now in
-    let from : c.new-source.result ≡ kinds_at text (reach c.first_deep-deep.result tokens) = c.new-source.ensures ∙ ap (kinds_at text) c.up_to.ensures in
-    let r = c.in-Ok.ensures in
-    definitions_read text tokens c.first_deep-deep.result c.new-source.result c.requires.tokens c.first_deep-deep.ensures from r.depth _ _ (r.agrees r.depth (omega arith))
+    let r : Read text tokens c.first_deep-deep.result c.new-source.result = record { tokens_of = c.tokens_end.ensures _ _ c.requires.tokens; first_deep = c.first_deep-deep.ensures; source_is = c.new-source.ensures ∙ ap (kinds_at text) c.up_to.ensures } in
+    let a = c.in-Ok.ensures in
+    definitions_read c.definitions.ensures text tokens c.first_deep-deep.result c.new-source.result c.requires.tokens r a.depth _ _ (a.agrees a.depth (omega arith))

@@ -2,14 +2,10 @@
 use Rattle.std.specs.Prelude.{◌≡◌, ℕ, zero, suc, ◌+◌, ◌-◌, ◌≤◌, ◌&&◌, Bool, true, false, nat_le, nat_lt, ◌^◌, List, [], ◌∷◌, ◌++◌, length, drop, slice_get, Option, Some, None, Ok, Err, if◌then◌else◌, codes, refl}
 use Rattle.std.proofs.Common.{ap, subst, arith}
 use Rattle.std.proofs.lemmas.Bool.{and_parts, le-leb, leb-true}
-use Rattle.cocoon_num.specs.Tokens.{Kind, a_name, keyword, plain, literal, mark, finish, Token, Lexicon, Lexed, Prefix, gap, piece, faulty, prefix, by_prefix, with_token, lex_from, lex, kinds, language, language_bounds, none_deep, is_shallow, brackets_after, operators_after, kept_if, literal_of, number_kind, number_prefix, decimal_value, literal_value, before_w, after_w, comment_prefix, block_prefix, digit_prefix, letter_prefix, line_prefix, mark_prefix, leading, is_run_byte, beginning, comment_end, is_blank, is_digit, is_letter, begins}
+use Rattle.cocoon_num.specs.Tokens.{Kind, a_name, keyword, plain, literal, mark, finish, Token, Lexicon, Lexed, Prefix, gap, piece, faulty, prefix, by_prefix, with_token, lex_from, lex, language, language_bounds, none_deep, is_shallow, brackets_after, operators_after, kept_if, literal_of, number_kind, number_prefix, decimal_value, literal_value, before_w, after_w, comment_prefix, block_prefix, digit_prefix, letter_prefix, line_prefix, mark_prefix, leading, is_run_byte, beginning, comment_end, is_blank, is_digit, is_letter, begins}
 use Rattle.cocoon_num.specs.Lists.{is_one_of}
-use Rattle.cocoon_parse.specs.PlainParser.{is_finish}
-
--- the last is the end, and none before
-pub data Ended : List Kind → Type 0 where
-  the_end : Ended (finish ∷ [])
-  one_before : {k : Kind} {ks : List Kind} → is_finish (Some k) ≡ false → Ended ks → Ended (k ∷ ks)
+use Rattle.plain_parser.specs.PlainParser.{is_finish}
+use Rattle.plain_parser.specs.Reading.{Ended, the_end, one_before, TokensOf}
 
 pub ended_is : {ks : List Kind} → Ended ks → (before : List Kind) × (ks ≡ before ++ finish ∷ [])
 ended_is the_end = ([], refl)
@@ -86,12 +82,8 @@ prefix_fine lexicon b text =
 
 -- ---- tokens
 
-pub record Lasts (ts : List Token) (n : ℕ) : Type 0 where
-  pub ended : Ended (kinds ts)
-  pub few : length ts ≤ suc n
-
 abbrev LastsWithin : Lexed → ℕ → Type 0
-LastsWithin (Ok ts) n = Lasts ts n
+LastsWithin (Ok ts) n = TokensOf n ts
 LastsWithin (Err e) n = Unit {0}
 
 with_lasts : (t : Token) (r : Lexed) (n : ℕ) → is_finish (Some t.kind) ≡ false → LastsWithin r n → LastsWithin (with_token t r) (suc n)
@@ -112,7 +104,7 @@ lex_lasts lexicon at covered [] = record { ended = the_end; few = omega arith }
 lex_lasts lexicon at (suc covered) (b ∷ rest) = more_lasts (lex_from lexicon (suc at) covered rest) (length rest) (lex_lasts lexicon (suc at) covered rest)
 lex_lasts lexicon at zero (b ∷ rest) = by_lasts at (prefix lexicon b (b ∷ rest)) _ (length rest) (prefix_fine lexicon b (b ∷ rest)) (λ covered. lex_lasts lexicon (suc at) covered rest)
 
-pub lexed_lasts : (text : List ℕ) (ts : List Token) → lex language text ≡ Ok ts → Lasts ts (length text)
+pub lexed_lasts : (text : List ℕ) (ts : List Token) → lex language text ≡ Ok ts → TokensOf (length text) ts
 lexed_lasts text ts e = subst (λ r. LastsWithin r (length text)) e (lex_lasts language 0 0 text)
 
 -- ---- depth

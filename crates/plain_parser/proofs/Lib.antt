@@ -1,0 +1,10 @@
+pub mod Ends
+pub mod Enough
+pub mod Exact
+pub mod ExactExprs
+pub mod ExactParts
+pub mod ReadsExprs
+pub mod ReadsParts
+pub mod Stays
+pub mod Whole
+pub mod WholeTexts

@@ -1,0 +1,2 @@
+pub mod PlainParser
+pub mod Reading
