@@ -5,9 +5,9 @@ ghost use Rattle.cocoon_cli.specs.Steps.{HasOutcome, Inputs};
 ghost use Rattle.cocoon_cli.specs.declared.refusal.Refusal.{Refusal};
 ghost use Rattle.cocoon_cli.specs.declared.report.Report.{Report};
 
-use cocoon_parse::laws::{one_definitions_tree, one_tree};
 use cocoon_text::laws::{one_fault, trees_have_no_fault};
 use lower_p4::lowering::one_lowering;
+use plain_parser::texts::{one_definitions_tree, one_tree};
 
 /// By what is read of its files, a command has one outcome at most: the first step that refuses,
 /// with its status and its line, or its report.

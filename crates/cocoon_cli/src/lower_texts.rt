@@ -1,9 +1,9 @@
 //! The texts of a design and its definitions: their trees, and the network that is made of them.
 ghost use Rattle.std.specs.Prelude.{◌<◌, ◌^◌, IfErr, IfOk, IsTrue, length};
 ghost use Rattle.cocoon_num.specs.Reads.{Reads, ReadsDefs};
+ghost use Rattle.cocoon_num.specs.Spelled.{is_spelled};
 ghost use Rattle.cocoon_num.specs.Tree as tree;
 ghost use Rattle.cocoon_syntax.specs.TreeOf.{design_of, entries_of};
-ghost use Rattle.cocoon_text.specs.TextFaults.{is_spelled};
 ghost use Rattle.p4_ir.specs.NetOf.{net_of};
 ghost use Rattle.lower_p4.specs.Accepts.{IsOf};
 ghost use Rattle.cocoon_cli.specs.LowerTexts.{LowersTexts, NotAccepted, NotLowered, NotRead, ReadsAccepted};

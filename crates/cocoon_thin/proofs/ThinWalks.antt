@@ -12,7 +12,7 @@ use Rattle.cocoon_thin.specs.declared.parts.Thin.{Thin}
 use Rattle.cocoon_thin.specs.ThinParts.{ThinNames, field_name, field_width}
 use Rattle.cocoon_types.specs.Design.{read_in}
 use Rattle.cocoon_types.specs.Tables.{Defs}
-use Rattle.cocoon_types.specs.Val.{Env, variable, bind, bound, value, then_numbers, apply}
+use Rattle.cocoon_types.specs.Val.{Env, variable, bind, bound, value, apply}
 use Rattle.cocoon_types.specs.Runs.{Loc, World, world, falls, sends}
 use Rattle.cocoon_thin.specs.ThinTree.{Places, name_at, fields_from, call_at, two_values, one_value, one_stmt, send_out_at, field_test, thin_tree}
 use Rattle.cocoon_thin.specs.ThinRuns.{tested_number, port_of}
@@ -31,6 +31,10 @@ only_both : {B : Type 0} (b c : Bool) (f : Env → Option B) (k : Env → Env) (
 only_both true true f k x = refl
 only_both true false f k x = refl
 only_both false c f k x = refl
+
+-- a number before some numbers, where all are there
+abbrev then_numbers : Option ℕ → Option (List ℕ) → Option (List ℕ)
+then_numbers = with_both (λ n ns. Some (n ∷ ns))
 
 -- what the guards hold: given by what a call of each gives
 pub record Guards (places : Places) (n : ThinNames) (t : Thin) (defs : Defs) (hosts switches : ℕ → Bool) : Type 0 where

@@ -1,9 +1,9 @@
--- Private clauses of `definitions` cite it.
+-- Private clauses of `definitions` and `trees` cite it.
 -- The entries of thin definitions, read from their tree.
-use Rattle.std.specs.Prelude.{ℕ, ◌==◌, false, List, [], ◌∷◌, Option, Some, None, if◌then◌else◌, option_and_then, option_map}
+use Rattle.std.specs.Prelude.{◌≡◌, ℕ, ◌==◌, false, List, [], ◌∷◌, Option, Some, None, if◌then◌else◌, option_and_then, option_map}
 use Rattle.cocoon_num.specs.Values.{truth}
 use Rattle.cocoon_num.specs.Tree.{DefsText, Entry, a_default, a_row, Pattern, literal}
-use Rattle.cocoon_thin.specs.ThinParts.{ThinNames, ThinEntry, entries_fit, its_default, its_row}
+use Rattle.cocoon_thin.specs.ThinParts.{AreTrueAt, ThinNames, ThinEntry, entries_fit, its_default, its_row}
 use Rattle.cocoon_thin.specs.Views.{before}
 
 -- the number of a literal of 16 bits
@@ -34,3 +34,10 @@ entries_for n entries = if entries_fit n entries then Some entries else None
 -- the entries of definitions for a design of these names
 abbrev pub definitions_in : ThinNames → DefsText → Option (List ThinEntry)
 definitions_in n defs = option_and_then (entries_for n) (entries_in defs)
+
+-- Definitions are thin ones for a design of these names, and make its guards true at these numbers.
+pub record TrueIn (n : ThinNames) (defs : DefsText) (hosts switches : List ℕ) : Type 0 where
+  pub entries : List ThinEntry
+  pub found : definitions_in n defs ≡ Some entries
+  pub hosts_are : AreTrueAt entries n.host_guard hosts
+  pub switches_are : AreTrueAt entries n.switch_guard switches

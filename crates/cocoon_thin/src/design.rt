@@ -1,19 +1,19 @@
 //! Thin designs. The names are read from where they stand first, and then the whole design is compared with them.
-ghost use Rattle.std.specs.Prelude.{◌≡◌, ◌≤◌, ◌<◌, ◌^◌, true, IfOk, IfSome, IsTrue, map, option_map};
+ghost use Rattle.std.specs.Prelude.{◌≡◌, ◌≤◌, ◌<◌, ◌^◌, ◌&&◌, true, IfOk, IfSome, IsTrue, map, option_map};
 ghost use Rattle.cocoon_syntax.specs.TreeOf.{design_of, host_of, param_of, switch_of};
 ghost use Rattle.cocoon_thin.specs.Outlines as spec;
 ghost use Rattle.cocoon_thin.specs.Read.{declarations_of, names_of, outline_of};
-ghost use Rattle.cocoon_thin.specs.ThinParts.{field_width, fields_fit};
+ghost use Rattle.cocoon_thin.specs.ThinParts.{field_width, fields_fit, names_fit};
 
 use crate::declarations::{Declarations, find_declarations};
 use crate::fits::{WIDEST_FIELD, fields_fit, names_fit};
 use crate::names::{Names, is_same};
 use crate::parts::{Thin, ThinField};
 use crate::roles::{choice_of, entry_switch, is_guard, is_out, is_sink};
-use crate::trees::Outline;
+use crate::trees::{Outline, pair};
 use crate::views::{first_variable, second_variable};
-use cocoon_num::{List, NoMemory, Text};
-use cocoon_syntax::{Design, HostDecl, Param, SwitchDecl};
+use cocoon_num::{List, NoMemory, Text, both};
+use cocoon_syntax::{Design, HostDecl, Name, Param, SwitchDecl};
 use std::alloc::Global;
 
 /// The most ports of a switch.
@@ -34,34 +34,111 @@ fn read_declarations(alloc: Global, found: &Declarations) -> Result<Option<Outli
     ensures outline { IfOk result (λ o. option_map outline_of o ≡ spec.outline_of (declarations_of found.now)) }
     ensures literal { IfOk result (λ o. IfSome o (λ outline. outline.parts.literal < 2 ^ field_width outline.parts.fields outline.parts.tested)) }
 {
-    let names = names_in(alloc, found)?;
-    let Some(fields) = fields_in(alloc, &found.header.fields)? else {
-        return Ok(None);
-    };
-    if !names_fit(&names) || !fields_fit(fields.as_slice()) || !agree(&names, found) {
-        return Ok(None);
-    }
-    match parts_in(alloc, &names, fields, found)? {
-        Some(parts) => Ok(Some(Outline { names, parts })),
+    let (names, fields) = both(
+        names_in(alloc, found),
+        fields_in(alloc, &found.header.fields),
+    )?;
+    match pair(names, fields) {
+        Some((names, fields)) => outline_with(alloc, names, fields, found),
         None => Ok(None),
     }
 }
 
+/// The names and parts of declarations that have these names and fields, if they are those of a thin design.
+fn outline_with(
+    alloc: Global,
+    names: Names,
+    fields: Vec<ThinField>,
+    found: &Declarations,
+) -> Result<Option<Outline>, NoMemory>
+    ensures outline { IfOk result (λ o. option_map outline_of o ≡ spec.outline_with (declarations_of found.now) (names_of names) fields.items) }
+    ensures literal { IfOk result (λ o. IfSome o (λ outline. outline.parts.literal < 2 ^ field_width outline.parts.fields outline.parts.tested)) }
+{
+    let parts = thin_parts(alloc, &names, fields, found);
+    let (names, parts) = both(Ok(names), parts)?;
+    Ok(with_names(names, parts))
+}
+
+/// The parts of declarations that have these names and fields, if they are those of a thin design.
+fn thin_parts(
+    alloc: Global,
+    names: &Names,
+    fields: Vec<ThinField>,
+    found: &Declarations,
+) -> Result<Option<Thin>, NoMemory>
+    ensures value { IfOk result (λ parts. option_map (spec.with_names (names_of names.now)) parts ≡ spec.outline_with (declarations_of found.now) (names_of names.now) fields.items) }
+    ensures literal { IfOk result (λ parts. IfSome parts (λ t. t.literal < 2 ^ field_width t.fields t.tested)) }
+{
+    if is_thin(names, fields.as_slice(), found) {
+        parts_in(alloc, names, fields, found)
+    } else {
+        Ok(None)
+    }
+}
+
+/// The names with the parts, if there are any.
+fn with_names(names: Names, parts: Option<Thin>) -> Option<Outline>
+    ensures outline { option_map outline_of result ≡ option_map (spec.with_names (names_of names)) parts }
+    ensures literal { IfSome parts (λ t. t.literal < 2 ^ field_width t.fields t.tested) → IfSome result (λ outline. outline.parts.literal < 2 ^ field_width outline.parts.fields outline.parts.tested) }
+{
+    match pair(names, parts) {
+        Some((names, parts)) => Some(Outline { names, parts }),
+        None => None,
+    }
+}
+
+/// Whether names, fields and declarations are as they should be, but for the entry and the ingress role.
+fn is_thin(names: &Names, fields: &[ThinField], found: &Declarations) -> bool
+    ensures value { result ≡ (names_fit (names_of names.now) && fields_fit fields.now && spec.agree (names_of names.now) (declarations_of found.now)) }
+    ensures fields { result ≡ true → IsTrue (fields_fit fields.now) }
+    ensures small { result ≡ true → found.now.switches.now.ports ≤ 256 }
+{
+    names_fit(names) && fields_fit(fields) && agree(names, found)
+}
+
 // ---- reading
+
+/// The name, in memory of its own.
+fn copied(alloc: Global, name: &Name) -> Result<Text, NoMemory>
+    ensures { IfOk result (λ text. text ≡ name.now.text) }
+{
+    Text::from(alloc, name.text.bytes())
+}
 
 fn names_in(alloc: Global, found: &Declarations) -> Result<Names, NoMemory>
     ensures { IfOk result (λ n. names_of n ≡ spec.names_in (declarations_of found.now)) }
 {
+    let guards = both(
+        copied(alloc, &found.host_guard.name),
+        copied(alloc, &found.switch_guard.name),
+    );
+    let of_hosts = both(
+        copied(alloc, &found.entry.name),
+        copied(alloc, &found.sink.name),
+    );
+    let of_switches = both(
+        copied(alloc, &found.into.name),
+        copied(alloc, &found.out.name),
+    );
+    let host = Text::from(alloc, first_variable(&found.host_guard.params));
+    let switch = Text::from(alloc, first_variable(&found.switch_guard.params));
+    let port = Text::from(alloc, second_variable(&found.into.params));
+    let roles = both(of_hosts, of_switches);
+    let variables = both(host, both(switch, port));
+    let ((host_guard, switch_guard), (((entry, sink), (into, out)), (host, (switch, port)))) = both(
+        guards,
+        both(roles, variables),
+    )?;
     Ok(Names {
-        host_guard: Text::from(alloc, found.host_guard.name.text.bytes())?,
-        switch_guard: Text::from(alloc, found.switch_guard.name.text.bytes())?,
-        entry: Text::from(alloc, found.entry.name.text.bytes())?,
-        sink: Text::from(alloc, found.sink.name.text.bytes())?,
-        into: Text::from(alloc, found.into.name.text.bytes())?,
-        out: Text::from(alloc, found.out.name.text.bytes())?,
-        host: Text::from(alloc, first_variable(&found.host_guard.params))?,
-        switch: Text::from(alloc, first_variable(&found.switch_guard.params))?,
-        port: Text::from(alloc, second_variable(&found.into.params))?,
+        host_guard,
+        switch_guard,
+        entry,
+        sink,
+        into,
+        out,
+        host,
+        switch,
+        port,
     })
 }
 

@@ -1,8 +1,9 @@
 //! The thin parts of trees.
-ghost use Rattle.std.specs.Prelude.{◌≡◌, ◌<◌, ◌^◌, Err, IfOk};
+ghost use Rattle.std.specs.Prelude.{◌≡◌, ◌<◌, ◌^◌, Err, IfOk, IfSome, None, Ok, option_map};
 ghost use Rattle.cocoon_num.specs.Tree as tree;
 ghost use Rattle.cocoon_syntax.specs.TreeOf.{design_of, entries_of};
 ghost use Rattle.cocoon_thin.specs.Read as spec;
+ghost use Rattle.cocoon_thin.specs.Entries.{TrueIn, definitions_in};
 ghost use Rattle.cocoon_thin.specs.Read.{OneThinDesign, OneThinReading, bare, names_of};
 ghost use Rattle.cocoon_thin.specs.Thin.{AreThin, IsThinDesign, ThinDefs, ThinDesign};
 ghost use Rattle.cocoon_thin.specs.ThinParts.{AreTrueAt, HasWords, field_width};
@@ -13,7 +14,7 @@ use crate::entry::Entry;
 use crate::names::Names;
 use crate::parts::Thin;
 use crate::values::true_numbers;
-use cocoon_num::{List, NoMemory};
+use cocoon_num::{List, NoMemory, both};
 use cocoon_syntax::{DefsText, Design};
 use std::alloc::Global;
 
@@ -58,28 +59,65 @@ pub fn thin_definitions(alloc: Global, outline: Outline, defs: &DefsText) -> Res
     ensures words { HasWords outline.parts → IfOk result HasWords }
     ensures not_thin { result ≡ Err ThinFault.NotThin → (design : tree.Design) → IsThinDesign design (names_of outline.names) outline.parts → ¬ ThinDefs design (entries_of defs.now) }
 {
-    match find_entries(alloc, defs, &outline.names)? {
-        Some(entries) => Ok(with_values(alloc, outline, entries.as_slice())?),
+    let numbers = true_in(alloc, &outline.names, defs);
+    let (outline, numbers) = both(Ok(outline), numbers)?;
+    match pair(outline, numbers) {
+        Some((outline, (hosts, switches))) => Ok(with_numbers(outline.parts, hosts, switches)),
         None => Err(ThinFault::NotThin),
     }
 }
 
-/// The parts of a thin design with the numbers at which entries make its guards true.
-fn with_values(alloc: Global, outline: Outline, entries: &[Entry]) -> Result<Thin, NoMemory>
-    ensures same { IfOk result (λ t. bare t ≡ bare outline.parts) }
-    ensures hosts { IfOk result (λ t. AreTrueAt (spec.entries_of entries.now) outline.names.host_guard t.hosts) }
-    ensures switches { IfOk result (λ t. AreTrueAt (spec.entries_of entries.now) outline.names.switch_guard t.switches) }
+/// The two, if the second is there. The first is dropped here otherwise, and not field by field in the caller.
+pub(crate) fn pair<A: Drop, B: Drop>(first: A, second: Option<B>) -> Option<(A, B)>
+    ensures { result ≡ option_map (λ b. (first, b)) second }
 {
-    let hosts = true_numbers(alloc, entries, outline.names.host_guard.bytes())?;
-    let hosts = widened(alloc, hosts.as_slice())?;
-    let switches = true_numbers(alloc, entries, outline.names.switch_guard.bytes())?;
-    let Outline {
-        names: _,
-        mut parts,
-    } = outline;
+    match second {
+        Some(second) => Some((first, second)),
+        None => None,
+    }
+}
+
+/// The parts with these hosts and these switches.
+fn with_numbers(parts: Thin, hosts: Vec<u64>, switches: Vec<u16>) -> Thin
+    ensures same { bare result ≡ bare parts }
+    ensures hosts { result.hosts ≡ hosts.items }
+    ensures switches { result.switches ≡ switches.items }
+{
+    let mut parts = parts;
     parts.hosts = List::from(hosts);
     parts.switches = List::from(switches);
-    Ok(parts)
+    parts
+}
+
+/// The numbers at which definitions make the guard of hosts and that of switches true, if they are thin ones for these names.
+fn true_in(
+    alloc: Global,
+    names: &Names,
+    defs: &DefsText,
+) -> Result<Option<(Vec<u64>, Vec<u16>)>, NoMemory>
+    ensures some { IfOk result (λ o. IfSome o (λ v. TrueIn (names_of names.now) (entries_of defs.now) v.0.items v.1.items)) }
+    ensures none { result ≡ Ok None → definitions_in (names_of names.now) (entries_of defs.now) ≡ None }
+{
+    match find_entries(alloc, defs, names)? {
+        Some(entries) => Ok(Some(guards_true(alloc, names, entries.as_slice())?)),
+        None => Ok(None),
+    }
+}
+
+/// The numbers at which entries make the guard of hosts and that of switches true.
+fn guards_true(
+    alloc: Global,
+    names: &Names,
+    entries: &[Entry],
+) -> Result<(Vec<u64>, Vec<u16>), NoMemory>
+    ensures hosts { IfOk result (λ v. AreTrueAt (spec.entries_of entries.now) names.now.host_guard v.0.items) }
+    ensures switches { IfOk result (λ v. AreTrueAt (spec.entries_of entries.now) names.now.switch_guard v.1.items) }
+{
+    let hosts = true_numbers(alloc, entries, names.host_guard.bytes())?;
+    both(
+        widened(alloc, hosts.as_slice()),
+        true_numbers(alloc, entries, names.switch_guard.bytes()),
+    )
 }
 
 fn widened(alloc: Global, numbers: &[u16]) -> Result<Vec<u64>, NoMemory>

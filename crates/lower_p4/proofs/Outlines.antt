@@ -4,9 +4,9 @@ use Rattle.std.specs.Prelude.{IsTrue}
 use Rattle.std.proofs.lemmas.Bool.{and_parts, and_from}
 use Rattle.std.proofs.lemmas.Bool.Decides.{nat_tests}
 use Rattle.cocoon_num.specs.Lists.{each}
+use Rattle.cocoon_num.specs.Spelled.{is_spelled}
 use Rattle.cocoon_num.specs.Tokens.{is_run}
 use Rattle.cocoon_num.specs.Tree.{Design, Param}
-use Rattle.cocoon_text.specs.TextFaults.{is_spelled}
 use Rattle.cocoon_thin.specs.declared.parts.ThinField.{ThinField}
 use Rattle.cocoon_thin.specs.declared.parts.Thin.{Thin}
 use Rattle.cocoon_thin.specs.Thin.{IsThinDesign}

@@ -5,11 +5,11 @@ use Rattle.std.proofs.lemmas.Bool.{and_from, and_parts, eq-eqb, le-leb, lt-ltb}
 use Rattle.cocoon_num.specs.Values.{equal}
 use Rattle.cocoon_num.specs.Lists.{each, all_distinct}
 use Rattle.cocoon_num.specs.Packets.{total}
-use Rattle.cocoon_num.specs.Tokens.{is_run, Kind, a_name, mark, literal, finish, brackets_after, operators_after, none_deep, is_shallow}
+use Rattle.cocoon_num.specs.Tokens.{is_run, Kind, a_name, mark, literal, finish, brackets_after, operators_after, none_deep, is_shallow, kept_if}
 use Rattle.p4_ir.specs.P4Tree.{p_lit, p_field, p_binary, P4Field, field_widths}
 use Rattle.lower_p4.specs.ThinLowered.{sends, test_program}
 use Rattle.p4_ir.specs.P4Text.{p4_bounds, said, optional_tokens, program_tokens, header_type, header_name, member_tokens, meta_member_tokens, control_tokens, block_tokens, in_braces, declared, field_name, architecture}
-use Rattle.p4_ir.specs.P4Kinds.{is_well_kinded, names_fit, widths_fit, Within, p4_sort, sort_if, block_fits}
+use Rattle.p4_ir.specs.P4Kinds.{is_well_kinded, names_fit, widths_fit, Within, p4_sort, block_fits}
 use Rattle.cocoon_num.specs.Sorts.{is_declared_width, bits_sort, truth_sort, binary_sort, has_sort}
 use Rattle.cocoon_num.specs.Values.{with_both}
 
@@ -124,9 +124,9 @@ test_kinds name fields tested width n first other f =
     let names : names_fit p ≡ true = ap₂ (λ u v. (u && v && true) && true && true && true) (ap₂ (λ u v. u && v) f.name_rest f.rests) f.distinct in
     let widths : widths_fit p ≡ true = ap₂ (λ u v. (u && v && true) && true) f.widths f.bytes in
     let test : p4_sort c (p_binary equal (p_field 0 tested) (p_lit width n)) ≡ Some truth_sort =
-    ap₂ (λ u v. with_both (binary_sort equal) (option_map (λ (x : P4Field). bits_sort x.width) u) (sort_if v (bits_sort width))) f.there (and_from _ _ (and_from _ _ w1 w2) w3)
+    ap₂ (λ u v. with_both (binary_sort equal) (option_map (λ (x : P4Field). bits_sort x.width) u) (kept_if v (bits_sort width))) f.there (and_from _ _ (and_from _ _ w1 w2) w3)
     ∙ ap (λ v. if v then Some truth_sort else None) same in
-    let one : block_fits c (sends first) ≡ true = ap (λ v. has_sort (bits_sort 16) (sort_if v (bits_sort 16)) && true) a in
-    let two : block_fits c (sends other) ≡ true = ap (λ v. has_sort (bits_sort 16) (sort_if v (bits_sort 16)) && true) b in
+    let one : block_fits c (sends first) ≡ true = ap (λ v. has_sort (bits_sort 16) (kept_if v (bits_sort 16)) && true) a in
+    let two : block_fits c (sends other) ≡ true = ap (λ v. has_sort (bits_sort 16) (kept_if v (bits_sort 16)) && true) b in
     let body : block_fits c p.ingress.body ≡ true = and_from _ _ (and_from _ _ (and_from _ _ (and_from _ _ (ap (has_sort truth_sort) test) one) refl) two) refl in
     and_from _ _ (and_from _ _ (and_from _ _ (and_from _ _ names widths) refl) body) refl

@@ -8,8 +8,9 @@ use Rattle.cocoon_thin.specs.declared.parts.ThinField.{ThinField}
 use Rattle.cocoon_thin.specs.declared.parts.Thin.{Thin}
 use Rattle.cocoon_thin.specs.ThinParts.{field_width}
 use Rattle.cocoon_thin.specs.ThinRuns.{thin_layout, port_of, leaves_at}
-use Rattle.p4_ir.specs.P4Tree.{no_rows, p_done, field_widths, program_layout}
-use Rattle.p4_ir.specs.Switch.{State, Running, both, choose, then_run, state_of, p4_run_all, ingress_of, after_ingress}
+use Rattle.p4_ir.specs.P4Tree.{p_done, field_widths, program_layout}
+use Rattle.p4_ir.specs.NoRows.{no_rows}
+use Rattle.p4_ir.specs.Switch.{State, Running, choose, then_run, state_of, p4_run_all, ingress_of, after_ingress}
 use Rattle.lower_p4.specs.ThinLowered.{p4_fields, sends, thin_program}
 use Rattle.lower_p4.specs.ThinNet.{thin_leaves, thin_visit}
 use Rattle.lower_p4.specs.ThinSwitches.{VisitsAreThin}
@@ -40,6 +41,10 @@ arrived packet = record { packet = packet; meta = 0 ∷ []; verdict = 0; egress_
 -- what ingress runs in
 abbrev ingress_place : Thin → ℕ → Running
 ingress_place t port = record { program = thin_program t; tables = []; rows = []; port = Some port; rid = None }
+
+-- a number with its width, where both are there
+abbrev both : Option ℕ → Option ℕ → Option Value
+both = with_both (λ w n. Some (number w n))
 
 -- the state after the test, by its value
 abbrev tested : Thin → ℕ → Packet → Option Value → Option State

@@ -5,7 +5,7 @@ use Rattle.std.specs.Prelude.{ℕ, List, [], ◌∷◌, map, None, option_map, o
 use Rattle.cocoon_num.specs.Packets.{Packet, enter, leave}
 use Rattle.cocoon_thin.specs.declared.parts.Thin.{Thin}
 use Rattle.cocoon_thin.specs.ThinRuns.{thin_layout, leaves_at}
-use Rattle.p4_ir.specs.P4Tree.{no_rows}
+use Rattle.p4_ir.specs.NoRows.{no_rows}
 use Rattle.p4_ir.specs.NetTree.{SwitchFiles, NetData}
 use Rattle.p4_ir.specs.Switch.{Departure}
 use Rattle.lower_p4.specs.ThinLowered.{thin_program, host_ports, links}

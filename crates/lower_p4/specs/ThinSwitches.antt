@@ -9,7 +9,8 @@ use Rattle.cocoon_types.specs.Runs.{LastGo, MayMake}
 use Rattle.cocoon_thin.specs.ThinParts.{ThinNames}
 use Rattle.cocoon_thin.specs.ThinRuns.{ThinDelivers, ThinMeaning}
 use Rattle.cocoon_thin.specs.ThinVisits.{is_port, VisitRun}
-use Rattle.p4_ir.specs.P4Tree.{Program, no_rows}
+use Rattle.p4_ir.specs.P4Tree.{Program}
+use Rattle.p4_ir.specs.NoRows.{no_rows}
 use Rattle.p4_ir.specs.Switch.{switch_go}
 use Rattle.p4_ir.specs.NetRuns.{NetGo}
 use Rattle.lower_p4.specs.ThinLowered.{thin_program}

@@ -1,8 +1,8 @@
 //! What the compiler takes, and the network that it makes of it.
 ghost use Rattle.std.specs.Prelude.{◌≡◌, ℕ, Err, IfOk, IsTrue};
+ghost use Rattle.cocoon_num.specs.Spelled.{is_spelled};
 ghost use Rattle.cocoon_num.specs.Tree as tree;
 ghost use Rattle.cocoon_syntax.specs.TreeOf.{design_of, entries_of};
-ghost use Rattle.cocoon_text.specs.TextFaults.{is_spelled};
 ghost use Rattle.cocoon_thin.specs.Thin.{AreThin};
 ghost use Rattle.p4_ir.specs.NetOf.{net_of};
 ghost use Rattle.p4_ir.specs.NetTree as nets;

@@ -1,12 +1,13 @@
 //! From a thin design to its network: the program of the switches, the attachments of hosts, and the links.
-ghost use Rattle.std.specs.Prelude.{◌≡◌, ◌<◌, ◌++◌, [], IfOk, OnOk, codes, length, map};
+ghost use Rattle.std.specs.Prelude.{◌≡◌, ◌<◌, ◌++◌, ◌∷◌, [], IfOk, OnOk, codes, length, map};
 ghost use Rattle.cocoon_num.specs.Lists.{has_number};
 ghost use Rattle.cocoon_num.specs.Tree.{DefsText, Design};
 ghost use Rattle.cocoon_types.specs.Tables.{defs_of};
 ghost use Rattle.cocoon_thin.specs.Thin.{AreThin};
 ghost use Rattle.cocoon_thin.specs.ThinParts.{field_width};
 ghost use Rattle.p4_ir.specs.NetOf.{host_port_of, link_of, net_of, rows_of, switch_of};
-ghost use Rattle.p4_ir.specs.P4Tree.{no_rows};
+ghost use Rattle.p4_ir.specs.NoRows.{no_rows};
+ghost use Rattle.p4_ir.specs.P4Tree.{p_done, p_then};
 ghost use Rattle.p4_ir.specs.Program.{block_of, control_of, field_of, header_of, program_of, stmt_of};
 ghost use Rattle.lower_p4.specs.ThinLowered as spec;
 ghost use Rattle.lower_p4.specs.ThinNet.{thin_net, thin_switch};
@@ -16,7 +17,7 @@ ghost use Rattle.lower_p4.specs.Wires.{HostsAreRuns, LinksAreRuns};
 
 use crate::ranges::know_numbers;
 use crate::thin_networks::thin_switches_run;
-use cocoon_num::{Bits, List, NoMemory, Text};
+use cocoon_num::{Bits, List, NoMemory, Text, both};
 use cocoon_thin::visits::{thin_entries_run, thin_exits_run};
 use cocoon_thin::{Thin, ThinField};
 use p4_ir::{
@@ -73,6 +74,12 @@ fn sends(alloc: Global, port: u16) -> Result<Vec<P4Stmt>, NoMemory>
     ]?)
 }
 
+fn boxed(alloc: Global, expr: P4Expr) -> Result<Box<P4Expr>, NoMemory>
+    ensures { IfOk result (λ made. made.value ≡ expr) }
+{
+    Ok(Box::new(alloc, expr)?)
+}
+
 /// `if (h.HEADER.FIELD == LITERAL) { .. } else { .. }`
 fn test(alloc: Global, thin: &Thin) -> Result<P4Stmt, NoMemory>
     requires { IsLowerable thin.now }
@@ -82,13 +89,10 @@ fn test(alloc: Global, thin: &Thin) -> Result<P4Stmt, NoMemory>
 {
     let field = P4Expr::Field(0, thin.tested);
     let literal = P4Expr::Lit(literal(thin));
-    let condition = P4Expr::Binary(
-        P4Binary::Equal,
-        Box::new(alloc, field)?,
-        Box::new(alloc, literal)?,
-    );
-    let first = sends(alloc, thin.first_port)?;
-    let other = sends(alloc, thin.other_port)?;
+    let sides = both(boxed(alloc, field), boxed(alloc, literal));
+    let branches = both(sends(alloc, thin.first_port), sends(alloc, thin.other_port));
+    let ((field, literal), (first, other)) = both(sides, branches)?;
+    let condition = P4Expr::Binary(P4Binary::Equal, field, literal);
     Ok(P4Stmt::IfElse(condition, first, other))
 }
 
@@ -96,19 +100,43 @@ fn header(alloc: Global, thin: &Thin) -> Result<P4Header, NoMemory>
     ensures { IfOk result (λ h. header_of h
         ≡ record { name = thin.now.header; fields = spec.p4_fields thin.now.fields }) }
 {
+    let (name, fields) = both(
+        Text::from(alloc, thin.header.bytes()),
+        fields(alloc, thin.fields.items()),
+    )?;
     Ok(P4Header {
-        name: Text::from(alloc, thin.header.bytes())?,
-        fields: List::from(fields(alloc, thin.fields.items())?),
+        name,
+        fields: List::from(fields),
     })
 }
 
-fn site(alloc: Global) -> Result<P4Field, NoMemory>
-    ensures { IfOk result (λ f. field_of f ≡ record { name = codes "site"; width = 8 }) }
+fn headers(alloc: Global, thin: &Thin) -> Result<Vec<P4Header>, NoMemory>
+    ensures { IfOk result (λ v. map header_of v.items
+        ≡ record { name = thin.now.header; fields = spec.p4_fields thin.now.fields } ∷ []) }
 {
-    Ok(P4Field {
+    let header = header(alloc, thin)?;
+    Ok(vec![in alloc; header]?)
+}
+
+fn meta(alloc: Global) -> Result<Vec<P4Field>, NoMemory>
+    ensures { IfOk result (λ v. map field_of v.items
+        ≡ record { name = codes "site"; width = 8 } ∷ []) }
+{
+    let site = P4Field {
         name: Text::from(alloc, b"site")?,
         width: 8,
-    })
+    };
+    Ok(vec![in alloc; site]?)
+}
+
+fn body(alloc: Global, thin: &Thin) -> Result<Vec<P4Stmt>, NoMemory>
+    requires { IsLowerable thin.now }
+    ensures { IfOk result (λ v. let width = field_width thin.now.fields thin.now.tested in
+        block_of (map stmt_of v.items) ≡ p_then (spec.test_stmt thin.now.tested width
+        thin.now.literal thin.now.first_port thin.now.other_port) p_done) }
+{
+    let test = test(alloc, thin)?;
+    Ok(vec![in alloc; test]?)
 }
 
 fn control(alloc: Global, body: Vec<P4Stmt>) -> Control
@@ -131,13 +159,12 @@ pub fn program(alloc: Global, thin: &Thin) -> Result<Program, NoMemory>
         → VisitsAreRuns (program_of p) design (defs_of design defs) h.names thin.now) }
 {
     thin_switches_run();
-    let header = header(alloc, thin)?;
-    let site = site(alloc)?;
-    let test = test(alloc, thin)?;
+    let headers = headers(alloc, thin);
+    let (headers, (meta, body)) = both(headers, both(meta(alloc), body(alloc, thin)))?;
     Ok(Program {
-        headers: List::from(vec![in alloc; header]?),
-        meta: List::from(vec![in alloc; site]?),
-        ingress: control(alloc, vec![in alloc; test]?),
+        headers: List::from(headers),
+        meta: List::from(meta),
+        ingress: control(alloc, body),
         egress: control(alloc, Vec::new(alloc)),
     })
 }
@@ -264,10 +291,12 @@ pub fn network(alloc: Global, thin: &Thin) -> Result<NetData, NoMemory>
     requires { IsLowerable thin.now }
     ensures { IfOk result (λ net. net_of net ≡ thin_net thin.now) }
 {
+    let wires = both(links(alloc, thin), host_ports(alloc, thin));
+    let (switches, (links, hosts)) = both(switches(alloc, thin), wires)?;
     Ok(NetData {
         ports: thin.ports,
-        switches: List::from(switches(alloc, thin)?),
-        links: List::from(links(alloc, thin)?),
-        hosts: List::from(host_ports(alloc, thin)?),
+        switches: List::from(switches),
+        links: List::from(links),
+        hosts: List::from(hosts),
     })
 }

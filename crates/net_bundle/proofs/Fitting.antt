@@ -1,14 +1,22 @@
 -- Switches that fit and are readable, from an index on.
-use Rattle.std.proofs.Common.{◌≡◌, ℕ, ◌+◌, ◌<◌, Bool, true, false, ◌&&◌, IsTrue, List, ◌∷◌, ◌++◌, length, map, drop, slice_index_or, refl, sym, ap, ◌∙◌, subst}
-use Rattle.std.proofs.lemmas.List.{drop_more, append_assoc}
+use Rattle.std.proofs.Common.{◌≡◌, ℕ, ◌+◌, ◌<◌, Bool, true, false, ◌&&◌, IsTrue, List, [], ◌∷◌, ◌++◌, length, map, drop, slice_index_or, Vec, Global, refl, sym, ap, ◌∙◌, subst}
+use Rattle.std.proofs.lemmas.List.{drop_more, append_assoc, map_push}
 use Rattle.cocoon_num.specs.Lists.{each}
+use Rattle.cocoon_num.specs.Tokens.{is_shallow}
 use Rattle.p4_emit.specs.Printed.{printed}
+use Rattle.p4_ir.specs.Loading.{rows_file_fits, rows_load}
 use Rattle.p4_ir.specs.NetFits.{switch_fits}
 use Rattle.p4_ir.specs.NetOf.{switch_of}
 use Rattle.p4_ir.specs.NetTree as net
+use Rattle.p4_ir.specs.P4Kinds.{is_well_kinded}
 use Rattle.p4_ir.specs.P4Reads.{P4Reads}
+use Rattle.p4_ir.specs.P4Text.{p4_bounds, program_tokens}
 use Rattle.p4_ir.specs.declared.network.SwitchFiles.{SwitchFiles}
 use Rattle.net_bundle.specs.Bundle.{MadeFile, rows_text, switch_files, all_switch_files}
+use Rattle.net_bundle.specs.NetFileOf.{made_of}
+use Rattle.net_bundle.specs.declared.file.BundleFile.{BundleFile}
+use Rattle.net_bundle.specs.declared.file.BundleFile.TheVariants.{Program, Rows}
+use Rattle.net_bundle.specs.declared.make.MadeFile as code
 use Rattle.net_bundle.specs.Network.{IsJson}
 use Rattle.net_bundle.specs.Readable.{AllReadable}
 use Rattle.net_bundle.specs.NetJson.{rows_data}
@@ -38,3 +46,27 @@ pub files_on : (s : net.SwitchFiles) (all rest whole : List net.SwitchFiles) (be
     → before ++ all_switch_files all ≡ all_switch_files whole → after ++ all_switch_files rest ≡ all_switch_files whole
 files_on s all rest whole before after e p h =
     ap (λ xs. xs ++ all_switch_files rest) p ∙ append_assoc before (switch_files s) (all_switch_files rest) ∙ ap (λ xs. before ++ all_switch_files xs) (sym e) ∙ h
+
+-- ---- the two files of a switch
+
+one_pushed : (before after : List code.MadeFile) (f : code.MadeFile) (made : MadeFile) → after ≡ before ++ f ∷ [] → made_of f ≡ made → map made_of after ≡ map made_of before ++ made ∷ []
+one_pushed before after f made e h = ap (map made_of) e ∙ map_push made_of before f ∙ ap (λ (m : MadeFile). map made_of before ++ m ∷ []) h
+
+abbrev made : BundleFile → List ℕ → MadeFile
+made file bytes = record { file = file; bytes = bytes }
+
+pub switch_pushed : (before middle after : List code.MadeFile) (v w : Vec ℕ Global) (s : net.SwitchFiles) → middle ≡ before ++ record { file = Program s.number; bytes = v } ∷ []
+    → after ≡ middle ++ record { file = Rows s.number; bytes = w } ∷ [] → v.items ≡ printed s.program → w.items ≡ rows_text s.rows
+    → map made_of after ≡ map made_of before ++ switch_files s
+switch_pushed before middle after v w s e k p q =
+    let rows : MadeFile = made (Rows s.number) (rows_text s.rows) in
+    one_pushed middle after (record { file = Rows s.number; bytes = w }) rows k (ap (made (Rows s.number)) q)
+    ∙ ap (λ xs. xs ++ rows ∷ []) (one_pushed before middle (record { file = Program s.number; bytes = v }) (made (Program s.number) (printed s.program)) e (ap (made (Program s.number)) p))
+    ∙ append_assoc (map made_of before) (made (Program s.number) (printed s.program) ∷ []) (rows ∷ [])
+
+pub program_fits : (s : net.SwitchFiles) → IsTrue (switch_fits s) → IsTrue (is_well_kinded s.program) × IsTrue (is_shallow p4_bounds (program_tokens s.program))
+program_fits s h =
+    let kinds = is_well_kinded s.program in
+    let shallow = is_shallow p4_bounds (program_tokens s.program) in
+    let program = left_of (kinds && shallow) (rows_file_fits s.rows) (left_of (kinds && shallow && rows_file_fits s.rows) (rows_load s.program s.rows) h) in
+    (left_of kinds shallow program, right_of kinds shallow program)

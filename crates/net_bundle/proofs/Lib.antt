@@ -1,5 +1,6 @@
 mod NetValue
 mod RowsValue
+mod JsonObjects
 mod InOrder
 mod Fitting
 mod ReadingLists

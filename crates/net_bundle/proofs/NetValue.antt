@@ -1,18 +1,11 @@
--- The value of the file of a network: how it is put together, that it has no fraction, and that it is shallow.
+-- The value of the file of a network: that it has no fraction, and that it is shallow.
 use Rattle.std.proofs.Common.{◌≡◌, ◌≤◌, ℕ, suc, List, [], ◌∷◌, map, Option, Some, None, false, ◌||◌, refl, sym, ap, ap₂, subst, ◌∙◌, codes, max, arith}
-use Rattle.serde_json.specs.Data.{Data, object, Members, no_members, member, put, depth, items_depth}
+use Rattle.serde_json.specs.Data.{Data, object, no_members, member, depth, items_depth}
 use Rattle.serde_json.specs.View.{items_of}
 use Rattle.serde_json.specs.Read.{read, max_depth}
 use Rattle.serde_json.specs.Written.{has_float, items_have_float}
 use Rattle.p4_ir.specs.NetTree.{LinkEnd, to_switch, to_host, Link, HostPort}
 use Rattle.net_bundle.specs.NetJson.{KeptDigest, NetFile, number_data, host_data, link_data, digest_data, net_data}
-
--- seven members, put in one after another
-pub seven : (m n o p q r s t : Members) (a b c d e f g : Data) → m ≡ no_members → n ≡ put (codes "cocoon") a m → o ≡ put (codes "design") b n
-    → p ≡ put (codes "files") c o → q ≡ put (codes "hosts") d p → r ≡ put (codes "links") e q → s ≡ put (codes "ports") f r → t ≡ put (codes "switches") g s
-    → t ≡ member (codes "cocoon") a (member (codes "design") b (member (codes "files") c (member (codes "hosts") d (member (codes "links") e (member (codes "ports") f (member (codes "switches") g no_members))))))
-seven m n o p q r s t a b c d e f g h1 h2 h3 h4 h5 h6 h7 h8 =
-    h8 ∙ ap (put (codes "switches") g) (h7 ∙ ap (put (codes "ports") f) (h6 ∙ ap (put (codes "links") e) (h5 ∙ ap (put (codes "hosts") d) (h4 ∙ ap (put (codes "files") c) (h3 ∙ ap (put (codes "design") b) (h2 ∙ ap (put (codes "cocoon") a) h1))))))
 
 abbrev wired : (a b c d e f g : Data) → Data
 wired a b c d e f g = object (member (codes "cocoon") a (member (codes "design") b (member (codes "files") c (member (codes "hosts") d (member (codes "links") e (member (codes "ports") f (member (codes "switches") g no_members)))))))

@@ -1,6 +1,6 @@
 -- The value of a file of rows: that it has no fraction, and that it is shallow; and the pairs of values and masks of a row.
-use Rattle.std.proofs.Common.{◌≡◌, ◌≤◌, ◌<◌, ◌+◌, ℕ, zero, suc, List, [], ◌∷◌, ◌++◌, length, min, drop, slice_index_or, Some, false, refl, sym, ap, ap₂, subst, ◌∙◌, max, arith}
-use Rattle.std.proofs.lemmas.List.{drop_more, append-nil}
+use Rattle.std.proofs.Common.{◌≡◌, ◌≤◌, ℕ, zero, suc, List, [], ◌∷◌, ◌++◌, length, min, drop, Some, false, refl, sym, ap, subst, ◌∙◌, max, arith}
+use Rattle.std.proofs.lemmas.List.{append-nil}
 use Rattle.serde_json.specs.Data.{Data, depth, items_depth}
 use Rattle.serde_json.specs.View.{items_of}
 use Rattle.serde_json.specs.Read.{read, max_depth}

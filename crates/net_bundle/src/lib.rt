@@ -5,6 +5,7 @@
 
 pub mod fault;
 pub mod file;
+mod json;
 pub mod make;
 pub mod net_json;
 pub mod rows_json;

@@ -87,7 +87,8 @@ fn keep(alloc: Global, made: &MadeFile) -> Result<KeptDigest, NoMemory>
 
 /// The same of all files, in their order.
 fn keep_all(alloc: Global, files: &[MadeFile]) -> Result<Vec<KeptDigest>, NoMemory>
-    ensures { IfOk result (λ v. map kept_of v.items ≡ map spec.kept_digest (map made_of files.now)) }
+    ensures { IfOk result (λ v.
+        map kept_of v.items ≡ map spec.kept_digest (map made_of files.now)) }
 {
     let mut kept = Vec::new(alloc);
     for made in files {

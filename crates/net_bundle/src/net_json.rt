@@ -1,16 +1,17 @@
 //! The text of the file of a network.
-ghost use Rattle.std.specs.Prelude.{◌≡◌, IfOk, OnOk, map};
-ghost use Rattle.serde_json.specs.Data.{put, string};
-ghost use Rattle.serde_json.specs.View.{members_view, view};
+ghost use Rattle.std.specs.Prelude.{◌≡◌, ℕ, IfOk};
+ghost use Rattle.serde_json.specs.View.{view};
 ghost use Rattle.serde_json.specs.Written.{compact_text};
 ghost use Rattle.net_bundle.specs.NetJson as spec;
 ghost use Rattle.p4_ir.specs.NetOf.{host_port_of, link_of};
+ghost use Rattle.p4_ir.specs.NetTree as tree;
 ghost use Rattle.net_bundle.specs.NetFileOf.{kept_of, net_file_of};
 ghost use Rattle.net_bundle.specs.Network.{IsJson};
 
+use crate::json::{ToJson, array, text, with};
 use cocoon_num::NoMemory;
 use p4_ir::{HostPort, Link, LinkEnd};
-use serde_json::{Map, Value, json};
+use serde_json::{Map, Value};
 use std::alloc::Global;
 
 /// A file of the bundle, by what follows the bundle's name, and the digest of its bytes.
@@ -20,69 +21,91 @@ pub struct KeptDigest {
     pub digest: String,
 }
 
-fn digest_values(alloc: Global, kept: &[KeptDigest]) -> Result<Value, NoMemory>
-    ensures { IfOk result (λ v. view v ≡ spec.array_data spec.digest_data (map kept_of kept.now)) }
-{
-    let mut values = Vec::new(alloc);
-    for file in kept {
-        let name = file.name.as_str();
-        let digest = file.digest.as_str();
-        values.push(json!(in alloc; [name, digest])?)?;
+impl ToJson for KeptDigest {
+    ghost Meaning = { spec.KeptDigest };
+
+    ghost meaning = { kept_of };
+
+    ghost json = { spec.digest_data };
+
+    /// `[NAME,DIGEST]`
+    fn to_json(&self, alloc: Global) -> Result<Value, NoMemory> {
+        let name = text(alloc, &self.name)?;
+        let digest = text(alloc, &self.digest)?;
+        Ok(Value::Array(vec![in alloc; name, digest]?))
     }
-    Ok(Value::Array(values))
 }
 
-fn host_value(alloc: Global, host: &HostPort) -> Result<Value, NoMemory>
-    ensures { IfOk result (λ v. view v ≡ spec.host_data (host_port_of host.now)) }
-{
-    let number = host.host;
-    let value = match host.attach {
-        Some((switch, port)) => json!(in alloc; [number, switch, port])?,
-        None => json!(in alloc; [number])?,
-    };
-    Ok(value)
-}
+impl ToJson for HostPort {
+    ghost Meaning = { tree.HostPort };
 
-fn host_values(alloc: Global, hosts: &[HostPort]) -> Result<Value, NoMemory>
-    ensures { IfOk result (λ v. view v
-        ≡ spec.array_data spec.host_data (map host_port_of hosts.now)) }
-{
-    let mut values = Vec::new(alloc);
-    for host in hosts {
-        values.push(host_value(alloc, host)?)?;
+    ghost meaning = { host_port_of };
+
+    ghost json = { spec.host_data };
+
+    /// `[HOST,SWITCH,PORT]`, or `[HOST]` without an attachment
+    fn to_json(&self, alloc: Global) -> Result<Value, NoMemory> {
+        let number = self.host;
+        match self.attach {
+            Some((switch, port)) => {
+                let host = vec![in alloc;
+                    Value::from(number),
+                    Value::from(switch),
+                    Value::from(port),
+                ]?;
+                Ok(Value::Array(host))
+            }
+            None => Ok(Value::Array(vec![in alloc; Value::from(number)]?)),
+        }
     }
-    Ok(Value::Array(values))
 }
 
-fn link_value(alloc: Global, link: &Link) -> Result<Value, NoMemory>
-    ensures { IfOk result (λ v. view v ≡ spec.link_data (link_of link.now)) }
-{
-    let Link { switch, port, to } = *link;
-    let value = match to {
-        LinkEnd::Host(host) => json!(in alloc; [switch, port, "host", host])?,
-        LinkEnd::Switch(next, entry) => json!(in alloc; [switch, port, "switch", next, entry])?,
-    };
-    Ok(value)
-}
+impl ToJson for Link {
+    ghost Meaning = { tree.Link };
 
-fn link_values(alloc: Global, links: &[Link]) -> Result<Value, NoMemory>
-    ensures { IfOk result (λ v. view v ≡ spec.array_data spec.link_data (map link_of links.now)) }
-{
-    let mut values = Vec::new(alloc);
-    for link in links {
-        values.push(link_value(alloc, link)?)?;
+    ghost meaning = { link_of };
+
+    ghost json = { spec.link_data };
+
+    /// `[SWITCH,PORT,"host",HOST]` or `[SWITCH,PORT,"switch",SWITCH,PORT]`
+    fn to_json(&self, alloc: Global) -> Result<Value, NoMemory> {
+        let Link { switch, port, to } = *self;
+        match to {
+            LinkEnd::Host(host) => {
+                let kind = text(alloc, "host")?;
+                let ends = vec![in alloc;
+                    Value::from(switch),
+                    Value::from(port),
+                    kind,
+                    Value::from(host),
+                ]?;
+                Ok(Value::Array(ends))
+            }
+            LinkEnd::Switch(next, entry) => {
+                let kind = text(alloc, "switch")?;
+                let ends = vec![in alloc;
+                    Value::from(switch),
+                    Value::from(port),
+                    kind,
+                    Value::from(next),
+                    Value::from(entry),
+                ]?;
+                Ok(Value::Array(ends))
+            }
+        }
     }
-    Ok(Value::Array(values))
 }
 
-fn number_values(alloc: Global, numbers: &[u16]) -> Result<Value, NoMemory>
-    ensures { IfOk result (λ v. view v ≡ spec.array_data spec.number_data numbers.now) }
-{
-    let mut values = Vec::new(alloc);
-    for number in numbers {
-        values.push(Value::from(*number))?;
+impl ToJson for u16 {
+    ghost Meaning = { ℕ };
+
+    ghost meaning = { λ n. n };
+
+    ghost json = { spec.number_data };
+
+    fn to_json(&self, _: Global) -> Result<Value, NoMemory> {
+        Ok(Value::from(*self))
     }
-    Ok(Value::Array(values))
 }
 
 /// What the file of a network holds.
@@ -97,51 +120,22 @@ pub struct NetFile {
     pub switches: Vec<u16>,
 }
 
-/// Puts a member into an object.
-fn put(
-    alloc: Global,
-    object: &mut Map<String, Value>,
-    key: &str,
-    value: Value,
-) -> Result<(), NoMemory>
-    ensures { OnOk result (members_view object.new.entries
-        ≡ put key.now (view value) (members_view object.old.entries)) }
-{
-    let key = String::from_str(alloc, key)?;
-    object.insert(key, value)?;
-    Ok(())
-}
-
-/// Puts a text into an object.
-fn put_text(
-    alloc: Global,
-    object: &mut Map<String, Value>,
-    key: &str,
-    text: &str,
-) -> Result<(), NoMemory>
-    ensures { OnOk result (members_view object.new.entries
-        ≡ put key.now (string text.now) (members_view object.old.entries)) }
-{
-    let text = String::from_str(alloc, text)?;
-    put(alloc, object, key, Value::String(text))
-}
-
 fn net_value(alloc: Global, file: &NetFile) -> Result<Value, NoMemory>
     ensures { IfOk result (λ v. view v ≡ spec.net_data (net_file_of file.now)) }
 {
-    let files = digest_values(alloc, &file.files)?;
-    let hosts = host_values(alloc, &file.hosts)?;
-    let links = link_values(alloc, &file.links)?;
-    let switches = number_values(alloc, &file.switches)?;
-    let mut object = Map::new(alloc);
-    put(alloc, &mut object, "cocoon", Value::from(1u16))?;
-    put_text(alloc, &mut object, "design", &file.design)?;
-    put(alloc, &mut object, "files", files)?;
-    put(alloc, &mut object, "hosts", hosts)?;
-    put(alloc, &mut object, "links", links)?;
-    put(alloc, &mut object, "ports", Value::from(file.ports))?;
-    put(alloc, &mut object, "switches", switches)?;
-    Ok(Value::Object(object))
+    let design = text(alloc, &file.design);
+    let files = array(alloc, &file.files);
+    let hosts = array(alloc, &file.hosts);
+    let links = array(alloc, &file.links);
+    let switches = array(alloc, &file.switches);
+    let object = with(alloc, Ok(Map::new(alloc)), "cocoon", Ok(Value::from(1u16)));
+    let object = with(alloc, object, "design", design);
+    let object = with(alloc, object, "files", files);
+    let object = with(alloc, object, "hosts", hosts);
+    let object = with(alloc, object, "links", links);
+    let object = with(alloc, object, "ports", Ok(Value::from(file.ports)));
+    let object = with(alloc, object, "switches", switches);
+    Ok(Value::Object(object?))
 }
 
 /// The text of the file of a network.

@@ -2,7 +2,7 @@
 use Rattle.std.specs.Prelude.{◌≡◌, ℕ, ◌*◌, ◌/◌, ◌%◌, ◌≤◌, ◌==◌, ◌&&◌, nat_lt, Bool, true, false, List, [], ◌∷◌, ◌++◌, length, drop, Option, Some, None, option_map, cond, IfSome, IsTrue, refl}
 use Rattle.std.proofs.Common.{eqb-true, sym, ◌∙◌, ap, subst, arith}
 use Rattle.std.proofs.lemmas.List.{drop_all, append_assoc, append-nil}
-use Rattle.cocoon_num.specs.Packets.{Packet, Layout, total, byte_count, with_header, enter}
+use Rattle.cocoon_num.specs.Packets.{Packet, Layout, total, byte_count, enter}
 use Rattle.cocoon_num.specs.PacketForms.{FieldsFit, PacketFits}
 use Rattle.cocoon_num.specs.Lists.{each}
 use Rattle.cocoon_num.specs.Sorts.{is_declared_width}
@@ -26,6 +26,10 @@ whole ws n h e =
 -- and of so many bits as many bytes are made
 pub whole_bits : (ws : List ℕ) (n : ℕ) → IsTrue (is_header ws) → n ≡ total ws → 8 * (n / 8) ≡ n
 whole_bits ws n h e = omega (arith, whole ws (byte_count ws) h refl)
+
+-- one more header of a packet that enters
+abbrev with_header : List ℕ → Option (Packet × List ℕ) → Option (Packet × List ℕ)
+with_header fields entered = option_map (λ e. (fields ∷ e.0, e.1)) entered
 
 header_fits : (ws fields : List ℕ) (layout : Layout) (o : Option (Packet × List ℕ)) → FieldsFit ws fields → IfSome o (λ e. PacketFits layout e.0)
     → IfSome (with_header fields o) (λ e. PacketFits (ws ∷ layout) e.0)

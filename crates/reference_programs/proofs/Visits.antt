@@ -3,8 +3,9 @@ use Rattle.std.specs.Prelude.{◌≡◌, ℕ, ◌==◌, ◌&&◌, Bool, true, fa
 use Rattle.std.proofs.Common.{◌∙◌, ap}
 use Rattle.cocoon_num.specs.Values.{Value, number, truth, as_number, apply_binary, with_both, equal}
 use Rattle.cocoon_num.specs.Packets.{Packet, Layout, enter}
-use Rattle.p4_ir.specs.P4Tree.{P4Expr, p_lit, p_truth, p_field, p_port, p_binary, P4Stmt, p_if_else, verdict, egress_port, p_return, P4Block, p_done, p_then, Program, no_rows, program_layout}
-use Rattle.p4_ir.specs.Switch.{Departure, State, Running, Outcome, proceeds, returned, p4_value, header_field, numbered, both, p4_run, p4_run_all, choose, then_run, state_of, ingress_of, after_ingress, switch_go}
+use Rattle.p4_ir.specs.P4Tree.{P4Expr, p_lit, p_truth, p_field, p_port, p_binary, P4Stmt, p_if_else, verdict, egress_port, p_return, P4Block, p_done, p_then, Program, program_layout}
+use Rattle.p4_ir.specs.NoRows.{no_rows}
+use Rattle.p4_ir.specs.Switch.{Departure, State, Running, Outcome, proceeds, returned, p4_value, header_field, numbered, p4_run, p4_run_all, choose, then_run, state_of, ingress_of, after_ingress, switch_go}
 use Rattle.reference_programs.specs.Ingress as plain
 use Rattle.reference_programs.specs.Plain.{is_plain_expr, is_width_of, has_width, is_plain_stmt, is_plain_block, is_plain}
 use Rattle.reference_programs.specs.declared.switch.PlainValue.{PlainValue}
@@ -19,6 +20,10 @@ use Rattle.reference_programs.proofs.Entering.{both_true}
 abbrev value_of : PlainValue → Value
 value_of (Number w n) = number w n
 value_of (Truth b) = truth b
+
+-- a number with its width, where both are there
+abbrev both : Option ℕ → Option ℕ → Option Value
+both = with_both (λ w n. Some (number w n))
 
 both_is : (a b : Option ℕ) → both a b ≡ option_map value_of (plain.sized_number a b)
 both_is None b = refl

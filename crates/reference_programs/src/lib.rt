@@ -1,6 +1,6 @@
 //! The plain and slow program beside the definitions: packets bit by bit, one visit of a switch, and one run of the
 //! ingress role of a thin design. Each call computes what its definition says on small inputs, so that cases
-//! (those of `reference_tests`) speak of the definitions themselves.
+//! (those of `part_tests`) speak of the definitions themselves.
 #![tactic(auto)]
 
 mod bits;

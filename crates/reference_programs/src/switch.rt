@@ -1,7 +1,8 @@
 //! One visit of a switch that runs a plain program over empty rows.
 ghost use Rattle.std.specs.Prelude.{◌≡◌, IfOk, IfSome, IsTrue, map, option_map};
 ghost use Rattle.cocoon_num.specs.PacketForms.{PacketFits};
-ghost use Rattle.p4_ir.specs.P4Tree.{field_widths, no_rows, program_layout};
+ghost use Rattle.p4_ir.specs.NoRows.{no_rows};
+ghost use Rattle.p4_ir.specs.P4Tree.{field_widths, program_layout};
 ghost use Rattle.p4_ir.specs.Program.{binary_of, block_of, expr_of, field_of, program_of, stmt_of};
 ghost use Rattle.reference_programs.specs.Plain as plain;
 ghost use Rattle.reference_programs.specs.Ingress as spec;

@@ -8,7 +8,7 @@ use Rattle.sha2.specs.Sha256.{sha256, first_words, schedule, rounds, compress, h
 use Rattle.hex.specs.Hex.{encode_with}
 use Rattle.cocoon_thin.specs.ExampleThin.{example_design, example_thin}
 use Rattle.lower_p4.specs.ThinNet.{thin_net}
-use Rattle.p4_ir.specs.P4Tree.{no_rows}
+use Rattle.p4_ir.specs.NoRows.{no_rows}
 use Rattle.p4_emit.specs.Printed.{fixed, header_field_text, header_text, member_text, meta_member_text, extract_text, deparse_text, heads_text, ingress_text, egress_text, printed, verdict_text, egress_port_text, if_text, else_text, end_text}
 use Rattle.uniqueness_laws.specs.ExampleP4.{c_p4, c_program}
 use Rattle.net_bundle.specs.declared.file.BundleFile.TheVariants.{Program, Rows, Network}

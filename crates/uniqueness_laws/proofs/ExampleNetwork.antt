@@ -15,7 +15,7 @@ use Rattle.hex.specs.Hex.{encode_with}
 use Rattle.p4_ir.specs.NetRuns.{NetGo}
 use Rattle.p4_ir.specs.NetTree.{SwitchFiles}
 use Rattle.p4_ir.specs.P4Reads.{P4Reads}
-use Rattle.p4_ir.specs.P4Tree.{no_rows}
+use Rattle.p4_ir.specs.NoRows.{no_rows}
 use Rattle.uniqueness_laws.specs.ExampleP4.{c_p4, c_program}
 use Rattle.net_bundle.specs.BundleNames.{digest_of, program_name, rows_name, net_name, file_name}
 use Rattle.net_bundle.specs.NetJson.{NetFile, net_data, rows_data}

@@ -4,10 +4,10 @@ use Rattle.std.specs.Prelude.{◌==◌, codes, slice_get}
 use Rattle.std.proofs.lemmas.Bool.{and_parts, or_cases, eqb-true}
 use Rattle.std.proofs.lemmas.Fmt.{decimal_is_IsNumeral}
 use Rattle.cocoon_num.specs.Lists.{has_number}
-use Rattle.cocoon_num.specs.Sorts.{Sort, bits_sort, truth_sort, has_sort}
+use Rattle.cocoon_num.specs.Sorts.{Sort, bits_sort, truth_sort, has_sort, are_same}
 use Rattle.cocoon_num.specs.Tokens.{Kind, a_name, mark}
 use Rattle.p4_ir.specs.P4Tree.{P4Expr, P4Stmt, set_meta, set_header, apply_table, p_if, p_if_else, verdict, egress_port, group, p_return, P4Block, p_done, p_then}
-use Rattle.p4_ir.specs.P4Kinds.{Within, meta_sort, field_sort, p4_sort, is_assignable, is_empty, stmt_fits, block_fits}
+use Rattle.p4_ir.specs.P4Kinds.{Within, meta_sort, field_sort, p4_sort, is_empty, stmt_fits, block_fits}
 use Rattle.uniqueness_laws.proofs.ProgramLists.{Each}
 use Rattle.uniqueness_laws.proofs.ProgramReader.{Read, is_mark, is_word, first_is, with_else, by_else, else_of, if_of, set_to, header_stmt, read_expr, size_of, expr_then, read_stmt, then_of, next_of, block_by, read_block, stmt_size, block_size, stmt_then, block_then}
 use Rattle.uniqueness_laws.proofs.ProgramReads.{Names, meta_there, meta_read, field_there, field_read, meta_found, field_found, stops, reads_expr}
@@ -19,7 +19,7 @@ sort_there s None h = cc
 sort_there s (Some t) h = (t, refl)
 
 -- both what is set and what it is set to have a sort
-both_there : (c : Within) (o : Option Sort) (e : P4Expr) → is_assignable c o e ≡ true → (s : Sort) × (o ≡ Some s) × ((t : Sort) × (p4_sort c e ≡ Some t))
+both_there : (c : Within) (o : Option Sort) (e : P4Expr) → are_same o (p4_sort c e) ≡ true → (s : Sort) × (o ≡ Some s) × ((t : Sort) × (p4_sort c e ≡ Some t))
 both_there c None e h = cc
 both_there c (Some s) e h = (s, refl, sort_there s (p4_sort c e) h)
 

@@ -5,8 +5,8 @@ use Rattle.std.proofs.lemmas.Bool.{and_parts, ltb-true}
 use Rattle.std.proofs.lemmas.Fmt.{decimal_injective}
 use Rattle.cocoon_num.specs.Lists.{each}
 use Rattle.cocoon_num.specs.Tokens.{Kind, a_name, plain, literal, mark}
-use Rattle.p4_ir.specs.P4Tree.{P4Block, P4Field, P4Header, P4Table, Control, Program}
-use Rattle.p4_ir.specs.P4Text.{said, field_name, table_name, action_name, meta_tokens, declared, in_parentheses, in_braces, assignment, block_tokens, header_tokens, meta_member_tokens, match_kind, result_width, table_tokens, control_tokens}
+use Rattle.p4_ir.specs.P4Tree.{P4Block, P4Field, P4Header, P4Table, Control, Program, meta_width}
+use Rattle.p4_ir.specs.P4Text.{said, field_name, table_name, action_name, meta_tokens, declared, in_parentheses, in_braces, assignment, block_tokens, header_tokens, meta_member_tokens, match_kind, table_tokens, control_tokens}
 use Rattle.p4_ir.specs.P4Kinds.{Within, table_fits, numbers_of, block_fits}
 use Rattle.uniqueness_laws.proofs.ProgramLists.{Each, each_of, cancel, same_list}
 use Rattle.uniqueness_laws.proofs.ProgramReader.{Read, is_word, first_is, meta_number, read_block, block_size, block_then}
@@ -243,8 +243,8 @@ table_same : (p q : Program) → SameMeta p q → (t u : P4Table) (r s : List Ki
 table_same p q m t u r s x y e =
     let keys_t = flat_map (key_tokens p t.exact) t.keys in
     let keys_u = flat_map (key_tokens q u.exact) u.keys in
-    let v = result_width p t in
-    let w = result_width q u in
+    let v = meta_width p t.result in
+    let w = meta_width q u.result in
     let h1 = begin_same v w (action_name t.number) (action_name u.number)
     (meta_tokens p t.result ++ table_keys v (action_name t.number) (table_name t.number) keys_t r) (meta_tokens q u.result ++ table_keys w (action_name u.number) (table_name u.number) keys_u s)
     (sym (table_spells v (action_name t.number) (table_name t.number) (meta_tokens p t.result) keys_t r) ∙ e ∙ table_spells w (action_name u.number) (table_name u.number) (meta_tokens q u.result) keys_u s) in

@@ -3,7 +3,7 @@
 use Rattle.std.specs.Prelude.{ℕ, List, [], ◌∷◌, Some, codes}
 use Rattle.std.specs.FinMap.{from_entries}
 use Rattle.cocoon_io.specs.Files.{Files}
-use Rattle.p4_ir.specs.P4Tree.{no_rows}
+use Rattle.p4_ir.specs.NoRows.{no_rows}
 use Rattle.uniqueness_laws.specs.ExampleP4.{c_p4, c_program}
 use Rattle.p4_ir.specs.NetTree.{HostPort, Link, to_host, NetData}
 use Rattle.net_bundle.specs.declared.file.BundleFile.TheVariants.{Program, Rows, Network}
