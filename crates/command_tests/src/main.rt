@@ -4,121 +4,181 @@
 #![tactic(auto)]
 
 mod attempt;
+mod calls;
 mod fields;
 mod lines;
-mod trial;
+mod sweep;
 
-use crate::attempt::try_case;
-use crate::lines::{Data, follow_all, read};
-use crate::trial::Trial;
+use attempt::{Case, Wanted, try_once};
+use calls::try_calls;
+use case_files::{Printer, print};
+use cocoon_io::HonestFolder;
 use cocoon_num::NoMemory;
+use fields::{last_line, put_lines, words_of};
+use lines::{CaseFiles, Data, follow_all, read};
 use std::process::ExitCode;
 use std::{env, str};
+use sweep::{Sweep, try_each};
 
 /// What came of the cases so far.
 #[derive(Drop)]
 struct Totals {
-    out: String,
-    cases: usize,
+    out: Printer,
+    cases: u64,
     runs: usize,
-    differing: usize,
+    differing: u64,
 }
 
-/// Follows the lines that all cases have and those of one, and runs it. Answers how often the command was run.
-fn try_lines(
-    data: &Data<'_>,
-    trial: &mut Trial,
-    (common, lines): (&str, &str),
-    out: &mut String,
-) -> Result<usize, NoMemory> {
-    follow_all(data, trial, common, out)?;
-    follow_all(data, trial, lines, out)?;
-    try_case(data.rt.alloc(), trial, out)
+/// Puts the status and the report that are wanted.
+fn put_wanted(lines: &str, wanted: &mut Printer) {
+    let status = last_line(lines, "status").name;
+    let report = last_line(lines, "report").name;
+    wanted.put(status);
+    wanted.put(" ");
+    wanted.put(report);
+    if !report.is_empty() {
+        wanted.put("\n");
+    }
 }
 
-/// The same of a new trial, which is dropped in this one place.
-fn try_new(data: &Data<'_>, lines: (&str, &str), out: &mut String) -> Result<usize, NoMemory> {
-    let mut trial = Trial::new(data.rt.alloc());
-    try_lines(data, &mut trial, lines, out)
+/// Runs a case of these words, and answers how often the command was run.
+fn try_words(
+    data: Data<'_>,
+    (lines, words): (&str, &[String]),
+    files: &mut CaseFiles,
+    wanted: &str,
+    out: &mut Printer,
+) -> usize {
+    let cut = last_line(lines, "cut").name;
+    let replaced = last_line(lines, "replace");
+    let same = Wanted::Whole(wanted);
+    if cut.is_empty() && replaced.name.is_empty() {
+        let case = Case {
+            lines,
+            files: &*files,
+            words,
+        };
+        try_once(data.rt.alloc(), case, same, out);
+        return 1;
+    }
+    let sweep = Sweep {
+        lines,
+        words,
+        file: if cut.is_empty() { replaced.name } else { cut },
+        byte: replaced.old.as_bytes().first().copied(),
+        same,
+    };
+    try_each(data, sweep, files, out)
+}
+
+/// Runs a case of these files, and answers how often the command was run.
+fn try_files(data: Data<'_>, lines: &str, files: &mut CaseFiles, out: &mut Printer) -> usize {
+    let mut wanted = Printer::new(data.rt.alloc());
+    put_wanted(lines, &mut wanted);
+    match words_of(data.rt.alloc(), lines) {
+        Ok(words) if wanted.is_whole() => {
+            try_words(data, (lines, &words), files, wanted.text(), out)
+        }
+        _ => {
+            out.lose();
+            0
+        }
+    }
+}
+
+/// Follows the lines of a case, and runs it. Answers how often the command was run.
+fn try_lines(data: Data<'_>, lines: &str, out: &mut Printer) -> usize {
+    let mut files = CaseFiles {
+        before: HonestFolder::new(data.rt.alloc()),
+        after: HonestFolder::new(data.rt.alloc()),
+    };
+    follow_all(data, &mut files, lines, out);
+    let kind = last_line(lines, "calls").name;
+    if kind.is_empty() {
+        return try_files(data, lines, &mut files, out);
+    }
+    try_calls(data, lines, kind, &mut files, out);
+    0
 }
 
 /// Runs a case. Its lines come behind those that all cases of the file have.
-fn run_case(
-    data: &Data<'_>,
-    common: &str,
-    case: &str,
-    totals: &mut Totals,
-) -> Result<(), NoMemory> {
-    let (name, lines) = case.split_once('\n').unwrap_or((case, ""));
-    let out = &mut totals.out;
-    write!(out, "{name}\n")?;
-    let before = out.len();
-    let runs = try_new(data, (common, lines), out)?;
-    if out.len() > before {
+fn run_case(data: Data<'_>, common: &str, case: &str, totals: &mut Totals) {
+    let (name, own) = case.split_once('\n').unwrap_or((case, ""));
+    totals.out.put(name);
+    totals.out.put("\n");
+    let before = totals.out.text().len();
+    let mut lines = Printer::new(data.rt.alloc());
+    put_lines(common, &mut lines);
+    put_lines(own, &mut lines);
+    let runs = try_lines(data, lines.text(), &mut totals.out);
+    if !lines.is_whole() {
+        totals.out.lose();
+    }
+    if totals.out.text().len() > before {
         totals.differing = totals.differing.saturating_add(1);
     }
     totals.cases = totals.cases.saturating_add(1);
     totals.runs = totals.runs.saturating_add(runs);
-    Ok(())
 }
 
 /// Runs the cases of a text.
-fn run_text(data: &Data<'_>, text: &str, totals: &mut Totals) -> Result<(), NoMemory> {
+fn run_text(data: Data<'_>, text: &str, totals: &mut Totals) {
     let mut parts = text.split("\ncase ");
     let common = parts.next().unwrap_or_default();
     let before = totals.cases;
     for case in parts {
-        run_case(data, common, case, totals)?;
+        run_case(data, common, case, totals);
     }
     if totals.cases == before {
-        totals.out.push_str("  no case\n")?;
+        totals.out.put("  no case\n");
         totals.differing = totals.differing.saturating_add(1);
     }
-    Ok(())
 }
 
 /// Runs the cases of a file. The files of data that they name stand beside it.
-fn run_sheet(rt: &HostRuntime, path: &str, totals: &mut Totals) -> Result<(), NoMemory> {
+fn run_sheet(rt: &HostRuntime, path: &str, totals: &mut Totals) {
     let (folder, sheet) = path.rsplit_once('/').unwrap_or((".", path));
     let data = Data { rt, folder };
-    write!(&mut totals.out, "== {sheet}\n")?;
-    let bytes = read(&data, sheet, &mut totals.out)?;
-    run_text(&data, str::from_utf8(&bytes).unwrap_or_default(), totals)
+    totals.out.put("== ");
+    totals.out.put(sheet);
+    totals.out.put("\n");
+    match read(data, sheet, &mut totals.out) {
+        Some(bytes) => run_text(data, str::from_utf8(&bytes).unwrap_or_default(), totals),
+        None => run_text(data, "", totals),
+    }
 }
 
 /// Runs the cases of the files that the words name.
-fn run_all(rt: &HostRuntime, totals: &mut Totals) -> Result<(), NoMemory> {
-    let Ok(mut words) = env::args(rt) else {
-        return Err(NoMemory);
-    };
-    totals.out.reserve(65_536)?;
-    words.next();
-    for path in words {
-        run_sheet(rt, &path, totals)?;
+fn run_all(rt: &HostRuntime, totals: &mut Totals) {
+    match env::args(rt) {
+        Ok(words) => {
+            for path in words.skip(1) {
+                run_sheet(rt, path.as_str(), totals);
+            }
+        }
+        Err(_) => totals.out.lose(),
     }
-    let (cases, runs, differing) = (totals.cases, totals.runs, totals.differing);
-    write!(
-        &mut totals.out,
-        "{cases} cases, {runs} runs, {differing} differ\n"
-    )?;
-    Ok(())
+    totals.out.put_number(totals.cases);
+    totals.out.put(" cases, ");
+    totals.out.put_number(totals.runs as u64);
+    totals.out.put(" runs, ");
+    totals.out.put_number(totals.differing);
+    totals.out.put(" differ\n");
 }
 
 fn main(rt: HostRuntime) -> ExitCode {
     let mut totals = Totals {
-        out: String::new(rt.alloc()),
+        out: Printer::new(rt.alloc()),
         cases: 0,
         runs: 0,
         differing: 0,
     };
-    let is_run = run_all(&rt, &mut totals).is_ok();
-    let out = totals.out.as_str();
-    if !is_run || print!(&rt; "{out}").is_err() {
-        return ExitCode::from(2);
-    }
-    ExitCode::from(if totals.cases > 0 && totals.differing == 0 {
-        0
-    } else {
-        1
-    })
+    // Memory for what is printed is taken first, so that a run without any can be judged.
+    totals.out.reserve(65_536);
+    run_all(&rt, &mut totals);
+    print(
+        &rt,
+        &totals.out,
+        u8::from(totals.cases == 0 || totals.differing > 0),
+    )
 }

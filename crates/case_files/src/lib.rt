@@ -1,0 +1,15 @@
+//! Files of cases: what stands in their lines, the trial of each case, and what is printed of it. The programs of tests stand
+//! on this crate, and each adds what its cases ask.
+#![tactic(auto)]
+
+mod digits;
+mod files;
+mod lines;
+mod printer;
+mod trial;
+
+pub use digits::number;
+pub use files::{file, input, print, sole_word};
+pub use lines::{first_word, last_line};
+pub use printer::Printer;
+pub use trial::{Subject, try_words};

@@ -1,0 +1,105 @@
+//! Tries cases of the parts of the command. Each word names a file of cases, whose form docs/CASES.md describes. The program
+//! prints what each case asks, below it what differs, and at the end how many cases there are. With the one word `design` or
+//! `definitions` it reads the standard input as such a text, and prints `read` or the first fault.
+//!
+//! The clauses say what is read, written and done by definitions. Whether these mean what was meant, no clause says, nor that
+//! there is memory. So the cases are worked by hand, by the rules of the language and by docs/FORMATS.md.
+#![tactic(auto)]
+
+mod answers;
+mod builders;
+mod bundles;
+mod definitions;
+mod designs;
+mod example;
+mod expressions;
+mod first_switch;
+mod frames;
+mod limits;
+mod networks;
+mod packets;
+mod pieces;
+mod prefixes;
+mod programs;
+mod second_switch;
+mod shorthand;
+mod statements;
+mod tokens;
+
+use answers::{Kind, kind_named, put_answer, put_reading};
+use bundles::write_case;
+use case_files::{Printer, Subject, first_word, input, print, sole_word, try_words};
+use frames::{Frame, frame_of, put_inner};
+use limits::write_long;
+use packets::ask;
+use shorthand::put_text;
+use std::process::ExitCode;
+
+/// The cases, with the machine that has their files of data.
+#[derive(Drop)]
+struct Cases<'r> {
+    rt: &'r HostRuntime,
+}
+
+impl<'r> Subject for Cases<'r> {
+    fn is_line(&self, line: &str) -> bool {
+        let (word, rest) = first_word(line);
+        match word {
+            "older" | "others" | "header" | "test" => true,
+            _ => !rest.is_empty() && (word == "wanted" || kind_named(word).is_some()),
+        }
+    }
+
+    fn answer(&self, above: &str, asked: &str, wanted: &str, given: &mut Printer) {
+        let frame = frame_of(above);
+        match frame.kind {
+            Kind::Networks => answer_network(self.rt, above, asked, given),
+            _ => answer_text(self.rt, frame, asked, wanted, given),
+        }
+    }
+}
+
+/// Puts the answer to a case of networks.
+fn answer_network(rt: &HostRuntime, above: &str, asked: &str, given: &mut Printer) {
+    let (word, rest) = first_word(asked);
+    match word {
+        "enter" | "visit" | "go" => ask(rt.alloc(), above, (word, rest), given),
+        "limit" => write_long(rt, rest, given),
+        _ => write_case(rt, above, (word, rest), given),
+    }
+}
+
+/// Puts what the text of a case reads as.
+fn answer_text(rt: &HostRuntime, frame: Frame<'_>, asked: &str, wanted: &str, given: &mut Printer) {
+    let mut text = Printer::new(rt.alloc());
+    put_text(rt, frame.text, asked, &mut text);
+    let mut found = Printer::new(rt.alloc());
+    put_answer(rt.alloc(), frame.kind, text.text().as_bytes(), &mut found);
+    put_inner(frame.wanted, wanted, found.text(), given);
+    if !text.is_whole() || !found.is_whole() {
+        given.lose();
+    }
+}
+
+/// As what the standard input is read, if the one word says that it is.
+fn input_kind(rt: &HostRuntime) -> Option<Kind> {
+    kind_named(sole_word(rt)?.as_str())
+}
+
+/// Reads the standard input, and prints what came of it.
+fn read_input(rt: &HostRuntime, kind: Kind) -> ExitCode {
+    let mut answer = Printer::new(rt.alloc());
+    match input(rt) {
+        Some(text) => put_reading(rt.alloc(), kind, &text, &mut answer),
+        None => answer.lose(),
+    }
+    answer.put("\n");
+    print(rt, &answer, 0)
+}
+
+fn main(rt: HostRuntime) -> ExitCode {
+    match input_kind(&rt) {
+        Some(kind) => read_input(&rt, kind),
+        None => try_words(&rt, &Cases { rt: &rt }),
+    }
+}
