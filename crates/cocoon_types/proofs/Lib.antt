@@ -1,2 +1,6 @@
 pub mod Taking
 pub mod OneLevel
+pub mod FaultOrder
+pub mod NotesLaws
+pub mod FirstFaults
+pub mod Limiting

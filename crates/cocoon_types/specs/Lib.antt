@@ -14,4 +14,8 @@ pub mod LastLevel
 pub mod ReadBack
 pub mod FormRules
 pub mod Rules
+pub mod FirstFault
+pub mod Noting
+pub mod RuleNames
 pub mod DefsRules
+pub mod Limits

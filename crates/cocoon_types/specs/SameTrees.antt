@@ -1,9 +1,9 @@
 -- Expressions and parameters that are the same as trees, token indexes aside.
-use Rattle.std.specs.Prelude.{ℕ, ◌==◌, ◌&&◌, Bool, true, false, not, List, [], ◌∷◌, if◌then◌else◌}
-use Rattle.cocoon_num.specs.Values.{UnaryOp, flip, not_, BinaryOp}
+use Rattle.std.specs.Prelude.{◌==◌, ◌&&◌, Bool, true, false, not, List, [], ◌∷◌, if◌then◌else◌}
+use Rattle.cocoon_num.specs.Values.{UnaryOp, flip, not_}
 use Rattle.cocoon_num.specs.Tree.{Expr, name, field, lit, true_or_false, call, unary, binary, slice, pick, Exprs, no_exprs, expr, Param}
 use Rattle.cocoon_num.specs.Names.{same_name}
-use Rattle.cocoon_num.specs.Tokens.{mark, keyword}
+use Rattle.cocoon_num.specs.Tokens.{same_kind}
 use Rattle.cocoon_num.specs.Reads.{operator}
 
 -- the two truth values are one
@@ -16,12 +16,8 @@ same_unary flip flip = true
 same_unary not_ not_ = true
 same_unary _ _ = false
 
--- how an operator is written; no two are written alike
-abbrev pub operator_text : BinaryOp → List ℕ
-operator_text op = elim (operator op) [ mark text ↦ text | keyword text ↦ text | _ ↦ [] ]
-
 abbrev mutual
-  -- the same tree, token indexes aside
+  -- the same tree, token indexes aside; no two operators are written alike
   pub same_expr : Expr → Expr → Bool
   same_expr (name at x) e = elim e [ name at' y ↦ same_name x y | _ ↦ false ]
   same_expr (field at h f) e = elim e [ field at' i g ↦ same_name h.text i.text && same_name f.text g.text | _ ↦ false ]
@@ -30,7 +26,7 @@ abbrev mutual
   same_expr (call at f es) e = elim e [ call at' g ds ↦ same_name f.text g.text && same_exprs es ds | _ ↦ false ]
   same_expr (unary at op a) e = elim e [ unary at' o b ↦ same_unary op o && same_expr a b | _ ↦ false ]
   same_expr (binary at op a b) e = elim e [
-    | binary at' o c d ↦ same_name (operator_text op) (operator_text o) && same_expr a c && same_expr b d
+    | binary at' o c d ↦ same_kind (operator op) (operator o) && same_expr a c && same_expr b d
     | _ ↦ false
   ]
   same_expr (slice at a h l) e = elim e [ slice at' b i m ↦ same_expr a b && (h == i) && (l == m) | _ ↦ false ]

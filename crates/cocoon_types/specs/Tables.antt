@@ -1,12 +1,13 @@
 -- Definitions of the run-time functions: for each a list of rows and a default, and its value by the first row
 -- that matches. It follows the section "Definitions" of docs/LANGUAGE.md. Rows have one version, with no
 -- tag.
-use Rattle.std.specs.Prelude.{ℕ, ◌==◌, ◌&&◌, Bool, true, false, List, [], ◌∷◌, filter_map, bit_and, if◌then◌else◌, Option, Some, None, option_map}
+use Rattle.std.specs.Prelude.{ℕ, ◌==◌, ◌&&◌, Bool, true, false, List, [], ◌∷◌, filter_map, if◌then◌else◌, Option, Some, None, option_map}
 use Rattle.cocoon_num.specs.Values.{Value}
 use Rattle.cocoon_num.specs.Tree.{Name, FunctionDecl, Design, Pattern, literal, masked, any, Entry, a_default, a_row, DefsText}
 use Rattle.cocoon_num.specs.Names.{same_name, named}
 use Rattle.cocoon_types.specs.Design.{functions}
 use Rattle.cocoon_num.specs.Lists.{first_of}
+use Rattle.cocoon_num.specs.Rows.{has_bits, first_match}
 
 -- a row: patterns for the arguments, and the value
 pub record Row : Type 0 where
@@ -26,7 +27,7 @@ Defs = List Table
 -- a pattern matches a number
 abbrev pub matches : Pattern → ℕ → Bool
 matches (literal w n) x = x == n
-matches (masked w n v m) x = bit_and x m == bit_and n m
+matches (masked w n v m) x = has_bits n m x
 matches any x = true
 
 -- each pattern matches its number, and there are as many
@@ -37,8 +38,7 @@ all_match _ _ = false
 
 -- the value of the first row that matches, else the default
 abbrev pub look : List Row → Value → List ℕ → Value
-look [] otherwise xs = otherwise
-look (row ∷ rows) otherwise xs = if all_match row.patterns xs then row.value else look rows otherwise xs
+look rows otherwise xs = first_match (λ (row : Row). all_match row.patterns xs) (λ (row : Row). row.value) rows otherwise
 
 -- the value of a run-time function at some numbers
 abbrev pub look_up : Defs → List ℕ → List ℕ → Option Value

@@ -6,7 +6,7 @@ use Rattle.cocoon_num.specs.Values.{flip, not_, BinaryOp, concat, and_, or_, imp
 use Rattle.cocoon_num.specs.Tree.{Name, Expr, field, call, unary, binary, slice, pick, Exprs, expr, let_, set_field, if_, filter, assume, fork, send, Param, of_width, of_truth, FunctionDecl, Role, SwitchDecl, a_function, an_assumption, a_role, Refine, HeaderDecl, Design, token_index}
 use Rattle.cocoon_num.specs.Names.{named}
 use Rattle.cocoon_num.specs.Packets.{total}
-use Rattle.cocoon_num.specs.Sorts.{is_declared_width, Sort, bits_sort, truth_sort, has_sort}
+use Rattle.cocoon_num.specs.Sorts.{is_declared_width, Sort, bits_sort, truth_sort, has_sort, are_same}
 use Rattle.cocoon_types.specs.Design.{as_switch, all_decls, widths_of, field_width}
 use Rattle.cocoon_types.specs.Parts.{list_of, count_of}
 use Rattle.cocoon_types.specs.Typing.{Scope, with_var, function_named, result_sort, sort_of}
@@ -62,10 +62,6 @@ both_typed a b = is_some a && is_some b
 abbrev pub are_like : Option Sort → Option Sort → Bool
 are_like (Some (bits_sort v)) (Some (bits_sort w)) = v == w
 are_like _ _ = false
-
--- both have one type
-abbrev pub are_same : Option Sort → Option Sort → Bool
-are_same s t = elim s [ None ↦ false | Some sort ↦ has_sort sort t ]
 
 -- the type is there and is not this one
 abbrev pub is_other : Sort → Option Sort → Bool

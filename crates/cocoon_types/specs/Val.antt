@@ -39,11 +39,6 @@ pub record Context : Type 0 where
   pub headers : List HeaderDecl
   pub apply : List ℕ → List ℕ → Option Value
 
--- a number before some numbers, where all are there
-abbrev pub then_numbers : Option ℕ → Option (List ℕ) → Option (List ℕ)
-then_numbers None ns = None
-then_numbers (Some n) ns = option_map (λ rest. n ∷ rest) ns
-
 abbrev mutual
   -- the value of an expression
   pub value : Context → Env → Packet → Expr → Option Value
@@ -60,7 +55,7 @@ abbrev mutual
   -- the numbers that some expressions give, from left to right
   pub numbers : Context → Env → Packet → Exprs → Option (List ℕ)
   numbers s env packet no_exprs = Some []
-  numbers s env packet (expr e es) = then_numbers (option_and_then as_number (value s env packet e)) (numbers s env packet es)
+  numbers s env packet (expr e es) = with_both (λ n ns. Some (n ∷ ns)) (option_and_then as_number (value s env packet e)) (numbers s env packet es)
 
 -- ---- functions
 
