@@ -1,0 +1,12 @@
+use Rattle.std.proofs.Common.{◌≡◌, ◌∙◌, sym, ap, subst, length, map, option_map}
+use Rattle.cocoon_num.specs.Packets.{total}
+use Rattle.cocoon_num.specs.Tree.{HeaderDecl}
+use Rattle.cocoon_syntax.specs.TreeOf.{design_of, header_of}
+use Rattle.cocoon_types.specs.Limits.{counts, first_above, most, reported}
+use Rattle.design_limits.proofs.first.count_over.Goals as goal
+
+pub returns-in-Fields : goal.returns-in-Fields
+returns-in-Fields c =
+    let n = total (map (λ (h : HeaderDecl). length h.fields) (map header_of c.args.design.now.headers.items)) in
+    let e : c.field_count.result ≡ reported n = c.field_count.ensures ∙ ap (λ xs. reported (total (map (λ (h : HeaderDecl). length h.fields) (map header_of xs)))) c.deref-in-Fields.ensures.value in
+    subst (λ l. c.over-in-Fields.result ≡ option_map reported (first_above (most l) (counts (design_of c.args.design.now) l))) (sym c.in-Fields.is) (c.over-in-Fields.ensures n e)

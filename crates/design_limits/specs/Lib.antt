@@ -1,0 +1,4 @@
+pub mod Saturated
+pub mod Forms
+pub mod Seen
+pub mod First
