@@ -1,0 +1,6 @@
+pub mod NameFacts
+pub mod PlaceFacts
+pub mod LatestFacts
+pub mod RoleFacts
+pub mod TableFacts
+pub mod ReaderFacts
