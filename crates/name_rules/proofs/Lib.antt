@@ -1,0 +1,5 @@
+pub mod AmongFacts
+pub mod AgainFacts
+pub mod SiteFacts
+pub mod LaterFacts
+pub mod ListedFacts

@@ -1,0 +1,13 @@
+use Rattle.std.proofs.Common.{◌≡◌, ◌||◌, map, take}
+use Rattle.std.specs.Prelude.{flat_map}
+use Rattle.cocoon_syntax.specs.TreeOf.{refine_of}
+use Rattle.cocoon_types.specs.Noting.{Notes}
+use Rattle.cocoon_types.specs.Rules.{twice}
+use Rattle.name_rules.specs.Among.{among, any_at, later, block_switches}
+use Rattle.name_rules.proofs.later.note_switches_of.Given as goal
+
+abbrev pub invariant-loop-block : goal.invariant-loop-block
+invariant-loop-block l = record {
+  by_now : l.by_now ≡ (l.fn.found || any_at (flat_map block_switches (map refine_of (take l.block-index l.blocks))));
+  notes : Notes (among twice (later l.fn.found (flat_map block_switches (map refine_of (take l.block-index l.blocks))))) l.fn.noted l.noted;
+}
