@@ -1,0 +1,9 @@
+pub mod Membership
+pub mod OperandTests
+pub mod ExprTests
+pub mod CallTests
+pub mod StmtTests
+pub mod StmtParts
+pub mod Phase
+pub mod DeclParts
+pub mod DeclSteps
