@@ -164,7 +164,7 @@ def wrong_in_cell(cell, crate, names):
         home = owners[-1] if owners else crate
         is_condition = re.match(r"\s*conditions?\b", piece)
         asks = is_condition or re.search(r":\s*conditions?\b", piece)
-        named, _, fields = re.sub(r" of `\w+`", "", piece).partition("field")
+        named, fields = [*re.split(r"\bfields? (?=`)", re.sub(r" of `\w+`", "", piece), maxsplit=1), ""][:2]
         head, _, tail = ("", ":", named) if is_condition else re.sub(r"\(.*", "", named).replace("` :", "`:").partition("`:")
         functions = functions if is_condition else re.findall(r"`([\w:]+)", head)
         unnamed = [""] if re.search(r"(its|their) clause", piece) else []
