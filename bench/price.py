@@ -31,16 +31,28 @@ def lines_of(crate):
     return sum(path.read_bytes().count(b"\n") for path in files if path.suffix in (".rt", ".antt"))
 
 
+def status_of(pid):
+    """The fields of a process after its name: its state, its parent, and so on."""
+    return pathlib.Path("/proc", str(pid), "stat").read_text().rpartition(")")[2].split()
+
+
+def is_ours(pid):
+    """Whether this script started a process, or what started it."""
+    while pid > 1 and pid != os.getpid():
+        pid = int(status_of(pid)[1])
+    return pid == os.getpid()
+
+
 def work_of(pid):
     """The crate and the kind of work of one process of the checker, with the processor seconds used so far."""
     process = pathlib.Path("/proc", pid)
     words = (process / "cmdline").read_bytes().decode(errors="replace").split("\0")
-    if os.path.basename(words[0]) != "rattle" or "--crate-name" not in words:
+    if os.path.basename(words[0]) != "rattle" or "--crate-name" not in words or not is_ours(int(pid)):
         return None
     crate = words[words.index("--crate-name") + 1]
     folder = os.readlink(process / "cwd")
     kind = TESTS if "--test" in words else OWN if os.path.basename(folder) == crate else EDITS
-    user, system = (process / "stat").read_text().rpartition(")")[2].split()[11:13]
+    user, system = status_of(pid)[11:13]
     return crate, kind, (int(user) + int(system)) / TICKS
 
 
