@@ -171,8 +171,8 @@ pub(crate) fn note_not_refinable(
     noted: &mut Noted,
 ) -> Result<(), NoMemory>
     requires { Declares names.now (design_of design.now) }
-    ensures { OnOk result (Notes (among not_refinable (fails_at not_refinable (design_of design.now)))
-        noted.old noted.new) }
+    ensures { OnOk result (Notes
+        (among not_refinable (fails_at not_refinable (design_of design.now))) noted.old noted.new) }
 {
     note_blocks(alloc, names, design, &design.refines, noted)?;
     Ok(())

@@ -88,8 +88,8 @@ pub(crate) fn mentions(scope: &Scope, state: &State, expr: &Expr) -> bool
 /// Whether it occurs in one of some expressions' values.
 #[cycle(mentions)]
 pub(crate) fn any_mentions(scope: &Scope, state: &State, exprs: &[Expr]) -> bool
-    ensures { result ≡
-        spec.any_mentions (names_of scope.now) (holding_of state.now) (exprs_of (map expr_of exprs.now)) }
+    ensures { result ≡ spec.any_mentions
+        (names_of scope.now) (holding_of state.now) (exprs_of (map expr_of exprs.now)) }
 {
     for expr in exprs {
         if mentions(scope, state, expr) {
@@ -113,8 +113,8 @@ fn is_alone(scope: &Scope, state: &State, expr: &Expr) -> bool
 
 /// Whether it is one of some expressions' values.
 pub(crate) fn any_alone(scope: &Scope, state: &State, exprs: &[Expr]) -> bool
-    ensures { result ≡
-        spec.any_alone (names_of scope.now) (holding_of state.now) (exprs_of (map expr_of exprs.now)) }
+    ensures { result ≡ spec.any_alone
+        (names_of scope.now) (holding_of state.now) (exprs_of (map expr_of exprs.now)) }
 {
     for expr in exprs {
         if is_alone(scope, state, expr) {

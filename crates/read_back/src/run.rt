@@ -155,8 +155,8 @@ fn enter_fork(
 ) -> Result<Vec<State>, NoMemory>
     ensures names { OnOk result
         (names_of scope.new ≡ bound (name_of name.now) (names_of scope.old)) }
-    ensures enters { IfOk result (λ r.
-        Moves (bound (name_of name.now) (names_of scope.old)) (stmt_of stmt.now) states.items r.items) }
+    ensures enters { IfOk result (λ r. Moves
+        (bound (name_of name.now) (names_of scope.old)) (stmt_of stmt.now) states.items r.items) }
 {
     bind(alloc, scope, name)?;
     move_all(alloc, scope, stmt, states)

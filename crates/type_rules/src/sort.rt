@@ -147,7 +147,8 @@ pub(crate) fn unary_sort(op: UnaryOp, a: Option<Sort>) -> Option<Sort>
 
 /// The two numbers put together.
 fn joined_sort(first: Option<Sort>, second: Option<Sort>) -> Option<Sort>
-    ensures { sort_of result ≡ with_both (sorts.binary_sort concat) (sort_of first) (sort_of second) }
+    ensures { sort_of result ≡
+        with_both (sorts.binary_sort concat) (sort_of first) (sort_of second) }
 {
     match (first, second) {
         (Some(Sort::Bits(width)), Some(Sort::Bits(other))) => {
