@@ -7,14 +7,15 @@ use Rattle.cocoon_num.specs.Tree.{Name, Decl, FunctionDecl, HostDecl, Refine, De
 use Rattle.cocoon_types.specs.Design.{as_function, host_decl, all_decls}
 use Rattle.cocoon_types.specs.NameRules.{sink_refined_at}
 use Rattle.cocoon_num.specs.Names.{same_name}
-use Rattle.cocoon_types.specs.Rules.{twice}
+use Rattle.cocoon_types.specs.Rules.{Rule, twice}
 use Rattle.cocoon_types.specs.RuleParts.{unless_named, has_name, repeated}
 use Rattle.cocoon_types.specs.FirstFault.{Fault}
-use Rattle.cocoon_types.specs.Noting.{Notes, NotingLaws}
+use Rattle.cocoon_types.specs.Noting.{Notes}
 use Rattle.declarations.specs.NameNumbers.{index_of, number_of}
 use Rattle.declarations.specs.declared.name_table.NameTable.{NameTable}
-use Rattle.name_rules.specs.Among.{among, Seen, again, function_names, unless_other, sink_in}
-use Rattle.name_rules.proofs.AmongFacts.{notes-append, taken}
+use Rattle.fault_notes.specs.Among.{among, AmongLaws}
+use Rattle.name_rules.specs.Among.{Seen, again, function_names, unless_other, sink_in}
+use Rattle.name_rules.proofs.AmongFacts.{taken}
 
 abbrev pub text : Name → List ℕ
 text n = n.text
@@ -32,7 +33,7 @@ found x (n ∷ ns) = by (same_name x n.text) (index_of x (map text ns)) (found x
 pub seen-found : (t : NameTable) (ns : List Name) (x : List ℕ) → Seen t ns → is_some (number_of t x) ≡ has_name x ns
 seen-found t ns x h = ap is_some (h.numbers x) ∙ found x ns
 
-has-append : (x : List ℕ) (ns ms : List Name) → has_name x (ns ++ ms) ≡ has_name x ns || has_name x ms
+pub has-append : (x : List ℕ) (ns ms : List Name) → has_name x (ns ++ ms) ≡ has_name x ns || has_name x ms
 has-append x [] ms = refl
 has-append x (n ∷ ns) ms = by (same_name x n.text) (has_name x ns) (has_name x ms) (has_name x (ns ++ ms)) (has-append x ns ms)
   where
@@ -63,9 +64,9 @@ pub repeated-push : (seen ns : List Name) (n : Name) → repeated seen (ns ++ n 
 repeated-push seen ns n = repeated-append seen ns (n ∷ []) ∙ ap (λ l. repeated seen ns ++ l) (append-nil (again (seen ++ ns) n))
 
 -- one name more
-pub notes-again : NotingLaws → (seen ns ms : List Name) (n : Name) (a b c : Option Fault) → ms ≡ ns ++ n ∷ []
-    → Notes (among twice (repeated seen ns)) a b → Notes (among twice (again (seen ++ ns) n)) b c → Notes (among twice (repeated seen ms)) a c
-notes-again laws seen ns ms n a b c e h k = subst (λ l. Notes (among twice l) a c) (sym (ap (repeated seen) e ∙ repeated-push seen ns n)) (notes-append laws twice (repeated seen ns) (again (seen ++ ns) n) a b c h k)
+pub notes-again : AmongLaws → (rule : Rule) (seen ns ms : List Name) (n : Name) (a b c : Option Fault) → ms ≡ ns ++ n ∷ []
+    → Notes (among rule (repeated seen ns)) a b → Notes (among rule (again (seen ++ ns) n)) b c → Notes (among rule (repeated seen ms)) a c
+notes-again laws rule seen ns ms n a b c e h k = subst (λ l. Notes (among rule l) a c) (sym (ap (repeated seen) e ∙ repeated-push seen ns n)) (laws.append rule (repeated seen ns) (again (seen ++ ns) n) a b c h k)
 
 pub seen-again : (t : NameTable) (ns ms : List Name) (n : Name) → ms ≡ ns ++ n ∷ [] → Seen t (ns ++ n ∷ []) → Seen t ms
 seen-again t ns ms n e h = subst (Seen t) (sym e) h
@@ -112,11 +113,11 @@ pub no-function : (d : Decl) → as_function d ≡ None → function_names (d �
 no-function d e = ap (λ o. map called (cons_option o [])) e
 
 -- more declarations
-pub notes-level : NotingLaws → (names : List Name) (ds es gs : List Decl) (a b c : Option Fault) → gs ≡ ds ++ es
+pub notes-level : AmongLaws → (names : List Name) (ds es gs : List Decl) (a b c : Option Fault) → gs ≡ ds ++ es
     → Notes (among twice (repeated names (function_names ds))) a b → Notes (among twice (repeated (names ++ function_names ds) (function_names es))) b c → Notes (among twice (repeated names (function_names gs))) a c
 notes-level laws names ds es gs a b c e h k =
     subst (λ l. Notes (among twice l) a c) (sym (ap (λ l. repeated names (function_names l)) e ∙ ap (repeated names) (names-append ds es) ∙ repeated-append names (function_names ds) (function_names es)))
-    (notes-append laws twice (repeated names (function_names ds)) (repeated (names ++ function_names ds) (function_names es)) a b c h k)
+    (laws.append twice (repeated names (function_names ds)) (repeated (names ++ function_names ds) (function_names es)) a b c h k)
 
 pub seen-level : (t : NameTable) (names : List Name) (ds es gs : List Decl) → gs ≡ ds ++ es → Seen t ((names ++ function_names ds) ++ function_names es) → Seen t (names ++ function_names gs)
 seen-level t names ds es gs e h = subst (Seen t) (append_assoc names (function_names ds) (function_names es) ∙ ap (λ l. names ++ l) (sym (ap function_names e ∙ names-append ds es))) h

@@ -8,9 +8,9 @@ use Rattle.cocoon_types.specs.Design.{as_host, as_switch, all_decls}
 use Rattle.cocoon_types.specs.NameRules.{hosts_at}
 use Rattle.cocoon_types.specs.Rules.{twice}
 use Rattle.cocoon_types.specs.FirstFault.{Fault}
-use Rattle.cocoon_types.specs.Noting.{Notes, NotingLaws}
-use Rattle.name_rules.specs.Among.{among, any_at, later, host_places, switch_places, block_hosts, block_switches, hosts_twice, switches_twice}
-use Rattle.name_rules.proofs.AmongFacts.{notes-append}
+use Rattle.cocoon_types.specs.Noting.{Notes}
+use Rattle.fault_notes.specs.Among.{among, AmongLaws}
+use Rattle.name_rules.specs.Among.{any_at, later, host_places, switch_places, block_hosts, block_switches, hosts_twice, switches_twice}
 
 pub later-append : (found : Bool) (xs ys : List ℕ) → later found (xs ++ ys) ≡ later found xs ++ later (found || any_at xs) ys
 later-append true xs ys = refl
@@ -33,11 +33,11 @@ any-option (Some n) = refl
 pub any-more : (found now now' : Bool) (xs ys zs : List ℕ) → zs ≡ xs ++ ys → now ≡ found || any_at xs → now' ≡ now || any_at ys → now' ≡ found || any_at zs
 any-more found now now' xs ys zs e h k = k ∙ ap (λ b. b || any_at ys) h ∙ or-assoc found (any_at xs) (any_at ys) ∙ ap (λ b. found || b) (sym (ap any_at e ∙ any-append xs ys))
 
-pub notes-later : NotingLaws → (found now : Bool) (xs ys zs : List ℕ) (a b c : Option Fault) → zs ≡ xs ++ ys → now ≡ found || any_at xs
+pub notes-later : AmongLaws → (found now : Bool) (xs ys zs : List ℕ) (a b c : Option Fault) → zs ≡ xs ++ ys → now ≡ found || any_at xs
     → Notes (among twice (later found xs)) a b → Notes (among twice (later now ys)) b c → Notes (among twice (later found zs)) a c
 notes-later laws found now xs ys zs a b c e h m n =
     subst (λ l. Notes (among twice l) a c) (sym (ap (later found) e ∙ later-append found xs ys))
-    (notes-append laws twice (later found xs) (later (found || any_at xs) ys) a b c m (subst (λ t. Notes (among twice (later t ys)) b c) h n))
+    (laws.append twice (later found xs) (later (found || any_at xs) ys) a b c m (subst (λ t. Notes (among twice (later t ys)) b c) h n))
 
 nothing-yet : (found : Bool) → found ≡ found || false
 nothing-yet true = refl

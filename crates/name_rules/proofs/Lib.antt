@@ -3,3 +3,5 @@ pub mod AgainFacts
 pub mod SiteFacts
 pub mod LaterFacts
 pub mod ListedFacts
+pub mod RedeclaredFacts
+pub mod Phase

@@ -4,21 +4,13 @@ use Rattle.std.specs.Prelude.{filter_map}
 use Rattle.std.specs.List.{cons_option}
 use Rattle.cocoon_num.specs.Tree.{Name, Role, Decl, Refine}
 use Rattle.cocoon_types.specs.Design.{as_role}
-use Rattle.cocoon_types.specs.Rules.{not_refinable}
-use Rattle.cocoon_types.specs.RuleParts.{repeated, role_names, blocks_from}
-use Rattle.cocoon_types.specs.FirstFault.{Fault}
-use Rattle.cocoon_types.specs.Noting.{Notes, NotingLaws}
+use Rattle.cocoon_types.specs.RuleParts.{role_names, blocks_from}
 use Rattle.declarations.specs.NameNumbers.{Numbers}
 use Rattle.declarations.specs.declared.name_table.NameTable.{NameTable}
-use Rattle.name_rules.specs.Among.{among, Seen, again}
-use Rattle.name_rules.proofs.AmongFacts.{notes-append, taken}
-use Rattle.name_rules.proofs.AgainFacts.{repeated-push}
+use Rattle.name_rules.specs.Among.{Seen}
+use Rattle.name_rules.proofs.AmongFacts.{taken}
 
-pub notes-listed : NotingLaws → (ns ms : List Name) (n : Name) (a b c : Option Fault) → ms ≡ ns ++ n ∷ []
-    → Notes (among not_refinable (repeated [] ns)) a b → Notes (among not_refinable (again ns n)) b c → Notes (among not_refinable (repeated [] ms)) a c
-notes-listed laws ns ms n a b c e h k = subst (λ l. Notes (among not_refinable l) a c) (sym (ap (repeated []) e ∙ repeated-push [] ns n)) (notes-append laws not_refinable (repeated [] ns) (again ns n) a b c h k)
-
-abbrev called : Role → Name
+abbrev pub called : Role → Name
 called r = r.name
 
 pub one-role : (d : Decl) (r : Role) → as_role d ≡ Some r → role_names (d ∷ []) ≡ r.name ∷ []
@@ -27,7 +19,7 @@ one-role d r e = ap (λ o. map called (cons_option o [])) e
 pub no-role : (d : Decl) → as_role d ≡ None → role_names (d ∷ []) ≡ []
 no-role d e = ap (λ o. map called (cons_option o [])) e
 
-picked-append : (xs ys : List Decl) → role_names (xs ++ ys) ≡ role_names xs ++ role_names ys
+pub picked-append : (xs ys : List Decl) → role_names (xs ++ ys) ≡ role_names xs ++ role_names ys
 picked-append [] ys = refl
 picked-append (x ∷ xs) ys = by (as_role x) (picked-append xs ys)
   where
@@ -54,9 +46,9 @@ length-map : {A B : Type 0} (f : A → B) (xs : List A) → length (map f xs) �
 length-map f [] = refl
 length-map f (x ∷ xs) = ap suc (length-map f xs)
 
-pub blocks-more : {A : Type 0} (rule : ℕ → Refine → List ℕ) (f : A → Refine) (xs : List A) (i above : ℕ) (x : A) → i < length xs → x ≡ get_or xs i x → above ≡ i
-    → blocks_from rule 0 (map f (take (i + 1) xs)) ≡ blocks_from rule 0 (map f (take i xs)) ++ rule above (f x)
-blocks-more rule f xs i above x h e k = ap (blocks_from rule 0) (taken f xs i x h e) ∙ blocks-push rule 0 (map f (take i xs)) (f x) ∙ ap (λ j. blocks_from rule 0 (map f (take i xs)) ++ rule j (f x)) here
+pub blocks-more : {A : Type 0} (rule : ℕ → Refine → List ℕ) (k : ℕ) (f : A → Refine) (xs : List A) (i level : ℕ) (x : A) → i < length xs → x ≡ get_or xs i x → level ≡ k + i
+    → blocks_from rule k (map f (take (i + 1) xs)) ≡ blocks_from rule k (map f (take i xs)) ++ rule level (f x)
+blocks-more rule k f xs i level x h e m = ap (blocks_from rule k) (taken f xs i x h e) ∙ blocks-push rule k (map f (take i xs)) (f x) ∙ ap (λ j. blocks_from rule k (map f (take i xs)) ++ rule j (f x)) here
   where
-    here : 0 + length (map f (take i xs)) ≡ above
-    here = omega (arith, length-map f (take i xs), length-take i xs)
+    here : k + length (map f (take i xs)) ≡ level
+    here = omega (arith, m, length-map f (take i xs), length-take i xs)

@@ -1,21 +1,16 @@
--- Cited by the clauses of all that notes faults of the first phase: the faults of a rule at some token indexes, and the
--- parts of the rules.
-use Rattle.std.specs.Prelude.{ℕ, ◌==◌, ◌&&◌, Bool, true, false, not, List, [], ◌∷◌, ◌++◌, drop, map, filter_map, flat_map, option_map, option_to_list, is_some}
+-- Cited by the clauses of all that notes faults of the first phase: the parts of its rules, and what a table has seen.
+use Rattle.std.specs.Prelude.{ℕ, ◌&&◌, ◌||◌, Bool, true, false, not, List, [], ◌∷◌, ◌++◌, drop, map, filter_map, flat_map, option_map, option_to_list, is_some}
 use Rattle.cocoon_num.specs.Tree.{Name, FunctionDecl, HostDecl, SwitchDecl, Decl, Refine, HeaderDecl, Design}
 use Rattle.cocoon_num.specs.Names.{same_name}
-use Rattle.cocoon_num.specs.Lists.{has_number}
 use Rattle.cocoon_types.specs.Design.{as_function, as_host, as_switch, all_decls, functions, role_at}
-use Rattle.cocoon_types.specs.NameRules.{hosts_at}
-use Rattle.cocoon_types.specs.Rules.{Rule}
+use Rattle.cocoon_types.specs.NameRules.{hosts_at, roles_named, unknown_role_in_decl}
+use Rattle.cocoon_types.specs.Rules.{fails_at, unknown_role, not_refinable, sink_refined, no_host, no_switch}
 use Rattle.cocoon_types.specs.Sites.{DeclSite, decl_sites, params_of}
-use Rattle.cocoon_types.specs.RuleParts.{unless_named, has_name, repeated, param_names}
-use Rattle.cocoon_types.specs.FirstFault.{Fault, rank}
+use Rattle.cocoon_types.specs.RuleParts.{unless_named, has_name, repeated, param_names, role_names, blocks_from}
+use Rattle.cocoon_types.specs.FirstFault.{Fault}
+use Rattle.fault_notes.specs.Among.{among}
 use Rattle.declarations.specs.NameNumbers.{Numbers}
 use Rattle.declarations.specs.declared.name_table.NameTable.{NameTable}
-
--- a fault of a rule at one of some token indexes
-abbrev pub among : Rule → List ℕ → Fault → Bool
-among rule ats f = (rank f.rule == rank rule) && has_number f.at ats
 
 -- a table of these names
 abbrev pub Seen : NameTable → List Name → Type 0
@@ -99,3 +94,56 @@ switches_twice d = drop 1 (map (λ (s : SwitchDecl). s.at) (filter_map as_switch
 -- a name of a list that is no role up to the level above, or is not among those declared
 abbrev pub unrefinable : Design → (above : ℕ) → (declared : List Name) → Name → List ℕ
 unrefinable d above declared r = unless_named (is_some (role_at above d r.text) && has_name r.text declared) r
+
+-- ---- roles declared again
+
+-- a block may declare the role: its list names it, or no level above declares it
+abbrev pub may_stand : Design → (above : ℕ) → (listed : List Name) → Name → Bool
+may_stand d above listed r = has_name r.text listed || not (is_some (role_at above d r.text))
+
+-- roles that stand earlier among them, or are among those seen, or may not stand at all
+abbrev pub declared_again : (may : Name → Bool) → (seen : List Name) → List Name → List ℕ
+declared_again may seen [] = []
+declared_again may seen (r ∷ rs) =
+    unless_named (not (has_name r.text seen) && may r) r ++ declared_again may (seen ++ r ∷ []) rs
+
+-- those of level 0
+abbrev pub again_outside : List Decl → List ℕ
+again_outside ds = declared_again (λ r. true) [] (role_names ds)
+
+-- those of a block
+abbrev pub again_in_block : Design → (above : ℕ) → Refine → List ℕ
+again_in_block d above b = declared_again (may_stand d above b.roles) [] (role_names b.decls)
+
+-- those of all levels
+abbrev pub roles_twice : Design → List ℕ
+roles_twice d = again_outside d.decls ++ blocks_from (again_in_block d) 0 d.refines
+
+-- ---- roles that declarations name
+
+-- a role that no level up to this one declares
+abbrev pub unknown_at : Design → (level : ℕ) → Name → List ℕ
+unknown_at d level r = unless_named (is_some (role_at level d r.text)) r
+
+-- those that a declaration of hosts or switches names
+abbrev pub unknown_named : Design → (level : ℕ) → Decl → List ℕ
+unknown_named d level x = flat_map (unknown_at d level) (roles_named x)
+
+-- those of a block at this level
+abbrev pub unknown_in_block : Design → (level : ℕ) → Refine → List ℕ
+unknown_in_block d level b = flat_map (unknown_named d level) b.decls
+
+-- ---- what is put together
+
+-- names that stand twice among declarations
+abbrev pub twice_declared : Design → List ℕ
+twice_declared d =
+    repeated [] (header_names d.headers) ++ flat_map repeated_fields d.headers ++ repeated [] (design_functions d)
+    ++ params_twice d ++ roles_twice d ++ hosts_twice d ++ switches_twice d
+
+-- a fault of roles where declarations and lists name them, or of hosts or switches that are not declared
+abbrev pub is_list_fault : Design → Fault → Bool
+is_list_fault d f =
+    among unknown_role (flat_map unknown_role_in_decl (decl_sites d)) f
+    || among not_refinable (fails_at not_refinable d) f || among sink_refined (fails_at sink_refined d) f
+    || among no_host (fails_at no_host d) f || among no_switch (fails_at no_switch d) f

@@ -4,34 +4,36 @@ ghost use Rattle.cocoon_num.specs.Tree.{Name as Called};
 ghost use Rattle.cocoon_syntax.specs.TreeOf.{decl_of, design_of, function_of, header_of, name_of, param_of, refine_of};
 ghost use Rattle.cocoon_types.specs.Design.{as_function};
 ghost use Rattle.cocoon_types.specs.Noting.{Notes};
+ghost use Rattle.cocoon_types.specs.RuleNames.{rule_of};
 ghost use Rattle.cocoon_types.specs.RuleParts.{param_names, repeated};
 ghost use Rattle.cocoon_types.specs.Rules.{twice};
-ghost use Rattle.name_rules.specs.Among.{Seen, again, among, block_functions, design_functions, function_names, header_names, repeated_fields};
+ghost use Rattle.fault_notes.specs.Among.{among};
+ghost use Rattle.name_rules.specs.Among.{Seen, again, block_functions, design_functions, function_names, header_names, repeated_fields};
 
-use crate::noting::note_unless;
 use cocoon_num::NoMemory;
 use cocoon_syntax::{Decl, Design, FunctionDecl, HeaderDecl, Name, Param, Refine};
-use cocoon_types::first_faults::noting_laws;
 use cocoon_types::{Noted, TypeRule};
 use declarations::NameTable;
+use fault_notes::{among_laws, note_unless};
 use std::alloc::Global;
 
 /// Notes a name that is in the table, and puts it there.
-fn note_again(
+pub(crate) fn note_again(
     alloc: Global,
     table: &mut NameTable,
+    rule: TypeRule,
     name: &Name,
     noted: &mut Noted,
 ) -> Result<(), NoMemory>
     ensures kept { (names : List Called) → Seen table.old names
         → OnOk result (Seen table.new (names ++ name_of name.now ∷ [])) }
     ensures notes { (names : List Called) → Seen table.old names
-        → Notes (among twice (again names (name_of name.now))) noted.old noted.new }
+        → Notes (among (rule_of rule) (again names (name_of name.now))) noted.old noted.new }
 {
     note_unless(
         noted,
         table.number(name.text.bytes()).is_none(),
-        TypeRule::Twice,
+        rule,
         name.at,
     );
     table.append(alloc, name.text.bytes())?;
@@ -47,10 +49,10 @@ pub(crate) fn note_params(
     ensures { OnOk result (Notes (among twice (repeated [] (param_names (map param_of params.now))))
         noted.old noted.new) }
 {
-    noting_laws();
+    among_laws();
     let mut table = NameTable::new(alloc);
     for param in params {
-        note_again(alloc, &mut table, &param.name, noted)?;
+        note_again(alloc, &mut table, TypeRule::Twice, &param.name, noted)?;
     }
     Ok(())
 }
@@ -65,10 +67,10 @@ pub(crate) fn note_headers(
         (header_names (map header_of headers.now))))
         noted.old noted.new) }
 {
-    noting_laws();
+    among_laws();
     let mut table = NameTable::new(alloc);
     for header in headers {
-        note_again(alloc, &mut table, &header.name, noted)?;
+        note_again(alloc, &mut table, TypeRule::Twice, &header.name, noted)?;
     }
     Ok(())
 }
@@ -83,7 +85,7 @@ pub(crate) fn note_fields(
         (flat_map repeated_fields (map header_of headers.now)))
         noted.old noted.new) }
 {
-    noting_laws();
+    among_laws();
     for header in headers {
         note_params(alloc, &header.fields, noted)?;
     }
@@ -113,9 +115,9 @@ fn note_decl(
         → OnOk result (Notes (among twice (repeated names (function_names (decl_of decl.now ∷ []))))
         noted.old noted.new) }
 {
-    noting_laws();
+    among_laws();
     match function_in(decl) {
-        Some(function) => note_again(alloc, table, &function.name, noted)?,
+        Some(function) => note_again(alloc, table, TypeRule::Twice, &function.name, noted)?,
         None => (),
     }
     Ok(())
@@ -134,7 +136,7 @@ fn note_level(
         → OnOk result (Notes (among twice (repeated names (function_names (map decl_of decls.now))))
         noted.old noted.new) }
 {
-    noting_laws();
+    among_laws();
     for decl in decls {
         note_decl(alloc, table, decl, noted)?;
     }
@@ -153,7 +155,7 @@ fn note_blocks(
         (block_functions (map refine_of blocks.now))))
         noted.old noted.new) }
 {
-    noting_laws();
+    among_laws();
     for block in blocks {
         note_level(alloc, table, &block.decls, noted)?;
     }
@@ -170,7 +172,7 @@ pub(crate) fn note_functions(
         (design_functions (design_of design.now))))
         noted.old noted.new) }
 {
-    noting_laws();
+    among_laws();
     let mut table = NameTable::new(alloc);
     note_level(alloc, &mut table, &design.decls, noted)?;
     note_blocks(alloc, &mut table, &design.refines, noted)?;

@@ -4,12 +4,12 @@ ghost use Rattle.cocoon_syntax.specs.TreeOf.{design_of};
 ghost use Rattle.cocoon_types.specs.Noting.{Notes};
 ghost use Rattle.cocoon_types.specs.Rules.{fails_at, no_host, no_switch};
 ghost use Rattle.declarations.specs.Declares.{Declares};
-ghost use Rattle.name_rules.specs.Among.{among};
+ghost use Rattle.fault_notes.specs.Among.{among};
 
-use crate::noting::note_unless;
 use cocoon_syntax::Design;
 use cocoon_types::{Noted, TypeRule};
 use declarations::Declarations;
+use fault_notes::note_unless;
 
 /// Notes that no hosts are declared.
 pub(crate) fn note_no_host(names: &Declarations, design: &Design, noted: &mut Noted)

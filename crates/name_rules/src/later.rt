@@ -5,19 +5,19 @@ ghost use Rattle.cocoon_syntax.specs.TreeOf.{decl_of, design_of, refine_of};
 ghost use Rattle.cocoon_types.specs.Design.{as_host, as_switch};
 ghost use Rattle.cocoon_types.specs.Noting.{Notes};
 ghost use Rattle.cocoon_types.specs.Rules.{twice};
-ghost use Rattle.name_rules.specs.Among.{among, any_at, block_hosts, block_switches, host_places, hosts_twice, later, switch_places, switches_twice};
+ghost use Rattle.fault_notes.specs.Among.{among};
+ghost use Rattle.name_rules.specs.Among.{any_at, block_hosts, block_switches, host_places, hosts_twice, later, switch_places, switches_twice};
 
-use crate::noting::note_unless;
 use cocoon_syntax::{Decl, Design, Refine};
-use cocoon_types::first_faults::noting_laws;
 use cocoon_types::{Noted, TypeRule};
+use fault_notes::{among_laws, note_unless};
 
 /// Notes a token index, where one was found before; says whether one was found by now.
 fn note_later(found: bool, at: Option<u32>, noted: &mut Noted) -> bool
     ensures by_now { result ≡ (found || is_some at) }
     ensures notes { Notes (among twice (later found (option_to_list at))) noted.old noted.new }
 {
-    noting_laws();
+    among_laws();
     match at {
         Some(at) => {
             note_unless(noted, !found, TypeRule::Twice, at);
@@ -49,7 +49,7 @@ fn note_hosts_in(found: bool, decls: &[Decl], noted: &mut Noted)
     ensures { Notes (among twice (later found (flat_map host_places (map decl_of decls.now))))
         noted.old noted.new }
 {
-    noting_laws();
+    among_laws();
     let mut by_now = found;
     for decl in decls {
         by_now = note_later(by_now, host_in(decl), noted);
@@ -60,7 +60,7 @@ fn note_hosts_of(blocks: &[Refine], noted: &mut Noted)
     ensures { Notes (among twice (flat_map block_hosts (map refine_of blocks.now)))
         noted.old noted.new }
 {
-    noting_laws();
+    among_laws();
     for block in blocks {
         note_hosts_in(true, &block.decls, noted);
     }
@@ -70,7 +70,7 @@ fn note_hosts_of(blocks: &[Refine], noted: &mut Noted)
 pub(crate) fn note_hosts(design: &Design, noted: &mut Noted)
     ensures { Notes (among twice (hosts_twice (design_of design.now))) noted.old noted.new }
 {
-    noting_laws();
+    among_laws();
     note_hosts_in(false, &design.decls, noted);
     note_hosts_of(&design.refines, noted);
 }
@@ -81,7 +81,7 @@ fn note_switches_in(found: bool, decls: &[Decl], noted: &mut Noted) -> bool
         (flat_map switch_places (map decl_of decls.now))))
         noted.old noted.new }
 {
-    noting_laws();
+    among_laws();
     let mut by_now = found;
     for decl in decls {
         by_now = note_later(by_now, switch_in(decl), noted);
@@ -93,7 +93,7 @@ fn note_switches_of(found: bool, blocks: &[Refine], noted: &mut Noted)
     ensures { Notes (among twice (later found (flat_map block_switches (map refine_of blocks.now))))
         noted.old noted.new }
 {
-    noting_laws();
+    among_laws();
     let mut by_now = found;
     for block in blocks {
         by_now = note_switches_in(by_now, &block.decls, noted);
@@ -104,7 +104,7 @@ fn note_switches_of(found: bool, blocks: &[Refine], noted: &mut Noted)
 pub(crate) fn note_switches(design: &Design, noted: &mut Noted)
     ensures { Notes (among twice (switches_twice (design_of design.now))) noted.old noted.new }
 {
-    noting_laws();
+    among_laws();
     let found = note_switches_in(false, &design.decls, noted);
     note_switches_of(found, &design.refines, noted);
 }

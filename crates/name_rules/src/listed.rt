@@ -1,65 +1,36 @@
 //! Lists of blocks: names that stand twice, that are no roles of the level above, or that the block does not declare.
-ghost use Rattle.std.specs.Prelude.{◌≡◌, ◌&&◌, ◌+◌, [], ◌∷◌, ◌++◌, List, IfOk, OnOk, flat_map, map, option_map};
+ghost use Rattle.std.specs.Prelude.{[], ◌∷◌, ◌++◌, List, IfOk, OnOk, flat_map, map};
 ghost use Rattle.cocoon_num.specs.Tree.{Name as Called};
-ghost use Rattle.cocoon_syntax.specs.TreeOf.{decl_of, design_of, name_of, refine_of, role_of};
-ghost use Rattle.cocoon_types.specs.Design.{as_role};
+ghost use Rattle.cocoon_syntax.specs.TreeOf.{decl_of, design_of, name_of, refine_of};
 ghost use Rattle.cocoon_types.specs.NameRules.{not_refinable_in};
 ghost use Rattle.cocoon_types.specs.Noting.{Notes};
 ghost use Rattle.cocoon_types.specs.RuleParts.{blocks_from, repeated, role_names};
 ghost use Rattle.cocoon_types.specs.Rules.{fails_at, not_refinable};
 ghost use Rattle.declarations.specs.Declares.{Declares};
-ghost use Rattle.name_rules.specs.Among.{Seen, again, among, unrefinable};
+ghost use Rattle.fault_notes.specs.Among.{among};
+ghost use Rattle.name_rules.specs.Among.{Seen, unrefinable};
 
-use crate::noting::note_unless;
+use crate::again::note_again;
+use crate::levels::{next_level, role_in};
+use crate::truth::both_hold;
 use cocoon_num::NoMemory;
-use cocoon_syntax::{Decl, Design, Name, Refine, Role};
-use cocoon_types::first_faults::noting_laws;
+use cocoon_syntax::{Decl, Design, Name, Refine};
 use cocoon_types::{Noted, TypeRule};
 use declarations::{Declarations, NameTable};
+use fault_notes::{among_laws, note_unless};
 use std::alloc::Global;
-
-/// Notes a name that is in the table, and puts it there.
-fn note_again(
-    alloc: Global,
-    table: &mut NameTable,
-    name: &Name,
-    noted: &mut Noted,
-) -> Result<(), NoMemory>
-    ensures kept { (names : List Called) → Seen table.old names
-        → OnOk result (Seen table.new (names ++ name_of name.now ∷ [])) }
-    ensures notes { (names : List Called) → Seen table.old names
-        → Notes (among not_refinable (again names (name_of name.now))) noted.old noted.new }
-{
-    note_unless(
-        noted,
-        table.number(name.text.bytes()).is_none(),
-        TypeRule::NotRefinable,
-        name.at,
-    );
-    table.append(alloc, name.text.bytes())?;
-    Ok(())
-}
 
 /// Notes names that stand twice in the list of a block.
 fn note_listed(alloc: Global, roles: &[Name], noted: &mut Noted) -> Result<(), NoMemory>
     ensures { OnOk result (Notes (among not_refinable (repeated [] (map name_of roles.now)))
         noted.old noted.new) }
 {
-    noting_laws();
+    among_laws();
     let mut table = NameTable::new(alloc);
     for role in roles {
-        note_again(alloc, &mut table, role, noted)?;
+        note_again(alloc, &mut table, TypeRule::NotRefinable, role, noted)?;
     }
     Ok(())
-}
-
-fn role_in<'d>(decl: &'d Decl) -> Option<&'d Role>
-    ensures { option_map (λ r. role_of r.now) result ≡ as_role (decl_of decl.now) }
-{
-    match decl {
-        Decl::Role(role) => Some(role),
-        _ => None,
-    }
 }
 
 /// Puts the role into the table, if the declaration is one.
@@ -85,12 +56,6 @@ fn declared(alloc: Global, decls: &[Decl]) -> Result<NameTable, NoMemory>
     Ok(table)
 }
 
-fn both_hold(first: bool, second: bool) -> bool
-    ensures { result ≡ (first && second) }
-{
-    first && second
-}
-
 /// Notes names of a list that are no roles of the level above, or not in the table.
 fn note_unrefinable(
     names: &Declarations,
@@ -106,7 +71,7 @@ fn note_unrefinable(
         (flat_map (unrefinable (design_of design.now) above declared) (map name_of roles.now)))
         noted.old noted.new }
 {
-    noting_laws();
+    among_laws();
     for role in roles {
         let there = names.role_at(design, role.text.bytes(), above).is_some();
         let again = table.number(role.text.bytes()).is_some();
@@ -129,17 +94,11 @@ fn note_block(
         (not_refinable_in (design_of design.now) above (refine_of block.now)))
         noted.old noted.new) }
 {
-    noting_laws();
+    among_laws();
     note_listed(alloc, &block.roles, noted)?;
     let table = declared(alloc, &block.decls)?;
     note_unrefinable(names, design, above, &table, &block.roles, noted);
     Ok(())
-}
-
-fn next(number: u32) -> Result<u32, NoMemory>
-    ensures { IfOk result (λ next. next ≡ number + 1) }
-{
-    number.checked_add(1).ok_or(NoMemory)
 }
 
 fn note_blocks(
@@ -154,11 +113,11 @@ fn note_blocks(
         (blocks_from (not_refinable_in (design_of design.now)) 0 (map refine_of blocks.now)))
         noted.old noted.new) }
 {
-    noting_laws();
+    among_laws();
     let mut above = 0u32;
     for block in blocks {
         note_block(alloc, names, design, above, block, noted)?;
-        above = next(above)?;
+        above = next_level(above)?;
     }
     Ok(())
 }

@@ -4,13 +4,14 @@ ghost use Rattle.cocoon_syntax.specs.TreeOf.{decl_of, design_of, param_of, refin
 ghost use Rattle.cocoon_types.specs.Noting.{Notes};
 ghost use Rattle.cocoon_types.specs.Rules.{twice};
 ghost use Rattle.cocoon_types.specs.Sites.{params_of};
-ghost use Rattle.name_rules.specs.Among.{among, params_twice, repeated_in_block, repeated_params};
+ghost use Rattle.fault_notes.specs.Among.{among};
+ghost use Rattle.name_rules.specs.Among.{params_twice, repeated_in_block, repeated_params};
 
 use crate::again::note_params;
 use cocoon_num::NoMemory;
 use cocoon_syntax::{Decl, Design, Param, Refine};
 use cocoon_types::Noted;
-use cocoon_types::first_faults::noting_laws;
+use fault_notes::among_laws;
 use std::alloc::Global;
 
 /// The parameters of a declaration.
@@ -30,7 +31,7 @@ fn note_in_level(alloc: Global, decls: &[Decl], noted: &mut Noted) -> Result<(),
     ensures { OnOk result (Notes (among twice (flat_map repeated_params (map decl_of decls.now)))
         noted.old noted.new) }
 {
-    noting_laws();
+    among_laws();
     for decl in decls {
         note_params(alloc, params_in(decl), noted)?;
     }
@@ -42,7 +43,7 @@ fn note_in_blocks(alloc: Global, blocks: &[Refine], noted: &mut Noted) -> Result
         (flat_map repeated_in_block (map refine_of blocks.now)))
         noted.old noted.new) }
 {
-    noting_laws();
+    among_laws();
     for block in blocks {
         note_in_level(alloc, &block.decls, noted)?;
     }
@@ -58,7 +59,7 @@ pub(crate) fn note_all_params(
     ensures { OnOk result (Notes (among twice (params_twice (design_of design.now)))
         noted.old noted.new) }
 {
-    noting_laws();
+    among_laws();
     note_in_level(alloc, &design.decls, noted)?;
     note_in_blocks(alloc, &design.refines, noted)?;
     Ok(())

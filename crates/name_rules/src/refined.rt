@@ -4,13 +4,13 @@ ghost use Rattle.cocoon_syntax.specs.TreeOf.{design_of, name_of, refine_of};
 ghost use Rattle.cocoon_types.specs.Noting.{Notes};
 ghost use Rattle.cocoon_types.specs.Rules.{fails_at, sink_refined};
 ghost use Rattle.declarations.specs.Declares.{Declares};
-ghost use Rattle.name_rules.specs.Among.{among, sink_in, unless_other};
+ghost use Rattle.fault_notes.specs.Among.{among};
+ghost use Rattle.name_rules.specs.Among.{sink_in, unless_other};
 
-use crate::noting::note_unless;
 use cocoon_syntax::{Design, Name, Refine};
-use cocoon_types::first_faults::noting_laws;
 use cocoon_types::{Noted, TypeRule};
 use declarations::Declarations;
+use fault_notes::{among_laws, note_unless};
 
 /// Notes the sink in the list of one block.
 fn note_sink_in(sink: &Name, roles: &[Name], noted: &mut Noted)
@@ -18,7 +18,7 @@ fn note_sink_in(sink: &Name, roles: &[Name], noted: &mut Noted)
         (flat_map (unless_other (name_of sink.now)) (map name_of roles.now)))
         noted.old noted.new }
 {
-    noting_laws();
+    among_laws();
     for role in roles {
         let other = role.text.bytes() != sink.text.bytes();
         note_unless(noted, other, TypeRule::SinkRefined, role.at);
@@ -31,7 +31,7 @@ fn note_sink(sink: &Name, blocks: &[Refine], noted: &mut Noted)
         (flat_map (sink_in (name_of sink.now)) (map refine_of blocks.now)))
         noted.old noted.new }
 {
-    noting_laws();
+    among_laws();
     for block in blocks {
         note_sink_in(sink, &block.roles, noted);
     }
@@ -43,7 +43,7 @@ pub(crate) fn note_sink_refined(names: &Declarations, design: &Design, noted: &m
     ensures { Notes (among sink_refined (fails_at sink_refined (design_of design.now)))
         noted.old noted.new }
 {
-    noting_laws();
+    among_laws();
     match names.host(design) {
         Some(host) => note_sink(&host.sink, &design.refines, noted),
         None => (),

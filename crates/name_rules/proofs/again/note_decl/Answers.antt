@@ -4,8 +4,8 @@ use Rattle.cocoon_syntax.specs.TreeOf.{decl_of, function_of}
 use Rattle.cocoon_types.specs.Noting.{Notes}
 use Rattle.cocoon_types.specs.Rules.{twice}
 use Rattle.cocoon_types.specs.RuleParts.{repeated}
-use Rattle.name_rules.specs.Among.{Seen, again, among}
-use Rattle.name_rules.proofs.AmongFacts.{notes-none}
+use Rattle.fault_notes.specs.Among.{among}
+use Rattle.name_rules.specs.Among.{Seen, again}
 use Rattle.name_rules.proofs.AgainFacts.{one-function, no-function}
 use Rattle.name_rules.proofs.again.note_decl.Goals as goal
 
@@ -25,5 +25,5 @@ returns-in-None c =
     let none = no-function (decl_of c.args.decl.now) found in
     record {
       kept = λ names h. subst (λ l. Seen c.args.table.now (names ++ l)) (sym none) (subst (Seen c.args.table.now) (sym (append-nil names)) h);
-      notes = λ names h. subst (λ l. Notes (among twice (repeated names l)) c.args.noted.now c.args.noted.now) (sym none) (notes-none c.noting_laws.ensures twice c.args.noted.now);
+      notes = λ names h. subst (λ l. Notes (among twice (repeated names l)) c.args.noted.now c.args.noted.now) (sym none) (c.among_laws.ensures.none twice c.args.noted.now);
     }

@@ -4,7 +4,8 @@ use Rattle.cocoon_syntax.specs.TreeOf.{decl_of}
 use Rattle.cocoon_types.specs.Noting.{Notes}
 use Rattle.cocoon_types.specs.Rules.{twice}
 use Rattle.cocoon_types.specs.RuleParts.{repeated}
-use Rattle.name_rules.specs.Among.{Seen, among, function_names}
+use Rattle.fault_notes.specs.Among.{among}
+use Rattle.name_rules.specs.Among.{Seen, function_names}
 use Rattle.name_rules.proofs.again.note_level.Given as goal
 
 abbrev pub invariant-loop-decl : goal.invariant-loop-decl

@@ -3,9 +3,8 @@ use Rattle.cocoon_syntax.specs.TreeOf.{design_of, refine_of}
 use Rattle.cocoon_types.specs.Noting.{Notes}
 use Rattle.cocoon_types.specs.Rules.{not_refinable}
 use Rattle.cocoon_types.specs.RuleParts.{blocks_from}
-use Rattle.name_rules.specs.Among.{among}
 use Rattle.cocoon_types.specs.NameRules.{not_refinable_in}
-use Rattle.name_rules.proofs.AmongFacts.{notes-append}
+use Rattle.fault_notes.specs.Among.{among}
 use Rattle.name_rules.proofs.ListedFacts.{blocks-more}
 use Rattle.name_rules.proofs.listed.note_blocks.Goals as goal
 
@@ -13,6 +12,6 @@ pub loop-block-preserved : goal.loop-block-preserved
 loop-block-preserved c = record {
   above = omega (arith, c.in_ok-above.ensures, c.loop-block.invariant.above);
   notes = subst (λ l. Notes (among not_refinable l) c.args.noted.now c.note_block.new.noted)
-      (sym (blocks-more (not_refinable_in (design_of c.args.design.now)) refine_of c.args.blocks.now c.loop-block.block-index c.loop-block.above c.block-item.result c.loop-block-test.true c.block-item.is c.loop-block.invariant.above))
-      (notes-append c.noting_laws.ensures not_refinable (blocks_from (not_refinable_in (design_of c.args.design.now)) 0 (map refine_of (take c.loop-block.block-index c.args.blocks.now))) (not_refinable_in (design_of c.args.design.now) c.loop-block.above (refine_of c.block-item.result)) c.args.noted.now c.loop-block.noted c.note_block.new.noted c.loop-block.invariant.notes c.in_ok-note_block.ensures);
+      (sym (blocks-more (not_refinable_in (design_of c.args.design.now)) 0 refine_of c.args.blocks.now c.loop-block.block-index c.loop-block.above c.block-item.result c.loop-block-test.true c.block-item.is (omega (arith, c.loop-block.invariant.above))))
+      (c.among_laws.ensures.append not_refinable (blocks_from (not_refinable_in (design_of c.args.design.now)) 0 (map refine_of (take c.loop-block.block-index c.args.blocks.now))) (not_refinable_in (design_of c.args.design.now) c.loop-block.above (refine_of c.block-item.result)) c.args.noted.now c.loop-block.noted c.note_block.new.noted c.loop-block.invariant.notes c.in_ok-note_block.ensures);
 }

@@ -3,18 +3,19 @@ use Rattle.cocoon_syntax.specs.TreeOf.{design_of, name_of, role_of}
 use Rattle.cocoon_types.specs.Noting.{Notes}
 use Rattle.cocoon_types.specs.Rules.{not_refinable}
 use Rattle.cocoon_types.specs.RuleParts.{unless}
-use Rattle.name_rules.specs.Among.{among, unrefinable}
-use Rattle.name_rules.proofs.AmongFacts.{notes-none, notes-more, some-map}
+use Rattle.fault_notes.specs.Among.{among}
+use Rattle.name_rules.specs.Among.{unrefinable}
+use Rattle.name_rules.proofs.AmongFacts.{notes-more, some-map}
 use Rattle.name_rules.proofs.AgainFacts.{seen-found}
 use Rattle.cocoon_types.specs.Design.{role_at}
 use Rattle.declarations.specs.NameNumbers.{number_of}
 use Rattle.name_rules.proofs.listed.note_unrefinable.Goals as goal
 
 pub loop-role-init : goal.loop-role-init
-loop-role-init c = λ declared h. notes-none c.noting_laws.ensures not_refinable c.args.noted.now
+loop-role-init c = λ declared h. c.among_laws.ensures.none not_refinable c.args.noted.now
 
 pub loop-role-preserved : goal.loop-role-preserved
-loop-role-preserved c = λ declared h. notes-more c.noting_laws.ensures not_refinable (unrefinable (design_of c.args.design.now) c.args.above declared) name_of c.args.roles.now c.loop-role.role-index c.role-item.result c.args.noted.now c.loop-role.noted c.note_unless.new.noted c.loop-role-test.true c.role-item.is (c.loop-role.invariant declared h)
+loop-role-preserved c = λ declared h. notes-more c.among_laws.ensures not_refinable (unrefinable (design_of c.args.design.now) c.args.above declared) name_of c.args.roles.now c.loop-role.role-index c.role-item.result c.args.noted.now c.loop-role.noted c.note_unless.new.noted c.loop-role-test.true c.role-item.is (c.loop-role.invariant declared h)
     (subst (λ b. Notes (among not_refinable (unless b c.role-item.result.at)) c.loop-role.noted c.note_unless.new.noted)
     (c.both_hold-refinable.ensures ∙ ap₂ (λ a b. a && b)
     (c.is_some-there.ensures ∙ some-map (λ r. role_of r.now) c.role_at.result (role_at c.args.above (design_of c.args.design.now) c.bytes.result.now) c.role_at.ensures ∙ ap (λ x. is_some (role_at c.args.above (design_of c.args.design.now) x)) c.bytes.ensures)

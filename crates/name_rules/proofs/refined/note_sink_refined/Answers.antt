@@ -3,8 +3,8 @@ use Rattle.std.specs.Prelude.{option_map, flat_map}
 use Rattle.cocoon_syntax.specs.TreeOf.{design_of, host_of, name_of, refine_of}
 use Rattle.cocoon_types.specs.Noting.{Notes}
 use Rattle.cocoon_types.specs.Rules.{sink_refined}
-use Rattle.name_rules.specs.Among.{among, sink_in}
-use Rattle.name_rules.proofs.AmongFacts.{notes-none}
+use Rattle.fault_notes.specs.Among.{among}
+use Rattle.name_rules.specs.Among.{sink_in}
 use Rattle.name_rules.proofs.AgainFacts.{sink-all, sink-none}
 use Rattle.name_rules.proofs.refined.note_sink_refined.Goals as goal
 
@@ -17,4 +17,4 @@ returns-in-Some c =
 pub returns-in-None : goal.returns-in-None
 returns-in-None c =
     let found = sym c.host.ensures ∙ ap (option_map (λ h. host_of h.now)) c.in-None.is in
-    subst (λ l. Notes (among sink_refined l) c.args.noted.now c.args.noted.now) (sink-none (design_of c.args.design.now) found) (notes-none c.noting_laws.ensures sink_refined c.args.noted.now)
+    subst (λ l. Notes (among sink_refined l) c.args.noted.now c.args.noted.now) (sink-none (design_of c.args.design.now) found) (c.among_laws.ensures.none sink_refined c.args.noted.now)

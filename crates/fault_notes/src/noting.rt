@@ -1,18 +1,25 @@
-//! Faults that are noted where a test fails.
+//! What notes a fault where a test fails, and the laws on lists of token indexes.
 ghost use Rattle.cocoon_types.specs.Noting.{Notes};
 ghost use Rattle.cocoon_types.specs.RuleNames.{rule_of};
 ghost use Rattle.cocoon_types.specs.RuleParts.{unless};
-ghost use Rattle.name_rules.specs.Among.{among};
+ghost use Rattle.fault_notes.specs.Among.{among, AmongLaws};
 
 use cocoon_types::first_faults::noting_laws;
 use cocoon_types::{Noted, TypeRule};
 
 /// Notes the fault of a rule at a token index, unless a test holds.
-pub(crate) fn note_unless(noted: &mut Noted, holds: bool, rule: TypeRule, at: u32)
+pub fn note_unless(noted: &mut Noted, holds: bool, rule: TypeRule, at: u32)
     ensures { Notes (among (rule_of rule) (unless holds at)) noted.old noted.new }
 {
     noting_laws();
     if !holds {
         noted.note(rule, at);
     }
+}
+
+/// What is noted of lists of token indexes is put together by these laws.
+pub fn among_laws()
+    ensures { AmongLaws }
+{
+    noting_laws();
 }

@@ -1,0 +1,7 @@
+//! Faults of a rule are noted where a test fails: [`note_unless`]. What is noted of several lists of token indexes is put
+//! together by [`among_laws`].
+#![tactic(auto)]
+
+pub mod noting;
+
+pub use noting::{among_laws, note_unless};
