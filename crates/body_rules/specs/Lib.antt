@@ -1,0 +1,4 @@
+pub mod BodyFaults
+pub mod Stmts
+pub mod Tested
+pub mod Walked
