@@ -1,0 +1,5 @@
+mod Phases
+mod Levels
+mod Widths
+mod Bounds
+mod Rows

@@ -1,0 +1,4 @@
+pub mod Resolved
+pub mod RuleTexts
+pub mod Readers
+pub mod Kept
