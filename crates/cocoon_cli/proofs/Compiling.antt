@@ -1,7 +1,10 @@
 -- What `compile` does, put together from its parts.
 use Rattle.std.proofs.Common.{◌≡◌, ◌≤◌, ◌<◌, ℕ, zero, suc, List, [], ◌∷◌, length, replicate, Option, Some, None, Result, Ok, Err, IsErrAnd, refl, sym, ap, subst, ◌∙◌, inl, inr, arith}
 use Rattle.cocoon_io.specs.Files.{Files}
+use Rattle.cocoon_num.specs.Reads.{Reads}
 use Rattle.cocoon_num.specs.Tree as tree
+use Rattle.cocoon_text.specs.Positions.{token_position}
+use Rattle.cocoon_text.specs.declared.position.Position.{Position}
 use Rattle.p4_ir.specs.NetTree.{NetData}
 use Rattle.net_bundle.specs.Bundle.{bundle}
 use Rattle.net_bundle.specs.Writing.{AllFit, ContentHolds, NamesFailure as BundleNamesFailure, NotWritten, SomeWritten, StopsAt, most_of, with_files}
@@ -9,7 +12,7 @@ use Rattle.net_bundle.specs.declared.fault.BundleFault.{BundleFault}
 use Rattle.net_bundle.specs.declared.fault.BundleFault.TheVariants as fault
 use Rattle.cocoon_cli.specs.declared.files.CommandFile.{CommandFile}
 use Rattle.cocoon_cli.specs.declared.files.CommandFile.TheVariants.{Design, Definitions, Bundle}
-use Rattle.cocoon_cli.specs.declared.refusal.InputFault.TheVariants.{NoTree, NotYet}
+use Rattle.cocoon_cli.specs.declared.refusal.InputFault.TheVariants.{NoTree, Rule, NotYet}
 use Rattle.cocoon_cli.specs.declared.refusal.Refusal.{Refusal}
 use Rattle.cocoon_cli.specs.declared.refusal.Refusal.TheVariants as refusal
 use Rattle.cocoon_cli.specs.declared.report.Report.{Report}
@@ -19,8 +22,8 @@ use Rattle.cocoon_cli.specs.FileNames.{name_in}
 use Rattle.cocoon_cli.specs.Leaves.{LeavesRefused, MayWriteFiles}
 use Rattle.cocoon_cli.specs.Reading.{HasFile, LacksFile, HasLongFile, FileNotRead, NamesReadFailure, bundle_refusal}
 use Rattle.cocoon_cli.specs.Run.{inputs_of, InputsAre, NamesFailure, Performs}
-use Rattle.cocoon_cli.specs.Steps.{Inputs, Step, is_there, is_within, design_reads, design_accepted, definitions_read, definitions_accepted, bundle_within, bundle_written, design_most, definitions_most, DesignIs, DefinitionsAre, Makes, MakesFiles, totals_of, AnswersFrom, Answers}
-use Rattle.cocoon_cli.specs.LowerTexts.{ReadsAccepted, LowersTexts, NotLowered}
+use Rattle.cocoon_cli.specs.Steps.{Inputs, Step, is_there, is_within, design_reads, design_well_formed, design_within, design_accepted, definitions_read, definitions_accepted, bundle_within, bundle_written, design_most, definitions_most, DesignIs, DefinitionsAre, Makes, MakesFiles, totals_of, AnswersFrom, Answers}
+use Rattle.cocoon_cli.specs.LowerTexts.{ReadsChecked, ReadsAccepted, LowersTexts, NotLowered}
 
 -- ---- what is read
 
@@ -81,9 +84,15 @@ defs_long d e o (Some files) x h = record { bytes = h.0; are = h.1; long = h.2 }
 
 -- ---- the steps
 
--- the steps from the definitions on, and from the texts on
+-- the steps from an accepted design on, from one that keeps the rules and the limits, from the texts, and from the definitions
+abbrev accepted : List Step
+accepted = definitions_read ∷ definitions_accepted ∷ bundle_within ∷ bundle_written ∷ []
+
+abbrev checked : List Step
+checked = design_accepted ∷ accepted
+
 abbrev later : List Step
-later = design_reads ∷ design_accepted ∷ definitions_read ∷ definitions_accepted ∷ bundle_within ∷ bundle_written ∷ []
+later = design_reads ∷ design_well_formed ∷ design_within ∷ checked
 
 abbrev second : List Step
 second = is_there Definitions ∷ is_within Definitions definitions_most ∷ later
@@ -218,37 +227,45 @@ answers_both : (d e o : List ℕ) (before : Option Files) (x y : List ℕ) (outc
 answers_both d e o before x y outcome g rest =
     after_both d e o (both d e o before x y) x y outcome (both_design d e o before x y g) g.design_short (both_defs d e o before x y g) g.defs_short rest
 
-abbrev is_design : (d e o : List ℕ) (before : Option Files) (x y : List ℕ) (t : tree.Design) → HasBoth before d e x y → ReadsAccepted x t → DesignIs (both d e o before x y) t
-is_design d e o before x y t g h = record { text = x; is = both_design d e o before x y g; reads = h.reads }
+abbrev is_design : (d e o : List ℕ) (before : Option Files) (x y : List ℕ) (t : tree.Design) → HasBoth before d e x y → Reads x t → DesignIs (both d e o before x y) t
+is_design d e o before x y t g h = record { text = x; is = both_design d e o before x y g; reads = h }
+
+-- the steps on the design up to its limits are good, and up to its being taken
+answers_checked : (d e o : List ℕ) (before : Option Files) (x y : List ℕ) (t : tree.Design) (outcome : Result Report Refusal) → HasBoth before d e x y → ReadsChecked x t
+    → AnswersFrom (compile d e o) (both d e o before x y) checked outcome → Answers (compile d e o) (both d e o before x y) outcome
+answers_checked d e o before x y t outcome g h rest =
+    let is = is_design d e o before x y t g h.reads in
+    answers_both d e o before x y outcome g (inr ((t, is), inr ((t, is, h.resolves.rules), inr ((t, is, h.resolves.limits), rest))))
+
+answers_accepted : (d e o : List ℕ) (before : Option Files) (x y : List ℕ) (t : tree.Design) (outcome : Result Report Refusal) → HasBoth before d e x y → ReadsAccepted x t
+    → AnswersFrom (compile d e o) (both d e o before x y) accepted outcome → Answers (compile d e o) (both d e o before x y) outcome
+answers_accepted d e o before x y t outcome g h rest =
+    answers_checked d e o before x y t outcome g h.checked (inr ((t, is_design d e o before x y t g h.checked.reads, h.accepts), rest))
 
 texts_answer : (d e o : List ℕ) (before : Option Files) (x y : List ℕ) (r : Refusal) → HasBoth before d e x y → NotLowered x y r → Answers (compile d e o) (both d e o before x y) (Err r)
 texts_answer d e o before x y (refusal.Language (NoTree f)) g h =
     answers_both d e o before x y _ g (inl (refusal.Language (NoTree f), inl (x, f, both_design d e o before x y g, h, refl), refl))
+texts_answer d e o before x y (refusal.Language (Rule rule p)) g h =
+    let is = is_design d e o before x y h.0 g h.2 in
+    answers_both d e o before x y _ g (inr (
+      (h.0, is),
+      inl (
+        refusal.Language (Rule rule (token_position x h.1)),
+        inl (h.0, rule, h.1, is, h.3, refl),
+        ap (λ (q : Position). Err (refusal.Language (Rule rule q))) h.4,
+      ),
+    ))
 texts_answer d e o before x y (refusal.Language NotYet) g h =
-    let t : DesignIs (both d e o before x y) h.0 = record { text = x; is = both_design d e o before x y g; reads = h.1 } in
-    answers_both d e o before x y _ g (inr ((h.0, t), inl (refusal.Language NotYet, inl (h.0, t, h.2, refl), refl)))
+    answers_checked d e o before x y h.0 _ g h.1 (inl (refusal.Language NotYet, inl (h.0, is_design d e o before x y h.0 g h.1.reads, h.2, refl), refl))
+texts_answer d e o before x y (refusal.OverLimit l n) g h =
+    let is = is_design d e o before x y h.0 g h.1 in
+    answers_both d e o before x y _ g (inr ((h.0, is), inr ((h.0, is, h.2), inl (refusal.OverLimit l n, inl (h.0, l, n, is, h.3, refl), refl))))
 texts_answer d e o before x y (refusal.Definitions (NoTree f)) g h =
-    let t = is_design d e o before x y h.0 g h.1 in
-    answers_both d e o before x y _ g (inr (
-      (h.0, t),
-      inr (
-        (h.0, t, h.1.accepts),
-        inl (refusal.Definitions (NoTree f), inl (y, f, both_defs d e o before x y g, h.2, refl), refl),
-      ),
-    ))
+    answers_accepted d e o before x y h.0 _ g h.1 (inl (refusal.Definitions (NoTree f), inl (y, f, both_defs d e o before x y g, h.2, refl), refl))
 texts_answer d e o before x y (refusal.Definitions NotYet) g h =
-    let t = is_design d e o before x y h.0 g h.2 in
+    let t = is_design d e o before x y h.0 g h.2.checked.reads in
     let u : DefinitionsAre (both d e o before x y) h.1 = record { text = y; are = both_defs d e o before x y g; read = h.3 } in
-    answers_both d e o before x y _ g (inr (
-      (h.0, t),
-      inr (
-        (h.0, t, h.2.accepts),
-        inr (
-          (h.1, u),
-          inl (refusal.Definitions NotYet, inl (h.0, h.1, t, u, h.4, refl), refl),
-        ),
-      ),
-    ))
+    answers_accepted d e o before x y h.0 _ g h.2 (inr ((h.1, u), inl (refusal.Definitions NotYet, inl (h.0, h.1, t, u, h.4, refl), refl)))
 texts_answer d e o before x y refusal.NoMemory g h = inl refl
 texts_answer d e o before x y r g h = absurd h
 
@@ -263,6 +280,7 @@ texts_refused d e o before after x y r same g h = record {
     leaves : (r : Refusal) → NotLowered x y r → LeavesRefused (compile d e o) (both d e o before x y) before after r
     leaves (refusal.Language f) h = same
     leaves (refusal.Definitions f) h = same
+    leaves (refusal.OverLimit l n) h = same
     leaves refusal.NoMemory h = inl same
     leaves r h = absurd h
 
@@ -272,7 +290,7 @@ abbrev makes : (d e o : List ℕ) (before : Option Files) (x y : List ℕ) (net 
 makes d e o before x y net g h = record {
   design = h.tree;
   defs = h.entries;
-  design_is = record { text = x; is = both_design d e o before x y g; reads = h.design_reads };
+  design_is = is_design d e o before x y h.tree g h.design_reads.checked.reads;
   defs_are = record { text = y; are = both_defs d e o before x y g; read = h.defs_read };
   lowers = h.lowers;
 }
@@ -285,7 +303,7 @@ answers_made : (d e o : List ℕ) (before : Option Files) (x y : List ℕ) (net 
     → AnswersFrom (compile d e o) (both d e o before x y) (bundle_within ∷ bundle_written ∷ []) outcome → Answers (compile d e o) (both d e o before x y) outcome
 answers_made d e o before x y net outcome g h rest =
     let m = makes d e o before x y net g h in
-    answers_both d e o before x y outcome g (inr ((h.tree, m.design_is), inr ((h.tree, m.design_is, h.accepts), inr ((h.entries, m.defs_are), inr ((net, m), rest)))))
+    answers_accepted d e o before x y h.tree outcome g h.design_reads (inr ((h.entries, m.defs_are), inr ((net, m), rest)))
 
 -- and all of them, where the files fit
 may_write : (d e o : List ℕ) (before : Option Files) (x y : List ℕ) (net : NetData) → HasBoth before d e x y → LowersTexts x y net → AllFit (bundle x net None)
@@ -294,8 +312,30 @@ may_write d e o before x y net g h fit =
     let m = makes d e o before x y net g h in
     let fs = makes_files d e o before x y net g h in
     let design = both_design d e o before x y g in
-    let defs = both_defs d e o before x y g in record {
-      good = ((x, design), ((x, design, g.design_short), ((y, defs), ((y, defs, g.defs_short), ((h.tree, m.design_is), ((h.tree, m.design_is, h.accepts), ((h.entries, m.defs_are), ((net, m), ((bundle x net None, fs, fit), (tt, tt))))))))));
+    let defs = both_defs d e o before x y g in
+    let rules = h.design_reads.checked.resolves in record {
+      good = (
+        (x, design),
+        (
+          (x, design, g.design_short),
+          (
+            (y, defs),
+            (
+              (y, defs, g.defs_short),
+              (
+                (h.tree, m.design_is),
+                (
+                  (h.tree, m.design_is, rules.rules),
+                  (
+                    (h.tree, m.design_is, rules.limits),
+                    ((h.tree, m.design_is, h.design_reads.accepts), ((h.entries, m.defs_are), ((net, m), ((bundle x net None, fs, fit), (tt, tt))))),
+                  ),
+                ),
+              ),
+            ),
+          ),
+        ),
+      );
       makes = fs;
       fit = fit;
     }

@@ -1,26 +1,34 @@
 -- By what is read of its files, a command has one outcome at most.
 use Rattle.std.proofs.Common.{◌≡◌, ◌≤◌, ◌<◌, ℕ, List, [], ◌∷◌, length, Option, Some, None, Result, Ok, Err, sym, ap, subst, ◌∙◌, inl, inr, arith}
 use Rattle.cocoon_num.specs.Tree as tree
+use Rattle.cocoon_num.specs.declared.limit_name.LimitName.{LimitName}
 use Rattle.cocoon_num.specs.Reads.{Reads, ReadsDefs}
 use Rattle.cocoon_num.specs.FirstFaults.{BeginsDesign, BeginsDefs}
+use Rattle.cocoon_text.specs.Positions.{token_position}
 use Rattle.cocoon_text.specs.TextFaults.{FirstFault}
 use Rattle.cocoon_text.specs.declared.fault.TextFault.{TextFault}
+use Rattle.cocoon_types.specs.FirstFault as rules
+use Rattle.cocoon_types.specs.Limits.{WithinLimits, FirstOver as LimitOver, reported}
+use Rattle.cocoon_types.specs.RuleNames.{fault_at}
+use Rattle.cocoon_types.specs.Rules.{WellFormed}
+use Rattle.cocoon_types.specs.declared.fault.TypeRule.{TypeRule}
 use Rattle.p4_ir.specs.NetTree.{NetData}
 use Rattle.net_bundle.specs.Bundle.{MadeFile, bundle}
 use Rattle.net_bundle.specs.Writing.{AllFit, FirstOver, most_of}
 use Rattle.net_bundle.specs.declared.file.BundleFile.{BundleFile}
 use Rattle.lower_p4.specs.Accepts.{Accepts, AcceptsDefs, Lowers}
 use Rattle.cocoon_cli.specs.declared.files.CommandFile.TheVariants.{Design, Definitions, Bundle}
-use Rattle.cocoon_cli.specs.declared.refusal.InputFault.TheVariants.{NoTree}
+use Rattle.cocoon_cli.specs.declared.refusal.InputFault.TheVariants.{NoTree, Rule}
 use Rattle.cocoon_cli.specs.declared.refusal.Refusal.{Refusal}
 use Rattle.cocoon_cli.specs.declared.refusal.Refusal.TheVariants as refusal
 use Rattle.cocoon_cli.specs.declared.report.Report.{Report}
 use Rattle.cocoon_cli.specs.declared.report.Report.TheVariants.{Compiled}
 use Rattle.command_line.specs.Command.{Command, compile}
-use Rattle.cocoon_cli.specs.Steps.{Inputs, Step, is_there, is_within, design_reads, design_accepted, definitions_read, definitions_accepted, bundle_within, bundle_written, steps, DesignIs, DefinitionsAre, Makes, MakesFiles, IsGood, Refuses, totals_of, Reports, HasOutcomeFrom, HasOutcome}
+use Rattle.cocoon_cli.proofs.RuleValues.{same_rule}
+use Rattle.cocoon_cli.specs.Steps.{Inputs, Step, is_there, is_within, design_reads, design_well_formed, design_within, design_accepted, definitions_read, definitions_accepted, bundle_within, bundle_written, steps, DesignIs, DefinitionsAre, Makes, MakesFiles, IsGood, Refuses, totals_of, Reports, HasOutcomeFrom, HasOutcome}
 
--- that texts have one tree or one first fault, and that the compiler makes one network of two trees
--- that it takes
+-- that texts have one tree or one first fault, that a design keeps the rules or breaks one first and so with the limits, and
+-- that the compiler makes one network of two trees that it takes
 pub record Laws : Type 0 where
   pub one_tree : (text : List ℕ) (x y : tree.Design) → Reads text x → Reads text y → x ≡ y
   pub one_defs_tree : (text : List ℕ) (x y : tree.DefsText) → ReadsDefs text x → ReadsDefs text y → x ≡ y
@@ -28,6 +36,10 @@ pub record Laws : Type 0 where
   pub one_defs_fault : (text : List ℕ) (f g : TextFault) → FirstFault BeginsDefs text f → FirstFault BeginsDefs text g → f ≡ g
   pub no_fault : (text : List ℕ) (d : tree.Design) (f : TextFault) → Reads text d → ¬ FirstFault BeginsDesign text f
   pub no_defs_fault : (text : List ℕ) (d : tree.DefsText) (f : TextFault) → ReadsDefs text d → ¬ FirstFault BeginsDefs text f
+  pub one_rule : (d : tree.Design) (f g : rules.Fault) → rules.FirstFault d f → rules.FirstFault d g → f ≡ g
+  pub no_rule : (d : tree.Design) (f : rules.Fault) → WellFormed d → ¬ rules.FirstFault d f
+  pub one_limit : (d : tree.Design) (x y : LimitName) (m n : ℕ) → LimitOver d x m → LimitOver d y n → (x ≡ y) × (m ≡ n)
+  pub no_limit : (d : tree.Design) (x : LimitName) (n : ℕ) → WithinLimits d → LimitOver d x n → ⊥
   pub one_net : (d : tree.Design) (e : tree.DefsText) (m n : NetData) → Lowers d e m → Lowers d e n → m ≡ n
   pub accepted : (d : tree.Design) (e : tree.DefsText) (n : NetData) → Lowers d e n → Accepts d × AcceptsDefs d e
 
@@ -58,7 +70,18 @@ same_files laws i fs gs a b =
     ∙ ap (λ (n : NetData). bundle b.makes.design_is.text n None) (same_net laws i a.net b.net a.makes b.makes)
     ∙ sym b.files_are
 
+-- ---- rules
+
+rule_at : (x y : TypeRule) (m n : ℕ) (s t : List ℕ) → fault_at x m ≡ fault_at y n → s ≡ t → refusal.Language (Rule x (token_position s m)) ≡ refusal.Language (Rule y (token_position t n))
+rule_at x y m n s t e f =
+    ap (λ (r : TypeRule). refusal.Language (Rule r (token_position s m))) (same_rule x y (ap (λ (z : rules.Fault). z.rule) e))
+    ∙ ap (λ (k : ℕ). refusal.Language (Rule y (token_position s k))) (ap (λ (z : rules.Fault). z.at) e)
+    ∙ ap (λ (b : List ℕ). refusal.Language (Rule y (token_position b n))) f
+
 -- ---- limits
+
+over_by : (x y : LimitName) (m n : ℕ) → x ≡ y → m ≡ n → refusal.OverLimit x m ≡ refusal.OverLimit y n
+over_by x y m n e f = ap (λ (l : LimitName). refusal.OverLimit l m) e ∙ ap (λ (k : ℕ). refusal.OverLimit y k) f
 
 one_over : (fs : List MadeFile) (f g : BundleFile) → FirstOver fs f → FirstOver fs g → f ≡ g
 one_over [] f g h k = absurd h
@@ -81,6 +104,14 @@ refuses_once laws i design_reads r q h k =
     let same : h.0 ≡ k.0 = same_bytes (i Design) h.0 k.0 h.2 k.2 in
     let one : h.1 ≡ k.1 = laws.one_fault k.0 h.1 k.1 (subst (λ (t : List ℕ). FirstFault BeginsDesign t h.1) same h.3) k.3 in
     h.4 ∙ ap (λ f. refusal.Language (NoTree f)) one ∙ sym k.4
+refuses_once laws i design_well_formed r q h k =
+    let same = same_design laws i h.0 k.0 h.3 k.3 in
+    let one = laws.one_rule k.0 (fault_at h.1 h.2) (fault_at k.1 k.2) (subst (λ (d : tree.Design). rules.FirstFault d (fault_at h.1 h.2)) same h.4) k.4 in
+    h.5 ∙ rule_at h.1 k.1 h.2 k.2 h.3.text k.3.text one (same_bytes (i Design) h.3.text k.3.text h.3.is k.3.is) ∙ sym k.5
+refuses_once laws i design_within r q h k =
+    let same = same_design laws i h.0 k.0 h.3 k.3 in
+    let one = laws.one_limit k.0 h.1 k.1 h.4.0 k.4.0 (subst (λ (d : tree.Design). LimitOver d h.1 h.4.0) same h.4.1) k.4.1 in
+    h.5 ∙ over_by h.1 k.1 h.2 k.2 one.0 (h.4.2 ∙ ap reported one.1 ∙ sym k.4.2) ∙ sym k.5
 refuses_once laws i design_accepted r q h k = h.3 ∙ sym k.3
 refuses_once laws i definitions_read r q h k =
     let same : h.0 ≡ k.0 = same_bytes (i Definitions) h.0 k.0 h.2 k.2 in
@@ -103,6 +134,8 @@ good_or_refused laws i (is_within file most) r g h =
 good_or_refused laws i design_reads r g h =
     let d = g.1 in
     laws.no_fault h.0 g.0 h.1 (subst (λ (t : List ℕ). Reads t g.0) (same_bytes (i Design) d.text h.0 d.is h.2) d.reads) h.3
+good_or_refused laws i design_well_formed r g h = laws.no_rule h.0 (fault_at h.1 h.2) (subst WellFormed (same_design laws i g.0 h.0 g.1 h.3) g.2) h.4
+good_or_refused laws i design_within r g h = laws.no_limit h.0 h.1 h.4.0 (subst WithinLimits (same_design laws i g.0 h.0 g.1 h.3) g.2) h.4.1
 good_or_refused laws i design_accepted r g h = h.2 (subst (λ (d : tree.Design). Accepts d) (same_design laws i g.0 h.0 g.1 h.1) g.2)
 good_or_refused laws i definitions_read r g h =
     let d = g.1 in

@@ -20,7 +20,7 @@ use Rattle.cocoon_cli.specs.Leaves.{Leaves, LeavesSome}
 use Rattle.cocoon_cli.specs.Report.{Ending, Puts, all, a_prefix, nothing, Prints, ending_of, no_memory, usage}
 use Rattle.cocoon_cli.specs.Run.{Call, Counted, Count, inputs_of, InputsAre, Performs, HasFault, Cause, CauseOf, LineNames, NamesFailure, EndsWith, Yields, to_read_fault, to_write_fault, to_no_memory, TheOutcome, OutcomeOf, DoneOf, LeavesOf, MayWrite, done, failed, UsageOf, Keeps}
 use Rattle.cocoon_cli.specs.Run as run
-use Rattle.cocoon_cli.specs.Steps.{Inputs, Step, is_there, is_within, design_reads, design_accepted, definitions_read, definitions_accepted, bundle_within, bundle_written, Reports, HasOutcomeFrom, HasOutcome, Stops, AnswersFrom, steps}
+use Rattle.cocoon_cli.specs.Steps.{Inputs, Step, is_there, is_within, design_reads, design_well_formed, design_within, design_accepted, definitions_read, definitions_accepted, bundle_within, bundle_written, Reports, HasOutcomeFrom, HasOutcome, Stops, AnswersFrom, steps}
 
 -- ---- what is printed
 
@@ -43,6 +43,8 @@ stopped : (i : Inputs) (s : Step) (r : Refusal) (outcome : Result Report Refusal
 stopped i (is_there file) r outcome h e = inl (file, e ∙ ap Err h)
 stopped i (is_within file most) r outcome h e = absurd h
 stopped i design_reads r outcome h e = absurd h
+stopped i design_well_formed r outcome h e = absurd h
+stopped i design_within r outcome h e = absurd h
 stopped i design_accepted r outcome h e = absurd h
 stopped i definitions_read r outcome h e = absurd h
 stopped i definitions_accepted r outcome h e = absurd h
@@ -113,6 +115,7 @@ never_usage c (Err (refusal.Definitions f)) e = cc
 never_usage c (Err (refusal.ReadFault f)) e = cc
 never_usage c (Err (refusal.WriteFault f)) e = cc
 never_usage c (Err (refusal.TooLong f n)) e = cc
+never_usage c (Err (refusal.OverLimit l m)) e = cc
 never_usage c (Err refusal.NoMemory) e = cc
 never_usage c (Err (refusal.NoFile f)) e = cc
 
@@ -132,6 +135,7 @@ is_read_fault c reads writes (Err (refusal.Definitions f)) h e = cc
 is_read_fault c reads writes (Err (refusal.ReadFault f)) h e = h
 is_read_fault c reads writes (Err (refusal.WriteFault f)) h e = cc
 is_read_fault c reads writes (Err (refusal.TooLong f n)) h e = cc
+is_read_fault c reads writes (Err (refusal.OverLimit l m)) h e = cc
 is_read_fault c reads writes (Err refusal.NoMemory) h e = cc
 is_read_fault c reads writes (Err (refusal.NoFile f)) h e = cc
 
@@ -142,6 +146,7 @@ is_write_fault c reads writes (Err (refusal.Definitions f)) h e = cc
 is_write_fault c reads writes (Err (refusal.ReadFault f)) h e = cc
 is_write_fault c reads writes (Err (refusal.WriteFault f)) h e = h
 is_write_fault c reads writes (Err (refusal.TooLong f n)) h e = cc
+is_write_fault c reads writes (Err (refusal.OverLimit l m)) h e = cc
 is_write_fault c reads writes (Err refusal.NoMemory) h e = cc
 is_write_fault c reads writes (Err (refusal.NoFile f)) h e = cc
 
@@ -208,6 +213,7 @@ read_line last c call (Err (refusal.Definitions f)) h e n = cc
 read_line last c call (Err (refusal.ReadFault f)) h e n = (f, h, n)
 read_line last c call (Err (refusal.WriteFault f)) h e n = cc
 read_line last c call (Err (refusal.TooLong f m)) h e n = cc
+read_line last c call (Err (refusal.OverLimit l m)) h e n = cc
 read_line last c call (Err refusal.NoMemory) h e n = cc
 read_line last c call (Err (refusal.NoFile f)) h e n = cc
 
@@ -218,6 +224,7 @@ write_line last c call (Err (refusal.Definitions f)) h e n = cc
 write_line last c call (Err (refusal.ReadFault f)) h e n = cc
 write_line last c call (Err (refusal.WriteFault f)) h e n = (f, h, n)
 write_line last c call (Err (refusal.TooLong f m)) h e n = cc
+write_line last c call (Err (refusal.OverLimit l m)) h e n = cc
 write_line last c call (Err refusal.NoMemory) h e n = cc
 write_line last c call (Err (refusal.NoFile f)) h e n = cc
 
@@ -254,6 +261,7 @@ done_ok c call (Err (refusal.Definitions f)) performs d n = cc
 done_ok c call (Err (refusal.ReadFault f)) performs d n = cc
 done_ok c call (Err (refusal.WriteFault f)) performs d n = cc
 done_ok c call (Err (refusal.TooLong f m)) performs d n = cc
+done_ok c call (Err (refusal.OverLimit l m)) performs d n = cc
 done_ok c call (Err refusal.NoMemory) performs d n = cc
 done_ok c call (Err (refusal.NoFile f)) performs d n = cc
 
@@ -280,6 +288,7 @@ same_or_writes (compile d e o) i before after (Err (refusal.Definitions f)) h = 
 same_or_writes (compile d e o) i before after (Err (refusal.ReadFault f)) h = inr h
 same_or_writes (compile d e o) i before after (Err (refusal.WriteFault f)) h = inl (failed refl)
 same_or_writes (compile d e o) i before after (Err (refusal.TooLong f n)) h = inr h
+same_or_writes (compile d e o) i before after (Err (refusal.OverLimit l m)) h = inr h
 same_or_writes (compile d e o) i before after (Err refusal.NoMemory) h = inl (run.no_memory refl)
 same_or_writes (compile d e o) i before after (Err (refusal.NoFile f)) h = inr h
 
@@ -316,6 +325,7 @@ leaves_some (compile d e o) i before after (Err (refusal.WriteFault Design)) h =
 leaves_some (compile d e o) i before after (Err (refusal.WriteFault Definitions)) h = inl h
 leaves_some (compile d e o) i before after (Err (refusal.WriteFault (BundleOf file))) (fs, m, s) = inr (fs, m, stopped_some o fs file before after s)
 leaves_some (compile d e o) i before after (Err (refusal.TooLong f n)) h = inl h
+leaves_some (compile d e o) i before after (Err (refusal.OverLimit l m)) h = inl h
 leaves_some (compile d e o) i before after (Err refusal.NoMemory) h = h
 leaves_some (compile d e o) i before after (Err (refusal.NoFile f)) h = inl h
 
@@ -363,6 +373,7 @@ headline_of c call (Err (refusal.Definitions f)) prints h d = let e : ◌≡◌ 
 headline_of c call (Err (refusal.ReadFault f)) prints h d = let e : ◌≡◌ {A = Status} ReadFault Done = (done_printed call _ prints d).0 in cc
 headline_of c call (Err (refusal.WriteFault f)) prints h d = let e : ◌≡◌ {A = Status} WriteFault Done = (done_printed call _ prints d).0 in cc
 headline_of c call (Err (refusal.TooLong f n)) prints h d = let e : ◌≡◌ {A = Status} Limit Done = (done_printed call _ prints d).0 in cc
+headline_of c call (Err (refusal.OverLimit l m)) prints h d = let e : ◌≡◌ {A = Status} Limit Done = (done_printed call _ prints d).0 in cc
 headline_of c call (Err refusal.NoMemory) prints h d = let e : ◌≡◌ {A = Status} NoMemory Done = (done_printed call _ prints d).0 in cc
 headline_of c call (Err (refusal.NoFile f)) prints h d = let e : ◌≡◌ {A = Status} NoFile Done = (done_printed call _ prints d).0 in cc
 

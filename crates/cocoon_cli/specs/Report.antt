@@ -3,12 +3,16 @@
 -- docs/FORMATS.md.
 use Rattle.std.specs.Prelude.{◌≡◌, ◌⊎◌, ℕ, List, ◌++◌, Option, Result, Ok, Err, codes, decimal}
 use Rattle.cocoon_io.specs.Calls.{appended, AppendsPrefix}
+use Rattle.cocoon_num.specs.LimitNames.{limit_text}
+use Rattle.cocoon_num.specs.declared.limit_name.LimitName.{LimitName}
+use Rattle.cocoon_resolve.specs.RuleTexts.{rule_text}
 use Rattle.cocoon_text.specs.TextFaults.{kind_name}
+use Rattle.cocoon_types.specs.Limits.{most}
 use Rattle.cocoon_cli.specs.declared.files.CommandFile.TheVariants.{Design, Definitions}
 use Rattle.cocoon_cli.specs.declared.status.Status.{Status}
 use Rattle.cocoon_cli.specs.declared.status.Status.TheVariants as status
 use Rattle.cocoon_cli.specs.declared.refusal.InputFault.{InputFault}
-use Rattle.cocoon_cli.specs.declared.refusal.InputFault.TheVariants.{NoTree, NotYet}
+use Rattle.cocoon_cli.specs.declared.refusal.InputFault.TheVariants.{NoTree, Rule, NotYet}
 use Rattle.cocoon_cli.specs.declared.refusal.Refusal.{Refusal}
 use Rattle.cocoon_cli.specs.declared.refusal.Refusal.TheVariants as refusal
 use Rattle.cocoon_cli.specs.declared.report.Totals.{Totals}
@@ -27,16 +31,19 @@ pub record Ending : Type 0 where
 -- the line of its position
 abbrev pub line_number : InputFault → ℕ
 line_number (NoTree f) = f.line
+line_number (Rule rule position) = position.line
 line_number NotYet = 1
 
 -- its column
 abbrev pub column_number : InputFault → ℕ
 column_number (NoTree f) = f.column
+column_number (Rule rule position) = position.column
 column_number NotYet = 1
 
 -- its name
 abbrev pub fault_name : InputFault → List ℕ
 fault_name (NoTree f) = kind_name f.kind
+fault_name (Rule rule position) = rule_text rule
 fault_name NotYet = codes "NotYet"
 
 -- PREFIX FILE LINE:COLUMN NAME
@@ -53,6 +60,7 @@ refusal_status (refusal.Definitions fault) = status.Broken
 refusal_status (refusal.ReadFault file) = status.ReadFault
 refusal_status (refusal.WriteFault file) = status.WriteFault
 refusal_status (refusal.TooLong file most) = status.Limit
+refusal_status (refusal.OverLimit limit count) = status.Limit
 refusal_status refusal.NoMemory = status.NoMemory
 refusal_status (refusal.NoFile file) = status.NoFile
 
@@ -68,6 +76,12 @@ abbrev pub limit_line : List ℕ → ℕ → List ℕ
 limit_line name most =
     codes "limit file " ++ (name ++ (codes " over " ++ (decimal most ++ codes "\n")))
 
+-- that of a design that is over a limit
+abbrev pub over_line : LimitName → ℕ → List ℕ
+over_line limit count =
+    codes "limit " ++ (limit_text limit ++ (codes " " ++ (decimal count ++ (codes " over "
+    ++ (decimal (most limit) ++ codes "\n")))))
+
 abbrev pub refusal_line : Command → Refusal → List ℕ
 refusal_line c (refusal.Language fault) = fault_line (codes "language") (name_in c Design) fault
 refusal_line c (refusal.Definitions fault) =
@@ -75,6 +89,7 @@ refusal_line c (refusal.Definitions fault) =
 refusal_line c (refusal.ReadFault file) = line_with (codes "read fault ") (name_in c file)
 refusal_line c (refusal.WriteFault file) = line_with (codes "write fault ") (name_in c file)
 refusal_line c (refusal.TooLong file most) = limit_line (name_in c file) most
+refusal_line c (refusal.OverLimit limit count) = over_line limit count
 refusal_line c refusal.NoMemory = no_memory_line
 refusal_line c (refusal.NoFile file) = line_with (codes "no file ") (name_in c file)
 

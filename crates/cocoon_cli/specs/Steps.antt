@@ -4,10 +4,18 @@
 -- follows "Statuses" in docs/FORMATS.md.
 use Rattle.std.specs.Prelude.{◌≡◌, ◌⊎◌, ◌≤◌, ◌<◌, ℕ, List, [], ◌∷◌, length, Option, Some, None, Result, Ok, Err}
 use Rattle.cocoon_num.specs.Tree as tree
+use Rattle.cocoon_num.specs.declared.limit_name.LimitName.{LimitName}
 use Rattle.cocoon_num.specs.Reads.{Reads, ReadsDefs}
 use Rattle.cocoon_num.specs.FirstFaults.{BeginsDesign, BeginsDefs}
+use Rattle.cocoon_text.specs.Positions.{token_position}
 use Rattle.cocoon_text.specs.TextFaults.{FirstFault}
 use Rattle.cocoon_text.specs.declared.fault.TextFault.{TextFault}
+use Rattle.cocoon_types.specs.FirstFault as rules
+use Rattle.cocoon_types.specs.Limits.{WithinLimits}
+use Rattle.cocoon_types.specs.RuleNames.{fault_at}
+use Rattle.cocoon_types.specs.Rules.{WellFormed}
+use Rattle.cocoon_types.specs.declared.fault.TypeRule.{TypeRule}
+use Rattle.design_limits.specs.First.{IsFirstOver}
 use Rattle.p4_ir.specs.NetTree.{NetData}
 use Rattle.net_bundle.specs.Bundle.{MadeFile, bundle}
 use Rattle.net_bundle.specs.Writing.{AllFit, FirstOver, most_of}
@@ -15,7 +23,7 @@ use Rattle.net_bundle.specs.declared.file.BundleFile.{BundleFile}
 use Rattle.lower_p4.specs.Accepts.{Accepts, AcceptsDefs, Lowers}
 use Rattle.cocoon_cli.specs.declared.files.CommandFile.{CommandFile}
 use Rattle.cocoon_cli.specs.declared.files.CommandFile.TheVariants.{Design, Definitions, Bundle}
-use Rattle.cocoon_cli.specs.declared.refusal.InputFault.TheVariants.{NoTree, NotYet}
+use Rattle.cocoon_cli.specs.declared.refusal.InputFault.TheVariants.{NoTree, Rule, NotYet}
 use Rattle.cocoon_cli.specs.declared.refusal.Refusal.{Refusal}
 use Rattle.cocoon_cli.specs.declared.refusal.Refusal.TheVariants as refusal
 use Rattle.cocoon_cli.specs.declared.report.Totals.{Totals}
@@ -32,8 +40,8 @@ pub data Step : Type 0 where
   is_there : (file : CommandFile) → Step
   -- it has at most so many bytes
   is_within : (file : CommandFile) (most : ℕ) → Step
-  -- the design reads as a tree, and the compiler takes it
-  design_reads design_accepted : Step
+  -- the design reads as a tree, keeps the rules, is within the limits, and the compiler takes it
+  design_reads design_well_formed design_within design_accepted : Step
   -- the definitions read as a tree, and the compiler takes them for the design
   definitions_read definitions_accepted : Step
   -- each file of the bundle has at most the bytes that it may have
@@ -52,7 +60,8 @@ abbrev pub steps : Command → List Step
 steps (compile design defs out) =
     is_there Design ∷ is_within Design design_most
     ∷ is_there Definitions ∷ is_within Definitions definitions_most
-    ∷ design_reads ∷ design_accepted ∷ definitions_read ∷ definitions_accepted
+    ∷ design_reads ∷ design_well_formed ∷ design_within ∷ design_accepted
+    ∷ definitions_read ∷ definitions_accepted
     ∷ bundle_within ∷ bundle_written ∷ []
 
 -- ---- what the files say
@@ -91,6 +100,9 @@ IsGood inputs (is_there file) = (bytes : List ℕ) × (inputs file ≡ Some byte
 IsGood inputs (is_within file most) =
     (bytes : List ℕ) × (inputs file ≡ Some bytes) × (length bytes ≤ most)
 IsGood inputs design_reads = (design : tree.Design) × DesignIs inputs design
+IsGood inputs design_well_formed =
+    (design : tree.Design) × DesignIs inputs design × WellFormed design
+IsGood inputs design_within = (design : tree.Design) × DesignIs inputs design × WithinLimits design
 IsGood inputs design_accepted = (design : tree.Design) × DesignIs inputs design × Accepts design
 IsGood inputs definitions_read = (defs : tree.DefsText) × DefinitionsAre inputs defs
 IsGood inputs definitions_accepted = (net : NetData) × Makes inputs net
@@ -106,6 +118,13 @@ Refuses inputs (is_within file most) r =
 Refuses inputs design_reads r =
     (text : List ℕ) × (fault : TextFault) × (inputs Design ≡ Some text)
     × FirstFault BeginsDesign text fault × (r ≡ refusal.Language (NoTree fault))
+Refuses inputs design_well_formed r =
+    (design : tree.Design) × (rule : TypeRule) × (token : ℕ) × (given : DesignIs inputs design)
+    × rules.FirstFault design (fault_at rule token)
+    × (r ≡ refusal.Language (Rule rule (token_position given.text token)))
+Refuses inputs design_within r =
+    (design : tree.Design) × (limit : LimitName) × (count : ℕ) × DesignIs inputs design
+    × IsFirstOver design (Some (limit, count)) × (r ≡ refusal.OverLimit limit count)
 Refuses inputs design_accepted r =
     (design : tree.Design) × DesignIs inputs design × (¬ Accepts design)
     × (r ≡ refusal.Language NotYet)

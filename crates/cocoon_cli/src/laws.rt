@@ -6,6 +6,8 @@ ghost use Rattle.cocoon_cli.specs.declared.refusal.Refusal.{Refusal};
 ghost use Rattle.cocoon_cli.specs.declared.report.Report.{Report};
 
 use cocoon_text::laws::{one_fault, trees_have_no_fault};
+use cocoon_types::first_faults::{first_or_well_formed, one_first_fault};
+use cocoon_types::limits::{one_first_over, within_is_not_over};
 use lower_p4::lowering::one_lowering;
 use plain_parser::texts::{one_definitions_tree, one_tree};
 
@@ -19,5 +21,9 @@ pub fn one_outcome()
     one_definitions_tree();
     one_fault();
     trees_have_no_fault();
+    one_first_fault();
+    first_or_well_formed();
+    one_first_over();
+    within_is_not_over();
     one_lowering();
 }

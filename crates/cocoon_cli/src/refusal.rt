@@ -4,16 +4,20 @@ ghost use Rattle.cocoon_cli.specs.Report.{column_number, fault_name, line_number
 
 use crate::files::CommandFile;
 use crate::status::Status;
-use cocoon_num::NoMemory;
-use cocoon_text::TextFault;
+use cocoon_num::{LimitName, NoMemory};
+use cocoon_resolve::rule_name;
+use cocoon_text::{Position, TextFault};
+use cocoon_types::TypeRule;
 use net_bundle::BundleFault;
 use std::alloc::AllocError;
 
 /// What is wrong with a text.
-#[derive(Clone, Copy, Debug, Drop)]
+#[derive(Clone, Copy, Drop)]
 pub enum InputFault {
     /// It has no tree, and this is its first fault.
     NoTree(TextFault),
+    /// It has a tree, and this is the first rule that it breaks, with the position of the fault.
+    Rule(TypeRule, Position),
     /// It has a tree, which the compiler does not take yet.
     NotYet,
 }
@@ -25,6 +29,7 @@ impl InputFault {
     {
         match self {
             InputFault::NoTree(fault) => fault.line,
+            InputFault::Rule(_, position) => position.line,
             InputFault::NotYet => 1,
         }
     }
@@ -35,6 +40,7 @@ impl InputFault {
     {
         match self {
             InputFault::NoTree(fault) => fault.column,
+            InputFault::Rule(_, position) => position.column,
             InputFault::NotYet => 1,
         }
     }
@@ -45,13 +51,14 @@ impl InputFault {
     {
         match self {
             InputFault::NoTree(fault) => fault.kind.name(),
+            InputFault::Rule(rule, _) => rule_name(*rule),
             InputFault::NotYet => "NotYet",
         }
     }
 }
 
 /// Why a command stopped, with the file that it is about.
-#[derive(Clone, Copy, Debug, Drop)]
+#[derive(Clone, Copy, Drop)]
 pub enum Refusal {
     /// The design has this fault.
     Language(InputFault),
@@ -61,6 +68,8 @@ pub enum Refusal {
     WriteFault(CommandFile),
     /// The file has more bytes than this number.
     TooLong(CommandFile, u64),
+    /// The design is over this limit, by this count.
+    OverLimit(LimitName, u64),
     NoMemory,
     NoFile(CommandFile),
 }
@@ -113,6 +122,7 @@ impl Refusal {
             Refusal::ReadFault(_) => Status::ReadFault,
             Refusal::WriteFault(_) => Status::WriteFault,
             Refusal::TooLong(_, _) => Status::Limit,
+            Refusal::OverLimit(_, _) => Status::Limit,
             Refusal::NoMemory => Status::NoMemory,
             Refusal::NoFile(_) => Status::NoFile,
         }

@@ -1,14 +1,15 @@
 //! What a command reports, and the lines that are printed.
 ghost use Rattle.std.specs.Prelude.{◌≡◌, IfOk, string_bytes};
 ghost use Rattle.cocoon_cli.specs.FileNames.{name_in};
-ghost use Rattle.cocoon_cli.specs.Report.{fault_line, limit_line, line_of, line_with, refusal_line, report_line, status_of, totals_line};
+ghost use Rattle.cocoon_cli.specs.Report.{fault_line, limit_line, line_of, line_with, over_line, refusal_line, report_line, status_of, totals_line};
 ghost use Rattle.command_line.specs.Stands.{stands_for};
 
 use crate::files::CommandFile;
 use crate::refusal::{InputFault, Refusal};
 use crate::status::Status;
-use cocoon_num::NoMemory;
+use cocoon_num::{LimitName, NoMemory};
 use command_line::Command;
+use design_limits::most_of;
 use std::alloc::Global;
 
 /// How many of each thing a compiled network has. Hosts at no port count, too.
@@ -53,6 +54,15 @@ fn limit_line(
     Ok(format!(in alloc; "limit file {name} over {most}\n")?)
 }
 
+/// The line of a design that is over a limit by this count.
+fn over_line(alloc: Global, limit: LimitName, count: u64) -> Result<String, NoMemory>
+    ensures { IfOk result (λ line. string_bytes line ≡ over_line limit count) }
+{
+    let name = limit.text();
+    let most = most_of(limit);
+    Ok(format!(in alloc; "limit {name} {count} over {most}\n")?)
+}
+
 /// The line of a fault in a file.
 fn fault_line(
     alloc: Global,
@@ -92,6 +102,7 @@ fn refusal_line(alloc: Global, command: &Command<'_>, refusal: &Refusal) -> Resu
         Refusal::ReadFault(file) => line_with(alloc, "read fault ", command, *file),
         Refusal::WriteFault(file) => line_with(alloc, "write fault ", command, *file),
         Refusal::TooLong(file, most) => limit_line(alloc, command, *file, *most),
+        Refusal::OverLimit(limit, count) => over_line(alloc, *limit, *count),
         Refusal::NoMemory => Ok(String::from_str(alloc, "no memory\n")?),
         Refusal::NoFile(file) => line_with(alloc, "no file ", command, *file),
     }

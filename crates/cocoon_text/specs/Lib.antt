@@ -1,2 +1,3 @@
 pub mod OfToken
+pub mod Positions
 pub mod TextFaults

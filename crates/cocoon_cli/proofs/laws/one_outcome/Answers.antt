@@ -9,6 +9,10 @@ returns c = one (record {
   one_defs_fault = c.one_fault.ensures.definitions;
   no_fault = c.trees_have_no_fault.ensures.designs;
   no_defs_fault = c.trees_have_no_fault.ensures.definitions;
+  one_rule = c.one_first_fault.ensures;
+  no_rule = c.first_or_well_formed.ensures.never_both;
+  one_limit = c.one_first_over.ensures;
+  no_limit = c.within_is_not_over.ensures;
   one_net = c.one_lowering.ensures.one;
   accepted = c.one_lowering.ensures.accepted;
 })
