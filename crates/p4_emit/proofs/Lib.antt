@@ -1,9 +1,9 @@
+pub mod Printing
 pub mod Seams
 pub mod Joins
 pub mod P4Seams
 pub mod Numbers
 pub mod Prints
 pub mod Whole
-pub mod Lookups
 pub mod WellKinded
 pub mod Example

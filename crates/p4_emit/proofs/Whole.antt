@@ -4,8 +4,7 @@ use Rattle.std.specs.Prelude.{codes, flat_map}
 use Rattle.cocoon_num.specs.Tokens.{Kind, a_name, plain, literal, mark, finish, Token, lex, kinds}
 use Rattle.p4_ir.specs.P4Tree.{P4Field, P4Header, P4Table, Control, Program, meta_width}
 use Rattle.p4_ir.specs.P4Text.{said, p4_lexicon, meta_tokens, action_name, table_name, architecture, header_tokens, member_tokens, meta_member_tokens, match_kind, table_tokens, program_tokens, declared, header_name, block_tokens}
-use Rattle.p4_emit.specs.declared.print.Fixed.TheVariants.{Architecture}
-use Rattle.p4_emit.specs.Printed.{each_text, fixed as fixed_text, header_field_text, header_text, member_text, meta_member_text, extract_text, deparse_text, kind_text, key_text, keys_text, action_text, default_text, table_text, heads_text, ingress_text, egress_text, printed}
+use Rattle.p4_emit.specs.Printed.{each_text, fixed as fixed_text, architecture_piece, header_field_text, header_text, member_text, meta_member_text, extract_text, deparse_text, kind_text, key_text, keys_text, action_text, default_text, table_text, heads_text, ingress_text, egress_text, printed}
 use Rattle.p4_emit.proofs.Seams.{spells_lexes}
 use Rattle.p4_emit.proofs.Prints.{Part, Lines, opens, follows, after, line, leads, ends, lines_as, no_lines, between, Each, FieldFits, HeaderFits, MetaFits, NamesFit, word_part, plain_part, literal_part, meta_part, table_part, action_part, semicolon, whole, BlockFits, block_lines}
 
@@ -124,7 +123,7 @@ heads_part : (p : Program) → ProgramFits p → Part (heads_text p)
     ++ (said (codes "} parser Prs(packet_in b, out Headers h, inout Meta m) { state start {") ++ extracts p)))))))
 unfolding heads_text fixed_text
 heads_part p f =
-    follows (whole (fixed_text Architecture) refl) (after (each_lines HeaderFits header_text header_tokens header_lines p.headers f.names.headers)
+    follows (whole (fixed_text architecture_piece) refl) (after (each_lines HeaderFits header_text header_tokens header_lines p.headers f.names.headers)
     (between (codes "\nstruct Headers {") refl (after (each_lines HeaderFits member_text member_tokens member_lines p.headers f.names.headers)
     (between (codes "\n}\nstruct Meta {") refl (after (each_lines MetaFits meta_member_text meta_member_tokens meta_member_lines p.meta f.names.meta)
     (between (codes "\n}\nparser Prs(packet_in b, out Headers h, inout Meta m) {\n  state start {") refl (each_lines HeaderFits extract_text _ extract_lines p.headers f.names.headers)))))))

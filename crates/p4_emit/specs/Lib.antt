@@ -1,2 +1,4 @@
 pub mod Printed
+pub mod Pieces
+pub mod Printing
 pub mod ExampleMP4

@@ -4,8 +4,6 @@
 use Rattle.std.specs.Prelude.{ℕ, ◌+◌, Bool, true, false, List, [], ◌∷◌, ◌++◌, replicate, slice_get, Option, Some, None, decimal, codes}
 use Rattle.cocoon_num.specs.Values.{UnaryOp, flip, not_, BinaryOp, add, sub, bits_and, bits_or, bits_xor, concat, equal, unequal, less, less_equal, greater, greater_equal, and_, or_, implies}
 use Rattle.p4_ir.specs.P4Tree.{P4Expr, p_lit, p_truth, p_meta, p_field, p_port, p_rid, p_unary, p_binary, p_slice, p_pick, P4Stmt, set_meta, set_header, apply_table, p_if, p_if_else, verdict, egress_port, group, p_return, P4Block, p_done, p_then, P4Field, P4Header, P4Table, Program, meta_width}
-use Rattle.p4_emit.specs.declared.print.Fixed.{Fixed}
-use Rattle.p4_emit.specs.declared.print.Fixed.TheVariants.{Architecture, Headers, Meta, Parser, Ingress, IngressBegin, Egress, EgressBegin, Deparser, Main}
 
 -- a new line that begins with so many blanks
 abbrev pub new_line : ℕ → List ℕ
@@ -114,18 +112,22 @@ abbrev mutual
 
 -- ---- declarations
 
--- the pieces that every program has
-unfoldable pub fixed : Fixed → List ℕ
-fixed Architecture = codes "#include <core.p4>\nparser CocoonParser<H, M>(packet_in b, out H h, inout M m);\ncontrol CocoonIngress<H, M>(inout H h, inout M m, in bit<16> port, out bit<8> verdict, out bit<16> egress_port, out bit<16> group);\ncontrol CocoonEgress<H, M>(inout H h, inout M m, in bit<64> rid, out bit<8> verdict, out bit<16> egress_port);\ncontrol CocoonDeparser<H>(packet_out b, in H h);\npackage CocoonSwitch<H, M>(CocoonParser<H, M> p, CocoonIngress<H, M> i, CocoonEgress<H, M> e, CocoonDeparser<H> d);"
-fixed Headers = codes "\nstruct Headers {"
-fixed Meta = codes "\n}\nstruct Meta {"
-fixed Parser = codes "\n}\nparser Prs(packet_in b, out Headers h, inout Meta m) {\n  state start {"
-fixed Ingress = codes "\n    transition accept;\n  }\n}\ncontrol Ing(inout Headers h, inout Meta m, in bit<16> port, out bit<8> verdict, out bit<16> egress_port, out bit<16> group) {"
-fixed IngressBegin = codes "\n  apply {\n    verdict = 8w0;\n    egress_port = 16w0;\n    group = 16w0;"
-fixed Egress = codes "\n  }\n}\ncontrol Egr(inout Headers h, inout Meta m, in bit<64> rid, out bit<8> verdict, out bit<16> egress_port) {"
-fixed EgressBegin = codes "\n  apply {\n    verdict = 8w0;\n    egress_port = 16w0;"
-fixed Deparser = codes "\n  }\n}\ncontrol Dep(packet_out b, in Headers h) {\n  apply {"
-fixed Main = codes "\n  }\n}\nCocoonSwitch(Prs(), Ing(), Egr(), Dep()) main;\n"
+-- what every program has: before its headers, between its parts, and after its deparser
+pub data Piece : Type 0 where
+  architecture_piece headers_piece meta_piece parser_piece : Piece
+  ingress_piece ingress_apply egress_piece egress_apply deparser_piece main_piece : Piece
+
+unfoldable pub fixed : Piece → List ℕ
+fixed architecture_piece = codes "#include <core.p4>\nparser CocoonParser<H, M>(packet_in b, out H h, inout M m);\ncontrol CocoonIngress<H, M>(inout H h, inout M m, in bit<16> port, out bit<8> verdict, out bit<16> egress_port, out bit<16> group);\ncontrol CocoonEgress<H, M>(inout H h, inout M m, in bit<64> rid, out bit<8> verdict, out bit<16> egress_port);\ncontrol CocoonDeparser<H>(packet_out b, in H h);\npackage CocoonSwitch<H, M>(CocoonParser<H, M> p, CocoonIngress<H, M> i, CocoonEgress<H, M> e, CocoonDeparser<H> d);"
+fixed headers_piece = codes "\nstruct Headers {"
+fixed meta_piece = codes "\n}\nstruct Meta {"
+fixed parser_piece = codes "\n}\nparser Prs(packet_in b, out Headers h, inout Meta m) {\n  state start {"
+fixed ingress_piece = codes "\n    transition accept;\n  }\n}\ncontrol Ing(inout Headers h, inout Meta m, in bit<16> port, out bit<8> verdict, out bit<16> egress_port, out bit<16> group) {"
+fixed ingress_apply = codes "\n  apply {\n    verdict = 8w0;\n    egress_port = 16w0;\n    group = 16w0;"
+fixed egress_piece = codes "\n  }\n}\ncontrol Egr(inout Headers h, inout Meta m, in bit<64> rid, out bit<8> verdict, out bit<16> egress_port) {"
+fixed egress_apply = codes "\n  apply {\n    verdict = 8w0;\n    egress_port = 16w0;"
+fixed deparser_piece = codes "\n  }\n}\ncontrol Dep(packet_out b, in Headers h) {\n  apply {"
+fixed main_piece = codes "\n  }\n}\nCocoonSwitch(Prs(), Ing(), Egr(), Dep()) main;\n"
 
 unfoldable pub header_field_text : P4Field → List ℕ
 header_field_text f = codes "\n  bit<" ++ (decimal f.width ++ (codes "> f_" ++ (f.name ++ codes ";")))
@@ -166,18 +168,18 @@ table_text p t = action_text p t ++ (keys_text p t ++ default_text p t)
 
 unfoldable pub heads_text : Program → List ℕ
 heads_text p =
-    fixed Architecture ++ (each_text header_text p.headers
-    ++ (fixed Headers ++ (each_text member_text p.headers
-    ++ (fixed Meta ++ (each_text meta_member_text p.meta
-    ++ (fixed Parser ++ each_text extract_text p.headers))))))
+    fixed architecture_piece ++ (each_text header_text p.headers
+    ++ (fixed headers_piece ++ (each_text member_text p.headers
+    ++ (fixed meta_piece ++ (each_text meta_member_text p.meta
+    ++ (fixed parser_piece ++ each_text extract_text p.headers))))))
 
 unfoldable pub ingress_text : Program → List ℕ
-ingress_text p = fixed Ingress ++ (each_text (table_text p) p.ingress.tables ++ (fixed IngressBegin ++ block_text p 4 p.ingress.body))
+ingress_text p = fixed ingress_piece ++ (each_text (table_text p) p.ingress.tables ++ (fixed ingress_apply ++ block_text p 4 p.ingress.body))
 
 unfoldable pub egress_text : Program → List ℕ
 egress_text p =
-    fixed Egress ++ (each_text (table_text p) p.egress.tables ++ (fixed EgressBegin ++ (block_text p 4 p.egress.body
-    ++ (fixed Deparser ++ (each_text deparse_text p.headers ++ fixed Main)))))
+    fixed egress_piece ++ (each_text (table_text p) p.egress.tables ++ (fixed egress_apply ++ (block_text p 4 p.egress.body
+    ++ (fixed deparser_piece ++ (each_text deparse_text p.headers ++ fixed main_piece)))))
 
 abbrev pub printed : Program → List ℕ
 printed p = heads_text p ++ (ingress_text p ++ egress_text p)

@@ -2,5 +2,6 @@
 #![tactic(auto)]
 
 pub mod print;
+pub(crate) mod printer;
 
 pub use print::emit;

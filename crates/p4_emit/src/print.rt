@@ -1,14 +1,17 @@
 //! The text of a program.
-ghost use Rattle.std.specs.Prelude.{◌≡◌, ◌+◌, ◌^◌, ◌<◌, ◌++◌, ◌∷◌, [], IsTrue, OnOk, IfOk, map, decimal, codes};
+ghost use Rattle.std.specs.Prelude.{◌≡◌, ◌+◌, ◌++◌, codes, IfOk, IsTrue, map};
 ghost use Rattle.p4_ir.specs.P4Kinds.{is_well_kinded};
 ghost use Rattle.p4_ir.specs.P4Reads.{P4Reads};
 ghost use Rattle.p4_ir.specs.P4Text.{p4_bounds, program_tokens};
 ghost use Rattle.p4_ir.specs.P4Tree.{meta_width};
 ghost use Rattle.cocoon_num.specs.Tokens.{is_shallow};
+ghost use Rattle.p4_emit.specs.Pieces.{piece_of};
 ghost use Rattle.p4_emit.specs.Printed as spec;
+ghost use Rattle.p4_emit.specs.Printing.{Prints};
 ghost use Rattle.p4_ir.specs.Program.{expr_of, stmt_of, block_of, field_of, header_of, table_of, control_of, program_of, unary_of, binary_of};
 
-use cocoon_num::{NoMemory, Text};
+use crate::printer::Printer;
+use cocoon_num::NoMemory;
 use p4_ir::{P4Binary, P4Expr, P4Field, P4Header, P4Stmt, P4Unary, Program, Table};
 use std::alloc::Global;
 
@@ -29,7 +32,7 @@ pub enum Fixed {
 
 #[tactic(auto, unfolding(crate::specs::Printed::fixed))]
 fn fixed_text<'a>(piece: Fixed) -> &'a str
-    ensures { result.now ≡ spec.fixed piece }
+    ensures { result.now ≡ spec.fixed (piece_of piece) }
 {
     match piece {
         Fixed::Architecture =>
@@ -50,87 +53,38 @@ fn fixed_text<'a>(piece: Fixed) -> &'a str
     }
 }
 
-fn push_fixed(out: &mut Vec<u8>, piece: Fixed) -> Result<(), NoMemory>
-    ensures { OnOk result (out.new.items ≡ out.old.items ++ spec.fixed piece) }
+fn push_fixed(out: &mut Printer, piece: Fixed)
+    ensures { Prints out.old (spec.fixed (piece_of piece)) out.new }
 {
-    push(out, fixed_text(piece))
+    out.push(fixed_text(piece));
 }
 
-fn push(out: &mut Vec<u8>, text: &str) -> Result<(), NoMemory>
-    ensures { OnOk result (out.new.items ≡ out.old.items ++ text.now) }
-{
-    out.extend_from_slice(text.as_bytes())?;
-    Ok(())
-}
-
-fn push_name(out: &mut Vec<u8>, name: &Text) -> Result<(), NoMemory>
-    ensures { OnOk result (out.new.items ≡ out.old.items ++ name.now) }
-{
-    out.extend_from_slice(name.bytes())?;
-    Ok(())
-}
-
-fn push_number(alloc: Global, out: &mut Vec<u8>, n: u32) -> Result<(), NoMemory>
-    ensures { OnOk result (out.new.items ≡ out.old.items ++ decimal n) }
-{
-    let text = n.to_string(alloc)?;
-    out.extend_from_slice(text.as_bytes())?;
-    Ok(())
-}
-
-fn push_literal(alloc: Global, out: &mut Vec<u8>, width: u8, value: u128) -> Result<(), NoMemory>
-    ensures { OnOk result (out.new.items ≡ out.old.items ++ spec.literal_text width value) }
-{
-    let width = width.to_string(alloc)?;
-    let value = value.to_string(alloc)?;
-    out.extend_from_slice(width.as_bytes())?;
-    out.push(b'w')?;
-    out.extend_from_slice(value.as_bytes())?;
-    Ok(())
-}
-
-fn new_line(out: &mut Vec<u8>, indent: u32) -> Result<(), NoMemory>
-    ensures { OnOk result (out.new.items ≡ out.old.items ++ spec.new_line indent) }
-{
-    out.push(b'\n')?;
-    for _i in 0..indent {
-        out.push(b' ')?;
-    }
-    Ok(())
-}
-
-fn push_meta(out: &mut Vec<u8>, program: &Program, i: u32) -> Result<(), NoMemory>
-    ensures { OnOk result (out.new.items
-        ≡ out.old.items ++ spec.meta_text (program_of program.now) i) }
+fn push_meta(out: &mut Printer, program: &Program, i: u32)
+    ensures { Prints out.old (spec.meta_text (program_of program.now) i) out.new }
 {
     if let Some(field) = program.meta.items().get(i as usize) {
-        push(out, "m.")?;
-        push_name(out, &field.name)?;
+        out.push("m.");
+        out.push_name(&field.name);
     }
-    Ok(())
 }
 
-fn push_field_of(out: &mut Vec<u8>, header: &P4Header, f: u32) -> Result<(), NoMemory>
-    ensures { OnOk result (out.new.items
-        ≡ out.old.items ++ spec.field_of_text (header_of header.now) f) }
+fn push_field_of(out: &mut Printer, header: &P4Header, f: u32)
+    ensures { Prints out.old (spec.field_of_text (header_of header.now) f) out.new }
 {
     if let Some(field) = header.fields.items().get(f as usize) {
-        push(out, "h.h_")?;
-        push_name(out, &header.name)?;
-        push(out, ".f_")?;
-        push_name(out, &field.name)?;
+        out.push("h.h_");
+        out.push_name(&header.name);
+        out.push(".f_");
+        out.push_name(&field.name);
     }
-    Ok(())
 }
 
-fn push_field(out: &mut Vec<u8>, program: &Program, h: u32, f: u32) -> Result<(), NoMemory>
-    ensures { OnOk result (out.new.items
-        ≡ out.old.items ++ spec.field_text (program_of program.now) h f) }
+fn push_field(out: &mut Printer, program: &Program, h: u32, f: u32)
+    ensures { Prints out.old (spec.field_text (program_of program.now) h f) out.new }
 {
     if let Some(header) = program.headers.items().get(h as usize) {
-        push_field_of(out, header, f)?;
+        push_field_of(out, header, f);
     }
-    Ok(())
 }
 
 fn unary_text<'a>(op: P4Unary) -> &'a str
@@ -164,370 +118,301 @@ fn binary_text<'a>(op: P4Binary) -> &'a str
 }
 
 /// `[HIGH:LOW]`
-fn push_bounds(alloc: Global, out: &mut Vec<u8>, high: u8, low: u8) -> Result<(), NoMemory>
-    ensures { OnOk result (out.new.items ≡ out.old.items ++ spec.bounds_text high low) }
+fn push_bounds(out: &mut Printer, high: u8, low: u8)
+    ensures { Prints out.old (spec.bounds_text high low) out.new }
 {
-    push(out, "[")?;
-    push_number(alloc, out, u32::from(high))?;
-    push(out, ":")?;
-    push_number(alloc, out, u32::from(low))?;
-    push(out, "]")?;
-    Ok(())
+    out.push("[");
+    out.push_width(high);
+    out.push(":");
+    out.push_width(low);
+    out.push("]");
 }
 
 #[cycle(expr)]
-fn emit_expr(
-    alloc: Global,
-    out: &mut Vec<u8>,
-    program: &Program,
-    expr: &P4Expr,
-) -> Result<(), NoMemory>
-    ensures { OnOk result (out.new.items
-        ≡ out.old.items ++ spec.expr_text (program_of program.now) (expr_of expr.now)) }
+fn emit_expr(out: &mut Printer, program: &Program, expr: &P4Expr)
+    ensures { Prints out.old (spec.expr_text (program_of program.now) (expr_of expr.now)) out.new }
 {
     match expr {
-        P4Expr::Lit(bits) => push_literal(alloc, out, bits.width, bits.value),
-        P4Expr::Truth(true) => push(out, "true"),
-        P4Expr::Truth(false) => push(out, "false"),
+        P4Expr::Lit(bits) => out.push_literal(bits.width, bits.value),
+        P4Expr::Truth(true) => out.push("true"),
+        P4Expr::Truth(false) => out.push("false"),
         P4Expr::Meta(i) => push_meta(out, program, *i),
         P4Expr::Field(h, f) => push_field(out, program, *h, *f),
-        P4Expr::Port => push(out, "port"),
-        P4Expr::Rid => push(out, "rid"),
+        P4Expr::Port => out.push("port"),
+        P4Expr::Rid => out.push("rid"),
         P4Expr::Unary(op, a) => {
-            push(out, unary_text(*op))?;
-            emit_expr(alloc, out, program, a)?;
-            push(out, ")")?;
-            Ok(())
+            out.push(unary_text(*op));
+            emit_expr(out, program, a);
+            out.push(")");
         }
         P4Expr::Binary(op, a, b) => {
-            push(out, "(")?;
-            emit_expr(alloc, out, program, a)?;
-            push(out, binary_text(*op))?;
-            emit_expr(alloc, out, program, b)?;
-            push(out, ")")?;
-            Ok(())
+            out.push("(");
+            emit_expr(out, program, a);
+            out.push(binary_text(*op));
+            emit_expr(out, program, b);
+            out.push(")");
         }
         P4Expr::Slice(a, high, low) => {
-            emit_expr(alloc, out, program, a)?;
-            push_bounds(alloc, out, *high, *low)
+            emit_expr(out, program, a);
+            push_bounds(out, *high, *low)
         }
         P4Expr::Pick(c, a, b) => {
-            push(out, "(")?;
-            emit_expr(alloc, out, program, c)?;
-            push(out, " ? ")?;
-            emit_expr(alloc, out, program, a)?;
-            push(out, " : ")?;
-            emit_expr(alloc, out, program, b)?;
-            push(out, ")")?;
-            Ok(())
+            out.push("(");
+            emit_expr(out, program, c);
+            out.push(" ? ");
+            emit_expr(out, program, a);
+            out.push(" : ");
+            emit_expr(out, program, b);
+            out.push(")");
         }
     }
 }
 
 /// ` = E;` after what is set.
-fn push_value(
-    alloc: Global,
-    out: &mut Vec<u8>,
-    program: &Program,
-    value: &P4Expr,
-) -> Result<(), NoMemory>
-    ensures { OnOk result (out.new.items
-        ≡ out.old.items
-        ++ (codes " = " ++ (spec.expr_text
-        (program_of program.now) (expr_of value.now) ++ codes ";"))) }
+fn push_value(out: &mut Printer, program: &Program, value: &P4Expr)
+    ensures { Prints out.old
+        (codes " = " ++ (spec.expr_text (program_of program.now) (expr_of value.now) ++ codes ";"))
+        out.new }
 {
-    push(out, " = ")?;
-    emit_expr(alloc, out, program, value)?;
-    push(out, ";")
+    out.push(" = ");
+    emit_expr(out, program, value);
+    out.push(";");
 }
 
-#[tactic(auto, unfolding(crate::specs::Printed::verdict_text))]
-fn push_verdict(alloc: Global, out: &mut Vec<u8>, verdict: u8) -> Result<(), NoMemory>
-    ensures { OnOk result (out.new.items ≡ out.old.items ++ spec.verdict_text verdict) }
+fn push_verdict(out: &mut Printer, verdict: u8)
+    ensures { Prints out.old (spec.verdict_text verdict) out.new }
 {
-    push(out, "verdict = ")?;
-    push_literal(alloc, out, 8, u128::from(verdict))?;
-    push(out, ";")
+    out.push("verdict = ");
+    out.push_literal(8, u128::from(verdict));
+    out.push(";");
 }
 
-#[tactic(auto, unfolding(crate::specs::Printed::egress_port_text))]
-fn push_egress_port(
-    alloc: Global,
-    out: &mut Vec<u8>,
-    program: &Program,
-    value: &P4Expr,
-) -> Result<(), NoMemory>
-    ensures { OnOk result (out.new.items
-        ≡ out.old.items ++ spec.egress_port_text (program_of program.now) (expr_of value.now)) }
+fn push_egress_port(out: &mut Printer, program: &Program, value: &P4Expr)
+    ensures { Prints out.old
+        (spec.egress_port_text (program_of program.now) (expr_of value.now))
+        out.new }
 {
-    push(out, "egress_port")?;
-    push_value(alloc, out, program, value)
+    out.push("egress_port");
+    push_value(out, program, value)
 }
 
-#[tactic(auto, unfolding(crate::specs::Printed::group_text))]
-fn push_group(
-    alloc: Global,
-    out: &mut Vec<u8>,
-    program: &Program,
-    value: &P4Expr,
-) -> Result<(), NoMemory>
-    ensures { OnOk result (out.new.items
-        ≡ out.old.items ++ spec.group_text (program_of program.now) (expr_of value.now)) }
+fn push_group(out: &mut Printer, program: &Program, value: &P4Expr)
+    ensures { Prints out.old
+        (spec.group_text (program_of program.now) (expr_of value.now))
+        out.new }
 {
-    push(out, "group")?;
-    push_value(alloc, out, program, value)
+    out.push("group");
+    push_value(out, program, value)
 }
 
-#[tactic(auto, unfolding(crate::specs::Printed::if_text))]
-fn push_if(
-    alloc: Global,
-    out: &mut Vec<u8>,
-    program: &Program,
-    condition: &P4Expr,
-) -> Result<(), NoMemory>
-    ensures { OnOk result (out.new.items
-        ≡ out.old.items ++ spec.if_text (program_of program.now) (expr_of condition.now)) }
+fn push_if(out: &mut Printer, program: &Program, condition: &P4Expr)
+    ensures { Prints out.old
+        (spec.if_text (program_of program.now) (expr_of condition.now))
+        out.new }
 {
-    push(out, "if (")?;
-    emit_expr(alloc, out, program, condition)?;
-    push(out, ") {")
+    out.push("if (");
+    emit_expr(out, program, condition);
+    out.push(") {");
 }
 
-#[tactic(auto, unfolding(crate::specs::Printed::else_text))]
-fn push_else(out: &mut Vec<u8>, indent: u32) -> Result<(), NoMemory>
-    ensures { OnOk result (out.new.items ≡ out.old.items ++ spec.else_text indent) }
+fn push_else(out: &mut Printer, indent: u32)
+    ensures { Prints out.old (spec.else_text indent) out.new }
 {
-    new_line(out, indent)?;
-    push(out, "} else {")
+    out.new_line(indent);
+    out.push("} else {");
 }
 
-#[tactic(auto, unfolding(crate::specs::Printed::end_text))]
-fn push_end(out: &mut Vec<u8>, indent: u32) -> Result<(), NoMemory>
-    ensures { OnOk result (out.new.items ≡ out.old.items ++ spec.end_text indent) }
+fn push_end(out: &mut Printer, indent: u32)
+    ensures { Prints out.old (spec.end_text indent) out.new }
 {
-    new_line(out, indent)?;
-    push(out, "}")
-}
-
-/// The indentation of a block inside.
-fn deeper(indent: u32) -> Result<u32, NoMemory>
-    ensures { IfOk result (λ n. n ≡ indent + 2) }
-{
-    match indent.checked_add(2) {
-        Some(inner) => Ok(inner),
-        None => Err(NoMemory),
-    }
+    out.new_line(indent);
+    out.push("}");
 }
 
 #[cycle(block)]
-fn emit_stmt(
-    alloc: Global,
-    out: &mut Vec<u8>,
-    program: &Program,
-    indent: u32,
-    stmt: &P4Stmt,
-) -> Result<(), NoMemory>
-    ensures { OnOk result (out.new.items
-        ≡ out.old.items ++ spec.stmt_text (program_of program.now) indent (stmt_of stmt.now)) }
+fn emit_stmt(out: &mut Printer, program: &Program, indent: u32, stmt: &P4Stmt)
+    ensures { Prints out.old
+        (spec.stmt_text (program_of program.now) indent (stmt_of stmt.now))
+        out.new }
 {
     match stmt {
         P4Stmt::SetMeta(i, e) => {
-            push_meta(out, program, *i)?;
-            push_value(alloc, out, program, e)
+            push_meta(out, program, *i);
+            push_value(out, program, e)
         }
         P4Stmt::SetField(h, f, e) => {
-            push_field(out, program, *h, *f)?;
-            push_value(alloc, out, program, e)
+            push_field(out, program, *h, *f);
+            push_value(out, program, e)
         }
         P4Stmt::Apply(n) => {
-            push(out, "t")?;
-            push_number(alloc, out, *n)?;
-            push(out, ".apply();")
+            out.push("t");
+            out.push_number(*n);
+            out.push(".apply();");
         }
         P4Stmt::If(e, first) => {
-            let inner = deeper(indent)?;
-            push_if(alloc, out, program, e)?;
-            emit_block(alloc, out, program, inner, first)?;
+            push_if(out, program, e);
+            emit_inside(out, program, indent, first);
             push_end(out, indent)
         }
         P4Stmt::IfElse(e, first, second) => {
-            let inner = deeper(indent)?;
-            push_if(alloc, out, program, e)?;
-            emit_block(alloc, out, program, inner, first)?;
-            push_else(out, indent)?;
-            emit_block(alloc, out, program, inner, second)?;
+            push_if(out, program, e);
+            emit_inside(out, program, indent, first);
+            push_else(out, indent);
+            emit_inside(out, program, indent, second);
             push_end(out, indent)
         }
-        P4Stmt::Verdict(n) => push_verdict(alloc, out, *n),
-        P4Stmt::EgressPort(e) => push_egress_port(alloc, out, program, e),
-        P4Stmt::Group(e) => push_group(alloc, out, program, e),
-        P4Stmt::Return => push(out, "return;"),
+        P4Stmt::Verdict(n) => push_verdict(out, *n),
+        P4Stmt::EgressPort(e) => push_egress_port(out, program, e),
+        P4Stmt::Group(e) => push_group(out, program, e),
+        P4Stmt::Return => out.push("return;"),
+    }
+}
+
+/// A block inside a statement of this indentation.
+#[cycle(block)]
+fn emit_inside(out: &mut Printer, program: &Program, indent: u32, stmts: &Vec<P4Stmt>)
+    ensures { Prints out.old (spec.block_text
+        (program_of program.now) (indent + 2) (block_of (map stmt_of stmts.now.items))) out.new }
+{
+    match indent.checked_add(2) {
+        Some(inner) => emit_block(out, program, inner, stmts),
+        None => out.lose(),
     }
 }
 
 #[cycle(block)]
-fn emit_block(
-    alloc: Global,
-    out: &mut Vec<u8>,
-    program: &Program,
-    indent: u32,
-    stmts: &Vec<P4Stmt>,
-) -> Result<(), NoMemory>
-    ensures { OnOk result (out.new.items
-        ≡ out.old.items
-        ++ spec.block_text
-        (program_of program.now) indent (block_of (map stmt_of stmts.now.items))) }
+fn emit_block(out: &mut Printer, program: &Program, indent: u32, stmts: &Vec<P4Stmt>)
+    ensures { Prints out.old
+        (spec.block_text (program_of program.now) indent (block_of (map stmt_of stmts.now.items)))
+        out.new }
 {
     for stmt in stmts {
-        new_line(out, indent)?;
-        emit_stmt(alloc, out, program, indent, stmt)?;
+        out.new_line(indent);
+        emit_stmt(out, program, indent, stmt);
     }
-    Ok(())
 }
 
-fn emit_body(
-    alloc: Global,
-    out: &mut Vec<u8>,
-    program: &Program,
-    stmts: &[P4Stmt],
-) -> Result<(), NoMemory>
-    ensures { OnOk result (out.new.items
-        ≡ out.old.items
-        ++ spec.block_text (program_of program.now) 4 (block_of (map stmt_of stmts.now))) }
+fn emit_body(out: &mut Printer, program: &Program, stmts: &[P4Stmt])
+    ensures { Prints out.old
+        (spec.block_text (program_of program.now) 4 (block_of (map stmt_of stmts.now)))
+        out.new }
 {
     for stmt in stmts {
-        new_line(out, 4)?;
-        emit_stmt(alloc, out, program, 4, stmt)?;
+        out.new_line(4);
+        emit_stmt(out, program, 4, stmt);
     }
-    Ok(())
 }
 
-#[tactic(auto, unfolding(crate::specs::Printed::header_field_text))]
-fn push_header_field(alloc: Global, out: &mut Vec<u8>, field: &P4Field) -> Result<(), NoMemory>
-    ensures { OnOk result (out.new.items
-        ≡ out.old.items ++ spec.header_field_text (field_of field.now)) }
+fn push_header_field(out: &mut Printer, field: &P4Field)
+    ensures { Prints out.old (spec.header_field_text (field_of field.now)) out.new }
 {
-    push(out, "\n  bit<")?;
-    push_number(alloc, out, u32::from(field.width))?;
-    push(out, "> f_")?;
-    push_name(out, &field.name)?;
-    push(out, ";")
+    out.push("\n  bit<");
+    out.push_width(field.width);
+    out.push("> f_");
+    out.push_name(&field.name);
+    out.push(";");
 }
 
-fn push_header_fields(alloc: Global, out: &mut Vec<u8>, fields: &[P4Field]) -> Result<(), NoMemory>
-    ensures { OnOk result (out.new.items
-        ≡ out.old.items ++ spec.each_text spec.header_field_text (map field_of fields.now)) }
+fn push_header_fields(out: &mut Printer, fields: &[P4Field])
+    ensures { Prints out.old
+        (spec.each_text spec.header_field_text (map field_of fields.now))
+        out.new }
 {
     for field in fields {
-        push_header_field(alloc, out, field)?;
+        push_header_field(out, field);
     }
-    Ok(())
 }
 
-fn push_header(alloc: Global, out: &mut Vec<u8>, header: &P4Header) -> Result<(), NoMemory>
-    ensures { OnOk result (out.new.items
-        ≡ out.old.items ++ spec.header_text (header_of header.now)) }
+fn push_header(out: &mut Printer, header: &P4Header)
+    ensures { Prints out.old (spec.header_text (header_of header.now)) out.new }
 {
-    push(out, "\nheader ht_")?;
-    push_name(out, &header.name)?;
-    push(out, " {")?;
-    push_header_fields(alloc, out, header.fields.items())?;
-    push(out, "\n}")?;
-    Ok(())
+    out.push("\nheader ht_");
+    out.push_name(&header.name);
+    out.push(" {");
+    push_header_fields(out, header.fields.items());
+    out.push("\n}");
 }
 
-fn push_headers(alloc: Global, out: &mut Vec<u8>, headers: &[P4Header]) -> Result<(), NoMemory>
-    ensures { OnOk result (out.new.items
-        ≡ out.old.items ++ spec.each_text spec.header_text (map header_of headers.now)) }
+fn push_headers(out: &mut Printer, headers: &[P4Header])
+    ensures { Prints out.old (spec.each_text spec.header_text (map header_of headers.now)) out.new }
 {
     for header in headers {
-        push_header(alloc, out, header)?;
+        push_header(out, header);
     }
-    Ok(())
 }
 
-#[tactic(auto, unfolding(crate::specs::Printed::member_text))]
-fn push_member(out: &mut Vec<u8>, header: &P4Header) -> Result<(), NoMemory>
-    ensures { OnOk result (out.new.items
-        ≡ out.old.items ++ spec.member_text (header_of header.now)) }
+fn push_member(out: &mut Printer, header: &P4Header)
+    ensures { Prints out.old (spec.member_text (header_of header.now)) out.new }
 {
-    push(out, "\n  ht_")?;
-    push_name(out, &header.name)?;
-    push(out, " h_")?;
-    push_name(out, &header.name)?;
-    push(out, ";")
+    out.push("\n  ht_");
+    out.push_name(&header.name);
+    out.push(" h_");
+    out.push_name(&header.name);
+    out.push(";");
 }
 
-fn push_members(out: &mut Vec<u8>, headers: &[P4Header]) -> Result<(), NoMemory>
-    ensures { OnOk result (out.new.items
-        ≡ out.old.items ++ spec.each_text spec.member_text (map header_of headers.now)) }
+fn push_members(out: &mut Printer, headers: &[P4Header])
+    ensures { Prints out.old (spec.each_text spec.member_text (map header_of headers.now)) out.new }
 {
     for header in headers {
-        push_member(out, header)?;
+        push_member(out, header);
     }
-    Ok(())
 }
 
-#[tactic(auto, unfolding(crate::specs::Printed::meta_member_text))]
-fn push_meta_member(alloc: Global, out: &mut Vec<u8>, field: &P4Field) -> Result<(), NoMemory>
-    ensures { OnOk result (out.new.items
-        ≡ out.old.items ++ spec.meta_member_text (field_of field.now)) }
+fn push_meta_member(out: &mut Printer, field: &P4Field)
+    ensures { Prints out.old (spec.meta_member_text (field_of field.now)) out.new }
 {
-    push(out, "\n  bit<")?;
-    push_number(alloc, out, u32::from(field.width))?;
-    push(out, "> ")?;
-    push_name(out, &field.name)?;
-    push(out, ";")
+    out.push("\n  bit<");
+    out.push_width(field.width);
+    out.push("> ");
+    out.push_name(&field.name);
+    out.push(";");
 }
 
-fn push_meta_members(alloc: Global, out: &mut Vec<u8>, fields: &[P4Field]) -> Result<(), NoMemory>
-    ensures { OnOk result (out.new.items
-        ≡ out.old.items ++ spec.each_text spec.meta_member_text (map field_of fields.now)) }
+fn push_meta_members(out: &mut Printer, fields: &[P4Field])
+    ensures { Prints out.old
+        (spec.each_text spec.meta_member_text (map field_of fields.now))
+        out.new }
 {
     for field in fields {
-        push_meta_member(alloc, out, field)?;
+        push_meta_member(out, field);
     }
-    Ok(())
 }
 
-fn push_extract(out: &mut Vec<u8>, header: &P4Header) -> Result<(), NoMemory>
-    ensures { OnOk result (out.new.items
-        ≡ out.old.items ++ spec.extract_text (header_of header.now)) }
+fn push_extract(out: &mut Printer, header: &P4Header)
+    ensures { Prints out.old (spec.extract_text (header_of header.now)) out.new }
 {
-    push(out, "\n    b.extract(h.h_")?;
-    push_name(out, &header.name)?;
-    push(out, ");")?;
-    Ok(())
+    out.push("\n    b.extract(h.h_");
+    out.push_name(&header.name);
+    out.push(");");
 }
 
-fn push_extracts(out: &mut Vec<u8>, headers: &[P4Header]) -> Result<(), NoMemory>
-    ensures { OnOk result (out.new.items
-        ≡ out.old.items ++ spec.each_text spec.extract_text (map header_of headers.now)) }
+fn push_extracts(out: &mut Printer, headers: &[P4Header])
+    ensures { Prints out.old
+        (spec.each_text spec.extract_text (map header_of headers.now))
+        out.new }
 {
     for header in headers {
-        push_extract(out, header)?;
+        push_extract(out, header);
     }
-    Ok(())
 }
 
-fn push_deparse(out: &mut Vec<u8>, header: &P4Header) -> Result<(), NoMemory>
-    ensures { OnOk result (out.new.items
-        ≡ out.old.items ++ spec.deparse_text (header_of header.now)) }
+fn push_deparse(out: &mut Printer, header: &P4Header)
+    ensures { Prints out.old (spec.deparse_text (header_of header.now)) out.new }
 {
-    push(out, "\n    b.emit(h.h_")?;
-    push_name(out, &header.name)?;
-    push(out, ");")?;
-    Ok(())
+    out.push("\n    b.emit(h.h_");
+    out.push_name(&header.name);
+    out.push(");");
 }
 
-fn push_deparses(out: &mut Vec<u8>, headers: &[P4Header]) -> Result<(), NoMemory>
-    ensures { OnOk result (out.new.items
-        ≡ out.old.items ++ spec.each_text spec.deparse_text (map header_of headers.now)) }
+fn push_deparses(out: &mut Printer, headers: &[P4Header])
+    ensures { Prints out.old
+        (spec.each_text spec.deparse_text (map header_of headers.now))
+        out.new }
 {
     for header in headers {
-        push_deparse(out, header)?;
+        push_deparse(out, header);
     }
-    Ok(())
 }
 
 fn kind_text<'a>(exact: bool) -> &'a str
@@ -536,29 +421,22 @@ fn kind_text<'a>(exact: bool) -> &'a str
     if exact { " : exact;" } else { " : ternary;" }
 }
 
-#[tactic(auto, unfolding(crate::specs::Printed::key_text))]
-fn push_key(out: &mut Vec<u8>, program: &Program, exact: bool, key: u32) -> Result<(), NoMemory>
-    ensures { OnOk result (out.new.items
-        ≡ out.old.items ++ spec.key_text (program_of program.now) exact key) }
+fn push_key(out: &mut Printer, program: &Program, exact: bool, key: u32)
+    ensures { Prints out.old (spec.key_text (program_of program.now) exact key) out.new }
 {
-    push(out, " ")?;
-    push_meta(out, program, key)?;
-    push(out, kind_text(exact))
+    out.push(" ");
+    push_meta(out, program, key);
+    out.push(kind_text(exact));
 }
 
-fn push_keys(
-    out: &mut Vec<u8>,
-    program: &Program,
-    exact: bool,
-    keys: &[u32],
-) -> Result<(), NoMemory>
-    ensures { OnOk result (out.new.items
-        ≡ out.old.items ++ spec.each_text (spec.key_text (program_of program.now) exact) keys.now) }
+fn push_keys(out: &mut Printer, program: &Program, exact: bool, keys: &[u32])
+    ensures { Prints out.old
+        (spec.each_text (spec.key_text (program_of program.now) exact) keys.now)
+        out.new }
 {
     for key in keys {
-        push_key(out, program, exact, *key)?;
+        push_key(out, program, exact, *key);
     }
-    Ok(())
 }
 
 /// The width of a table's result.
@@ -571,139 +449,108 @@ fn result_width(program: &Program, table: &Table) -> u8
     }
 }
 
-fn push_action(
-    alloc: Global,
-    out: &mut Vec<u8>,
-    program: &Program,
-    table: &Table,
-) -> Result<(), NoMemory>
-    ensures { OnOk result (out.new.items
-        ≡ out.old.items ++ spec.action_text (program_of program.now) (table_of table.now)) }
+fn push_action(out: &mut Printer, program: &Program, table: &Table)
+    ensures { Prints out.old
+        (spec.action_text (program_of program.now) (table_of table.now))
+        out.new }
 {
-    push(out, "\n  action a")?;
-    push_number(alloc, out, table.number)?;
-    push(out, "(bit<")?;
-    push_number(alloc, out, u32::from(result_width(program, table)))?;
-    push(out, "> v) { ")?;
-    push_meta(out, program, table.result)?;
-    push(out, " = v; }")?;
-    Ok(())
+    out.push("\n  action a");
+    out.push_number(table.number);
+    out.push("(bit<");
+    out.push_width(result_width(program, table));
+    out.push("> v) { ");
+    push_meta(out, program, table.result);
+    out.push(" = v; }");
 }
 
-fn push_table_keys(
-    alloc: Global,
-    out: &mut Vec<u8>,
-    program: &Program,
-    table: &Table,
-) -> Result<(), NoMemory>
-    ensures { OnOk result (out.new.items
-        ≡ out.old.items ++ spec.keys_text (program_of program.now) (table_of table.now)) }
+fn push_table_keys(out: &mut Printer, program: &Program, table: &Table)
+    ensures { Prints out.old
+        (spec.keys_text (program_of program.now) (table_of table.now))
+        out.new }
 {
-    push(out, "\n  table t")?;
-    push_number(alloc, out, table.number)?;
-    push(out, " {\n    key = {")?;
-    push_keys(out, program, table.exact, table.keys.items())?;
-    push(out, " }")?;
-    Ok(())
+    out.push("\n  table t");
+    out.push_number(table.number);
+    out.push(" {\n    key = {");
+    push_keys(out, program, table.exact, table.keys.items());
+    out.push(" }");
 }
 
-fn push_default(
-    alloc: Global,
-    out: &mut Vec<u8>,
-    program: &Program,
-    table: &Table,
-) -> Result<(), NoMemory>
-    ensures { OnOk result (out.new.items
-        ≡ out.old.items ++ spec.default_text (program_of program.now) (table_of table.now)) }
+fn push_default(out: &mut Printer, program: &Program, table: &Table)
+    ensures { Prints out.old
+        (spec.default_text (program_of program.now) (table_of table.now))
+        out.new }
 {
-    push(out, "\n    actions = { a")?;
-    push_number(alloc, out, table.number)?;
-    push(out, "; }\n    default_action = a")?;
-    push_number(alloc, out, table.number)?;
-    push(out, "(")?;
-    push_literal(alloc, out, result_width(program, table), 0)?;
-    push(out, ");\n  }")?;
-    Ok(())
+    out.push("\n    actions = { a");
+    out.push_number(table.number);
+    out.push("; }\n    default_action = a");
+    out.push_number(table.number);
+    out.push("(");
+    out.push_literal(result_width(program, table), 0);
+    out.push(");\n  }");
 }
 
-fn push_table(
-    alloc: Global,
-    out: &mut Vec<u8>,
-    program: &Program,
-    table: &Table,
-) -> Result<(), NoMemory>
-    ensures { OnOk result (out.new.items
-        ≡ out.old.items ++ spec.table_text (program_of program.now) (table_of table.now)) }
+fn push_table(out: &mut Printer, program: &Program, table: &Table)
+    ensures { Prints out.old
+        (spec.table_text (program_of program.now) (table_of table.now))
+        out.new }
 {
-    push_action(alloc, out, program, table)?;
-    push_table_keys(alloc, out, program, table)?;
-    push_default(alloc, out, program, table)
+    push_action(out, program, table);
+    push_table_keys(out, program, table);
+    push_default(out, program, table)
 }
 
-fn push_tables(
-    alloc: Global,
-    out: &mut Vec<u8>,
-    program: &Program,
-    tables: &[Table],
-) -> Result<(), NoMemory>
-    ensures { OnOk result (out.new.items
-        ≡ out.old.items
-        ++ spec.each_text (spec.table_text (program_of program.now)) (map table_of tables.now)) }
+fn push_tables(out: &mut Printer, program: &Program, tables: &[Table])
+    ensures { Prints out.old
+        (spec.each_text (spec.table_text (program_of program.now)) (map table_of tables.now))
+        out.new }
 {
     for table in tables {
-        push_table(alloc, out, program, table)?;
+        push_table(out, program, table);
     }
-    Ok(())
 }
 
-fn push_heads(alloc: Global, out: &mut Vec<u8>, program: &Program) -> Result<(), NoMemory>
-    ensures { OnOk result (out.new.items
-        ≡ out.old.items ++ spec.heads_text (program_of program.now)) }
+fn push_heads(out: &mut Printer, program: &Program)
+    ensures { Prints out.old (spec.heads_text (program_of program.now)) out.new }
 {
-    push_fixed(out, Fixed::Architecture)?;
-    push_headers(alloc, out, program.headers.items())?;
-    push_fixed(out, Fixed::Headers)?;
-    push_members(out, program.headers.items())?;
-    push_fixed(out, Fixed::Meta)?;
-    push_meta_members(alloc, out, program.meta.items())?;
-    push_fixed(out, Fixed::Parser)?;
-    push_extracts(out, program.headers.items())?;
-    Ok(())
+    push_fixed(out, Fixed::Architecture);
+    push_headers(out, program.headers.items());
+    push_fixed(out, Fixed::Headers);
+    push_members(out, program.headers.items());
+    push_fixed(out, Fixed::Meta);
+    push_meta_members(out, program.meta.items());
+    push_fixed(out, Fixed::Parser);
+    push_extracts(out, program.headers.items());
 }
 
-fn push_ingress(alloc: Global, out: &mut Vec<u8>, program: &Program) -> Result<(), NoMemory>
-    ensures { OnOk result (out.new.items
-        ≡ out.old.items ++ spec.ingress_text (program_of program.now)) }
+fn push_ingress(out: &mut Printer, program: &Program)
+    ensures { Prints out.old (spec.ingress_text (program_of program.now)) out.new }
 {
-    push_fixed(out, Fixed::Ingress)?;
-    push_tables(alloc, out, program, program.ingress.tables.items())?;
-    push_fixed(out, Fixed::IngressBegin)?;
-    emit_body(alloc, out, program, program.ingress.body.items())?;
-    Ok(())
+    push_fixed(out, Fixed::Ingress);
+    push_tables(out, program, program.ingress.tables.items());
+    push_fixed(out, Fixed::IngressBegin);
+    emit_body(out, program, program.ingress.body.items());
 }
 
-fn push_egress(alloc: Global, out: &mut Vec<u8>, program: &Program) -> Result<(), NoMemory>
-    ensures { OnOk result (out.new.items
-        ≡ out.old.items ++ spec.egress_text (program_of program.now)) }
+fn push_egress(out: &mut Printer, program: &Program)
+    ensures { Prints out.old (spec.egress_text (program_of program.now)) out.new }
 {
-    push_fixed(out, Fixed::Egress)?;
-    push_tables(alloc, out, program, program.egress.tables.items())?;
-    push_fixed(out, Fixed::EgressBegin)?;
-    emit_body(alloc, out, program, program.egress.body.items())?;
-    push_fixed(out, Fixed::Deparser)?;
-    push_deparses(out, program.headers.items())?;
-    push_fixed(out, Fixed::Main)?;
-    Ok(())
+    push_fixed(out, Fixed::Egress);
+    push_tables(out, program, program.egress.tables.items());
+    push_fixed(out, Fixed::EgressBegin);
+    emit_body(out, program, program.egress.body.items());
+    push_fixed(out, Fixed::Deparser);
+    push_deparses(out, program.headers.items());
+    push_fixed(out, Fixed::Main);
 }
 
 fn text_of(alloc: Global, program: &Program) -> Result<Vec<u8>, NoMemory>
     ensures { IfOk result (λ v. v.items ≡ spec.printed (program_of program.now)) }
 {
-    let mut out = Vec::new(alloc);
-    push_heads(alloc, &mut out, program)?;
-    push_ingress(alloc, &mut out, program)?;
-    push_egress(alloc, &mut out, program)?;
-    Ok(out)
+    let mut out = Printer::new(alloc);
+    push_heads(&mut out, program);
+    push_ingress(&mut out, program);
+    push_egress(&mut out, program);
+    out.finish()
 }
 
 /// The text of a program.

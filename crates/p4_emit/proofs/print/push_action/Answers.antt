@@ -1,7 +1,7 @@
-use Rattle.std.proofs.Common.{append_assoc}
 use Rattle.p4_emit.specs.Printed.{action_text}
+use Rattle.p4_emit.proofs.Printing.{followed}
 use Rattle.p4_emit.proofs.print.push_action.Goals as goal
 
 pub returns : goal.returns
 unfolding action_text
-returns c = rw (c.in_ok-push-4.ensures, c.in_ok-push_meta.ensures, c.in_ok-push-3.ensures, c.in_ok-push_number-2.ensures, c.in_ok-push-2.ensures, c.in_ok-push_number.ensures, c.in_ok-push.ensures, c.from.ensures, c.result_width.ensures) (simp append_assoc)
+returns c = followed c.push.ensures (followed c.push_number.ensures (followed c.push-2.ensures (followed (rw c.result_width.ensures at c.push_width.ensures) (followed c.push-3.ensures (followed c.push_meta.ensures c.push-4.ensures)))))

@@ -1,0 +1,120 @@
+//! A printer that remembers whether there was memory for all.
+ghost use Rattle.std.specs.Prelude.{◌≡◌, [], IfOk, None, Some, decimal};
+ghost use Rattle.p4_emit.specs.Printed.{literal_text, new_line};
+ghost use Rattle.p4_emit.specs.Printing.{Prints};
+
+use cocoon_num::{NoMemory, Text};
+use std::alloc::Global;
+use std::marker::Model;
+
+/// What was printed so far. After a want of memory nothing more is printed.
+#[derive(Drop)]
+pub(crate) struct Printer {
+    alloc: Global,
+    bytes: Vec<u8>,
+    is_whole: bool,
+}
+
+impl Model for Printer {
+    ghost use Rattle.std.specs.Prelude.{List, None, Option, Some, if◌then◌else◌, ℕ};
+
+    ghost Value = { Option (List ℕ) };
+
+    ghost view = { λ p. if p.is_whole then Some p.bytes.items else None };
+}
+
+impl Printer {
+    /// Nothing is printed.
+    pub(crate) fn new(alloc: Global) -> Printer
+        ensures { result ≡ Some [] }
+    {
+        Printer {
+            alloc,
+            bytes: Vec::new(alloc),
+            is_whole: true,
+        }
+    }
+
+    /// What was printed, where there was memory for all.
+    pub(crate) fn finish(self) -> Result<Vec<u8>, NoMemory>
+        ensures { IfOk result (λ bytes. self ≡ Some bytes.items) }
+    {
+        let Printer {
+            bytes,
+            is_whole,
+            ..
+        } = self;
+        if is_whole { Ok(bytes) } else { Err(NoMemory) }
+    }
+
+    /// There was no memory for what should be printed.
+    pub(crate) fn lose(&mut self)
+        ensures { self.new ≡ None }
+    {
+        self.is_whole = false;
+    }
+
+    pub(crate) fn push_bytes(&mut self, bytes: &[u8])
+        ensures { Prints self.old bytes.now self.new }
+    {
+        if self.is_whole {
+            self.is_whole = self.bytes.extend_from_slice(bytes).is_ok();
+        }
+    }
+
+    pub(crate) fn push(&mut self, text: &str)
+        ensures { Prints self.old text.now self.new }
+    {
+        self.push_bytes(text.as_bytes());
+    }
+
+    pub(crate) fn push_name(&mut self, name: &Text)
+        ensures { Prints self.old name.now self.new }
+    {
+        self.push_bytes(name.bytes());
+    }
+
+    pub(crate) fn push_number(&mut self, number: u32)
+        ensures { Prints self.old (decimal number) self.new }
+    {
+        match number.to_string(self.alloc) {
+            Ok(digits) => self.push(&digits),
+            Err(_) => self.lose(),
+        }
+    }
+
+    pub(crate) fn push_width(&mut self, width: u8)
+        ensures { Prints self.old (decimal width) self.new }
+    {
+        match width.to_string(self.alloc) {
+            Ok(digits) => self.push(&digits),
+            Err(_) => self.lose(),
+        }
+    }
+
+    fn push_value(&mut self, value: u128)
+        ensures { Prints self.old (decimal value) self.new }
+    {
+        match value.to_string(self.alloc) {
+            Ok(digits) => self.push(&digits),
+            Err(_) => self.lose(),
+        }
+    }
+
+    pub(crate) fn push_literal(&mut self, width: u8, value: u128)
+        ensures { Prints self.old (literal_text width value) self.new }
+    {
+        self.push_width(width);
+        self.push("w");
+        self.push_value(value);
+    }
+
+    pub(crate) fn new_line(&mut self, indent: u32)
+        ensures { Prints self.old (new_line indent) self.new }
+    {
+        self.push("\n");
+        for _i in 0..indent {
+            self.push(" ");
+        }
+    }
+}

@@ -1,0 +1,6 @@
+pub mod Deep
+pub mod NameFacts
+pub mod NumberFacts
+pub mod ByteFacts
+pub mod StmtFacts
+pub mod TestFacts
