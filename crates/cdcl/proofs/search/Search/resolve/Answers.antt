@@ -1,0 +1,33 @@
+use Rattle.std.proofs.Common.{◌≡◌, ◌∙◌, ap, arith, false, get_or, length, subst, sym, ◌<◌, ◌++◌, ◌∷◌, []}
+use Rattle.std.proofs.Math.ListN.{length-set}
+use Rattle.std.proofs.lemmas.List.{get_or_read}
+use Rattle.std.proofs.lemmas.Result.{on_ok_weaker}
+use Rattle.cnf_core.specs.TrailViews.{room, trues}
+use Rattle.cdcl.specs.Marks.{Shows}
+use Rattle.cdcl.specs.Searching.{IsForcedBy}
+use Rattle.cdcl.specs.States.{clauses_of}
+use Rattle.cdcl.proofs.Conflicts.{below-reason, shows-reason}
+use Rattle.cdcl.proofs.search.Search.resolve.Goals as goal
+
+pub returns-clause-after : goal.returns-clause-after
+returns-clause-after c =
+    let s = c.args.self.now in
+    let ts = trues s.trail in
+    let cs = clauses_of c.args.cnf.now s in
+    let p = c.args.place in
+    let n = c.index.result.now in
+    let old = c.args.analysis.now in
+    let unmarked = c.unmark.new.self.marks.items in
+    let new = c.take_clause.new.analysis in
+    let before = c.requires.before in
+    let within : p < length old.marks.items = omega (arith, c.requires.within, before.sized) in
+    let number : n ≡ get_or s.reasons.items p 0 = get_or_read s.reasons.items p n (omega (arith, c.requires.within, c.requires.sound.reasoned.sized)) c.index.ensures 0 in
+    let f = subst (IsForcedBy cs ts p) (sym number) c.requires.forced in
+    on_ok_weaker c.take_clause.result (λ m.
+    let marks = m.marks f.0 f.1 in
+    record {
+      sized = marks.sized ∙ ap length c.unmark.ensures.marks ∙ length-set old.marks.items p false ∙ before.sized;
+      below = below-reason cs ts s.trail.apart (room s.trail) s.trail.named p n old.marks.items unmarked new.marks.items c.requires.within within c.unmark.ensures.marks f marks before.below;
+      shows = subst (Shows cs ts new.marks.items p) (sym (m.noted ∙ ap (λ hs. hs ++ n ∷ []) c.unmark.ensures.same.same_hints))
+          (shows-reason cs ts s.trail.apart (room s.trail) s.trail.named p n old.hints.items old.marks.items unmarked new.marks.items c.requires.within within f c.unmark.ensures.marks f marks before.shows);
+    }) c.take_clause.ensures

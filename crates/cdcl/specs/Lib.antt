@@ -1,0 +1,7 @@
+pub mod Searching
+pub mod Passes
+pub mod States
+pub mod Marks
+pub mod Analyses
+pub mod Resolving
+pub mod Answering

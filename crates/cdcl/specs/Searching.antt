@@ -1,0 +1,35 @@
+-- Cited by the clauses of `Search`: what keeps a search right.
+use Rattle.std.specs.Prelude.{◌≡◌, ℕ, ◌+◌, ◌<◌, ◌||◌, ℤ, pos, true, false, IsTrue, List, length, take, slice_get, slice_index, Some}
+use Rattle.std.specs.List.{All}
+use Rattle.cocoon_num.specs.Lists.{has_number}
+use Rattle.cnf_core.specs.Deriving.{forces, is_conflict, is_false}
+use Rattle.cnf_core.specs.Literals.{has_literal}
+use Rattle.cnf_core.specs.Trails.{WeighsAs, literal_at}
+use Rattle.cnf_core.specs.declared.weight.Weight.TheVariants.{Open}
+
+-- nothing is forced any more, and nothing is a conflict
+abbrev pub IsClosed : (clauses : List (List ℤ)) → (trues : List ℤ) → Type 0
+IsClosed clauses trues = All (λ c. WeighsAs trues c Open) clauses
+
+-- the clause of this number is a conflict
+abbrev pub IsConflictAt : (clauses : List (List ℤ)) → (trues : List ℤ) → ℕ → Type 0
+IsConflictAt clauses trues number = (clause : List ℤ) × (slice_get clauses number ≡ Some clause) × IsTrue (is_conflict trues clause)
+
+-- the clause of this number forced the literal at this place, by those before it
+abbrev pub IsForcedBy : (clauses : List (List ℤ)) → (trues : List ℤ) → (place number : ℕ) → Type 0
+IsForcedBy clauses trues p number = (clause : List ℤ) × (slice_get clauses number ≡ Some clause)
+    × IsTrue (forces (take p trues) clause (literal_at trues p))
+
+-- a trail with its reasons and the places of its decisions
+pub record IsReasoned (clauses : List (List ℤ)) (trues : List ℤ) (reasons starts : List ℕ) : Type 0 where
+  pub sized : length reasons ≡ length trues
+  -- what is no decision was forced
+  pub forced : (p : ℕ) → p < length trues → has_number p starts ≡ false → IsForcedBy clauses trues p (slice_index reasons p)
+  pub rising : (i j : ℕ) → i < j → j < length starts → slice_index starts i < slice_index starts j
+  pub under : (i : ℕ) → i < length starts → slice_index starts i < length trues
+  -- nothing more was forced where a decision was made
+  pub closed : (i : ℕ) → i < length starts → IsClosed clauses (take (slice_index starts i) trues)
+
+-- each variable has a value
+abbrev pub IsTotal : (vars : ℕ) → (trues : List ℤ) → Type 0
+IsTotal vars trues = (v : ℕ) → v < vars → (has_literal trues (pos (v + 1)) || is_false trues (pos (v + 1))) ≡ true

@@ -1,0 +1,227 @@
+//! From a conflict to the clause that is learned.
+ghost use Rattle.std.specs.Prelude.{◌≡◌, ◌≤◌, ◌<◌, ◌+◌, ◌++◌, false, IfOk, length, map, OnOk, slice_index, take, ℕ};
+ghost use Rattle.cocoon_num.specs.Lists.{has_number};
+ghost use Rattle.cnf_core.specs.Clauses.{literals};
+ghost use Rattle.cnf_core.specs.Deriving.{Follows};
+ghost use Rattle.cnf_core.specs.Licensing.{IsNew};
+ghost use Rattle.cnf_core.specs.Literals.{opposite};
+ghost use Rattle.cnf_core.specs.Satisfying.{WellNamed};
+ghost use Rattle.cnf_core.specs.Trails.{numbers, WeighsAs};
+ghost use Rattle.cnf_core.specs.TrailViews.{trues};
+ghost use Rattle.cdcl.specs.Marks.{kept, opposite_at};
+ghost use Rattle.cdcl.specs.Analyses.{IsSameBut};
+ghost use Rattle.cdcl.specs.Resolving.{Analyzed, IsLevel, IsResolved, MarksClause, MarksNumber};
+ghost use Rattle.cdcl.specs.Searching.{IsConflictAt, IsForcedBy};
+ghost use Rattle.cdcl.specs.States.{clauses_of, IsSound, RefutesIn};
+
+use crate::analysis::Analysis;
+use crate::search::Search;
+use cnf_core::{Clause, Cnf, Lit, Log, Step, Weight};
+use cocoon_num::{List, NoMemory};
+use std::alloc::Global;
+
+impl Search {
+    /// Marks what a conflict follows from, until as many literals of the last level are left.
+    pub fn analyze(
+        &self,
+        alloc: Global,
+        cnf: &Cnf,
+        conflict: u32,
+        floor: usize,
+        keep: usize,
+    ) -> Result<Analysis, NoMemory>
+        requires sound { IsSound cnf.now self.now }
+        requires named { WellNamed cnf.now }
+        requires conflict { IsConflictAt (clauses_of cnf.now self.now) (trues self.now.trail)
+            conflict }
+        requires forced { (p : ℕ) → floor + keep ≤ p → p < length (trues self.now.trail)
+            → has_number p self.now.starts.items ≡ false }
+        requires level { IsLevel (clauses_of cnf.now self.now) (trues self.now.trail) floor keep }
+        ensures { IfOk result (λ analysis. IsResolved (clauses_of cnf.now self.now)
+            (trues self.now.trail) floor keep analysis) }
+    {
+        let mut analysis = Analysis::new(alloc, self.trail.len(), floor)?;
+        self.take_clause(cnf, &mut analysis, conflict)?;
+        let mut top = self.trail.len();
+        while keep < analysis.count {
+            top -= 1;
+            self.resolve(cnf, &mut analysis, top)?;
+        }
+        Ok(analysis)
+    }
+
+    /// Marks what makes the literals of this clause false, and notes its number.
+    fn take_clause(&self, cnf: &Cnf, analysis: &mut Analysis, number: u32) -> Result<(), NoMemory>
+        requires sound { IsSound cnf.now self.now }
+        requires named { WellNamed cnf.now }
+        requires sized { length analysis.old.marks.items ≡ length (trues self.now.trail) }
+        requires within { number < length (clauses_of cnf.now self.now) }
+        ensures { OnOk result (MarksClause (clauses_of cnf.now self.now) (trues self.now.trail)
+            number analysis.old analysis.new) }
+    {
+        self.mark_number(cnf, analysis, number as usize);
+        analysis.hints.push(number)?;
+        Ok(())
+    }
+
+    /// Marks what makes the literals of the clause of this number false.
+    fn mark_number(&self, cnf: &Cnf, analysis: &mut Analysis, number: usize)
+        requires sound { IsSound cnf.now self.now }
+        requires named { WellNamed cnf.now }
+        requires sized { length analysis.old.marks.items ≡ length (trues self.now.trail) }
+        requires within { number < length (clauses_of cnf.now self.now) }
+        ensures same { IsSameBut analysis.old analysis.new }
+        ensures more { analysis.old.count ≤ analysis.new.count }
+        ensures marks { MarksNumber (clauses_of cnf.now self.now) (trues self.now.trail) number
+            analysis.old.marks.items analysis.new.marks.items }
+    {
+        match self.clause(cnf, number) {
+            Some(clause) => analysis.mark_clause(&self.trail, clause),
+            None => (),
+        }
+    }
+
+    /// Replaces the literal at this place, if it is marked, by those that forced it.
+    fn resolve(&self, cnf: &Cnf, analysis: &mut Analysis, place: usize) -> Result<(), NoMemory>
+        requires sound { IsSound cnf.now self.now }
+        requires named { WellNamed cnf.now }
+        requires within { place < length (trues self.now.trail) }
+        requires last { analysis.old.floor ≤ place }
+        requires forced { IsForcedBy (clauses_of cnf.now self.now) (trues self.now.trail) place
+            (slice_index self.now.reasons.items place) }
+        requires before { Analyzed (clauses_of cnf.now self.now) (trues self.now.trail)
+            (place + 1) analysis.old }
+        ensures after { OnOk result (Analyzed (clauses_of cnf.now self.now)
+            (trues self.now.trail) place analysis.new) }
+        ensures floor { OnOk result (analysis.new.floor ≡ analysis.old.floor) }
+        ensures count { OnOk result (analysis.old.count ≤ analysis.new.count + 1) }
+    {
+        if !analysis.is_marked(place) {
+            return Ok(());
+        }
+        analysis.unmark(place);
+        self.take_clause(cnf, analysis, self.reasons[place])
+    }
+
+    /// The learned clause: not all marked literals are true.
+    pub fn learned(&self, alloc: Global, analysis: &Analysis) -> Result<Clause, NoMemory>
+        requires { length analysis.now.marks.items ≡ length (trues self.now.trail) }
+        ensures { IfOk result (λ clause. literals clause
+            ≡ map opposite (kept analysis.now.marks.items (trues self.now.trail))) }
+    {
+        let mut lits = Vec::new(alloc);
+        for place in 0..self.trail.len() {
+            self.add_opposite(analysis, place, &mut lits)?;
+        }
+        Ok(Clause {
+            lits: List::from(lits),
+        })
+    }
+
+    /// Adds the opposite of the literal at this place, if it is marked.
+    fn add_opposite(
+        &self,
+        analysis: &Analysis,
+        place: usize,
+        lits: &mut Vec<Lit>,
+    ) -> Result<(), NoMemory>
+        requires { place < length (trues self.now.trail) }
+        ensures { OnOk result (numbers lits.new.items ≡ numbers lits.old.items
+            ++ opposite_at analysis.now.marks.items (trues self.now.trail) place) }
+    {
+        if !analysis.is_marked(place) {
+            return Ok(());
+        }
+        lits.push(self.trail.literal(place).opposite())?;
+        Ok(())
+    }
+
+    /// The level to go back to: the first at which all literals before this place are true.
+    pub fn level_before(&self, second: usize) -> usize
+        ensures within { result ≤ length self.now.starts.items }
+        ensures below { (i : ℕ) → i < result → slice_index self.now.starts.items i < second }
+        ensures above { result < length self.now.starts.items
+            → second ≤ slice_index self.now.starts.items result }
+    {
+        let mut level = 0;
+        for start in &self.starts {
+            if second <= *start {
+                return level;
+            }
+            level += 1;
+        }
+        level
+    }
+
+    /// Learns the clause that a conflict shows, and goes back to the first level at which it forces a literal.
+    pub fn learn(&mut self, alloc: Global, cnf: &Cnf, conflict: u32) -> Result<(), NoMemory>
+        requires sound { IsSound cnf.now self.old }
+        requires named { WellNamed cnf.now }
+        requires conflict { IsConflictAt (clauses_of cnf.now self.old) (trues self.old.trail)
+            conflict }
+        requires decided { 0 < length self.old.starts.items }
+        ensures sound { OnOk result (IsSound cnf.now self.new) }
+        ensures one { OnOk result
+            (length self.new.steps.items ≡ length self.old.steps.items + 1) }
+    {
+        let last = self.starts.len() - 1;
+        let floor = self.starts[last];
+        let analysis = self.analyze(alloc, cnf, conflict, floor, 1)?;
+        let clause = self.learned(alloc, &analysis)?;
+        let hints = analysis.hints(alloc)?;
+        let level = self.level_before(analysis.second());
+        self.go_back(cnf, level, Step { clause, hints })
+    }
+
+    /// Takes back this level and the later ones, and adds a step.
+    fn go_back(&mut self, cnf: &Cnf, level: usize, step: Step) -> Result<(), NoMemory>
+        requires sound { IsSound cnf.now self.old }
+        requires within { level < length self.old.starts.items }
+        requires follows { Follows cnf.now.vars (clauses_of cnf.now self.old)
+            (literals step.clause) step.hints }
+        requires new { IsNew (clauses_of cnf.now self.old) (literals step.clause) }
+        requires unforced { (i : ℕ) → i < level
+            → WeighsAs (take (slice_index self.old.starts.items i) (trues self.old.trail))
+            (literals step.clause) Weight.Open }
+        ensures sound { OnOk result (IsSound cnf.now self.new) }
+        ensures one { OnOk result
+            (length self.new.steps.items ≡ length self.old.steps.items + 1) }
+    {
+        let cut = self.starts[level];
+        self.trail.truncate(cut);
+        self.reasons.truncate(cut);
+        self.starts.truncate(level);
+        self.steps.push(step)?;
+        Ok(())
+    }
+
+    /// Adds the step of the empty clause, which a conflict before any decision shows.
+    pub fn refute(&mut self, alloc: Global, cnf: &Cnf, conflict: u32) -> Result<(), NoMemory>
+        requires sound { IsSound cnf.now self.old }
+        requires named { WellNamed cnf.now }
+        requires conflict { IsConflictAt (clauses_of cnf.now self.old) (trues self.old.trail)
+            conflict }
+        requires undecided { length self.old.starts.items ≡ 0 }
+        ensures { OnOk result (RefutesIn cnf.now self.old.steps.items self.new.steps.items) }
+    {
+        let analysis = self.analyze(alloc, cnf, conflict, 0, 0)?;
+        let clause = self.learned(alloc, &analysis)?;
+        let hints = analysis.hints(alloc)?;
+        self.steps.push(Step { clause, hints })?;
+        Ok(())
+    }
+
+    pub fn into_log(self) -> Log
+        ensures { result.steps ≡ self.steps.items }
+    {
+        let Search {
+            steps,
+            trail: _,
+            reasons: _,
+            starts: _,
+        } = self;
+        Log {
+            steps: List::from(steps),
+        }
+    }
+}

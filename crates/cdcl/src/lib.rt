@@ -1,0 +1,11 @@
+//! Search for an assignment that satisfies clauses, by unit propagation, decisions and learned clauses. Each learned clause
+//! is a step of a log with the hints that derive it, so an answer can be checked without a search.
+#![tactic(auto)]
+
+mod analysis;
+mod answer;
+mod learning;
+mod propagation;
+mod search;
+
+pub use answer::{Answer, solve};

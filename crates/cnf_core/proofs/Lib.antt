@@ -1,0 +1,4 @@
+pub mod LiteralFacts
+pub mod Placing
+pub mod Weighing
+pub mod Models

@@ -1,0 +1,16 @@
+//! Clauses, assignments, and logs that derive clauses from clauses. Its `specs/` say what an assignment satisfies, and
+//! what a log derives; a log that derives the empty clause shows that no assignment satisfies.
+#![tactic(auto)]
+
+pub mod clauses;
+pub mod laws;
+pub mod lit;
+pub mod log;
+pub mod trail;
+pub mod weight;
+
+pub use clauses::{Assignment, Clause, Cnf, satisfies};
+pub use lit::Lit;
+pub use log::{Log, Step};
+pub use trail::Trail;
+pub use weight::Weight;

@@ -1,0 +1,4 @@
+pub mod Hinted
+pub mod KnownClauses
+pub mod Registering
+pub mod Covering

@@ -1,0 +1,226 @@
+//! Whether each step of a log brings a new clause: one that is not empty, and has not all literals of a clause that is
+//! known before it.
+ghost use Rattle.std.specs.Prelude.{[], ◌<◌, ◌≡◌, ◌≤◌, ◌++◌, ◌↔◌, ◌∷◌, IfOk, IsTrue, length, map, Ok, OnOk, slice_index_or, true, ℕ};
+ghost use Rattle.std.specs.List.{All};
+ghost use Rattle.cnf_core.specs.Clauses.{literals};
+ghost use Rattle.cnf_core.specs.Deriving.{EachDerived, IsProper};
+ghost use Rattle.cnf_core.specs.Licensing.{BringsNew, contains, IsNew, Licensed};
+ghost use Rattle.cnf_core.specs.Literals.{index_of, Names, variable};
+ghost use Rattle.cnf_core.specs.Satisfying.{WellNamed};
+ghost use Rattle.cnf_core.specs.TrailViews.{room, trues};
+ghost use Rattle.proof_check.specs.Covering.{AllFilled, CoversOne, First, IsCovered, RegistersAll};
+ghost use Rattle.proof_check.specs.Hinted.{AllNamed};
+ghost use Rattle.proof_check.specs.KnownClauses.{clauses_of};
+ghost use Rattle.proof_check.specs.Registering.{firsts_of, Registers};
+
+use crate::chains::Chains;
+use crate::known::Known;
+use crate::step::{before, each_derived};
+use cnf_core::{Clause, Cnf, Lit, Log, Step, Trail};
+use cocoon_num::NoMemory;
+use std::alloc::Global;
+
+/// Whether every step is derived by its hints, and brings a new clause.
+pub fn check_distinct(alloc: Global, cnf: &Cnf, log: &Log) -> Result<bool, NoMemory>
+    requires { WellNamed cnf.now }
+    ensures { IfOk result (λ answer.
+        IsTrue answer ↔ Licensed cnf.now log.now (length log.now.steps)) }
+{
+    let steps = log.steps.items();
+    if each_derived(alloc, cnf, steps)? {
+        each_new(alloc, cnf, steps)
+    } else {
+        Ok(false)
+    }
+}
+
+/// Whether each step brings a new clause.
+fn each_new(alloc: Global, cnf: &Cnf, steps: &[Step]) -> Result<bool, NoMemory>
+    requires named { WellNamed cnf.now }
+    requires derived { EachDerived cnf.now steps.now }
+    ensures { IfOk result (λ answer. IsTrue answer
+        ↔ ((k : ℕ) → k < length steps.now → BringsNew cnf.now steps.now k)) }
+{
+    let mut chains = Chains::new(alloc, cnf.vars)?;
+    if register(&mut chains, cnf.vars, cnf.clauses.items())? {
+        each_beside(alloc, chains, cnf, steps)
+    } else {
+        Ok(steps.is_empty())
+    }
+}
+
+/// The same, where the clauses that are given are registered and none of them is empty.
+fn each_beside(
+    alloc: Global,
+    mut chains: Chains,
+    cnf: &Cnf,
+    steps: &[Step],
+) -> Result<bool, NoMemory>
+    requires named { WellNamed cnf.now }
+    requires derived { EachDerived cnf.now steps.now }
+    requires registered { Registers cnf.now.vars
+        (firsts_of (map literals cnf.now.clauses)) chains }
+    requires filled { AllFilled (map literals cnf.now.clauses) }
+    ensures { IfOk result (λ answer. IsTrue answer
+        ↔ ((k : ℕ) → k < length steps.now → BringsNew cnf.now steps.now k)) }
+{
+    let mut trail = Trail::new(alloc, cnf.vars)?;
+    for (index, step) in steps.iter().enumerate() {
+        let known = Known {
+            cnf,
+            so_far: before(steps, index),
+        };
+        if !brings_new(&mut trail, &mut chains, &known, &step.clause)? {
+            return Ok(false);
+        }
+    }
+    Ok(true)
+}
+
+/// Registers the clauses that are given, if none is empty.
+fn register(chains: &mut Chains, vars: u32, clauses: &[Clause]) -> Result<bool, NoMemory>
+    requires named { AllNamed vars (map literals clauses.now) }
+    requires none { Registers vars [] chains.old }
+    ensures { IfOk result (λ answer.
+        RegistersAll vars (map literals clauses.now) chains.new answer) }
+{
+    for clause in clauses {
+        match first_literal(clause) {
+            Some(first) => chains.add(first)?,
+            None => return Ok(false),
+        }
+    }
+    Ok(true)
+}
+
+fn first_literal(clause: &Clause) -> Option<Lit>
+    ensures { First (literals clause.now) result }
+{
+    match clause.lits.items().first() {
+        Some(lit) => Some(*lit),
+        None => None,
+    }
+}
+
+/// Whether the clause is new; then it is registered.
+fn brings_new(
+    trail: &mut Trail,
+    chains: &mut Chains,
+    known: &Known,
+    clause: &Clause,
+) -> Result<bool, NoMemory>
+    requires empty { trues trail.old ≡ [] }
+    requires named { AllNamed (room trail.old) (clauses_of known.now) }
+    requires proper { IsProper (room trail.old) (literals clause.now) }
+    requires registered { Registers (room trail.old) (firsts_of (clauses_of known.now)) chains.old }
+    requires filled { AllFilled (clauses_of known.now) }
+    ensures exact { IfOk result (λ answer.
+        IsTrue answer ↔ IsNew (clauses_of known.now) (literals clause.now)) }
+    ensures registered { result ≡ Ok true → Registers (room trail.old)
+        (firsts_of (clauses_of known.now ++ literals clause.now ∷ [])) chains.new }
+    ensures empty { OnOk result (trues trail.new ≡ []) }
+    ensures room { room trail.new ≡ room trail.old }
+{
+    match first_literal(clause) {
+        Some(first) => {
+            let covers = covers_known(trail, chains, known, clause)?;
+            chains.add(first)?;
+            Ok(!covers)
+        }
+        None => Ok(false),
+    }
+}
+
+/// Whether a known clause has no literals but those of the clause.
+fn covers_known(
+    trail: &mut Trail,
+    chains: &Chains,
+    known: &Known,
+    clause: &Clause,
+) -> Result<bool, NoMemory>
+    requires empty { trues trail.old ≡ [] }
+    requires named { AllNamed (room trail.old) (clauses_of known.now) }
+    requires proper { IsProper (room trail.old) (literals clause.now) }
+    requires registered { Registers (room trail.old) (firsts_of (clauses_of known.now)) chains.now }
+    requires filled { AllFilled (clauses_of known.now) }
+    ensures exact { IfOk result (λ answer.
+        IsCovered (clauses_of known.now) (literals clause.now) answer) }
+    ensures empty { OnOk result (trues trail.new ≡ []) }
+    ensures room { room trail.new ≡ room trail.old }
+{
+    make_true(trail, clause)?;
+    let covers = covers_any(trail, chains, known, clause);
+    trail.truncate(0);
+    Ok(covers)
+}
+
+/// Makes the literals of a clause true.
+fn make_true(trail: &mut Trail, clause: &Clause) -> Result<(), NoMemory>
+    requires empty { trues trail.old ≡ [] }
+    requires proper { IsProper (room trail.old) (literals clause.now) }
+    ensures trues { OnOk result (trues trail.new ≡ literals clause.now) }
+    ensures room { room trail.new ≡ room trail.old }
+{
+    for lit in clause.lits.items() {
+        trail.push(*lit)?;
+    }
+    Ok(())
+}
+
+/// The same, where the literals of the clause are those that are true.
+fn covers_any(trail: &Trail, chains: &Chains, known: &Known, clause: &Clause) -> bool
+    requires trues { trues trail.now ≡ literals clause.now }
+    requires named { AllNamed (room trail.now) (clauses_of known.now) }
+    requires registered { Registers (room trail.now) (firsts_of (clauses_of known.now)) chains.now }
+    requires filled { AllFilled (clauses_of known.now) }
+    ensures { IsCovered (clauses_of known.now) (literals clause.now) result }
+{
+    for lit in clause.lits.items() {
+        if covers_one(trail, chains, known, *lit) {
+            return true;
+        }
+    }
+    false
+}
+
+/// Whether a known clause that begins with this literal has no literals but those that are true.
+fn covers_one(trail: &Trail, chains: &Chains, known: &Known, first: Lit) -> bool
+    requires within { variable first.number ≤ room trail.now }
+    requires named { AllNamed (room trail.now) (clauses_of known.now) }
+    requires registered { Registers (room trail.now) (firsts_of (clauses_of known.now)) chains.now }
+    ensures { CoversOne (clauses_of known.now) (trues trail.now) (index_of first.number) result }
+{
+    let mut after = chains.last(first);
+    while after > 0 {
+        let number = after - 1;
+        if is_covered(trail, known, number) {
+            return true;
+        }
+        after = chains.before(number);
+    }
+    false
+}
+
+/// Whether the clause of this number has no literals but those that are true.
+fn is_covered(trail: &Trail, known: &Known, number: usize) -> bool
+    requires named { AllNamed (room trail.now) (clauses_of known.now) }
+    requires within { number < length (clauses_of known.now) }
+    ensures { result ≡ contains (trues trail.now) (slice_index_or (clauses_of known.now) number []) }
+{
+    match known.clause(number) {
+        Some(clause) => are_true(trail, clause),
+        None => false,
+    }
+}
+
+fn are_true(trail: &Trail, clause: &Clause) -> bool
+    requires { All (Names (room trail.now)) (literals clause.now) }
+    ensures { result ≡ contains (trues trail.now) (literals clause.now) }
+{
+    for lit in clause.lits.items() {
+        if !trail.is_true(*lit) {
+            return false;
+        }
+    }
+    true
+}
