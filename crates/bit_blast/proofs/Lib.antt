@@ -1,0 +1,5 @@
+pub mod BitSteps
+pub mod GateMeanings
+pub mod CountFacts
+pub mod OrderFacts
+pub mod WalkFacts

@@ -1,0 +1,46 @@
+//! What the definitions say of terms, walks and gates. The functions do nothing; their contracts are the laws.
+ghost use Rattle.std.specs.Prelude.{◌≡◌, ◌≢◌, ◌&&◌, ◌||◌, [], ◌∷◌, Bool, List, if◌then◌else◌, negsuc, not, pos, true, ℤ};
+ghost use Rattle.bv_terms.specs.TermTrees.{Term, binary, input};
+ghost use Rattle.bv_terms.specs.declared.node.TermOp.TheVariants.{And};
+ghost use Rattle.bit_blast.specs.Clauses.{clauses_of, same_term, vars_of, walk};
+ghost use Rattle.bit_blast.specs.Seen.{Seen};
+ghost use Rattle.std.specs.Bool.{beq};
+ghost use Rattle.bit_blast.specs.Gates.{and_gate, carry_gate, choice_gate, or_gate, same_gate, xor_gate};
+ghost use Rattle.bit_blast.specs.Meanings.{IsValuation, all_hold};
+
+/// Terms are told apart by how they are built, inputs by their numbers.
+pub fn equal_terms_are_the_same()
+    ensures itself { (t : Term) → same_term t t ≡ true }
+    ensures only { (t u : Term) → same_term t u ≡ true → t ≡ u }
+{}
+
+/// A walk numbers nothing in a term that it saw with all that the term is made of.
+pub fn a_walk_passes_over_what_it_saw()
+    ensures { (t : Term) (seen : List Term) → Seen seen t → walk t seen ≡ seen }
+{}
+
+/// No gate is left out because it is trivial: 1 is the constant, 2 the input, 3 the gate.
+pub fn and_of_one_input_has_five_clauses()
+    ensures clauses { clauses_of (binary And (input 0 1) (input 0 1))
+        ≡ (pos 1 ∷ []) ∷ (negsuc 2 ∷ pos 2 ∷ []) ∷ (negsuc 2 ∷ pos 2 ∷ [])
+        ∷ (pos 3 ∷ negsuc 1 ∷ negsuc 1 ∷ []) ∷ (pos 3 ∷ []) ∷ [] }
+    ensures vars { vars_of (binary And (input 0 1) (input 0 1)) ≡ 3 }
+{}
+
+/// The clauses of a gate hold exactly where the gate has the value that its bits give.
+pub fn gates_mean_their_operations()
+    ensures and { (v : ℤ → Bool) → IsValuation v → (g a b : ℤ) → g ≢ pos 0 → a ≢ pos 0 → b ≢ pos 0
+        → all_hold v (and_gate g a b) ≡ beq (v g) (v a && v b) }
+    ensures or { (v : ℤ → Bool) → IsValuation v → (g a b : ℤ) → g ≢ pos 0 → a ≢ pos 0 → b ≢ pos 0
+        → all_hold v (or_gate g a b) ≡ beq (v g) (v a || v b) }
+    ensures xor { (v : ℤ → Bool) → IsValuation v → (g a b : ℤ) → g ≢ pos 0 → a ≢ pos 0 → b ≢ pos 0
+        → all_hold v (xor_gate g a b) ≡ beq (v g) (not (beq (v a) (v b))) }
+    ensures same { (v : ℤ → Bool) → IsValuation v → (g a b : ℤ) → g ≢ pos 0 → a ≢ pos 0 → b ≢ pos 0
+        → all_hold v (same_gate g a b) ≡ beq (v g) (beq (v a) (v b)) }
+    ensures choice { (v : ℤ → Bool) → IsValuation v → (c g a b : ℤ)
+        → c ≢ pos 0 → g ≢ pos 0 → a ≢ pos 0 → b ≢ pos 0
+        → all_hold v (choice_gate c g a b) ≡ beq (v g) (if v c then v a else v b) }
+    ensures carry { (v : ℤ → Bool) → IsValuation v → (g a b c : ℤ)
+        → g ≢ pos 0 → a ≢ pos 0 → b ≢ pos 0 → c ≢ pos 0
+        → all_hold v (carry_gate g a b c) ≡ beq (v g) (v a && v b || v a && v c || v b && v c) }
+{}

@@ -1,0 +1,12 @@
+//! Terms over numbers of fixed widths, their values, and terms in place of inputs. docs/CLAUSES.md says what they mean.
+#![tactic(auto)]
+
+pub mod arena;
+pub mod eval;
+mod needed;
+pub mod node;
+mod substitute;
+
+pub use arena::Terms;
+pub use eval::Env;
+pub use node::{FunId, InputId, Node, TermId, TermOp};
