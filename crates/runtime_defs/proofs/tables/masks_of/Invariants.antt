@@ -1,0 +1,7 @@
+use Rattle.std.proofs.Common.{◌≡◌, ◌++◌, drop, map}
+use Rattle.cocoon_syntax.specs.TreeOf.{pattern_of}
+use Rattle.runtime_defs.specs.Bound.{pattern_mask}
+use Rattle.runtime_defs.proofs.tables.masks_of.Given as goal
+
+abbrev pub invariant-loop-pattern : goal.invariant-loop-pattern
+invariant-loop-pattern l = l.masks.items ++ map pattern_mask (map pattern_of (drop l.pattern-index l.patterns)) ≡ map pattern_mask (map pattern_of l.patterns)

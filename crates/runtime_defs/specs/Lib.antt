@@ -1,0 +1,4 @@
+pub mod Bound
+pub mod Faults
+pub mod Sets
+pub mod Steps
