@@ -12,4 +12,4 @@ m_is_printed = refl
 
 -- it is well kinded and not too deep, so these bytes read as the program
 pub m_reads : P4Reads m_p4 m_program
-m_reads = let read : P4Reads (printed m_program) m_program = printed_reads m_program refl refl in subst (λ (t : List ℕ). P4Reads t m_program) m_is_printed read
+m_reads = let read : P4Reads (printed m_program) m_program = printed_reads m_program refl in subst (λ (t : List ℕ). P4Reads t m_program) m_is_printed read

@@ -1,8 +1,5 @@
 pub mod Printing
-pub mod Seams
-pub mod Joins
 pub mod P4Seams
-pub mod Numbers
 pub mod Prints
 pub mod Whole
 pub mod WellKinded

@@ -10,11 +10,12 @@ use Rattle.cocoon_num.specs.Tokens.{is_run, is_letter, is_run_byte, is_shallow, 
 use Rattle.p4_ir.specs.P4Tree.{P4Expr, p_lit, p_truth, p_meta, p_field, p_port, p_rid, p_unary, p_binary, p_slice, p_pick, P4Stmt, set_meta, set_header, apply_table, p_if, p_if_else, verdict, egress_port, group, p_return, P4Block, p_done, p_then, P4Field, P4Header, P4Table, Program, field_widths, meta_width}
 use Rattle.p4_ir.specs.P4Text.{p4_bounds, program_tokens}
 use Rattle.cocoon_num.specs.Lists.{each, has_number, ascend, all_distinct}
-use Rattle.p4_ir.specs.P4Kinds.{is_meta_name, last_is_digit, names_fit, widths_fit, table_fits, tables_fit, numbers_of, Within, meta_sort, field_sort, is_implies, p4_sort, is_empty, stmt_fits, block_fits, is_well_kinded}
+use Rattle.p4_ir.specs.P4Kinds.{is_meta_name, last_is_digit, names_fit, widths_fit, table_fits, tables_fit, numbers_of, Within, meta_sort, field_sort, is_implies, p4_sort, is_empty, stmt_fits, block_fits, kinds_fit}
 use Rattle.p4_ir.specs.P4Reads.{P4Reads}
+use Rattle.p4_ir.specs.WellKinded.{is_well_kinded}
 use Rattle.cocoon_num.specs.Packets.{total}
 use Rattle.p4_emit.specs.Printed.{printed}
-use Rattle.p4_emit.proofs.Seams.{all_word_bytes, is_name}
+use Rattle.text_printer.proofs.Seams.{all_word_bytes, is_name}
 use Rattle.p4_emit.proofs.Prints.{Each, FieldFits, HeaderFits, MetaFits, IfThere, each_found, ExprFits, StmtFits, BlockFits}
 use Rattle.p4_emit.proofs.Whole.{TableFits, ProgramFits, printed_tokens}
 
@@ -282,7 +283,7 @@ number_small p (t ∷ ts) e = (e.0.number, number_small p ts e.1)
 
 -- ---- programs
 
-pub kinds_spell : (p : Program) → is_well_kinded p ≡ true → ProgramFits p
+pub kinds_spell : (p : Program) → kinds_fit p ≡ true → ProgramFits p
 kinds_spell p h =
     let ingress : Within = record { program = p; in_ingress = true; tables = numbers_of p.ingress.tables } in
     let egress : Within = record { program = p; in_ingress = false; tables = numbers_of p.egress.tables } in
@@ -313,8 +314,9 @@ kinds_spell p h =
       egress = record { tables = egr; body = block_of_kind egress wide (number_small p p.egress.tables egr) p.egress.body h1.1 };
     }
 
--- the printed text of a well-kinded program that is not too deep reads as the program
-pub printed_reads : (p : Program) → is_well_kinded p ≡ true → is_shallow p4_bounds (program_tokens p) ≡ true → P4Reads (printed p) p
-printed_reads p k d =
-    let l = printed_tokens p (kinds_spell p k) in
-    record { tokens = l.0; tokens_are = l.1; reads = l.2; shallow = rw l.2 d; kinds_fit = k }
+-- the printed text of a well-kinded program reads as the program
+pub printed_reads : (p : Program) → is_well_kinded p ≡ true → P4Reads (printed p) p
+printed_reads p k =
+    let kinds = and_parts (kinds_fit p) (is_shallow p4_bounds (program_tokens p)) k in
+    let l = printed_tokens p (kinds_spell p kinds.0) in
+    record { tokens = l.0; tokens_are = l.1; reads = l.2; well_kinded = k }

@@ -1,24 +1,14 @@
 -- The text that is printed of a program. The clauses of `emit` cite it, and those of net_bundle.
 -- Each part adds its text, with a line feed before each line but the first. A block's inside is indented by two blanks. It
 -- follows "The text" in docs/FORMATS.md. Optional headers, tags and versions of rows are absent.
-use Rattle.std.specs.Prelude.{ℕ, ◌+◌, Bool, true, false, List, [], ◌∷◌, ◌++◌, replicate, slice_get, Option, Some, None, decimal, codes}
+use Rattle.std.specs.Prelude.{ℕ, ◌+◌, Bool, true, false, List, [], ◌++◌, slice_get, Option, Some, None, decimal, codes}
 use Rattle.cocoon_num.specs.Values.{UnaryOp, flip, not_, BinaryOp, add, sub, bits_and, bits_or, bits_xor, concat, equal, unequal, less, less_equal, greater, greater_equal, and_, or_, implies}
+pub use Rattle.text_printer.specs.Printing.{each_text, literal_text, new_line}
 use Rattle.p4_ir.specs.P4Tree.{P4Expr, p_lit, p_truth, p_meta, p_field, p_port, p_rid, p_unary, p_binary, p_slice, p_pick, P4Stmt, set_meta, set_header, apply_table, p_if, p_if_else, verdict, egress_port, group, p_return, P4Block, p_done, p_then, P4Field, P4Header, P4Table, Program, meta_width}
-
--- a new line that begins with so many blanks
-abbrev pub new_line : ℕ → List ℕ
-new_line indent = 10 ∷ replicate indent 32
-
-abbrev pub literal_text : ℕ → ℕ → List ℕ
-literal_text width n = decimal width ++ (119 ∷ decimal n)
 
 abbrev pub optional_text : {A : Type 0} → (A → List ℕ) → Option A → List ℕ
 optional_text f None = []
 optional_text f (Some a) = f a
-
-abbrev pub each_text : {A : Type 0} → (A → List ℕ) → List A → List ℕ
-each_text f [] = []
-each_text f (x ∷ xs) = f x ++ each_text f xs
 
 abbrev pub meta_text : Program → ℕ → List ℕ
 meta_text p i = optional_text (λ (f : P4Field). codes "m." ++ f.name) (slice_get p.meta i)

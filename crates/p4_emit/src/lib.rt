@@ -2,6 +2,5 @@
 #![tactic(auto)]
 
 pub mod print;
-pub(crate) mod printer;
 
 pub use print::emit;

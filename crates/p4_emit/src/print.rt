@@ -1,19 +1,17 @@
 //! The text of a program.
-ghost use Rattle.std.specs.Prelude.{◌≡◌, ◌+◌, ◌++◌, codes, IfOk, IsTrue, map};
-ghost use Rattle.p4_ir.specs.P4Kinds.{is_well_kinded};
+ghost use Rattle.std.specs.Prelude.{◌≡◌, ◌+◌, ◌++◌, codes, IfOk, map};
 ghost use Rattle.p4_ir.specs.P4Reads.{P4Reads};
-ghost use Rattle.p4_ir.specs.P4Text.{p4_bounds, program_tokens};
 ghost use Rattle.p4_ir.specs.P4Tree.{meta_width};
-ghost use Rattle.cocoon_num.specs.Tokens.{is_shallow};
+ghost use Rattle.p4_ir.specs.WellKinded.{WellKinded};
 ghost use Rattle.p4_emit.specs.Pieces.{piece_of};
 ghost use Rattle.p4_emit.specs.Printed as spec;
-ghost use Rattle.p4_emit.specs.Printing.{Prints};
+ghost use Rattle.text_printer.specs.Printing.{Prints};
 ghost use Rattle.p4_ir.specs.Program.{expr_of, stmt_of, block_of, field_of, header_of, table_of, control_of, program_of, unary_of, binary_of};
 
-use crate::printer::Printer;
 use cocoon_num::NoMemory;
 use p4_ir::{P4Binary, P4Expr, P4Field, P4Header, P4Stmt, P4Unary, Program, Table};
 use std::alloc::Global;
+use text_printer::Printer;
 
 /// The pieces that every program has.
 #[derive(Clone, Copy, Debug, Drop)]
@@ -555,8 +553,7 @@ fn text_of(alloc: Global, program: &Program) -> Result<Vec<u8>, NoMemory>
 
 /// The text of a program.
 pub fn emit(alloc: Global, program: &Program) -> Result<Vec<u8>, NoMemory>
-    requires kinds { IsTrue (is_well_kinded (program_of program.now)) }
-    requires shallow { IsTrue (is_shallow p4_bounds (program_tokens (program_of program.now))) }
+    requires well_kinded { WellKinded (program_of program.now) }
     ensures text { IfOk result (λ v. v.items ≡ spec.printed (program_of program.now)) }
     ensures reads { IfOk result (λ v. P4Reads v.items (program_of program.now)) }
 {

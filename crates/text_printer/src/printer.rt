@@ -1,7 +1,6 @@
 //! A printer that remembers whether there was memory for all.
 ghost use Rattle.std.specs.Prelude.{◌≡◌, [], IfOk, None, Some, decimal};
-ghost use Rattle.p4_emit.specs.Printed.{literal_text, new_line};
-ghost use Rattle.p4_emit.specs.Printing.{Prints};
+ghost use Rattle.text_printer.specs.Printing.{Prints, literal_text, new_line};
 
 use cocoon_num::{NoMemory, Text};
 use std::alloc::Global;
@@ -9,7 +8,7 @@ use std::marker::Model;
 
 /// What was printed so far. After a want of memory nothing more is printed.
 #[derive(Drop)]
-pub(crate) struct Printer {
+pub struct Printer {
     alloc: Global,
     bytes: Vec<u8>,
     is_whole: bool,
@@ -25,7 +24,7 @@ impl Model for Printer {
 
 impl Printer {
     /// Nothing is printed.
-    pub(crate) fn new(alloc: Global) -> Printer
+    pub fn new(alloc: Global) -> Printer
         ensures { result ≡ Some [] }
     {
         Printer {
@@ -36,7 +35,7 @@ impl Printer {
     }
 
     /// What was printed, where there was memory for all.
-    pub(crate) fn finish(self) -> Result<Vec<u8>, NoMemory>
+    pub fn finish(self) -> Result<Vec<u8>, NoMemory>
         ensures { IfOk result (λ bytes. self ≡ Some bytes.items) }
     {
         let Printer {
@@ -48,13 +47,13 @@ impl Printer {
     }
 
     /// There was no memory for what should be printed.
-    pub(crate) fn lose(&mut self)
+    pub fn lose(&mut self)
         ensures { self.new ≡ None }
     {
         self.is_whole = false;
     }
 
-    pub(crate) fn push_bytes(&mut self, bytes: &[u8])
+    pub fn push_bytes(&mut self, bytes: &[u8])
         ensures { Prints self.old bytes.now self.new }
     {
         if self.is_whole {
@@ -62,19 +61,19 @@ impl Printer {
         }
     }
 
-    pub(crate) fn push(&mut self, text: &str)
+    pub fn push(&mut self, text: &str)
         ensures { Prints self.old text.now self.new }
     {
         self.push_bytes(text.as_bytes());
     }
 
-    pub(crate) fn push_name(&mut self, name: &Text)
+    pub fn push_name(&mut self, name: &Text)
         ensures { Prints self.old name.now self.new }
     {
         self.push_bytes(name.bytes());
     }
 
-    pub(crate) fn push_number(&mut self, number: u32)
+    pub fn push_number(&mut self, number: u32)
         ensures { Prints self.old (decimal number) self.new }
     {
         match number.to_string(self.alloc) {
@@ -83,7 +82,7 @@ impl Printer {
         }
     }
 
-    pub(crate) fn push_width(&mut self, width: u8)
+    pub fn push_width(&mut self, width: u8)
         ensures { Prints self.old (decimal width) self.new }
     {
         match width.to_string(self.alloc) {
@@ -101,7 +100,7 @@ impl Printer {
         }
     }
 
-    pub(crate) fn push_literal(&mut self, width: u8, value: u128)
+    pub fn push_literal(&mut self, width: u8, value: u128)
         ensures { Prints self.old (literal_text width value) self.new }
     {
         self.push_width(width);
@@ -109,7 +108,8 @@ impl Printer {
         self.push_value(value);
     }
 
-    pub(crate) fn new_line(&mut self, indent: u32)
+    /// A new line that begins with so many blanks.
+    pub fn new_line(&mut self, indent: u32)
         ensures { Prints self.old (new_line indent) self.new }
     {
         self.push("\n");

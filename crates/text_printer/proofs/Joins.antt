@@ -4,11 +4,11 @@ use Rattle.std.specs.Prelude.{replicate}
 use Rattle.std.proofs.lemmas.Bool.{and_parts}
 use Rattle.std.proofs.lemmas.List.{append-nil}
 use Rattle.cocoon_num.specs.Tokens.{Kind}
-use Rattle.p4_emit.proofs.Seams.{Seams, bare, Spells, then_apart, then_clear, is_clear, is_apart, starts_open, ends_open, open_after}
+use Rattle.text_printer.proofs.Seams.{Seams, bare, Spells, then_apart, then_clear, is_clear, is_apart, starts_open, ends_open, open_after}
 
 -- ---- the ends x of texts
 
-clear_append : (x : Seams) → (s t : List ℕ) → is_clear x s ≡ true → is_clear x t ≡ true → is_clear x (s ++ t) ≡ true
+pub clear_append : (x : Seams) → (s t : List ℕ) → is_clear x s ≡ true → is_clear x t ≡ true → is_clear x (s ++ t) ≡ true
 clear_append x [] t h g = g
 clear_append x (b ∷ s) t h g = h
 

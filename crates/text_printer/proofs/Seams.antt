@@ -4,6 +4,7 @@ use Rattle.std.proofs.Common.{◌≡◌, ℕ, zero, suc, ◌+◌, ◌-◌, ◌�
 use Rattle.std.specs.Prelude.{◌==◌, codes, if◌then◌else◌}
 use Rattle.std.proofs.lemmas.Bool.{cases_Bool, cond-true, cond-false, cond_both, eqb-true, and_parts, or_cases, not-true, false≢true, not_from_true}
 use Rattle.std.proofs.lemmas.Bool.Decides.{nat_tests}
+use Rattle.cocoon_num.specs.Lists.{each}
 use Rattle.cocoon_num.specs.Tokens.{Kind, Lexicon, run_kind, leading, lex, finish, Token, Prefix, gap, piece, faulty, is_blank, is_digit, is_letter, is_run_byte, begins, beginning, number_kind, number_prefix, run_prefix, line_prefix, block_prefix, digit_prefix, letter_prefix, mark_prefix, prefix, by_prefix, with_token, lex_from, kinds, Lexed}
 
 pub leading_cons : (p : ℕ → Bool) (b : ℕ) (bs : List ℕ) → leading p (b ∷ bs) ≡ cond (p b) (b ∷ leading p bs) []
@@ -308,8 +309,7 @@ spells_lexes {x} {s} {ks} h = lexes_from x 0 0 s ks h.are
 -- ---- words and numbers
 
 abbrev pub all_word_bytes : List ℕ → Bool
-all_word_bytes [] = true
-all_word_bytes (b ∷ bs) = is_run_byte b && all_word_bytes bs
+all_word_bytes bs = each is_run_byte bs
 
 whole_run : (s : List ℕ) → all_word_bytes s ≡ true → leading is_run_byte s ≡ s
 whole_run [] h = refl

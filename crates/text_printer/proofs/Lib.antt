@@ -1,0 +1,4 @@
+pub mod Printing
+pub mod Seams
+pub mod Joins
+pub mod Numbers
