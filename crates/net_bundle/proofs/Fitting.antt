@@ -2,15 +2,15 @@
 use Rattle.std.proofs.Common.{◌≡◌, ℕ, ◌+◌, ◌<◌, Bool, true, false, ◌&&◌, IsTrue, List, [], ◌∷◌, ◌++◌, length, map, drop, slice_index_or, Vec, Global, refl, sym, ap, ◌∙◌, subst}
 use Rattle.std.proofs.lemmas.List.{drop_more, append_assoc, map_push}
 use Rattle.cocoon_num.specs.Lists.{each}
-use Rattle.cocoon_num.specs.Tokens.{is_shallow}
 use Rattle.p4_emit.specs.Printed.{printed}
 use Rattle.p4_ir.specs.Loading.{rows_file_fits, rows_load}
 use Rattle.p4_ir.specs.NetFits.{switch_fits}
 use Rattle.p4_ir.specs.NetOf.{switch_of}
 use Rattle.p4_ir.specs.NetTree as net
-use Rattle.p4_ir.specs.P4Kinds.{is_well_kinded}
 use Rattle.p4_ir.specs.P4Reads.{P4Reads}
-use Rattle.p4_ir.specs.P4Text.{p4_bounds, program_tokens}
+use Rattle.p4_ir.specs.P4Tree as tree
+use Rattle.p4_ir.specs.Program.{program_of}
+use Rattle.p4_ir.specs.WellKinded.{is_well_kinded, WellKinded}
 use Rattle.p4_ir.specs.declared.network.SwitchFiles.{SwitchFiles}
 use Rattle.net_bundle.specs.Bundle.{MadeFile, rows_text, switch_files, all_switch_files}
 use Rattle.net_bundle.specs.NetFileOf.{made_of}
@@ -64,9 +64,8 @@ switch_pushed before middle after v w s e k p q =
     ∙ ap (λ xs. xs ++ rows ∷ []) (one_pushed before middle (record { file = Program s.number; bytes = v }) (made (Program s.number) (printed s.program)) e (ap (made (Program s.number)) p))
     ∙ append_assoc (map made_of before) (made (Program s.number) (printed s.program) ∷ []) (rows ∷ [])
 
-pub program_fits : (s : net.SwitchFiles) → IsTrue (switch_fits s) → IsTrue (is_well_kinded s.program) × IsTrue (is_shallow p4_bounds (program_tokens s.program))
-program_fits s h =
-    let kinds = is_well_kinded s.program in
-    let shallow = is_shallow p4_bounds (program_tokens s.program) in
-    let program = left_of (kinds && shallow) (rows_file_fits s.rows) (left_of (kinds && shallow && rows_file_fits s.rows) (rows_load s.program s.rows) h) in
-    (left_of kinds shallow program, right_of kinds shallow program)
+parts_fit : (p : tree.Program) (rows : tree.RowsFile) → IsTrue (is_well_kinded p && rows_file_fits rows && rows_load p rows) → WellKinded p
+parts_fit p rows h = left_of (is_well_kinded p) (rows_file_fits rows) (left_of (is_well_kinded p && rows_file_fits rows) (rows_load p rows) h)
+
+pub program_fits : (s : SwitchFiles) → IsTrue (switch_fits (switch_of s)) → WellKinded (program_of s.program)
+program_fits s h = parts_fit (program_of s.program) (switch_of s).rows h

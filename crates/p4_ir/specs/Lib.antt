@@ -2,6 +2,7 @@ pub mod P4Tree
 pub mod NoRows
 pub mod P4Text
 pub mod P4Kinds
+pub mod WellKinded
 pub mod P4Reads
 pub mod Program
 pub mod Switch

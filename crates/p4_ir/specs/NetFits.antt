@@ -1,10 +1,8 @@
--- Which networks can be written as a bundle: their wires fit, each program keeps the kind rules and the bounds on depth,
--- and its rows load. The private clauses of net_bundle and lower_p4 cite it.
+-- Which networks can be written as a bundle: their wires fit, each program is well kinded, and its rows load. The clauses
+-- of net_bundle and lower_p4 cite it.
 use Rattle.std.specs.Prelude.{ℕ, ◌&&◌, Bool, List, map}
 use Rattle.cocoon_num.specs.Lists.{each}
-use Rattle.cocoon_num.specs.Tokens.{is_shallow}
-use Rattle.p4_ir.specs.P4Kinds.{is_well_kinded}
-use Rattle.p4_ir.specs.P4Text.{p4_bounds, program_tokens}
+use Rattle.p4_ir.specs.WellKinded.{is_well_kinded}
 use Rattle.p4_ir.specs.Loading.{rows_file_fits, rows_load}
 use Rattle.p4_ir.specs.Wiring.{Wiring, wiring_fits}
 use Rattle.p4_ir.specs.NetTree.{SwitchFiles, NetData}
@@ -17,7 +15,7 @@ wiring_of net = record { ports = net.ports; switches = switch_numbers net.switch
 
 -- a program that can be printed and read back, with rows that load
 abbrev pub switch_fits : SwitchFiles → Bool
-switch_fits s = is_well_kinded s.program && is_shallow p4_bounds (program_tokens s.program) && rows_file_fits s.rows && rows_load s.program s.rows
+switch_fits s = is_well_kinded s.program && rows_file_fits s.rows && rows_load s.program s.rows
 
 abbrev pub net_fits : NetData → Bool
 net_fits net = wiring_fits (wiring_of net) && each switch_fits net.switches

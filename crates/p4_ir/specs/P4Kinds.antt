@@ -101,8 +101,8 @@ abbrev mutual
   block_fits c p_done = true
   block_fits c (p_then first rest) = stmt_fits c first && block_fits c rest
 
-abbrev pub is_well_kinded : Program → Bool
-is_well_kinded p =
+abbrev pub kinds_fit : Program → Bool
+kinds_fit p =
     names_fit p && widths_fit p && tables_fit p
     && block_fits (record { program = p; in_ingress = true; tables = numbers_of p.ingress.tables }) p.ingress.body
     && block_fits (record { program = p; in_ingress = false; tables = numbers_of p.egress.tables }) p.egress.body

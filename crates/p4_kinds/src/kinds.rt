@@ -1,9 +1,10 @@
 //! Which programs are well kinded.
-ghost use Rattle.std.specs.Prelude.{◌≡◌, ◌&&◌, IfOk};
+ghost use Rattle.std.specs.Prelude.{◌≡◌, IfOk};
 ghost use Rattle.cocoon_num.specs.Tokens as tokens;
 ghost use Rattle.p4_ir.specs.P4Kinds as rules;
 ghost use Rattle.p4_ir.specs.P4Text.{p4_bounds, program_tokens};
 ghost use Rattle.p4_ir.specs.Program.{program_of};
+ghost use Rattle.p4_ir.specs.WellKinded as spec;
 ghost use Rattle.p4_kinds.specs.Parts as parts;
 
 use crate::depth::is_shallow;
@@ -28,7 +29,7 @@ fn bodies_fit(alloc: Global, program: &Program) -> Result<bool, NoMemory>
 }
 
 fn keeps_rules(alloc: Global, program: &Program) -> Result<bool, NoMemory>
-    ensures { IfOk result (λ keeps. keeps ≡ rules.is_well_kinded (program_of program.now)) }
+    ensures { IfOk result (λ keeps. keeps ≡ rules.kinds_fit (program_of program.now)) }
 {
     let names = names_fit(alloc, program)?;
     let bodies = bodies_fit(alloc, program)?;
@@ -53,8 +54,7 @@ fn keeps_bounds(program: &Program) -> bool
 /// A program keeps the kind rules, and no token of its text is deep. Memory is taken for one copy
 /// of each name and for the numbers of tables.
 pub fn is_well_kinded(alloc: Global, program: &Program) -> Result<bool, NoMemory>
-    ensures { IfOk result (λ kinded. kinded ≡ (rules.is_well_kinded (program_of program.now)
-        && tokens.is_shallow p4_bounds (program_tokens (program_of program.now)))) }
+    ensures { IfOk result (λ kinded. kinded ≡ spec.is_well_kinded (program_of program.now)) }
 {
     if keeps_bounds(program) {
         keeps_rules(alloc, program)

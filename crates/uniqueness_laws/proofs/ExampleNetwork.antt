@@ -55,7 +55,7 @@ unfolding sha256 first_words schedule rounds compress hash_after digest_bytes en
 p4_digested = refl
 
 c_p4_reads : P4Reads c_p4 c_program
-c_p4_reads = record { tokens = _; tokens_are = refl; reads = refl; shallow = refl; kinds_fit = refl }
+c_p4_reads = record { tokens = _; tokens_are = refl; reads = refl; well_kinded = refl }
 
 abbrev c_switch : SwitchFiles
 c_switch = record { number = 1; program = c_program; rows = no_rows }

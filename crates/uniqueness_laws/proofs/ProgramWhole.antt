@@ -3,11 +3,12 @@ use Rattle.std.proofs.Common.{◌≡◌, ℕ, List, [], ◌∷◌, ◌++◌, Boo
 use Rattle.std.specs.Prelude.{codes}
 use Rattle.std.proofs.lemmas.Bool.{and_parts}
 use Rattle.cocoon_num.specs.Lists.{each, ascend, all_distinct}
-use Rattle.cocoon_num.specs.Tokens.{Kind, a_name, mark, finish, Token, LexFault, lex, kinds, is_run}
+use Rattle.cocoon_num.specs.Tokens.{Kind, a_name, mark, finish, Token, LexFault, lex, kinds, is_run, is_shallow}
 use Rattle.p4_ir.specs.P4Tree.{P4Field, P4Header, Control, Program}
-use Rattle.p4_ir.specs.P4Text.{p4_lexicon, said, header_name, in_braces, architecture, header_tokens, member_tokens, meta_member_tokens, control_tokens, program_tokens}
-use Rattle.p4_ir.specs.P4Kinds.{is_meta_name, names_fit, widths_fit, table_fits, tables_fit, numbers_of, Within, block_fits, is_well_kinded}
+use Rattle.p4_ir.specs.P4Text.{p4_lexicon, p4_bounds, said, header_name, in_braces, architecture, header_tokens, member_tokens, meta_member_tokens, control_tokens, program_tokens}
+use Rattle.p4_ir.specs.P4Kinds.{is_meta_name, names_fit, widths_fit, table_fits, tables_fit, numbers_of, Within, block_fits, kinds_fit}
 use Rattle.p4_ir.specs.P4Reads.{P4Reads}
+use Rattle.p4_ir.specs.WellKinded.{WellKinded}
 use Rattle.uniqueness_laws.proofs.ProgramLists.{each_of, cancel, cancel_same}
 use Rattle.uniqueness_laws.proofs.ProgramSpells.{one_part}
 use Rattle.uniqueness_laws.proofs.ProgramReads.{Names}
@@ -43,7 +44,7 @@ names_of p h =
       meta = h1.1;
     }
 
-program_of_kind : (p : Program) → is_well_kinded p ≡ true → ProgramFits p
+program_of_kind : (p : Program) → kinds_fit p ≡ true → ProgramFits p
 program_of_kind p h =
     let h1 = and_parts (names_fit p && widths_fit p && tables_fit p && block_fits (ingress_of p) p.ingress.body) (block_fits (egress_of p) p.egress.body) h in
     let h2 = and_parts (names_fit p && widths_fit p && tables_fit p) (block_fits (ingress_of p) p.ingress.body) h1.0 in
@@ -152,7 +153,13 @@ program_same p q f g h =
 same_tokens : (a b : List Token) (r : Result (List Token) LexFault) → r ≡ Ok a → r ≡ Ok b → a ≡ b
 same_tokens a b r x y = cc
 
+fits_of : (p : Program) → WellKinded p → ProgramFits p
+fits_of p k = program_of_kind p (and_parts (kinds_fit p) (is_shallow p4_bounds (program_tokens p)) k).0
+
+pub one_program_of_tokens : (p q : Program) → WellKinded p → WellKinded q → program_tokens p ≡ program_tokens q → p ≡ q
+one_program_of_tokens p q j k h = program_same p q (fits_of p j) (fits_of q k) h
+
 pub one_program : (text : List ℕ) (p q : Program) → P4Reads text p → P4Reads text q → p ≡ q
 one_program text p q a b =
     let tokens : a.tokens ≡ b.tokens = same_tokens a.tokens b.tokens (lex p4_lexicon text) a.tokens_are b.tokens_are in
-    program_same p q (program_of_kind p a.kinds_fit) (program_of_kind q b.kinds_fit) (sym a.reads ∙ ap kinds tokens ∙ b.reads)
+    one_program_of_tokens p q a.well_kinded b.well_kinded (sym a.reads ∙ ap kinds tokens ∙ b.reads)

@@ -33,7 +33,7 @@ pub fn example_network()
 /// tag and at host 2 what has not, and nothing of no bytes.
 pub fn example_delivers()
     ensures means { (x : ThinTexts example_design example_defs example_thin)
-        × ThinMeaning x.tree x.entries example_thin }
+        × ThinMeaning x.tree (defs_of x.tree x.entries) example_thin }
     ensures tagged { (x : ThinTexts example_design example_defs example_thin)
         → LastGo x.tree (defs_of x.tree x.entries) 0 (1 ∷ 255 ∷ []) [] 1 1 (1 ∷ 255 ∷ []) }
     ensures untagged { (x : ThinTexts example_design example_defs example_thin)

@@ -7,8 +7,5 @@ returns-clause-files c =
     switch_pushed c.args.files.now.items c.push.new.self.items c.push-2.new.self.items c.in_ok-emit.field-0 c.in_ok-rows_text.field-0 (switch_of c.args.switch.now)
     c.in_ok-push.ensures.items c.in_ok-push-2.ensures.items c.in_ok-emit.ensures.text c.in_ok-rows_text.ensures.text
 
-pub emit-requires-clause-kinds : goal.emit-requires-clause-kinds
-emit-requires-clause-kinds c = (program_fits (switch_of c.args.switch.now) c.requires.fits).0
-
-pub emit-requires-clause-shallow : goal.emit-requires-clause-shallow
-emit-requires-clause-shallow c = (program_fits (switch_of c.args.switch.now) c.requires.fits).1
+pub emit-requires : goal.emit-requires
+emit-requires c = record { well_kinded = program_fits c.args.switch.now c.requires.fits }
