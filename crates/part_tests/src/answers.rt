@@ -24,8 +24,6 @@ pub enum Kind {
     Tokens,
     /// As a design, and so is each prefix that ends with a token.
     Prefixes,
-    /// As a case of networks.
-    Networks,
 }
 
 /// The kind of this name.
@@ -35,7 +33,6 @@ pub fn kind_named(name: &str) -> Option<Kind> {
         "definitions" => Some(Kind::Definitions),
         "tokens" => Some(Kind::Tokens),
         "prefixes" => Some(Kind::Prefixes),
-        "networks" => Some(Kind::Networks),
         _ => None,
     }
 }
@@ -56,7 +53,6 @@ pub fn put_answer(alloc: Global, kind: Kind, text: &[u8], found: &mut Printer) {
         },
         Kind::Tokens => put_tokens(alloc, text, found),
         Kind::Prefixes => put_prefixes(alloc, text, found),
-        Kind::Networks => found.put("no text"),
     }
 }
 

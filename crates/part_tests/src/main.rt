@@ -1,37 +1,25 @@
-//! Tries cases of the parts of the command. Each word names a file of cases, whose form docs/CASES.md describes. The program
+//! Tries cases of the reading of texts. Each word names a file of cases, whose form docs/CASES.md describes. The program
 //! prints what each case asks, below it what differs, and at the end how many cases there are. With the one word `design` or
 //! `definitions` it reads the standard input as such a text, and prints `read` or the first fault.
 //!
-//! The clauses say what is read, written and done by definitions. Whether these mean what was meant, no clause says, nor that
-//! there is memory. So the cases are worked by hand, by the rules of the language and by docs/FORMATS.md.
+//! The clauses say what is read by definitions. Whether these mean what was meant, no clause says, nor that there is memory. So
+//! the cases are worked by hand, by the rules of the language.
 #![tactic(auto)]
 
 mod answers;
-mod builders;
-mod bundles;
 mod definitions;
 mod designs;
-mod example;
 mod expressions;
-mod first_switch;
 mod frames;
-mod limits;
-mod networks;
-mod packets;
 mod pieces;
 mod prefixes;
-mod programs;
-mod second_switch;
 mod shorthand;
 mod statements;
 mod tokens;
 
 use answers::{Kind, kind_named, put_answer, put_reading};
-use bundles::write_case;
 use case_files::{Printer, Subject, first_word, input, print, sole_word, try_words};
 use frames::{Frame, frame_of, put_inner};
-use limits::write_long;
-use packets::ask;
 use shorthand::put_text;
 use std::process::ExitCode;
 
@@ -44,28 +32,11 @@ struct Cases<'r> {
 impl<'r> Subject for Cases<'r> {
     fn is_line(&self, line: &str) -> bool {
         let (word, rest) = first_word(line);
-        match word {
-            "older" | "others" | "header" | "test" => true,
-            _ => !rest.is_empty() && (word == "wanted" || kind_named(word).is_some()),
-        }
+        !rest.is_empty() && (word == "wanted" || kind_named(word).is_some())
     }
 
     fn answer(&self, above: &str, asked: &str, wanted: &str, given: &mut Printer) {
-        let frame = frame_of(above);
-        match frame.kind {
-            Kind::Networks => answer_network(self.rt, above, asked, given),
-            _ => answer_text(self.rt, frame, asked, wanted, given),
-        }
-    }
-}
-
-/// Puts the answer to a case of networks.
-fn answer_network(rt: &HostRuntime, above: &str, asked: &str, given: &mut Printer) {
-    let (word, rest) = first_word(asked);
-    match word {
-        "enter" | "visit" | "go" => ask(rt.alloc(), above, (word, rest), given),
-        "limit" => write_long(rt, rest, given),
-        _ => write_case(rt, above, (word, rest), given),
+        answer_text(self.rt, frame_of(above), asked, wanted, given);
     }
 }
 

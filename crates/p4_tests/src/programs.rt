@@ -7,24 +7,26 @@ use p4_ir::{P4Expr, P4Field, P4Stmt, Program};
 use std::alloc::Global;
 
 /// The greatest number of a width, of the widths that cases have.
-fn greatest(width: u64) -> Option<(u8, u64)>
+fn greatest(width: u8) -> Option<(u8, u128)>
     ensures { IfSome result (λ n. (1 ≤ n.0) × (n.0 ≤ 128) × (n.1 < 2 ^ n.0)) }
 {
     match width {
         1 => Some((1, 0x1)),
+        2 => Some((2, 0x3)),
         8 => Some((8, 0xff)),
         16 => Some((16, 0xffff)),
         32 => Some((32, 0xffff_ffff)),
         64 => Some((64, 0xffff_ffff_ffff_ffff)),
+        128 => Some((128, 0xffff_ffff_ffff_ffff_ffff_ffff_ffff_ffff)),
         _ => None,
     }
 }
 
 /// The number of this width, if there is such a one.
-pub fn bits(width: u64, value: u64) -> Option<Bits> {
+pub fn bits(width: u8, value: u128) -> Option<Bits> {
     let (width, greatest) = greatest(width)?;
     if value <= greatest {
-        Some(Bits::new(width, u128::from(value)))
+        Some(Bits::new(width, value))
     } else {
         None
     }

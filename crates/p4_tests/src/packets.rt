@@ -156,7 +156,8 @@ fn tested(alloc: Global, widths: &[u8], words: &str) -> Option<Program> {
     let (field, rest) = first_word(words);
     let (width, value) = first_word(rest);
     let field = u32::try_from(number(field)?).ok()?;
-    let value = bits(number(width)?, number(value)?)?;
+    let width = u8::try_from(number(width)?).ok()?;
+    let value = bits(width, u128::from(number(value)?))?;
     program(alloc, widths, field, value).ok()
 }
 

@@ -1,6 +1,6 @@
 //! Switch 7: an exact table of one key.
 ghost use Rattle.std.specs.Prelude.{◌≡◌, IfOk, map};
-ghost use Rattle.part_tests.specs.TwoSwitches.{second_headers, second_ingress, second_meta, second_program, second_rows, second_switch, second_table};
+ghost use Rattle.p4_tests.specs.TwoSwitches.{second_headers, second_ingress, second_meta, second_program, second_rows, second_switch, second_table};
 ghost use Rattle.p4_ir.specs.NetOf.{rows_of, switch_of};
 ghost use Rattle.p4_ir.specs.Program.{block_of, field_of, header_of, program_of, stmt_of, table_of};
 

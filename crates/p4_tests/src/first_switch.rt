@@ -1,6 +1,6 @@
 //! Switch 1: a ternary table of two keys, whose result is a group.
 ghost use Rattle.std.specs.Prelude.{◌≡◌, IfOk, map};
-ghost use Rattle.part_tests.specs.TwoSwitches.{first_egress, first_groups, first_headers, first_ingress, first_meta, first_program, first_rows, first_switch, first_table};
+ghost use Rattle.p4_tests.specs.TwoSwitches.{first_egress, first_groups, first_headers, first_ingress, first_meta, first_program, first_rows, first_switch, first_table};
 ghost use Rattle.p4_ir.specs.NetOf.{group_of, switch_of, table_rows_of};
 ghost use Rattle.p4_ir.specs.Program.{block_of, field_of, header_of, program_of, stmt_of, table_of};
 

@@ -1,7 +1,7 @@
 //! Whole networks.
 ghost use Rattle.std.specs.Prelude.{◌≡◌, IfOk, IfSome, IsTrue, map};
-ghost use Rattle.part_tests.specs.Networks.{bare_program, named_network};
-ghost use Rattle.part_tests.specs.TwoSwitches.{both_switches, first_switch, second_switch, the_hosts, the_links, two_switches};
+ghost use Rattle.p4_tests.specs.Networks.{bare_program, named_network};
+ghost use Rattle.p4_tests.specs.TwoSwitches.{both_switches, first_switch, second_switch, the_hosts, the_links, two_switches};
 ghost use Rattle.cocoon_num.specs.Tokens.{is_run};
 ghost use Rattle.p4_ir.specs.NetFits.{net_fits};
 ghost use Rattle.p4_ir.specs.NetOf.{end_of, host_port_of, link_of, net_of, switch_of};
