@@ -1,0 +1,11 @@
+pub mod Seamed
+pub mod Spelled
+pub mod Printing
+pub mod Derived
+pub mod Fits
+pub mod Distinct
+pub mod Tables
+pub mod Faultless
+pub mod Named
+pub mod Widths
+pub mod Example
