@@ -6,3 +6,15 @@ pub mod Calls
 pub mod Few
 pub mod Masks
 pub mod Tabled
+pub mod Looking
+pub mod Distinct
+pub mod Chosen
+pub mod Fitted
+pub mod Zips
+pub mod Listing
+pub mod Guarding
+pub mod ParamWidths
+pub mod Shapes
+pub mod Defined
+pub mod SwitchWidth
+pub mod Masked

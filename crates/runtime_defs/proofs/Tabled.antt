@@ -1,10 +1,9 @@
 -- Tables, row by row and function by function.
-use Rattle.std.proofs.Common.{◌≡◌, ℕ, ◌+◌, ◌<◌, true, List, [], ◌∷◌, ◌++◌, map, take, length, get_or, slice_get, Option, Some, None, if◌then◌else◌, refl, sym, ap, subst, ◌∙◌}
+use Rattle.std.proofs.Common.{◌≡◌, ℕ, ◌+◌, ◌<◌, true, List, [], ◌∷◌, ◌++◌, map, take, length, get_or, Option, Some, None, if◌then◌else◌, refl, sym, ap, subst, ◌∙◌}
 use Rattle.std.specs.Prelude.{filter_map, option_to_list}
 use Rattle.std.specs.List.{AllZip}
-use Rattle.std.proofs.lemmas.List.{map_more, take_more}
+use Rattle.std.proofs.lemmas.List.{map_more}
 use Rattle.std.proofs.lemmas.List.Elements.{filter_map-append}
-use Rattle.std.proofs.lemmas.Option.{get_or_from_slice_get, slice_get_within}
 use Rattle.cocoon_num.specs.BitsOf.{value_of}
 use Rattle.cocoon_num.specs.Lists.{first_of}
 use Rattle.cocoon_num.specs.Names.{same_name}
@@ -16,16 +15,7 @@ use Rattle.cocoon_types.specs.Design.{widths_of}
 use Rattle.cocoon_types.specs.Tables.{default_of, Row, row_of, runtime_table}
 use Rattle.runtime_defs.specs.Bound.{as_bits, IsPlace, IsRow}
 use Rattle.runtime_defs.specs.Steps.{HasRow}
-
-pub zip-more : {A B : Type 0} (R : A → B → Type 0) (xs : List A) (ys : List B) (x : A) (y : B) → AllZip R xs ys → R x y → AllZip R (xs ++ x ∷ []) (ys ++ y ∷ [])
-zip-more R [] [] x y h k = (k, tt)
-zip-more R [] (b ∷ ys) x y h k = absurd h
-zip-more R (a ∷ xs) [] x y h k = absurd h
-zip-more R (a ∷ xs) (b ∷ ys) x y h k = (h.0, zip-more R xs ys x y h.1 k)
-
--- the items up to and with one
-pub taken-more : {A : Type 0} (xs : List A) (k : ℕ) (x : A) → slice_get xs k ≡ Some x → take (k + 1) xs ≡ take k xs ++ x ∷ []
-taken-more xs k x h = take_more xs k x (slice_get_within xs k x h) ∙ ap (λ y. take k xs ++ y ∷ []) (get_or_from_slice_get xs k x x h)
+use Rattle.runtime_defs.proofs.Zips.{zip-more}
 
 single : {B C : Type 0} (h : B → Option C) (y : B) → filter_map h (y ∷ []) ≡ option_to_list (h y)
 single h y = by (h y) refl

@@ -1,4 +1,9 @@
 pub mod Bound
 pub mod Faults
+pub mod Fitting
+pub mod Guards
+pub mod Places
 pub mod Sets
+pub mod Stands
 pub mod Steps
+pub mod TrueRows

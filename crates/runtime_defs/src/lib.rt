@@ -7,8 +7,11 @@ mod entries;
 pub mod fault;
 pub mod finding;
 mod function_set;
+mod guards;
+pub mod laws;
 mod literal_rows;
 mod tables;
+mod true_numbers;
 
 pub use defs::{Defs, bind};
 pub use fault::DefsFault;

@@ -17,7 +17,7 @@ use cocoon_syntax::{Const, Entry, Expr, ExprKind, Name, Pattern, Role, Stmt, Stm
 use std::alloc::Global;
 
 /// The function that a call names; no name where it is no call.
-fn called(expr: &Expr) -> &[u8]
+pub(crate) fn called(expr: &Expr) -> &[u8]
     ensures { result.now ≡ last.called (expr_of expr.now) }
 {
     match &expr.kind {
@@ -54,7 +54,7 @@ pub(crate) fn entry_role(checked: &Checked) -> Option<&Role>
 }
 
 /// The role of this name at the last level.
-fn last_role<'c>(checked: &'c Checked, name: &Name) -> Option<&'c Role>
+pub(crate) fn last_role<'c>(checked: &'c Checked, name: &Name) -> Option<&'c Role>
     ensures { option_map (λ r. role_of r.now) result
         ≡ spec.last_role (design_of checked.now) name.now.text }
 {

@@ -1,14 +1,16 @@
 //! The tables of functions, from the entries of definitions.
-ghost use Rattle.std.specs.Prelude.{◌≡◌, ◌+◌, ◌-◌, ◌^◌, ◌++◌, filter_map, IfOk, List as Items, map, None, OnOk, option_map, option_to_list, Some};
+ghost use Rattle.std.specs.Prelude.{All, ◌≡◌, ◌≤◌, ◌+◌, ◌-◌, ◌^◌, ◌++◌, filter_map, IfOk, List as Items, map, None, OnOk, option_map, option_to_list, Some};
 ghost use Rattle.std.specs.List.{AllZip};
 ghost use Rattle.cocoon_num.specs.BitsOf.{value_of};
 ghost use Rattle.cocoon_num.specs.Lists.{first_of};
 ghost use Rattle.cocoon_num.specs.Names.{same_name};
+ghost use Rattle.cocoon_resolve.specs.Resolved.{Resolves};
 ghost use Rattle.cocoon_syntax.specs.TreeOf.{const_of, design_of, entry_of, function_of, param_of, pattern_of};
+ghost use Rattle.cocoon_types.specs.DefsRules.{DefsFit};
 ghost use Rattle.cocoon_types.specs.Design.{functions, widths_of};
 ghost use Rattle.cocoon_types.specs.Tables.{default_of, Row as TreeRow, row_of};
 ghost use Rattle.runtime_defs.specs.Bound.{as_bits, IsPlace, IsRow, pattern_mask, pattern_value, row_count};
-ghost use Rattle.runtime_defs.specs.Steps.{HasRow, IsKey};
+ghost use Rattle.runtime_defs.specs.Steps.{HasRow, IsByte, IsDefined, IsKey, IsNarrow, RowIsNarrow};
 
 use crate::finding::function_count;
 use cocoon_num::{Bits, FunRow, FunTable, List, NoMemory};
@@ -16,55 +18,55 @@ use cocoon_resolve::Checked;
 use cocoon_syntax::{Const, Entry, FunctionDecl, Param, Pattern};
 use std::alloc::Global;
 
-/// The value of a number. The code keeps those of at most 64 bits.
-fn number(bits: Bits) -> Result<u64, NoMemory>
-    ensures { IfOk result (λ n. n ≡ bits.value) }
+/// The value of a number of at most 64 bits.
+#[tactic(auto, using(crate::proofs::Masks::narrow_value))]
+fn number(bits: Bits) -> u64
+    requires { bits.width ≤ 64 }
+    ensures { result ≡ bits.value }
 {
-    u64::try_from(bits.value).map_err(|_| NoMemory)
+    bits.value as u64
 }
 
-/// Ones in all bits of a number.
+/// Ones in all of its bits.
 #[tactic(auto, using(crate::proofs::Masks::ones_are))]
-fn ones(bits: Bits) -> Result<u64, NoMemory>
-    ensures { IfOk result (λ mask. mask ≡ 2 ^ bits.width - 1) }
+fn ones(bits: Bits) -> u64
+    requires { bits.width ≤ 64 }
+    ensures { result ≡ 2 ^ bits.width - 1 }
 {
-    if bits.width > 64 {
-        return Err(NoMemory);
-    }
-    Ok(u64::MAX >> (64 - bits.width))
+    u64::MAX >> (64 - bits.width)
 }
 
 /// The value and the mask of a pattern.
-fn key(pattern: Pattern) -> Result<(u64, u64), NoMemory>
-    ensures { IfOk result (λ key. IsKey (pattern_of pattern) key.0 key.1) }
+fn key(pattern: Pattern) -> (u64, u64)
+    requires { IsNarrow (pattern_of pattern) }
+    ensures { IsKey (pattern_of pattern) result.0 result.1 }
 {
     match pattern {
-        Pattern::Literal(bits) => Ok((number(bits)?, ones(bits)?)),
-        Pattern::Masked(bits, mask) => {
-            let mask = number(mask)?;
-            Ok((number(bits)? & mask, mask))
-        }
-        Pattern::Any => Ok((0, 0)),
+        Pattern::Literal(bits) => (number(bits), ones(bits)),
+        Pattern::Masked(bits, mask) => (number(bits) & number(mask), number(mask)),
+        Pattern::Any => (0, 0),
     }
 }
 
 fn values_of(alloc: Global, patterns: &[Pattern]) -> Result<Vec<u64>, NoMemory>
+    requires { All IsNarrow (map pattern_of patterns.now) }
     ensures { IfOk result (λ values.
         values.items ≡ map pattern_value (map pattern_of patterns.now)) }
 {
     let mut values = Vec::new(alloc);
     for pattern in patterns {
-        values.push(key(*pattern)?.0)?;
+        values.push(key(*pattern).0)?;
     }
     Ok(values)
 }
 
 fn masks_of(alloc: Global, patterns: &[Pattern]) -> Result<Vec<u64>, NoMemory>
+    requires { All IsNarrow (map pattern_of patterns.now) }
     ensures { IfOk result (λ masks. masks.items ≡ map pattern_mask (map pattern_of patterns.now)) }
 {
     let mut masks = Vec::new(alloc);
     for pattern in patterns {
-        masks.push(key(*pattern)?.1)?;
+        masks.push(key(*pattern).1)?;
     }
     Ok(masks)
 }
@@ -80,6 +82,7 @@ fn bits_of(value: Const) -> Bits
 }
 
 fn fun_row(alloc: Global, patterns: &[Pattern], value: Const) -> Result<FunRow, NoMemory>
+    requires { All IsNarrow (map pattern_of patterns.now) }
     ensures { IfOk result (λ row. HasRow (map pattern_of patterns.now) (const_of value) row) }
 {
     let values = values_of(alloc, patterns)?;
@@ -105,6 +108,7 @@ fn push_row(
     entry: &Entry,
     rows: &mut Vec<FunRow>,
 ) -> Result<(), NoMemory>
+    requires { RowIsNarrow function.now (entry_of entry.now) }
     ensures { (before : Items TreeRow) → AllZip IsRow before rows.old.items
         → OnOk result (AllZip IsRow
         (before ++ option_to_list (row_of function.now (entry_of entry.now))) rows.new.items) }
@@ -119,6 +123,7 @@ fn push_row(
 
 /// The rows of a function, in the order of the text.
 fn rows_of(alloc: Global, function: &[u8], entries: &[Entry]) -> Result<Vec<FunRow>, NoMemory>
+    requires { All (RowIsNarrow function.now) (map entry_of entries.now) }
     ensures { IfOk result (λ rows. AllZip IsRow
         (filter_map (row_of function.now) (map entry_of entries.now)) rows.items) }
 {
@@ -160,19 +165,21 @@ fn default_value(function: &[u8], entries: &[Entry]) -> Option<Const>
 }
 
 fn param_widths(alloc: Global, params: &[Param]) -> Result<Vec<u8>, NoMemory>
+    requires { All IsByte (widths_of (map param_of params.now)) }
     ensures { IfOk result (λ widths. widths.items ≡ widths_of (map param_of params.now)) }
 {
     let mut widths = Vec::new(alloc);
     for param in params {
-        widths.push(width_of(param)?)?;
+        widths.push(width_of(param))?;
     }
     Ok(widths)
 }
 
-fn width_of(param: &Param) -> Result<u8, NoMemory>
-    ensures { IfOk result (λ width. width ≡ param.now.width) }
+fn width_of(param: &Param) -> u8
+    requires { IsByte param.now.width }
+    ensures { result ≡ param.now.width }
 {
-    u8::try_from(param.width).map_err(|_| NoMemory)
+    param.width as u8
 }
 
 /// The table of a function that is defined at run time.
@@ -181,13 +188,13 @@ fn runtime_table(
     function: &FunctionDecl,
     entries: &[Entry],
 ) -> Result<FunTable, NoMemory>
-    ensures { function.now.body ≡ None → IfOk result (λ table.
+    requires bodiless { function.now.body ≡ None }
+    requires defined { IsDefined (function_of function.now) (map entry_of entries.now) }
+    ensures { IfOk result (λ table.
         IsPlace (map entry_of entries.now) (function_of function.now) (Some table)) }
 {
     let name = function.name.text.bytes();
-    let Some(default) = default_value(name, entries) else {
-        return Err(NoMemory);
-    };
+    let default = default_value(name, entries).unwrap();
     let rows = rows_of(alloc, name, entries)?;
     let widths = param_widths(alloc, &function.params)?;
     Ok(FunTable {
@@ -203,6 +210,8 @@ fn place_of(
     function: &FunctionDecl,
     entries: &[Entry],
 ) -> Result<Option<FunTable>, NoMemory>
+    requires { function.now.body ≡ None
+        → IsDefined (function_of function.now) (map entry_of entries.now) }
     ensures { IfOk result (λ place.
         IsPlace (map entry_of entries.now) (function_of function.now) place) }
 {
@@ -218,6 +227,8 @@ pub(crate) fn tables_of(
     checked: &Checked,
     entries: &[Entry],
 ) -> Result<Vec<Option<FunTable>>, NoMemory>
+    requires fit { DefsFit (design_of checked.now) (map entry_of entries.now) }
+    requires rules { Resolves (design_of checked.now) }
     ensures { IfOk result (λ tables. AllZip (IsPlace (map entry_of entries.now))
         (functions (design_of checked.now)) tables.items) }
 {
