@@ -1,0 +1,12 @@
+pub mod Meant
+pub mod Bound
+pub mod Flat
+pub mod DeclaredWidths
+pub mod ByTables
+pub mod Finds
+pub mod Scenes
+pub mod Stands
+pub mod Written
+pub mod FieldPlaces
+pub mod Worlds
+pub mod FittingRuns
