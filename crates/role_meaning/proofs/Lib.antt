@@ -1,8 +1,6 @@
-pub mod Names
-pub mod Variables
-pub mod FieldSteps
-pub mod FunctionSteps
+pub mod Guards
+pub mod Blocks
 pub mod Sizes
-pub mod Numbers
-pub mod TableValues
-pub mod ParamWidths
+pub mod Bridges
+pub mod Exactly
+pub mod Layouts

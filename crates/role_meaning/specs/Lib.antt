@@ -1,8 +1,5 @@
-pub mod Meant
-pub mod Bound
-pub mod Flat
-pub mod DeclaredWidths
-pub mod ByTables
-pub mod Finds
-pub mod Scenes
-pub mod Stands
+pub mod Located
+pub mod Levels
+pub mod Progresses
+pub mod Goings
+pub mod Leading

@@ -1,15 +1,16 @@
-//! The values of expressions, as the section "Values" of docs/LANGUAGE.md defines them. Functions with
-//! a body are evaluated by their bodies, and those that are defined at run time by tables.
+//! One body's run, as the section "A body's run" of docs/LANGUAGE.md defines it, and packets that
+//! enter from bytes and leave as bytes. Functions that are defined at run time are evaluated by tables.
 #![tactic(auto)]
 
-pub mod bindings;
-pub mod evaluation;
-mod fields;
-mod functions;
-pub mod laws;
-pub mod operators;
-pub mod value;
+pub mod bytes;
+mod going;
+pub mod leading;
+mod level;
+mod place;
+mod progress;
+mod run;
+mod steps;
 
-pub use bindings::Binding;
-pub use evaluation::{Scene, State, evaluate, evaluate_all};
-pub use value::Value;
+pub use bytes::{enter, leave};
+pub use leading::go;
+pub use place::{Loc, Packet};

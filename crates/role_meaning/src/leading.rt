@@ -1,0 +1,144 @@
+//! One body's run at a level of a design.
+ghost use Rattle.std.specs.Prelude.{◌≡◌, ℕ, All, IfOk, IfSome, length, List as Items, Option, option_map, Some};
+ghost use Rattle.cocoon_num.specs.PacketForms.{FieldsFit, PacketFits};
+ghost use Rattle.cocoon_num.specs.Packets.{Packet as Sent};
+ghost use Rattle.cocoon_num.specs.Tree.{Design, FunctionDecl, Role};
+ghost use Rattle.cocoon_num.specs.declared.fun_table.FunTable.{FunTable as Table};
+ghost use Rattle.cocoon_resolve.specs.Readers.{all_widths, field_widths, HasRole};
+ghost use Rattle.cocoon_resolve.specs.Resolved.{Resolves};
+ghost use Rattle.cocoon_syntax.specs.TreeOf.{design_of};
+ghost use Rattle.cocoon_syntax.specs.declared.decl.Design.{Design as Syntax};
+ghost use Rattle.cocoon_types.specs.Design.{functions, layout, role_at, widths_of};
+ghost use Rattle.cocoon_types.specs.Runs.{Loc as At, world};
+ghost use Rattle.cocoon_types.specs.Tables.{Defs as Definitions};
+ghost use Rattle.cocoon_types.specs.Taken as taken;
+ghost use Rattle.cocoon_types.specs.Taken.{RunsAreTaken};
+ghost use Rattle.role_meaning.specs.Goings as spec;
+ghost use Rattle.role_meaning.specs.Leading.{Leads};
+ghost use Rattle.role_meaning.specs.Located.{loc_of, sent_of};
+ghost use Rattle.role_values.specs.ByTables.{MayHaveShape};
+ghost use Rattle.role_values.specs.DeclaredWidths.{AllDeclared};
+ghost use Rattle.role_values.specs.FittingRuns.{fitting_go};
+ghost use Rattle.role_values.specs.Stands as values;
+ghost use Rattle.role_values.specs.Worlds.{world_by};
+ghost use Rattle.runtime_defs.specs.Fitting.{FitsDesign};
+ghost use Rattle.runtime_defs.specs.Stands.{Stands};
+ghost use Rattle.sound_types.specs.Defined.{HasTables};
+ghost use Rattle.sound_types.specs.Ends.{LocFits};
+ghost use Rattle.sound_types.specs.Literals.{DesignLiteralsFit};
+
+use crate::going::run_role;
+use crate::level::Level;
+use crate::place::{Loc, Packet};
+use cocoon_num::{FunTable, NoMemory};
+use cocoon_resolve::Checked;
+use cocoon_types::runs::runs_are_taken;
+use role_values::Scene;
+use role_values::laws::{fields_are_declared, params_are_declared, role_params_are_declared};
+use runtime_defs::Defs;
+use sound_types::laws::{code_literals_fit, fitting_runs_are_runs, runs_by_tables};
+use std::alloc::Global;
+
+/// Where the body of a role leads, by tables.
+fn go_by_tables(
+    alloc: Global,
+    checked: &Checked,
+    tables: &[Option<FunTable>],
+    level: u32,
+    at: &Loc,
+    packet: &Packet,
+    choices: &[u64],
+) -> Result<Option<(Loc, Packet)>, NoMemory>
+    requires count { length tables.now ≡ length (functions (design_of checked.now)) }
+    requires shapes { All MayHaveShape tables.now }
+    requires role { HasRole (design_of checked.now) at.now.role level }
+    requires fits { FieldsFit (field_widths (design_of checked.now)) packet.now.fields }
+    ensures fits { IfOk result (λ to. IfSome to (λ r.
+        FieldsFit (field_widths (design_of checked.now)) r.1.fields)) }
+    ensures at { IfOk result (λ to. IfSome to (λ r.
+        HasRole (design_of checked.now) r.0.role level)) }
+    ensures leads { IfOk result (λ to. option_map (spec.went_of (design_of checked.now)) to
+        ≡ spec.all_taken (fitting_go (world_by tables.now level (design_of checked.now))
+        (loc_of (design_of checked.now) at.now) (sent_of (design_of checked.now) packet.now)
+        choices.now)) }
+{
+    declared_widths();
+    let design = checked.design();
+    let scene = Scene {
+        checked,
+        tables,
+        before: tables.len() as u32,
+        headers: &design.headers,
+    };
+    let number = level;
+    run_role(alloc, &Level { scene, number }, at, packet, choices)
+}
+
+/// Where one body's run leads from a location of a level under these definitions, with exactly these
+/// choices, in the order in which they are made. `None` where it leads nowhere: where the values do
+/// not fit or a guard is not true, where a path ends without a `send`, where a choice does not fit, is
+/// missing or is left over, and at the sink. The meaning is that of docs/LANGUAGE.md, "A body's run".
+///
+/// The time is in proportion to the statements that are run, with their expressions, and to the rows
+/// that are looked at; a variable is looked up among all that are in scope.
+pub fn go(
+    alloc: Global,
+    checked: &Checked,
+    defs: &Defs,
+    level: u32,
+    at: &Loc,
+    packet: &Packet,
+    choices: &[u64],
+) -> Result<Option<(Loc, Packet)>, NoMemory>
+    requires defs { FitsDesign (design_of checked.now) defs.now }
+    requires role { HasRole (design_of checked.now) at.now.role level }
+    requires fits { FieldsFit (field_widths (design_of checked.now)) packet.now.fields }
+    ensures goes { IfOk result (λ to. (defined : Definitions)
+        → Stands (design_of checked.now) defs.now defined
+        → Leads (design_of checked.now) (world level (design_of checked.now) defined)
+        at.now packet.now choices.now to) }
+    ensures fits { IfOk result (λ to. IfSome to (λ r.
+        FieldsFit (field_widths (design_of checked.now)) r.1.fields)) }
+    ensures at { IfOk result (λ to. IfSome to (λ r.
+        HasRole (design_of checked.now) r.0.role level)) }
+{
+    go_laws(checked);
+    go_by_tables(alloc, checked, defs.tables(), level, at, packet, choices)
+}
+
+/// The laws by which a run by tables is the run.
+fn go_laws(checked: &Checked)
+    ensures rules { Resolves (design_of checked.now) }
+    ensures literals { (d : Syntax) → DesignLiteralsFit (design_of d) }
+    ensures fitting { (d : Design) (tables : Items (Option Table)) → HasTables d tables
+        → (level : ℕ) (at : At) (packet : Sent) (choices : Items ℕ)
+        → LocFits level d at → PacketFits (layout d) packet
+        → fitting_go (world_by tables level d) at packet choices
+        ≡ taken.go (world_by tables level d) at packet choices }
+    ensures runs { (d : Design) (tables : Items (Option Table)) (defined : Definitions)
+        → HasTables d tables → values.Stands d tables defined
+        → (level : ℕ) (at : At) (packet : Sent) (choices : Items ℕ)
+        → LocFits level d at → PacketFits (layout d) packet
+        → taken.go (world_by tables level d) at packet choices
+        ≡ taken.go (world level d defined) at packet choices }
+    ensures taken { RunsAreTaken }
+{
+    checked.design();
+    code_literals_fit();
+    fitting_runs_are_runs();
+    runs_by_tables();
+    runs_are_taken();
+}
+
+/// The laws of declared widths.
+fn declared_widths()
+    ensures functions { (design : Design) → Resolves design
+        → All (λ (d : FunctionDecl). AllDeclared (widths_of d.params)) (functions design) }
+    ensures fields { (design : Design) → Resolves design → AllDeclared (all_widths design.headers) }
+    ensures roles { (design : Design) → Resolves design → (level : ℕ) (x : Items ℕ) (r : Role)
+        → role_at level design x ≡ Some r → AllDeclared (widths_of r.params) }
+{
+    params_are_declared();
+    fields_are_declared();
+    role_params_are_declared();
+}
