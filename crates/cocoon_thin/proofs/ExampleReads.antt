@@ -4,7 +4,7 @@ use Rattle.cocoon_num.specs.Lists.{has_number}
 use Rattle.cocoon_num.specs.Tree.{Expr}
 use Rattle.cocoon_num.specs.Tokens.{Kind, a_name, keyword, plain, literal, mark, finish, Token, lex, language}
 use Rattle.cocoon_num.specs.Reads.{Many, no_more, one_more, last, then_comma, no_implication, a_chain, no_comparison, a_comparison, no_unary, no_part, a_part, a_variable, a_call, a_field, a_literal, last_expr, more_exprs, an_if_else, a_send, no_stmt, one_stmt as first_stmt, a_block, a_truth, without_body, no_block, its_block, of_expr, of_cmp, of_cat, of_prim, ExprAt, DeclAt, the_function, the_role, the_host, the_switch, HeaderAt, the_field, the_header, DesignAt, Reads, const_true, const_false, one_number, EntryAt, the_default, the_row, DefsAt, ReadsDefs}
-use Rattle.cocoon_thin.specs.ThinTree.{Places, decls_after, thin_tree, thin_entries}
+use Rattle.cocoon_thin.specs.ThinTree.{Places, decls_after, thin_tree}
 use Rattle.cocoon_thin.specs.ExampleThin.{example_design, example_defs, example_names, example_entries, example_thin}
 
 -- the tokens of a text, or none
@@ -101,10 +101,6 @@ design_reads = record { tokens = tokens_of example_design; tokens_are = refl; sh
 
 -- ---- the definitions
 
--- the places of the names of functions: a default has five tokens, and a row eight
-abbrev pub example_defs_places : ℕ → ℕ
-example_defs_places i = if nat_lt i 2 then 1 + 5 * i else 8 * i - 5
-
 -- the tokens of the definitions
 abbrev defs_kinds : List Kind
 defs_kinds =
@@ -118,7 +114,7 @@ defs_kinds =
     ∷ finish ∷ []
 
 -- the entries
-entries_derived : Many (EntryAt defs_kinds) 0 (thin_entries example_defs_places example_entries) 50
+entries_derived : Many (EntryAt defs_kinds) 0 example_entries 50
 entries_derived =
     one_more (the_default refl (refl, refl) refl (const_false refl) refl)
     (one_more (the_default refl (refl, refl) refl (const_false refl) refl)
@@ -129,9 +125,9 @@ entries_derived =
     (one_more (the_row refl (refl, refl) refl (last (one_number refl)) refl refl (const_true refl) refl) no_more))))))
 
 -- all of them, up to the end
-defs_derived : DefsAt defs_kinds (thin_entries example_defs_places example_entries)
+defs_derived : DefsAt defs_kinds example_entries
 defs_derived = (50, entries_derived, refl)
 
 -- the text reads as them
-pub defs_read : ReadsDefs example_defs (thin_entries example_defs_places example_entries)
+pub defs_read : ReadsDefs example_defs example_entries
 defs_read = record { tokens = tokens_of example_defs; tokens_are = refl; shallow = refl; reads = defs_derived }

@@ -9,8 +9,8 @@ pub mod ThinTyped
 pub mod ThinSends
 pub mod ThinRules
 pub mod ThinForms
+pub mod ThinGuards
 pub mod ThinWellFormed
-pub mod ThinDefsFit
 pub mod ThinWalks
 pub mod ThinDelivered
 pub mod ThinVisited
@@ -18,7 +18,6 @@ pub mod ThinWired
 pub mod ThinMean
 pub mod ExampleReads
 pub mod ThinExample
-pub mod Ascending
 pub mod OneReading
 pub mod Here
 pub mod Counts
@@ -28,4 +27,3 @@ pub mod Seen
 pub mod SeenRoles
 pub mod SeenDesigns
 pub mod Shown
-pub mod SeenEntries

@@ -1,19 +1,19 @@
--- A thin design and its definitions have one reading.
-use Rattle.std.proofs.Common.{◌≡◌, ℕ, ◌≤◌, ◌==◌, Bool, true, false, ◌||◌, List, [], ◌∷◌, None, Some, ap, ap₂, refl, sym, ◌∙◌, arith}
-use Rattle.std.proofs.lemmas.Bool.{and_parts}
+-- A thin design has one reading, under definitions with all parts.
+use Rattle.std.proofs.Common.{◌≡◌, ℕ, ◌≤◌, ◌==◌, Bool, true, false, ◌||◌, List, [], ◌∷◌, Some, ap, ap₂, refl, sym, subst, ◌∙◌, arith}
+use Rattle.std.proofs.lemmas.Bool.{and_parts, eqb-true}
 use Rattle.std.proofs.lemmas.Bool.Decides.{nat_tests}
-use Rattle.cocoon_num.specs.Lists.{ascend, has_number}
-use Rattle.std.proofs.lemmas.Option.{none-some, same_Some}
-use Rattle.cocoon_num.specs.Tree.{Design, DefsText}
-use Rattle.cocoon_thin.specs.Entries.{definitions_in}
+use Rattle.cocoon_num.specs.Lists.{ascend, each, has_number}
+use Rattle.std.proofs.lemmas.Option.{same_Some}
+use Rattle.cocoon_num.specs.Values.{truth, fits_width}
+use Rattle.cocoon_num.specs.Tree.{Design}
+use Rattle.cocoon_types.specs.Tables.{Defs}
 use Rattle.cocoon_thin.specs.Outlines.{with_names}
 use Rattle.cocoon_thin.specs.Read.{OneThinDesign, OneThinReading, bare}
-use Rattle.cocoon_thin.specs.Thin.{AreThin, IsThinDefs, IsThinDesign, ThinDefs}
-use Rattle.cocoon_thin.specs.ThinParts.{AreTrueAt, ThinEntry, ThinNames, fields_fit, is_true_at, numbers_fit}
+use Rattle.cocoon_thin.specs.Thin.{AreThin, IsThinDesign}
+use Rattle.cocoon_thin.specs.ThinParts.{AreTrueAt, ThinNames, fields_fit, numbers_fit}
 use Rattle.cocoon_thin.specs.ThinTree.{thin_tree}
 use Rattle.cocoon_thin.specs.declared.parts.Thin.{Thin}
 use Rattle.cocoon_thin.proofs.Shown.{outline_shown}
-use Rattle.cocoon_thin.proofs.SeenEntries.{are_thin, definitions_shown}
 
 -- ---- designs
 
@@ -28,7 +28,7 @@ one_design design n m t u d e =
     (ap (λ (o : ThinNames × Thin). o.0) same, ap (λ (o : ThinNames × Thin). o.1) same)
 
 -- hosts and switches play no part in a design
-with_others : (design : Design) (n : ThinNames) (t u : Thin) → IsThinDesign design n t → bare u ≡ bare t → IsThinDesign design n u
+pub with_others : (design : Design) (n : ThinNames) (t u : Thin) → IsThinDesign design n t → bare u ≡ bare t → IsThinDesign design n u
 with_others design n t u d e = record {
   places = d.places;
   tree = d.tree ∙ ap (thin_tree d.places n) (sym e);
@@ -36,29 +36,6 @@ with_others design n t u d e = record {
   fields = ap (λ (v : Thin). fields_fit v.fields) e ∙ d.fields;
   numbers = ap numbers_fit e ∙ d.numbers;
 }
-
--- a thin design with its definitions and the numbers at which its guards are true
-pub whole : (design : Design) (defs : DefsText) (n : ThinNames) (entries : List ThinEntry) (t u : Thin) → IsThinDesign design n t → definitions_in n defs ≡ Some entries → bare u ≡ bare t →
-    AreTrueAt entries n.host_guard u.hosts → AreTrueAt entries n.switch_guard u.switches → AreThin design defs u
-whole design defs n entries t u d h e hosts switches = record {
-  names = n;
-  entries = entries;
-  design_is = with_others design n t u d e;
-  defs_are = are_thin n defs entries h;
-  hosts = hosts;
-  switches = switches;
-}
-
--- definitions in which no entries are seen are not thin
-pub never : (design : Design) (defs : DefsText) (n : ThinNames) (t : Thin) → IsThinDesign design n t → definitions_in n defs ≡ None → ¬ ThinDefs design defs
-never design defs n t d none (m, u, entries, e, f) =
-    none-some entries (sym none ∙ ap (λ l. definitions_in l defs) (one_design design n m t u d e).0 ∙ definitions_shown m defs entries f)
-
--- ---- entries
-
--- definitions have one list of entries
-one_entries : (defs : DefsText) (n m : ThinNames) (es fs : List ThinEntry) → n ≡ m → IsThinDefs defs n es → IsThinDefs defs m fs → es ≡ fs
-one_entries defs n m es fs e a b = same_Some es fs (sym (definitions_shown n defs es a) ∙ ap (λ l. definitions_in l defs) e ∙ definitions_shown m defs fs b)
 
 -- ---- ascending numbers
 
@@ -95,7 +72,7 @@ same_later x y xs ys e a b h z =
     same_later_by z x xs ys (z == x) refl a (ap (λ k. ascend (k ∷ ys)) e ∙ b) (h z ∙ sym (ap (λ k. has_number z (k ∷ ys)) e))
 
 -- numbers ascend in one way
-one_order : (xs ys : List ℕ) → ascend xs ≡ true → ascend ys ≡ true → ((z : ℕ) → has_number z xs ≡ has_number z ys) → xs ≡ ys
+pub one_order : (xs ys : List ℕ) → ascend xs ≡ true → ascend ys ≡ true → ((z : ℕ) → has_number z xs ≡ has_number z ys) → xs ≡ ys
 one_order [] [] a b h = refl
 one_order [] (y ∷ ys) a b h = let none : false ≡ true = h y ∙ has_first y ys in cc
 one_order (x ∷ xs) [] a b h = let none : false ≡ true = sym (h x) ∙ has_first x xs in cc
@@ -103,10 +80,31 @@ one_order (x ∷ xs) (y ∷ ys) a b h =
     let e : x ≡ y = one_first x y xs ys a b (sym (h x) ∙ has_first x xs) (h y ∙ has_first y ys) in
     ap₂ (λ k ks. k ∷ ks) e (one_order xs ys (later x xs a) (later y ys b) (same_later x y xs ys e a b h))
 
+-- truth values that are found are the same
+same_truth : (a b : Bool) → Some (truth a) ≡ Some (truth b) → a ≡ b
+same_truth a b e = cc
+
+-- a number that does not fit is none of those that do
+unfit : (xs : List ℕ) (z : ℕ) → each (fits_width 16) xs ≡ true → fits_width 16 z ≡ false → has_number z xs ≡ false
+unfit [] z a h = refl
+unfit (x ∷ xs) z a h =
+    let parts = and_parts (fits_width 16 x) (each (fits_width 16) xs) a in
+    by_case (z == x) refl parts.0 (unfit xs z parts.1 h)
+  where
+    by_case : (b : Bool) → (z == x) ≡ b → fits_width 16 x ≡ true → has_number z xs ≡ false → (b || has_number z xs) ≡ false
+    by_case true e first rest = let both : false ≡ true = sym h ∙ ap (fits_width 16) (eqb-true z x e) ∙ first in cc
+    by_case false e first rest = rest
+
+-- so a number is one of those in either list
+same_number : (defs : Defs) (f : List ℕ) (xs ys : List ℕ) → AreTrueAt defs f xs → AreTrueAt defs f ys → (z : ℕ) (b : Bool) → fits_width 16 z ≡ b → has_number z xs ≡ has_number z ys
+same_number defs f xs ys a b z true e = same_truth _ _ (sym (a.exactly z e) ∙ b.exactly z e)
+same_number defs f xs ys a b z false e = unfit xs z a.small e ∙ sym (unfit ys z b.small e)
+
 -- the numbers at which a function is true are one list
-one_guard : (es fs : List ThinEntry) (f g : List ℕ) (xs ys : List ℕ) → es ≡ fs → f ≡ g → AreTrueAt es f xs → AreTrueAt fs g ys → xs ≡ ys
-one_guard es fs f g xs ys ee ef a b =
-    one_order xs ys a.ascending b.ascending (λ z. a.exactly z ∙ ap₂ (λ l k. is_true_at l k z) ee ef ∙ sym (b.exactly z))
+one_guard : (defs : Defs) (f g : List ℕ) (xs ys : List ℕ) → f ≡ g → AreTrueAt defs f xs → AreTrueAt defs g ys → xs ≡ ys
+one_guard defs f g xs ys e a b =
+    let there : AreTrueAt defs g xs = subst (λ k. AreTrueAt defs k xs) e a in
+    one_order xs ys a.ascending b.ascending (λ z. same_number defs g xs ys there b z (fits_width 16 z) refl)
 
 -- ---- whole readings
 
@@ -118,11 +116,10 @@ with_numbers t hosts switches = record t { hosts = hosts; switches = switches }
 of_bare : (t : Thin) → with_numbers (bare t) t.hosts t.switches ≡ t
 of_bare t = refl
 
--- two readings of a design and its definitions are one
+-- two readings of a design under definitions are one
 pub one_reading : OneThinReading
 one_reading design defs t u a b =
     let same = one_design design a.names b.names t u a.design_is b.design_is in
-    let entries : a.entries ≡ b.entries = one_entries defs a.names b.names a.entries b.entries same.0 a.defs_are b.defs_are in
-    let hosts : t.hosts ≡ u.hosts = one_guard a.entries b.entries a.names.host_guard b.names.host_guard t.hosts u.hosts entries (ap (λ (n : ThinNames). n.host_guard) same.0) a.hosts b.hosts in
-    let switches : t.switches ≡ u.switches = one_guard a.entries b.entries a.names.switch_guard b.names.switch_guard t.switches u.switches entries (ap (λ (n : ThinNames). n.switch_guard) same.0) a.switches b.switches in
+    let hosts : t.hosts ≡ u.hosts = one_guard defs a.names.host_guard b.names.host_guard t.hosts u.hosts (ap (λ (n : ThinNames). n.host_guard) same.0) a.hosts b.hosts in
+    let switches : t.switches ≡ u.switches = one_guard defs a.names.switch_guard b.names.switch_guard t.switches u.switches (ap (λ (n : ThinNames). n.switch_guard) same.0) a.switches b.switches in
     sym (of_bare t) ∙ ap (λ d. with_numbers d t.hosts t.switches) same.1 ∙ ap₂ (λ hs ss. with_numbers (bare u) hs ss) hosts switches ∙ of_bare u

@@ -5,20 +5,20 @@ use Rattle.std.proofs.lemmas.Bool.{and_from, and_parts, ltb-true, lt-ltb}
 use Rattle.cocoon_num.specs.Values.{truth, fits_width}
 use Rattle.cocoon_num.specs.Lists.{has_number}
 use Rattle.cocoon_num.specs.Packets.{Packet, enter, leave}
-use Rattle.cocoon_num.specs.Tree.{Role, Block, HostDecl, Design, DefsText}
+use Rattle.cocoon_num.specs.Tree.{Role, Block, HostDecl, Design}
 use Rattle.cocoon_thin.specs.declared.parts.Thin.{Thin}
 use Rattle.cocoon_thin.specs.Thin.{AreThin}
 use Rattle.cocoon_thin.specs.ThinParts.{ThinNames}
 use Rattle.cocoon_types.specs.Design.{layout}
-use Rattle.cocoon_types.specs.Tables.{Defs, defs_of}
+use Rattle.cocoon_types.specs.Tables.{Defs}
 use Rattle.cocoon_types.specs.Runs.{Loc, World, Walk, LastGo, entry_at, sink_at}
-use Rattle.cocoon_thin.specs.ThinTree.{Places, name_at, thin_tree, thin_entries}
+use Rattle.cocoon_thin.specs.ThinTree.{Places, name_at, thin_tree}
 use Rattle.cocoon_thin.specs.ThinRuns.{thin_layout, tested_number, port_of, has_port, ThinDelivers}
 use Rattle.cocoon_thin.proofs.NameFacts.{AllApart, names_apart}
 use Rattle.cocoon_thin.proofs.ThinFields.{FieldFacts, field_facts, widths_are}
 use Rattle.cocoon_thin.proofs.ThinScope.{entry_of, sink_of, into_of, out_of, entry_is, sink_is, into_is, out_is}
 use Rattle.cocoon_thin.proofs.ThinTables.{host_gives, switch_gives}
-use Rattle.cocoon_thin.proofs.ThinTrees.{of_trees}
+use Rattle.cocoon_thin.proofs.ThinTrees.{of_tree}
 use Rattle.cocoon_types.specs.Taken.{Reached, RunsAreTaken, or_stop, then_walk, go, walk}
 use Rattle.cocoon_thin.proofs.ThinWalks.{Guards, thin_world, entry_loc, sink_loc, into_loc, out_loc, place, known_host, next_of, entry_goes, into_goes, out_goes}
 
@@ -285,28 +285,24 @@ module _ (taken : RunsAreTaken) (places : Places) (n : ThinNames) (t : Thin) (de
         leaves = h.leaves ∙ ap (λ x. leave x h.packet h.payload) (sym (same_layout places n t));
       }
 
--- ---- thin designs and definitions
-
--- what the definitions define for the tree of the parts
-abbrev pub defs_in : {design : Design} {defs : DefsText} {t : Thin} → AreThin design defs t → Defs
-defs_in {design} {defs} {t} h = defs_of (thin_tree h.design_is.places h.names t) (thin_entries h.defs_are.places h.entries)
+-- ---- thin designs
 
 -- the guards, by the lists of their numbers
-pub guards_of : (design : Design) (defs : DefsText) (t : Thin) (h : AreThin design defs t) → Guards h.design_is.places h.names t (defs_in h) (among t.hosts) (among t.switches)
+pub guards_of : (design : Design) (defs : Defs) (t : Thin) (h : AreThin design defs t) → Guards h.design_is.places h.names t defs (among t.hosts) (among t.switches)
 guards_of design defs t h =
     let d = names_apart h.names h.design_is.names in
     record {
-      host = λ x. host_gives h.design_is.places h.defs_are.places h.names t h.entries d h.defs_are.fit x ∙ ap (λ b. Some (truth b)) (sym (h.hosts.exactly x));
-      switch = λ x. switch_gives h.design_is.places h.defs_are.places h.names t h.entries d h.defs_are.fit x ∙ ap (λ b. Some (truth b)) (sym (h.switches.exactly x));
+      host = host_gives h.design_is.places h.names t defs d t.hosts h.hosts;
+      switch = switch_gives h.design_is.places h.names t defs d t.switches h.switches;
     }
 
 -- both ways
-pub thin_delivers : (taken : RunsAreTaken) (design : Design) (defs : DefsText) (t : Thin) (h : AreThin design defs t) (a : ℕ) (bytes cs : List ℕ) (k b : ℕ) (out : List ℕ)
-    → LastGo design (defs_of design defs) a bytes cs k b out ↔ ThinDelivers t a bytes cs k b out
+pub thin_delivers : (taken : RunsAreTaken) (design : Design) (defs : Defs) (t : Thin) (h : AreThin design defs t) (a : ℕ) (bytes cs : List ℕ) (k b : ℕ) (out : List ℕ)
+    → LastGo design defs a bytes cs k b out ↔ ThinDelivers t a bytes cs k b out
 thin_delivers taken design defs t h a bytes cs k b out =
     let places : Places = h.design_is.places in
     let d = names_apart h.names h.design_is.names in
     let f = field_facts t h.design_is.fields h.design_is.numbers in
     let g = guards_of design defs t h in
-    of_trees (λ x y. LastGo x (defs_of x y) a bytes cs k b out ↔ ThinDelivers t a bytes cs k b out) h.design_is.tree h.defs_are.tree
-    (delivered taken places h.names t (defs_in h) d f g a bytes cs k b out, delivers taken places h.names t (defs_in h) d f g a bytes cs k b out)
+    of_tree (λ x. LastGo x defs a bytes cs k b out ↔ ThinDelivers t a bytes cs k b out) h.design_is.tree
+    (delivered taken places h.names t defs d f g a bytes cs k b out, delivers taken places h.names t defs d f g a bytes cs k b out)

@@ -1,38 +1,45 @@
 -- The example is thin, and what it delivers.
-use Rattle.std.specs.Prelude.{◌≡◌, ℕ, ◌==◌, ◌||◌, Bool, true, false, List, [], ◌∷◌, if◌then◌else◌, refl}
-use Rattle.std.proofs.Common.{arith}
+use Rattle.std.specs.Prelude.{◌≡◌, ℕ, ◌==◌, ◌&&◌, ◌||◌, Bool, true, false, List, [], ◌∷◌, if◌then◌else◌, Some, refl}
+use Rattle.std.proofs.Common.{ap, arith}
+use Rattle.cocoon_num.specs.Values.{Value, truth}
+use Rattle.cocoon_num.specs.Tree.{Design}
+use Rattle.cocoon_types.specs.Tables.{defs_of}
 use Rattle.cocoon_thin.specs.Thin.{AreThin, ThinTexts}
-use Rattle.cocoon_thin.specs.ThinTree.{thin_tree, thin_entries}
+use Rattle.cocoon_thin.specs.ThinTree.{thin_tree}
 use Rattle.cocoon_thin.specs.ThinRuns.{ThinDelivers}
 use Rattle.cocoon_thin.specs.ExampleThin.{example_design, example_defs, example_names, example_entries, example_thin}
-use Rattle.cocoon_thin.proofs.ExampleReads.{example_places, example_defs_places, design_reads, defs_read}
+use Rattle.cocoon_thin.proofs.ExampleReads.{example_places, design_reads, defs_read}
 
--- a number is among some numbers where it is the first, or among the others
-first_or_other : (b c d : Bool) → c ≡ d → (b || c) ≡ (if b then true else d)
-first_or_other true c d h = refl
-first_or_other false c d h = h
+-- a row decides where it matches, and the others elsewhere
+row_or_other : (b c : Bool) (v : Value) → v ≡ truth c → (if b && true then truth true else v) ≡ truth (b || c)
+row_or_other true c v h = refl
+row_or_other false c v h = h
 
--- the trees are thin
-trees_are_thin : AreThin (thin_tree example_places example_names example_thin) (thin_entries example_defs_places example_entries) example_thin
+-- the design
+abbrev example_tree : Design
+example_tree = thin_tree example_places example_names example_thin
+
+-- the design is thin, and the definitions make its guards true at these numbers
+trees_are_thin : AreThin example_tree (defs_of example_tree example_entries) example_thin
 trees_are_thin = record {
   names = example_names;
-  entries = example_entries;
   design_is = record { places = example_places; tree = refl; names = refl; fields = refl; numbers = refl };
-  defs_are = record { places = example_defs_places; tree = refl; fit = refl };
   hosts = record {
     ascending = refl;
-    exactly = λ x. first_or_other (x == 0) _ _ (first_or_other (x == 1) _ _ (first_or_other (x == 2) _ _ (first_or_other (x == 3) false false refl)));
+    small = refl;
+    exactly = λ x s. ap Some (row_or_other (x == 0) _ _ (row_or_other (x == 1) _ _ (row_or_other (x == 2) _ _ (row_or_other (x == 3) false _ refl))));
   };
-  switches = record { ascending = refl; exactly = λ x. first_or_other (x == 1) false false refl };
+  switches = record { ascending = refl; small = refl; exactly = λ x s. ap Some (row_or_other (x == 1) false _ refl) };
 }
 
 -- and the texts read as them
 pub example_is_thin : ThinTexts example_design example_defs example_thin
 example_is_thin = record {
-  tree = thin_tree example_places example_names example_thin;
-  entries = thin_entries example_defs_places example_entries;
+  tree = example_tree;
+  entries = example_entries;
   design_reads = design_reads;
   defs_read = defs_read;
+  defs_fit = refl;
   are_thin = trees_are_thin;
 }
 

@@ -71,7 +71,7 @@ two_guards fits function a b h g e i =
 
 module _ (places : Places) (n : ThinNames) (t : Thin) (d : AllApart n) where
   -- what is asked of the host roles
-  hosted : {A : Type 0} (f : HostDecl → Role → Role → List A) → of_host (thin_tree places n t) f ≡ f (hosts_at places n t) (entry_of places n t) (sink_of places n t)
+  pub hosted : {A : Type 0} (f : HostDecl → Role → Role → List A) → of_host (thin_tree places n t) f ≡ f (hosts_at places n t) (entry_of places n t) (sink_of places n t)
   hosted {A} f =
       ap₂ (λ (o p : Option Role). elim o as (λ x. List A) [ None ↦ [] | Some e ↦ elim p as (λ x. List A) [ None ↦ [] | Some s ↦ f (hosts_at places n t) e s ] ]) (entry_is places n t d) (sink_is places n t d)
 

@@ -1,8 +1,8 @@
--- From the trees of some parts to trees that are these.
+-- From the tree of some parts to a tree that is this one.
 use Rattle.std.specs.Prelude.{◌≡◌}
 use Rattle.std.proofs.Common.{sym, subst}
-use Rattle.cocoon_num.specs.Tree.{Design, DefsText}
+use Rattle.cocoon_num.specs.Tree.{Design}
 
--- what holds of a design and definitions in one form holds of them in the other
-pub of_trees : (P : Design → DefsText → Type 0) {design tree : Design} {defs entries : DefsText} → design ≡ tree → defs ≡ entries → P tree entries → P design defs
-of_trees P {design} {tree} {defs} {entries} d e p = subst (λ x. P x defs) (sym d) (subst (λ y. P tree y) (sym e) p)
+-- what holds of a design in one form holds of it in the other
+pub of_tree : (P : Design → Type 0) {design tree : Design} → design ≡ tree → P tree → P design
+of_tree P {design} {tree} d p = subst P (sym d) p

@@ -5,11 +5,11 @@ use Rattle.std.proofs.lemmas.Bool.{and_from, and_parts, ltb-true, lt-ltb}
 use Rattle.cocoon_num.specs.Values.{fits_width}
 use Rattle.cocoon_num.specs.Lists.{has_number}
 use Rattle.cocoon_num.specs.Packets.{Packet, enter, leave}
-use Rattle.cocoon_num.specs.Tree.{Design, DefsText}
+use Rattle.cocoon_num.specs.Tree.{Design}
 use Rattle.cocoon_thin.specs.declared.parts.Thin.{Thin}
 use Rattle.cocoon_thin.specs.Thin.{AreThin}
 use Rattle.cocoon_thin.specs.ThinParts.{ThinNames}
-use Rattle.cocoon_types.specs.Tables.{Defs, defs_of}
+use Rattle.cocoon_types.specs.Tables.{Defs}
 use Rattle.cocoon_types.specs.Runs.{Loc, Go, world}
 use Rattle.cocoon_thin.specs.ThinTree.{Places, thin_tree}
 use Rattle.cocoon_thin.specs.ThinRuns.{tested_number, port_of, leaves_at}
@@ -18,8 +18,8 @@ use Rattle.cocoon_thin.proofs.NameFacts.{AllApart, names_apart}
 use Rattle.cocoon_thin.proofs.ThinFields.{FieldFacts, field_facts}
 use Rattle.cocoon_types.specs.Taken.{RunsAreTaken, go}
 use Rattle.cocoon_thin.proofs.ThinWalks.{Guards, thin_world, place, next_of, into_goes}
-use Rattle.cocoon_thin.proofs.ThinTrees.{of_trees}
-use Rattle.cocoon_thin.proofs.ThinDelivered.{among, defs_in, guards_of, mapped, none_behind, same_layout}
+use Rattle.cocoon_thin.proofs.ThinTrees.{of_tree}
+use Rattle.cocoon_thin.proofs.ThinDelivered.{among, guards_of, mapped, none_behind, same_layout}
 
 -- a place of a switch is a port that it has
 pub place_is_port : (t : Thin) (s p : ℕ) → place t (among t.switches) s p ≡ true → is_port t s p ≡ true
@@ -135,24 +135,24 @@ module _ (taken : RunsAreTaken) (places : Places) (n : ThinNames) (t : Thin) (de
     leaves = h.leaves ∙ ap (λ l. leave l h.packet h.payload) (sym (same_layout places n t));
   }
 
--- both ways, for thin designs and definitions
-pub roles_run : (taken : RunsAreTaken) (design : Design) (defs : DefsText) (t : Thin) (h : AreThin design defs t) (s port : ℕ) (packet : Packet) (cs : List ℕ) (to : Loc) (sent : Packet)
-    → Go (world 0 design (defs_of design defs)) (enters_at h.names s port) packet cs to sent ↔ ThinStep h.names t s port packet cs to sent
+-- both ways, for thin designs
+pub roles_run : (taken : RunsAreTaken) (design : Design) (defs : Defs) (t : Thin) (h : AreThin design defs t) (s port : ℕ) (packet : Packet) (cs : List ℕ) (to : Loc) (sent : Packet)
+    → Go (world 0 design defs) (enters_at h.names s port) packet cs to sent ↔ ThinStep h.names t s port packet cs to sent
 roles_run taken design defs t h s port packet cs to sent =
     let places : Places = h.design_is.places in
     let d = names_apart h.names h.design_is.names in
     let f = field_facts t h.design_is.fields h.design_is.numbers in
     let g = guards_of design defs t h in
-    of_trees (λ x y. Go (world 0 x (defs_of x y)) (enters_at h.names s port) packet cs to sent ↔ ThinStep h.names t s port packet cs to sent) h.design_is.tree h.defs_are.tree
-    (stepped taken places h.names t (defs_in h) d f g s port packet cs to sent, takes_step taken places h.names t (defs_in h) d f g s port packet cs to sent)
+    of_tree (λ x. Go (world 0 x defs) (enters_at h.names s port) packet cs to sent ↔ ThinStep h.names t s port packet cs to sent) h.design_is.tree
+    (stepped taken places h.names t defs d f g s port packet cs to sent, takes_step taken places h.names t defs d f g s port packet cs to sent)
 
 -- the same of bytes
-pub roles_send : (taken : RunsAreTaken) (design : Design) (defs : DefsText) (t : Thin) (h : AreThin design defs t) (s port : ℕ) (bytes cs : List ℕ) (to : ℕ) (out : List ℕ)
-    → VisitRun design (defs_of design defs) h.names s port bytes cs to out ↔ ThinVisit t s port bytes cs to out
+pub roles_send : (taken : RunsAreTaken) (design : Design) (defs : Defs) (t : Thin) (h : AreThin design defs t) (s port : ℕ) (bytes cs : List ℕ) (to : ℕ) (out : List ℕ)
+    → VisitRun design defs h.names s port bytes cs to out ↔ ThinVisit t s port bytes cs to out
 roles_send taken design defs t h s port bytes cs to out =
     let places : Places = h.design_is.places in
     let d = names_apart h.names h.design_is.names in
     let f = field_facts t h.design_is.fields h.design_is.numbers in
     let g = guards_of design defs t h in
-    of_trees (λ x y. VisitRun x (defs_of x y) h.names s port bytes cs to out ↔ ThinVisit t s port bytes cs to out) h.design_is.tree h.defs_are.tree
-    (visited taken places h.names t (defs_in h) d f g s port bytes cs to out, visits taken places h.names t (defs_in h) d f g s port bytes cs to out)
+    of_tree (λ x. VisitRun x defs h.names s port bytes cs to out ↔ ThinVisit t s port bytes cs to out) h.design_is.tree
+    (visited taken places h.names t defs d f g s port bytes cs to out, visits taken places h.names t defs d f g s port bytes cs to out)

@@ -36,10 +36,15 @@ only_both false c f k x = refl
 abbrev then_numbers : Option ℕ → Option (List ℕ) → Option (List ℕ)
 then_numbers = with_both (λ n ns. Some (n ∷ ns))
 
+-- values that are the same where a number fits
+where_fits : (b : Bool) (u v : Option Value) → (b ≡ true → u ≡ v) → (if b then u else None) ≡ (if b then v else None)
+where_fits true u v h = h refl
+where_fits false u v h = refl
+
 -- what the guards hold: given by what a call of each gives
 pub record Guards (places : Places) (n : ThinNames) (t : Thin) (defs : Defs) (hosts switches : ℕ → Bool) : Type 0 where
-  pub host : (x : ℕ) → apply (thin_tree places n t) defs n.host_guard (x ∷ []) ≡ Some (truth (hosts x))
-  pub switch : (x : ℕ) → apply (thin_tree places n t) defs n.switch_guard (x ∷ []) ≡ Some (truth (switches x))
+  pub host : (x : ℕ) → fits_width 16 x ≡ true → apply (thin_tree places n t) defs n.host_guard (x ∷ []) ≡ Some (truth (hosts x))
+  pub switch : (x : ℕ) → fits_width 16 x ≡ true → apply (thin_tree places n t) defs n.switch_guard (x ∷ []) ≡ Some (truth (switches x))
 
 -- the variable of a host role
 abbrev host_env : ThinNames → ℕ → Env
@@ -203,43 +208,43 @@ module _ (places : Places) (n : ThinNames) (t : Thin) (defs : Defs) (hosts switc
   port_is s p = ap₂ (λ b c. if b then Some (number 16 s) else (if c then Some (number 16 p) else None)) d.variables.other (same_name-refl n.port)
 
   -- guards of hosts
-  host_call : (at : ℕ → ℕ) (k x : ℕ) → value (thin_world places n t defs).context (host_env n x) [] (call_at at k n.host_guard n.host) ≡ Some (truth (hosts x))
-  host_call at k x =
-      ap (λ v. option_and_then (apply (thin_tree places n t) defs n.host_guard) (then_numbers (option_and_then as_number v) (Some []))) (host_is x) ∙ g.host x
+  host_call : (at : ℕ → ℕ) (k x : ℕ) → fits_width 16 x ≡ true → value (thin_world places n t defs).context (host_env n x) [] (call_at at k n.host_guard n.host) ≡ Some (truth (hosts x))
+  host_call at k x s =
+      ap (λ v. option_and_then (apply (thin_tree places n t) defs n.host_guard) (then_numbers (option_and_then as_number v) (Some []))) (host_is x) ∙ g.host x s
 
   -- the guard of the entry role
   entry_guard : (x : ℕ) → guard_at (thin_world places n t defs) (entry_loc n x) ≡ host_value hosts x
   entry_guard x =
       guard_found (thin_world places n t defs) (entry_loc n x) (entry_of places n t) (entry_is places n t d)
       ∙ only_if (fits_width 16 x) (λ env. value (thin_world places n t defs).context env [] (entry_of places n t).guard) (host_env n x)
-      ∙ ap (λ v. if fits_width 16 x then v else None) (host_call places.nodes 39 x)
+      ∙ where_fits (fits_width 16 x) _ _ (host_call places.nodes 39 x)
 
   -- the guard of the sink
   sink_guard : (x : ℕ) → guard_at (thin_world places n t defs) (sink_loc n x) ≡ host_value hosts x
   sink_guard x =
       guard_found (thin_world places n t defs) (sink_loc n x) (sink_of places n t) (sink_is places n t d)
       ∙ only_if (fits_width 16 x) (λ env. value (thin_world places n t defs).context env [] (sink_of places n t).guard) (host_env n x)
-      ∙ ap (λ v. if fits_width 16 x then v else None) (host_call places.nodes 65 x)
+      ∙ where_fits (fits_width 16 x) _ _ (host_call places.nodes 65 x)
 
   -- guards of switches
-  switch_call : (at : ℕ → ℕ) (k i j s p : ℕ) → value (thin_world places n t defs).context (switch_env n s p) [] (binary i and_ (call_at at k n.switch_guard n.switch) (binary j less (name j n.port) (lit i 16 t.ports))) ≡ Some (truth (switches s && nat_lt p t.ports))
-  switch_call at k i j s p =
+  switch_call : (at : ℕ → ℕ) (k i j s p : ℕ) → fits_width 16 s ≡ true → value (thin_world places n t defs).context (switch_env n s p) [] (binary i and_ (call_at at k n.switch_guard n.switch) (binary j less (name j n.port) (lit i 16 t.ports))) ≡ Some (truth (switches s && nat_lt p t.ports))
+  switch_call at k i j s p small =
       ap₂ (λ u v. with_both (apply_binary and_) u (with_both (apply_binary less) v (Some (number 16 t.ports))))
-      (ap (λ v. option_and_then (apply (thin_tree places n t) defs n.switch_guard) (then_numbers (option_and_then as_number v) (Some []))) (switch_is s p) ∙ g.switch s) (port_is s p)
+      (ap (λ v. option_and_then (apply (thin_tree places n t) defs n.switch_guard) (then_numbers (option_and_then as_number v) (Some []))) (switch_is s p) ∙ g.switch s small) (port_is s p)
 
   -- the guard of the first switch role
   into_guard : (s p : ℕ) → guard_at (thin_world places n t defs) (into_loc n s p) ≡ place_value t switches s p
   into_guard s p =
       guard_found (thin_world places n t defs) (into_loc n s p) (into_of places n t) (into_is places n t d)
       ∙ only_both (fits_width 16 s) (fits_width 16 p) (λ env. value (thin_world places n t defs).context env [] (into_of places n t).guard) (bound n.switch (number 16 s)) (record { name = n.port; value = number 16 p } ∷ [])
-      ∙ ap (λ v. if fits_width 16 s then (if fits_width 16 p then v else None) else None) (switch_call places.nodes 95 0 0 s p)
+      ∙ where_fits (fits_width 16 s) _ _ (λ small. ap (λ v. if fits_width 16 p then v else None) (switch_call places.nodes 95 0 0 s p small))
 
   -- the guard of the second switch role
   out_guard : (s p : ℕ) → guard_at (thin_world places n t defs) (out_loc n s p) ≡ place_value t switches s p
   out_guard s p =
       guard_found (thin_world places n t defs) (out_loc n s p) (out_of places n t) (out_is places n t d)
       ∙ only_both (fits_width 16 s) (fits_width 16 p) (λ env. value (thin_world places n t defs).context env [] (out_of places n t).guard) (bound n.switch (number 16 s)) (record { name = n.port; value = number 16 p } ∷ [])
-      ∙ ap (λ v. if fits_width 16 s then (if fits_width 16 p then v else None) else None) (switch_call places.nodes 155 0 0 s p)
+      ∙ where_fits (fits_width 16 s) _ _ (λ small. ap (λ v. if fits_width 16 p then v else None) (switch_call places.nodes 155 0 0 s p small))
 
   -- the entry role's body
   entry_sends : (a : ℕ) (packet : Packet) (cs : List ℕ) → run_all (thin_world places n t defs) (entry_block places n t) (host_env n a) packet cs

@@ -5,11 +5,11 @@ use Rattle.std.proofs.lemmas.Bool.{and_from, and_parts}
 use Rattle.cocoon_num.specs.Values.{fits_width}
 use Rattle.cocoon_num.specs.Lists.{has_number}
 use Rattle.cocoon_num.specs.Packets.{Packet}
-use Rattle.cocoon_num.specs.Tree.{Design, DefsText}
+use Rattle.cocoon_num.specs.Tree.{Design}
 use Rattle.cocoon_thin.specs.declared.parts.Thin.{Thin}
 use Rattle.cocoon_thin.specs.Thin.{AreThin}
 use Rattle.cocoon_thin.specs.ThinParts.{ThinNames}
-use Rattle.cocoon_types.specs.Tables.{Defs, defs_of}
+use Rattle.cocoon_types.specs.Tables.{Defs}
 use Rattle.cocoon_types.specs.Runs.{Loc, World, Go, world}
 use Rattle.cocoon_thin.specs.ThinTree.{Places}
 use Rattle.cocoon_thin.specs.ThinVisits.{enters_at, goes_out_at}
@@ -18,8 +18,8 @@ use Rattle.cocoon_thin.proofs.NameFacts.{AllApart, names_apart}
 use Rattle.cocoon_thin.proofs.ThinFields.{FieldFacts, field_facts}
 use Rattle.cocoon_types.specs.Taken.{RunsAreTaken, go}
 use Rattle.cocoon_thin.proofs.ThinWalks.{Guards, thin_world, place, known_host, entry_goes, out_goes}
-use Rattle.cocoon_thin.proofs.ThinTrees.{of_trees}
-use Rattle.cocoon_thin.proofs.ThinDelivered.{among, defs_in, guards_of, none_behind}
+use Rattle.cocoon_thin.proofs.ThinTrees.{of_tree}
+use Rattle.cocoon_thin.proofs.ThinDelivered.{among, guards_of, none_behind}
 use Rattle.cocoon_thin.proofs.ThinVisited.{place_is_port, port_is_place}
 
 -- what both tests let through
@@ -100,24 +100,24 @@ module _ (taken : RunsAreTaken) (places : Places) (n : ThinNames) (t : Thin) (de
       (subst (λ c. Go (thin_world places n t defs) (goes_out_at n s p) packet c (ends_at n p) packet) (sym h.no_choices)
       (runs_with_none taken (thin_world places n t defs) (goes_out_at n s p) (ends_at n p) packet goes)))
 
--- both ways, for thin designs and definitions
-pub entries_run : (taken : RunsAreTaken) (design : Design) (defs : DefsText) (t : Thin) (h : AreThin design defs t) (a : ℕ) (packet : Packet) (cs : List ℕ) (to : Loc) (sent : Packet)
-    → Go (world 0 design (defs_of design defs)) (begins_at h.names a) packet cs to sent ↔ ThinEnters h.names t a packet cs to sent
+-- both ways, for thin designs
+pub entries_run : (taken : RunsAreTaken) (design : Design) (defs : Defs) (t : Thin) (h : AreThin design defs t) (a : ℕ) (packet : Packet) (cs : List ℕ) (to : Loc) (sent : Packet)
+    → Go (world 0 design defs) (begins_at h.names a) packet cs to sent ↔ ThinEnters h.names t a packet cs to sent
 entries_run taken design defs t h a packet cs to sent =
     let places : Places = h.design_is.places in
     let d = names_apart h.names h.design_is.names in
     let f = field_facts t h.design_is.fields h.design_is.numbers in
     let g = guards_of design defs t h in
-    of_trees (λ x y. Go (world 0 x (defs_of x y)) (begins_at h.names a) packet cs to sent ↔ ThinEnters h.names t a packet cs to sent) h.design_is.tree h.defs_are.tree
-    (entered taken places h.names t (defs_in h) d f g a packet cs to sent, enters taken places h.names t (defs_in h) d f g a packet cs to sent)
+    of_tree (λ x. Go (world 0 x defs) (begins_at h.names a) packet cs to sent ↔ ThinEnters h.names t a packet cs to sent) h.design_is.tree
+    (entered taken places h.names t defs d f g a packet cs to sent, enters taken places h.names t defs d f g a packet cs to sent)
 
 -- the same of the way out
-pub exits_run : (taken : RunsAreTaken) (design : Design) (defs : DefsText) (t : Thin) (h : AreThin design defs t) (s p : ℕ) (packet : Packet) (cs : List ℕ) (to : Loc) (sent : Packet)
-    → Go (world 0 design (defs_of design defs)) (goes_out_at h.names s p) packet cs to sent ↔ ThinExits h.names t s p packet cs to sent
+pub exits_run : (taken : RunsAreTaken) (design : Design) (defs : Defs) (t : Thin) (h : AreThin design defs t) (s p : ℕ) (packet : Packet) (cs : List ℕ) (to : Loc) (sent : Packet)
+    → Go (world 0 design defs) (goes_out_at h.names s p) packet cs to sent ↔ ThinExits h.names t s p packet cs to sent
 exits_run taken design defs t h s p packet cs to sent =
     let places : Places = h.design_is.places in
     let d = names_apart h.names h.design_is.names in
     let f = field_facts t h.design_is.fields h.design_is.numbers in
     let g = guards_of design defs t h in
-    of_trees (λ x y. Go (world 0 x (defs_of x y)) (goes_out_at h.names s p) packet cs to sent ↔ ThinExits h.names t s p packet cs to sent) h.design_is.tree h.defs_are.tree
-    (left taken places h.names t (defs_in h) d f g s p packet cs to sent, exits taken places h.names t (defs_in h) d f g s p packet cs to sent)
+    of_tree (λ x. Go (world 0 x defs) (goes_out_at h.names s p) packet cs to sent ↔ ThinExits h.names t s p packet cs to sent) h.design_is.tree
+    (left taken places h.names t defs d f g s p packet cs to sent, exits taken places h.names t defs d f g s p packet cs to sent)

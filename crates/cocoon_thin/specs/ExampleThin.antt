@@ -1,8 +1,10 @@
 -- The law `thin_example` cites it, and so do tests in crates above.
 -- A thin design of one field with its definitions: hosts 0 to 3 at switch 1, and two ports that a packet may leave at.
-use Rattle.std.specs.Prelude.{ℕ, true, List, [], ◌∷◌, codes}
+use Rattle.std.specs.Prelude.{ℕ, true, false, List, [], ◌∷◌, codes}
+use Rattle.cocoon_num.specs.Values.{truth}
+use Rattle.cocoon_num.specs.Tree.{Name, literal, a_default, a_row, DefsText}
 use Rattle.cocoon_thin.specs.declared.parts.Thin.{Thin}
-use Rattle.cocoon_thin.specs.ThinParts.{ThinNames, ThinEntry, its_default, its_row}
+use Rattle.cocoon_thin.specs.ThinParts.{ThinNames}
 
 -- the text of the design
 abbrev pub example_design : List ℕ
@@ -26,12 +28,17 @@ example_names = record {
   port = codes "p";
 }
 
+-- a name with its token index
+abbrev named : ℕ → List ℕ → Name
+named at text = record { at = at; text = text }
+
 -- the entries of the definitions
-abbrev pub example_entries : List ThinEntry
+abbrev pub example_entries : DefsText
 example_entries =
-    its_default (codes "h") ∷ its_default (codes "g")
-    ∷ its_row (codes "h") 0 true ∷ its_row (codes "h") 1 true ∷ its_row (codes "h") 2 true ∷ its_row (codes "h") 3 true
-    ∷ its_row (codes "g") 1 true ∷ []
+    a_default (named 1 (codes "h")) (truth false) ∷ a_default (named 6 (codes "g")) (truth false)
+    ∷ a_row (named 11 (codes "h")) (literal 16 0 ∷ []) (truth true) ∷ a_row (named 19 (codes "h")) (literal 16 1 ∷ []) (truth true)
+    ∷ a_row (named 27 (codes "h")) (literal 16 2 ∷ []) (truth true) ∷ a_row (named 35 (codes "h")) (literal 16 3 ∷ []) (truth true)
+    ∷ a_row (named 43 (codes "g")) (literal 16 1 ∷ []) (truth true) ∷ []
 
 -- the parts of both
 abbrev pub example_thin : Thin

@@ -5,8 +5,8 @@ pub mod ThinTree
 pub mod ThinRuns
 pub mod ThinVisits
 pub mod ThinWires
+pub mod ThinGuards
 pub mod Views
 pub mod Roles
 pub mod Outlines
-pub mod Entries
 pub mod ExampleThin

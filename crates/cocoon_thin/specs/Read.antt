@@ -1,15 +1,14 @@
--- The clauses of `thin_design` and `thin_definitions` cite it, and private clauses of nearly all modules.
+-- The clauses of `thin_design` and `with_numbers` cite it, and private clauses of nearly all modules.
 -- What the values of the code stand for, and what is one.
-use Rattle.std.specs.Prelude.{ℕ, ◌≡◌, suc, ◌==◌, nat_lt, Bool, false, List, [], ◌∷◌, map, if◌then◌else◌, Option, Some, None}
-use Rattle.cocoon_num.specs.Tree.{Design, DefsText}
+use Rattle.std.specs.Prelude.{ℕ, ◌≡◌, List, [], map}
+use Rattle.cocoon_num.specs.Tree.{Design}
+use Rattle.cocoon_types.specs.Tables.{Defs}
 use Rattle.cocoon_thin.specs.Thin.{AreThin, IsThinDesign}
-use Rattle.cocoon_thin.specs.ThinParts.{ThinNames, ThinEntry, its_default, its_row}
+use Rattle.cocoon_thin.specs.ThinParts.{ThinNames}
 use Rattle.cocoon_syntax.specs.TreeOf.{function_of, header_of, host_of, role_of, switch_of}
 use Rattle.cocoon_thin.specs.Outlines as outlines
 use Rattle.cocoon_thin.specs.declared.declarations.Declarations.{Declarations}
 use Rattle.cocoon_thin.specs.declared.names.Names.{Names}
-use Rattle.cocoon_thin.specs.declared.entry.Entry.{Entry}
-use Rattle.cocoon_thin.specs.declared.entry.Entry.TheVariants.{Default, Row}
 use Rattle.cocoon_thin.specs.declared.parts.ThinField.{ThinField}
 use Rattle.cocoon_thin.specs.declared.parts.Thin.{Thin}
 use Rattle.cocoon_thin.specs.declared.trees.Outline.{Outline}
@@ -48,15 +47,6 @@ declarations_of d = record {
 abbrev pub outline_of : Outline → ThinNames × Thin
 outline_of o = (names_of o.names, o.parts)
 
--- an entry
-abbrev pub entry_of : Entry → ThinEntry
-entry_of (Default function) = its_default function
-entry_of (Row function n holds) = its_row function n holds
-
--- entries
-abbrev pub entries_of : List Entry → List ThinEntry
-entries_of entries = map entry_of entries
-
 -- the names of fields
 abbrev pub field_names : List ThinField → List (List ℕ)
 field_names fields = map (λ (f : ThinField). f.name) fields
@@ -65,21 +55,9 @@ field_names fields = map (λ (f : ThinField). f.name) fields
 abbrev pub field_widths : List ThinField → List ℕ
 field_widths fields = map (λ (f : ThinField). f.width) fields
 
--- ---- ascending numbers
-
--- how many are below n, from the front on
-abbrev pub below : ℕ → List ℕ → ℕ
-below n [] = 0
-below n (m ∷ ms) = if nat_lt m n then suc (below n ms) else 0
-
--- whether something stands there, and it is n
-abbrev pub is_number : ℕ → Option ℕ → Bool
-is_number n None = false
-is_number n (Some m) = m == n
-
 -- ---- one reading
 
--- the part of a thin design and its definitions that is the design's
+-- the part that is the design's
 abbrev pub bare : Thin → Thin
 bare t = record t { hosts = []; switches = [] }
 
@@ -87,6 +65,6 @@ bare t = record t { hosts = []; switches = [] }
 abbrev pub OneThinDesign : Type 0
 OneThinDesign = (design : Design) (n m : ThinNames) (t u : Thin) → IsThinDesign design n t → IsThinDesign design m u → (n ≡ m) × (bare t ≡ bare u)
 
--- and with its definitions it has one, with all parts
+-- and under definitions it has one, with all parts
 abbrev pub OneThinReading : Type 0
-OneThinReading = (design : Design) (defs : DefsText) (t u : Thin) → AreThin design defs t → AreThin design defs u → t ≡ u
+OneThinReading = (design : Design) (defs : Defs) (t u : Thin) → AreThin design defs t → AreThin design defs u → t ≡ u

@@ -1,17 +1,16 @@
 -- The laws of `meaning` cite it.
--- What a thin design and its definitions mean, and what a network of it delivers, in the terms of its parts alone. A packet
+-- What a thin design means under definitions, and what a network of it delivers, in the terms of its parts alone. A packet
 -- visits one switch: it enters at the port that is the host's number, and leaves at one of two ports, which is the number
 -- of the host that gets it. It is the section "Hosts" of docs/LANGUAGE.md for the form of the section "Thin designs".
 use Rattle.std.specs.Prelude.{◌≡◌, ◌↔◌, ℕ, ◌≤◌, ◌==◌, ◌&&◌, nat_lt, Bool, List, [], ◌∷◌, map, slice_get, if◌then◌else◌, Option, Some, None, option_map, IsTrue}
 use Rattle.cocoon_num.specs.Values.{fits_width}
 use Rattle.cocoon_num.specs.Lists.{has_number}
 use Rattle.cocoon_num.specs.Packets.{Packet, Layout, enter, leave}
-use Rattle.cocoon_num.specs.Tree.{Design, DefsText}
+use Rattle.cocoon_num.specs.Tree.{Design}
 use Rattle.cocoon_types.specs.Design.{last_level}
-use Rattle.cocoon_types.specs.Tables.{defs_of}
+use Rattle.cocoon_types.specs.Tables.{Defs}
 use Rattle.cocoon_types.specs.Runs.{LastGo}
 use Rattle.cocoon_types.specs.Rules.{WellFormed}
-use Rattle.cocoon_types.specs.DefsRules.{DefsFit}
 use Rattle.cocoon_thin.specs.declared.parts.ThinField.{ThinField}
 use Rattle.cocoon_thin.specs.declared.parts.Thin.{Thin}
 
@@ -50,10 +49,9 @@ pub record ThinDelivers (t : Thin) (a : ℕ) (bytes choices : List ℕ) (visits 
   pub visited : 1 ≤ visits
   pub leaves : out ≡ leave (thin_layout t) packet payload
 
--- what two thin trees mean: the design keeps its rules and so do the definitions, and what the one level delivers
-pub record ThinMeaning (design : Design) (defs : DefsText) (t : Thin) : Type 0 where
+-- what a thin design means under definitions: it keeps its rules, and what the one level delivers
+pub record ThinMeaning (design : Design) (defs : Defs) (t : Thin) : Type 0 where
   pub well_formed : WellFormed design
   pub one_level : last_level design ≡ 0
-  pub defs_fit : DefsFit design defs
   pub delivers : (a : ℕ) (bytes choices : List ℕ) (visits b : ℕ) (out : List ℕ) →
-      LastGo design (defs_of design defs) a bytes choices visits b out ↔ ThinDelivers t a bytes choices visits b out
+      LastGo design defs a bytes choices visits b out ↔ ThinDelivers t a bytes choices visits b out

@@ -1,13 +1,13 @@
 -- No clause cites it: `Thin` stands on it.
--- The trees of thin designs and thin definitions. It follows the section "Thin designs" of docs/LANGUAGE.md.
+-- The trees of thin designs. It follows the section "Thin designs" of docs/LANGUAGE.md.
 --
 -- The places of nodes are free. Each node has a number that is its own alone, and `places` is asked for it.
-use Rattle.std.specs.Prelude.{ℕ, suc, ◌+◌, false, List, [], ◌∷◌, Some, None, Option}
-use Rattle.cocoon_num.specs.Values.{truth, less, equal, and_}
-use Rattle.cocoon_num.specs.Tree.{Name, Expr, name, field, lit, call, binary, Exprs, no_exprs, expr, Stmt, if_, send, Block, no_stmts, stmt, Param, of_truth, FunctionDecl, Role, Decl, a_function, a_role, a_host, a_switch, Design, literal, a_default, a_row, DefsText}
+use Rattle.std.specs.Prelude.{ℕ, suc, ◌+◌, List, [], ◌∷◌, Some, None, Option}
+use Rattle.cocoon_num.specs.Values.{less, equal, and_}
+use Rattle.cocoon_num.specs.Tree.{Name, Expr, name, field, lit, call, binary, Exprs, no_exprs, expr, Stmt, if_, send, Block, no_stmts, stmt, Param, of_truth, FunctionDecl, Role, Decl, a_function, a_role, a_host, a_switch, Design}
 use Rattle.cocoon_thin.specs.declared.parts.ThinField.{ThinField}
 use Rattle.cocoon_thin.specs.declared.parts.Thin.{Thin}
-use Rattle.cocoon_thin.specs.ThinParts.{ThinNames, field_name, field_width, ThinEntry, its_default, its_row}
+use Rattle.cocoon_thin.specs.ThinParts.{ThinNames, field_name, field_width}
 
 -- a name with its place
 abbrev pub name_at : ℕ → List ℕ → Name
@@ -115,11 +115,3 @@ thin_tree places n t = record {
   decls = decls_after places.nodes n t;
   refines = [];
 }
-
--- ---- definitions
-
--- the tree of thin definitions, whose names have these places
-abbrev pub thin_entries : (ℕ → ℕ) → List ThinEntry → DefsText
-thin_entries places [] = []
-thin_entries places (its_default f ∷ es) = a_default (name_at (places 0) f) (truth false) ∷ thin_entries (λ i. places (suc i)) es
-thin_entries places (its_row f n holds ∷ es) = a_row (name_at (places 0) f) (literal 16 n ∷ []) (truth holds) ∷ thin_entries (λ i. places (suc i)) es

@@ -1,14 +1,15 @@
 //! What the roles of a thin design do with a packet. The functions compute nothing; their contracts are the laws.
-ghost use Rattle.std.specs.Prelude.{[], ◌∷◌, ◌≡◌, ◌↔◌, List, Some, option_map, ℕ};
+ghost use Rattle.std.specs.Prelude.{[], ◌∷◌, ◌≡◌, ◌↔◌, List, Some, option_map, true, ℕ};
 ghost use Rattle.cocoon_num.specs.Lists.{has_number};
 ghost use Rattle.cocoon_num.specs.Packets.{Packet};
-ghost use Rattle.cocoon_num.specs.Tree.{DefsText, Design, SwitchDecl};
-ghost use Rattle.cocoon_num.specs.Values.{truth};
+ghost use Rattle.cocoon_num.specs.Tree.{Design, SwitchDecl};
+ghost use Rattle.cocoon_num.specs.Values.{fits_width, truth};
 ghost use Rattle.cocoon_types.specs.Design.{host_decl, switch_decl};
 ghost use Rattle.cocoon_types.specs.Runs.{entry_at, Go, Loc, sink_at, world};
-ghost use Rattle.cocoon_types.specs.Tables.{defs_of};
+ghost use Rattle.cocoon_types.specs.Tables.{Defs};
 ghost use Rattle.cocoon_types.specs.Val.{apply};
 ghost use Rattle.cocoon_thin.specs.Thin.{AreThin, IsThinDesign};
+ghost use Rattle.cocoon_thin.specs.ThinGuards.{GuardsAre};
 ghost use Rattle.cocoon_thin.specs.ThinParts.{ThinNames};
 ghost use Rattle.cocoon_thin.specs.ThinVisits.{enters_at, goes_out_at, ThinStep, ThinVisit, VisitRun};
 ghost use Rattle.cocoon_thin.specs.ThinWires.{begins_at, ends_at, ThinEnters, ThinExits};
@@ -18,14 +19,14 @@ use cocoon_types::runs::runs_are_taken;
 
 /// From a port of a switch the ingress role leads to the chosen port of the same switch, and to nothing else.
 pub fn thin_roles_run()
-    ensures { (design : Design) (defs : DefsText) (t : Thin) (h : AreThin design defs t) (s port : ℕ) (packet : Packet) (choices : List ℕ) (to : Loc) (sent : Packet) → Go (world 0 design (defs_of design defs)) (enters_at h.names s port) packet choices to sent ↔ ThinStep h.names t s port packet choices to sent }
+    ensures { (design : Design) (defs : Defs) (t : Thin) (h : AreThin design defs t) (s port : ℕ) (packet : Packet) (choices : List ℕ) (to : Loc) (sent : Packet) → Go (world 0 design defs) (enters_at h.names s port) packet choices to sent ↔ ThinStep h.names t s port packet choices to sent }
 {
     runs_are_taken();
 }
 
 /// So of the bytes that enter at a port, the role sends what the parts say.
 pub fn thin_roles_send()
-    ensures { (design : Design) (defs : DefsText) (t : Thin) (h : AreThin design defs t) (s port : ℕ) (bytes choices : List ℕ) (to : ℕ) (out : List ℕ) → VisitRun design (defs_of design defs) h.names s port bytes choices to out ↔ ThinVisit t s port bytes choices to out }
+    ensures { (design : Design) (defs : Defs) (t : Thin) (h : AreThin design defs t) (s port : ℕ) (bytes choices : List ℕ) (to : ℕ) (out : List ℕ) → VisitRun design defs h.names s port bytes choices to out ↔ ThinVisit t s port bytes choices to out }
 {
     runs_are_taken();
 }
@@ -43,22 +44,27 @@ pub fn thin_switches_are_declared()
     ensures ports { (design : Design) (n : ThinNames) (t : Thin) → IsThinDesign design n t → option_map (λ (d : SwitchDecl). d.ports) (switch_decl design) ≡ Some t.ports }
 {}
 
+/// The two functions are the guards of the host roles and of the switch roles.
+pub fn thin_guards_are_declared()
+    ensures { (design : Design) (n : ThinNames) (t : Thin) → IsThinDesign design n t → GuardsAre design n }
+{}
+
 /// From a known host the entry role leads to the port of the host's number at the switch of the hosts, and to nothing else.
 pub fn thin_entries_run()
-    ensures { (design : Design) (defs : DefsText) (t : Thin) (h : AreThin design defs t) (a : ℕ) (packet : Packet) (choices : List ℕ) (to : Loc) (sent : Packet) → Go (world 0 design (defs_of design defs)) (begins_at h.names a) packet choices to sent ↔ ThinEnters h.names t a packet choices to sent }
+    ensures { (design : Design) (defs : Defs) (t : Thin) (h : AreThin design defs t) (a : ℕ) (packet : Packet) (choices : List ℕ) (to : Loc) (sent : Packet) → Go (world 0 design defs) (begins_at h.names a) packet choices to sent ↔ ThinEnters h.names t a packet choices to sent }
 {
     runs_are_taken();
 }
 
 /// From a port of a switch the egress role leads to the host of the port's number, and to nothing else.
 pub fn thin_exits_run()
-    ensures { (design : Design) (defs : DefsText) (t : Thin) (h : AreThin design defs t) (s port : ℕ) (packet : Packet) (choices : List ℕ) (to : Loc) (sent : Packet) → Go (world 0 design (defs_of design defs)) (goes_out_at h.names s port) packet choices to sent ↔ ThinExits h.names t s port packet choices to sent }
+    ensures { (design : Design) (defs : Defs) (t : Thin) (h : AreThin design defs t) (s port : ℕ) (packet : Packet) (choices : List ℕ) (to : Loc) (sent : Packet) → Go (world 0 design defs) (goes_out_at h.names s port) packet choices to sent ↔ ThinExits h.names t s port packet choices to sent }
 {
     runs_are_taken();
 }
 
-/// The guards are true at the numbers of the parts, and false elsewhere.
+/// Of numbers of 16 bits the guards are true at those of the parts, and false at each other.
 pub fn thin_guards_are()
-    ensures hosts { (design : Design) (defs : DefsText) (t : Thin) (h : AreThin design defs t) (x : ℕ) → apply design (defs_of design defs) h.names.host_guard (x ∷ []) ≡ Some (truth (has_number x t.hosts)) }
-    ensures switches { (design : Design) (defs : DefsText) (t : Thin) (h : AreThin design defs t) (x : ℕ) → apply design (defs_of design defs) h.names.switch_guard (x ∷ []) ≡ Some (truth (has_number x t.switches)) }
+    ensures hosts { (design : Design) (defs : Defs) (t : Thin) (h : AreThin design defs t) (x : ℕ) → fits_width 16 x ≡ true → apply design defs h.names.host_guard (x ∷ []) ≡ Some (truth (has_number x t.hosts)) }
+    ensures switches { (design : Design) (defs : Defs) (t : Thin) (h : AreThin design defs t) (x : ℕ) → fits_width 16 x ≡ true → apply design defs h.names.switch_guard (x ∷ []) ≡ Some (truth (has_number x t.switches)) }
 {}

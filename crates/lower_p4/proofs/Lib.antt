@@ -12,3 +12,7 @@ pub mod ThinWiring
 pub mod ThinFits
 pub mod Outlines
 pub mod ThinLowers
+pub mod Made
+pub mod Listed
+pub mod Counted
+pub mod Lowered

@@ -1,7 +1,7 @@
 -- What the parts of a thin design give to its program.
 use Rattle.std.proofs.Common.{◌≡◌, ℕ, zero, suc, ◌^◌, ◌≤◌, ◌<◌, List, [], ◌∷◌, Bool, true, ◌&&◌, Some, length, map, nat_lt, refl, ap, sym, ◌∙◌, arith}
 use Rattle.std.specs.Prelude.{◌==◌, ◌%◌, nat_le, slice_get}
-use Rattle.std.proofs.lemmas.Bool.{and_parts}
+use Rattle.std.proofs.lemmas.Bool.{and_parts, and_from}
 use Rattle.std.proofs.lemmas.Bool.Decides.{nat_tests}
 use Rattle.cocoon_num.specs.Lists.{each, all_distinct}
 use Rattle.cocoon_num.specs.Packets.{total}
@@ -10,9 +10,10 @@ use Rattle.cocoon_thin.specs.declared.parts.ThinField.{ThinField}
 use Rattle.cocoon_thin.specs.declared.parts.Thin.{Thin}
 use Rattle.cocoon_thin.specs.ThinParts.{fields_fit, numbers_fit, field_width}
 use Rattle.p4_ir.specs.P4Tree.{P4Field, field_widths}
-use Rattle.p4_ir.specs.P4Kinds.{is_well_kinded}
+use Rattle.p4_ir.specs.P4Kinds.{kinds_fit}
 use Rattle.cocoon_num.specs.Sorts.{is_declared_width}
 use Rattle.p4_ir.specs.P4Text.{p4_bounds, program_tokens}
+use Rattle.p4_ir.specs.WellKinded.{is_well_kinded}
 use Rattle.lower_p4.specs.ThinLowered.{p4_fields, p4_field, thin_program}
 use Rattle.lower_p4.specs.ThinNumbers.{IsLowerable}
 use Rattle.lower_p4.proofs.TestProgram.{TestFits, test_kinds, test_shallow}
@@ -120,8 +121,8 @@ fits t h first other =
       other_fits = other;
     }
 
-pub kinds : (t : Thin) → IsLowerable t → t.first_port < 2 ^ 16 → t.other_port < 2 ^ 16 → is_well_kinded (thin_program t) ≡ true
-kinds t h first other = test_kinds _ _ _ _ _ _ _ (fits t h first other)
-
-pub shallow : (t : Thin) → is_shallow p4_bounds (program_tokens (thin_program t)) ≡ true
-shallow t = test_shallow t.header (p4_fields t.fields) t.tested (field_width t.fields t.tested) t.literal t.first_port t.other_port
+pub well_kinded : (t : Thin) → IsLowerable t → t.first_port < 2 ^ 16 → t.other_port < 2 ^ 16 → is_well_kinded (thin_program t) ≡ true
+well_kinded t h first other =
+    and_from (kinds_fit (thin_program t)) (is_shallow p4_bounds (program_tokens (thin_program t)))
+    (test_kinds _ _ _ _ _ _ _ (fits t h first other))
+    (test_shallow t.header (p4_fields t.fields) t.tested (field_width t.fields t.tested) t.literal t.first_port t.other_port)

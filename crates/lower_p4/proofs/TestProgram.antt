@@ -9,7 +9,7 @@ use Rattle.cocoon_num.specs.Tokens.{is_run, Kind, a_name, mark, literal, finish,
 use Rattle.p4_ir.specs.P4Tree.{p_lit, p_field, p_binary, P4Field, field_widths}
 use Rattle.lower_p4.specs.ThinLowered.{sends, test_program}
 use Rattle.p4_ir.specs.P4Text.{p4_bounds, said, optional_tokens, program_tokens, header_type, header_name, member_tokens, meta_member_tokens, control_tokens, block_tokens, in_braces, declared, field_name, architecture}
-use Rattle.p4_ir.specs.P4Kinds.{is_well_kinded, names_fit, widths_fit, Within, p4_sort, block_fits}
+use Rattle.p4_ir.specs.P4Kinds.{kinds_fit, names_fit, widths_fit, Within, p4_sort, block_fits}
 use Rattle.cocoon_num.specs.Sorts.{is_declared_width, bits_sort, truth_sort, binary_sort, has_sort}
 use Rattle.cocoon_num.specs.Values.{with_both}
 
@@ -111,7 +111,7 @@ pub record TestFits (name : List ℕ) (fields : List P4Field) (tested width n fi
 same_width : (v w : ℕ) → v ≡ w → (v == w) ≡ true
 same_width v w h = eq-eqb v w h
 
-pub test_kinds : (name : List ℕ) (fields : List P4Field) (tested width n first other : ℕ) → TestFits name fields tested width n first other → is_well_kinded (test_program name fields tested width n first other) ≡ true
+pub test_kinds : (name : List ℕ) (fields : List P4Field) (tested width n first other : ℕ) → TestFits name fields tested width n first other → kinds_fit (test_program name fields tested width n first other) ≡ true
 test_kinds name fields tested width n first other f =
     let same : (f.field.width == width) ≡ true = same_width f.field.width width f.of_width in
     let w1 : nat_le 1 width ≡ true = le-leb 1 width f.wide in

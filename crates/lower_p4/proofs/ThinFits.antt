@@ -8,7 +8,7 @@ use Rattle.p4_ir.specs.NetFits.{switch_numbers, switch_fits, net_fits}
 use Rattle.lower_p4.specs.ThinNet.{thin_switch, thin_net}
 use Rattle.lower_p4.specs.ThinNumbers.{IsLowerable, NumbersFit}
 use Rattle.lower_p4.specs.ThinLowered.{host_ports, links}
-use Rattle.lower_p4.proofs.Lowerable.{kinds, shallow}
+use Rattle.lower_p4.proofs.Lowerable.{well_kinded}
 use Rattle.lower_p4.proofs.ThinLists.{each_map, each_from}
 use Rattle.lower_p4.proofs.ThinWiring.{wired_fits}
 
@@ -18,7 +18,7 @@ same_numbers t (s ∷ switches) = ap (λ ns. s ∷ ns) (same_numbers t switches)
 
 -- each switch runs a program that can be printed and read back, and has no rows
 switch_fit : (t : Thin) → IsLowerable t → NumbersFit t → (s : ℕ) → switch_fits (thin_switch t s) ≡ true
-switch_fit t h numbers s = and_from _ _ (and_from _ _ (and_from _ _ (kinds t h numbers.first numbers.other) (shallow t)) refl) refl
+switch_fit t h numbers s = and_from _ _ (and_from _ _ (well_kinded t h numbers.first numbers.other) refl) refl
 
 pub thin_fits : (t : Thin) → IsLowerable t → NumbersFit t → ascend t.hosts ≡ true → ascend t.switches ≡ true → IsTrue (net_fits (thin_net t))
 thin_fits t h numbers hosts switches =

@@ -32,6 +32,16 @@ pub each_from : (f : ℕ → Bool) (xs : List ℕ) → ((x : ℕ) → has_number
 each_from f [] h = refl
 each_from f (x ∷ xs) h = and_from (f x) _ (h x (has_first x xs)) (each_from f xs (λ y k. h y (or_right (y == x) (has_number y xs) k)))
 
+-- what holds of each holds of one that is there
+pub number_fits : (f : ℕ → Bool) (xs : List ℕ) (z : ℕ) → each f xs ≡ true → has_number z xs ≡ true → f z ≡ true
+number_fits f [] z e h = let no : false ≡ true = h in cc
+number_fits f (x ∷ xs) z e h =
+    let parts = and_parts (f x) (each f xs) e in
+    elim (first_or_further z x xs h) [
+      | inl same ↦ subst (λ y. f y ≡ true) same parts.0
+      | inr further ↦ number_fits f xs z parts.1 further
+    ]
+
 -- numbers of which each is below a bound
 pub all_below : (top : ℕ) (xs : List ℕ) → ((k : ℕ) → slice_index xs k < top) → each (λ n. nat_lt n top) xs ≡ true
 all_below top [] h = refl

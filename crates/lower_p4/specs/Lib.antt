@@ -1,6 +1,8 @@
 pub mod Delivers
 pub mod Lowering
 pub mod Accepts
+pub mod LowerLimits
+pub mod ThinMade
 pub mod ThinLowered
 pub mod ThinNet
 pub mod ThinSwitches

@@ -2,9 +2,9 @@
 -- What the network of a thin design does, against what the design says: "The network" in docs/FORMATS.md, against the
 -- sections "A body's run" and "Hosts" of docs/LANGUAGE.md.
 use Rattle.std.specs.Prelude.{◌≡◌, ◌↔◌, ℕ, ◌<◌, List, Some, IsTrue}
-use Rattle.cocoon_num.specs.Tree.{Design, DefsText}
+use Rattle.cocoon_num.specs.Tree.{Design}
 use Rattle.cocoon_thin.specs.declared.parts.Thin.{Thin}
-use Rattle.cocoon_types.specs.Tables.{Defs, defs_of}
+use Rattle.cocoon_types.specs.Tables.{Defs}
 use Rattle.cocoon_types.specs.Runs.{LastGo, MayMake}
 use Rattle.cocoon_thin.specs.ThinParts.{ThinNames}
 use Rattle.cocoon_thin.specs.ThinRuns.{ThinDelivers, ThinMeaning}
@@ -38,13 +38,13 @@ abbrev pub NetDelivers : Thin → Type 0
 NetDelivers t = (a : ℕ) (bytes choices : List ℕ) (visits b : ℕ) (out : List ℕ) →
     NetGo (thin_net t) a bytes choices visits b out ↔ ThinDelivers t a bytes choices visits b out
 
--- What the network of a thin design and its definitions is to them: it delivers what the last level of the design delivers,
+-- What the network of a thin design is to it under definitions: it delivers what the last level of the design delivers,
 -- and the topmost specification may make of the bytes what it delivers.
-pub record NetMeaning (design : Design) (defs : DefsText) (t : Thin) : Type 0 where
+pub record NetMeaning (design : Design) (defs : Defs) (t : Thin) : Type 0 where
   pub trees : ThinMeaning design defs t
   pub last_level : (a : ℕ) (bytes choices : List ℕ) (visits b : ℕ) (out : List ℕ) →
       NetGo (thin_net t) a bytes choices visits b out
-      ↔ LastGo design (defs_of design defs) a bytes choices visits b out
+      ↔ LastGo design defs a bytes choices visits b out
   pub may_make : (a : ℕ) (bytes choices : List ℕ) (visits b : ℕ) (out : List ℕ) →
       NetGo (thin_net t) a bytes choices visits b out
-      → MayMake design (defs_of design defs) a bytes b out
+      → MayMake design defs a bytes b out

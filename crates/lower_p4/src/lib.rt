@@ -3,11 +3,11 @@
 //! how it is made; [`thin`] and [`thin_networks`] are for laws of crates above.
 #![tactic(auto)]
 
-pub mod accepted;
+mod accepted;
+pub mod limits;
 pub mod lowering;
 mod ranges;
 pub mod thin;
 pub mod thin_networks;
 
-pub use accepted::Accepted;
-pub use lowering::{LowerFault, accept, lower};
+pub use lowering::{LowerFault, lower};

@@ -1,8 +1,8 @@
 //! From a thin design to its network: the program of the switches, the attachments of hosts, and the links.
 ghost use Rattle.std.specs.Prelude.{◌≡◌, ◌<◌, ◌++◌, ◌∷◌, [], IfOk, OnOk, codes, length, map};
 ghost use Rattle.cocoon_num.specs.Lists.{has_number};
-ghost use Rattle.cocoon_num.specs.Tree.{DefsText, Design};
-ghost use Rattle.cocoon_types.specs.Tables.{defs_of};
+ghost use Rattle.cocoon_num.specs.Tree.{Design};
+ghost use Rattle.cocoon_types.specs.Tables.{Defs};
 ghost use Rattle.cocoon_thin.specs.Thin.{AreThin};
 ghost use Rattle.cocoon_thin.specs.ThinParts.{field_width};
 ghost use Rattle.p4_ir.specs.NetOf.{host_port_of, link_of, net_of, rows_of, switch_of};
@@ -155,8 +155,8 @@ pub fn program(alloc: Global, thin: &Thin) -> Result<Program, NoMemory>
 
     // one visit of a switch that runs it is one run of the ingress role
     ensures visits { IfOk result (λ p.
-        (design : Design) (defs : DefsText) (h : AreThin design defs thin.now)
-        → VisitsAreRuns (program_of p) design (defs_of design defs) h.names thin.now) }
+        (design : Design) (defs : Defs) (h : AreThin design defs thin.now)
+        → VisitsAreRuns (program_of p) design defs h.names thin.now) }
 {
     thin_switches_run();
     let headers = headers(alloc, thin);
@@ -193,8 +193,8 @@ pub fn host_ports(alloc: Global, thin: &Thin) -> Result<Vec<HostPort>, NoMemory>
 
     // each attachment is the run of the entry role
     ensures attached { IfOk result (λ v.
-        (design : Design) (defs : DefsText) (h : AreThin design defs thin.now)
-        → HostsAreRuns (map host_port_of v.items) design (defs_of design defs) h.names) }
+        (design : Design) (defs : Defs) (h : AreThin design defs thin.now)
+        → HostsAreRuns (map host_port_of v.items) design defs h.names) }
 {
     thin_entries_run();
     know_numbers(thin);
@@ -239,8 +239,8 @@ pub fn links(alloc: Global, thin: &Thin) -> Result<Vec<Link>, NoMemory>
 
     // each link is the run of the egress role
     ensures wired { IfOk result (λ v.
-        (design : Design) (defs : DefsText) (h : AreThin design defs thin.now)
-        → LinksAreRuns (map link_of v.items) design (defs_of design defs) h.names) }
+        (design : Design) (defs : Defs) (h : AreThin design defs thin.now)
+        → LinksAreRuns (map link_of v.items) design defs h.names) }
 {
     thin_exits_run();
     know_numbers(thin);

@@ -1,7 +1,7 @@
 //! What a thin network does. The functions do nothing; their contracts are the laws.
 ghost use Rattle.std.specs.Prelude.{◌<◌, ◌^◌, ◌≡◌, length};
-ghost use Rattle.cocoon_num.specs.Tree.{DefsText, Design};
-ghost use Rattle.cocoon_types.specs.Tables.{defs_of};
+ghost use Rattle.cocoon_num.specs.Tree.{Design};
+ghost use Rattle.cocoon_types.specs.Tables.{Defs};
 ghost use Rattle.lower_p4.specs.ThinLowered.{thin_program};
 ghost use Rattle.lower_p4.specs.ThinSwitches.{NetDelivers, NetMeaning, VisitsAreRuns, VisitsAreThin};
 ghost use Rattle.cocoon_thin.specs.Thin.{AreThin};
@@ -14,7 +14,7 @@ use cocoon_types::runs::one_level;
 
 /// The program of the switches depends on the design alone, and not on the definitions.
 pub fn programs_are_of_designs()
-    ensures { (design : Design) (defs others : DefsText) (t u : Thin)
+    ensures { (design : Design) (defs others : Defs) (t u : Thin)
         → AreThin design defs t → AreThin design others u → thin_program t ≡ thin_program u }
 {
     one_thin_design();
@@ -27,8 +27,8 @@ pub fn thin_switches_visit()
 
 /// A visit of a switch that runs the program sends what the ingress role of the design sends from the same port.
 pub fn thin_switches_run()
-    ensures { (design : Design) (defs : DefsText) (t : Thin) (h : AreThin design defs t)
-        → VisitsAreRuns (thin_program t) design (defs_of design defs) h.names t }
+    ensures { (design : Design) (defs : Defs) (t : Thin) (h : AreThin design defs t)
+        → VisitsAreRuns (thin_program t) design defs h.names t }
 {
     thin_roles_send();
 }
@@ -40,7 +40,7 @@ pub fn thin_networks_deliver()
 
 /// The network delivers what the last level of the design delivers.
 pub fn thin_networks_mean()
-    ensures { (design : Design) (defs : DefsText) (t : Thin)
+    ensures { (design : Design) (defs : Defs) (t : Thin)
         → AreThin design defs t → t.entry_switch < 2 ^ 16 → NetMeaning design defs t }
 {
     thin_trees_mean();

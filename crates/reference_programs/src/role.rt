@@ -2,9 +2,9 @@
 ghost use Rattle.std.specs.Prelude.{◌≡◌, ◌↔◌};
 ghost use Rattle.cocoon_num.specs.Lists.{has_number};
 ghost use Rattle.cocoon_num.specs.Packets as packets;
-ghost use Rattle.cocoon_num.specs.Tree.{DefsText, Design};
+ghost use Rattle.cocoon_num.specs.Tree.{Design};
 ghost use Rattle.cocoon_types.specs.Runs.{Go, Loc, world};
-ghost use Rattle.cocoon_types.specs.Tables.{defs_of};
+ghost use Rattle.cocoon_types.specs.Tables.{Defs};
 ghost use Rattle.cocoon_thin.specs.Thin.{AreThin};
 ghost use Rattle.cocoon_thin.specs.ThinRuns as runs;
 ghost use Rattle.cocoon_thin.specs.ThinVisits as visits;
@@ -18,9 +18,9 @@ use cocoon_thin::visits::thin_roles_run;
 /// The port at which a packet leaves a switch that it enters at a port, with these choices. `None` where the ingress role
 /// has no such run.
 pub fn go(thin: &Thin, switch: u16, port: u16, packet: &Packet, choices: &[u64]) -> Option<u16>
-    ensures { (design : Design) (defs : DefsText) (h : AreThin design defs thin.now)
+    ensures { (design : Design) (defs : Defs) (h : AreThin design defs thin.now)
         (to : Loc) (sent : packets.Packet)
-        → Go (world 0 design (defs_of design defs)) (enters_at h.names switch port)
+        → Go (world 0 design defs) (enters_at h.names switch port)
         packet.now choices.now to sent
         ↔ GoesTo h.names switch packet.now result to sent }
 {

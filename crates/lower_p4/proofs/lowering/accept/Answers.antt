@@ -1,5 +1,5 @@
 use Rattle.std.proofs.Common.{Err, ap, ◌∙◌}
-use Rattle.lower_p4.specs.Accepts.{Accepts, IsOf}
+use Rattle.lower_p4.specs.Accepts.{Accepts}
 use Rattle.lower_p4.proofs.Outlines.{words_of}
 use Rattle.lower_p4.proofs.lowering.accept.Goals as goal
 
@@ -11,14 +11,6 @@ invariant_of-result c =
       lowerable = (thin.fields, thin.numbers, words_of _ _ _ thin c.requires.words c.in-Ok.ensures.literal);
     }
 
-pub returns-in-Ok-clause-accepts : goal.returns-in-Ok-clause-accepts
+pub returns-in-Err-NotThin-clause-refused : goal.returns-in-Err-NotThin-clause-refused
 unfolding Accepts
-returns-in-Ok-clause-accepts c = (_, _, c.in-Ok.ensures.ok)
-
-pub returns-in-Ok-clause-is_of : goal.returns-in-Ok-clause-is_of
-unfolding IsOf
-returns-in-Ok-clause-is_of c = c.in-Ok.ensures.ok
-
-pub returns-in-Err-NotThin-clause-not_yet : goal.returns-in-Err-NotThin-clause-not_yet
-unfolding Accepts
-returns-in-Err-NotThin-clause-not_yet c = λ _. c.thin_design.ensures.not_thin (c.in-Err-NotThin.is ∙ ap Err c.in-Err-NotThin.field-0-is)
+returns-in-Err-NotThin-clause-refused c = λ defs. c.thin_design.ensures.not_thin (c.in-Err-NotThin.is ∙ ap Err c.in-Err-NotThin.field-0-is)

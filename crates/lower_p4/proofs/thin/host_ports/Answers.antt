@@ -1,6 +1,5 @@
 use Rattle.std.proofs.Common.{◌≡◌, List, map, subst, sym, arith}
 use Rattle.std.proofs.lemmas.Grind.{common_steps}
-use Rattle.cocoon_types.specs.Tables.{defs_of}
 use Rattle.p4_ir.specs.NetTree.{HostPort}
 use Rattle.lower_p4.specs.ThinLowered.{host_ports}
 use Rattle.p4_ir.specs.NetOf.{host_port_of}
@@ -12,5 +11,5 @@ pub returns-clause-attached : goal.returns-clause-attached
 returns-clause-attached c =
     let all : map host_port_of c.loop-host.ports.items ≡ host_ports c.args.thin.now = grind (arith, common_steps) in
     λ design defs h.
-    subst (λ (hosts : List HostPort). HostsAreRuns hosts design (defs_of design defs) h.names) (sym all)
-    (hosts_are_runs design (defs_of design defs) h.names c.args.thin.now c.know_numbers.ensures.entry (c.thin_entries_run.ensures design defs c.args.thin.now h))
+    subst (λ (hosts : List HostPort). HostsAreRuns hosts design defs h.names) (sym all)
+    (hosts_are_runs design defs h.names c.args.thin.now c.know_numbers.ensures.entry (c.thin_entries_run.ensures design defs c.args.thin.now h))

@@ -1,8 +1,0 @@
-use Rattle.cocoon_thin.proofs.ThinTables as tables
-use Rattle.cocoon_thin.proofs.meaning.thin_guards_apply.Goals as goal
-
-pub returns-clause-hosts : goal.returns-clause-hosts
-returns-clause-hosts c = tables.host_guard_gives
-
-pub returns-clause-switches : goal.returns-clause-switches
-returns-clause-switches c = tables.switch_guard_gives
