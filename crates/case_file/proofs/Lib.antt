@@ -1,0 +1,4 @@
+pub mod Widths
+pub mod Locations
+pub mod Reading
+pub mod Fitting

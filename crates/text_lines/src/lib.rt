@@ -1,0 +1,12 @@
+//! The lines of a file, their parts, and the numbers among these, as files of cases have them and other files of lines. What
+//! a line has to say is the business of who reads the file.
+#![tactic(auto)]
+
+pub mod lines;
+pub mod numbers;
+pub mod parts;
+mod pieces;
+
+pub use lines::{Line, Lines, split_lines};
+pub use numbers::{decimal_value, read_list, read_number, read_numbers};
+pub use parts::split_parts;
