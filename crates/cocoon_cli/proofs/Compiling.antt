@@ -1,7 +1,11 @@
 -- What `compile` does, put together from its parts.
-use Rattle.std.proofs.Common.{◌≡◌, ◌≤◌, ◌<◌, ℕ, zero, suc, List, [], ◌∷◌, length, replicate, Option, Some, None, Result, Ok, Err, IsErrAnd, refl, sym, ap, subst, ◌∙◌, inl, inr, arith}
+use Rattle.std.proofs.Common.{◌≡◌, ◌≤◌, ◌<◌, ℕ, zero, suc, List, [], ◌∷◌, length, replicate, Option, Some, None, Result, Ok, Err, IsErrAnd, refl, sym, ap, ap₂, subst, ◌∙◌, inl, inr, arith}
 use Rattle.cocoon_io.specs.Files.{Files}
-use Rattle.cocoon_num.specs.Reads.{Reads}
+use Rattle.cocoon_num.specs.Reads.{Reads, ReadsDefs}
+use Rattle.cocoon_num.specs.declared.limit_name.LimitName.{LimitName}
+use Rattle.cocoon_num.specs.declared.limit_name.LimitName.TheVariants.{Rows}
+use Rattle.runtime_defs.specs.Bound.{most_rows, row_count}
+use Rattle.runtime_defs.specs.Places.{Places}
 use Rattle.cocoon_num.specs.Tree as tree
 use Rattle.cocoon_text.specs.Positions.{token_position}
 use Rattle.cocoon_text.specs.declared.position.Position.{Position}
@@ -11,19 +15,23 @@ use Rattle.net_bundle.specs.Writing.{AllFit, ContentHolds, NamesFailure as Bundl
 use Rattle.net_bundle.specs.declared.fault.BundleFault.{BundleFault}
 use Rattle.net_bundle.specs.declared.fault.BundleFault.TheVariants as fault
 use Rattle.cocoon_cli.specs.declared.files.CommandFile.{CommandFile}
-use Rattle.cocoon_cli.specs.declared.files.CommandFile.TheVariants.{Design, Definitions, Bundle}
+use Rattle.cocoon_cli.specs.declared.files.CommandFile.TheVariants.{Design, Definitions, Bundle, Case}
 use Rattle.cocoon_cli.specs.declared.refusal.InputFault.TheVariants.{NoTree, Rule, NotYet}
+use Rattle.cocoon_cli.specs.declared.refusal.DefinitionsFault.{DefinitionsFault}
+use Rattle.cocoon_cli.specs.declared.refusal.DefinitionsFault.TheVariants as definitions
 use Rattle.cocoon_cli.specs.declared.refusal.Refusal.{Refusal}
 use Rattle.cocoon_cli.specs.declared.refusal.Refusal.TheVariants as refusal
+use Rattle.case_runs.specs.declared.sent.Sent.{Sent}
+use Rattle.cocoon_cli.specs.declared.report.Totals.{Totals}
 use Rattle.cocoon_cli.specs.declared.report.Report.{Report}
-use Rattle.cocoon_cli.specs.declared.report.Report.TheVariants.{Compiled}
+use Rattle.cocoon_cli.specs.declared.report.Report.TheVariants.{Compiled, Stepped}
 use Rattle.command_line.specs.Command.{Command, compile}
 use Rattle.cocoon_cli.specs.FileNames.{name_in}
 use Rattle.cocoon_cli.specs.Leaves.{LeavesRefused, MayWriteFiles}
 use Rattle.cocoon_cli.specs.Reading.{HasFile, LacksFile, HasLongFile, FileNotRead, NamesReadFailure, bundle_refusal}
 use Rattle.cocoon_cli.specs.Run.{inputs_of, InputsAre, NamesFailure, Performs}
-use Rattle.cocoon_cli.specs.Steps.{Inputs, Step, is_there, is_within, design_reads, design_well_formed, design_within, design_accepted, definitions_read, definitions_accepted, bundle_within, bundle_written, design_most, definitions_most, DesignIs, DefinitionsAre, Makes, MakesFiles, totals_of, AnswersFrom, Answers}
-use Rattle.cocoon_cli.specs.LowerTexts.{ReadsChecked, ReadsAccepted, LowersTexts, NotLowered}
+use Rattle.cocoon_cli.specs.Steps.{Inputs, Step, is_there, is_within, design_reads, design_well_formed, design_within, definitions_read, definitions_fit, definitions_within, design_accepted, lowering_within, bundle_within, bundle_written, design_most, definitions_most, DesignIs, DefinitionsAre, Makes, MakesFiles, totals_of, AnswersFrom, Answers}
+use Rattle.cocoon_cli.specs.LowerTexts.{ReadsChecked, Binds, BindsTables, LowersTexts, told, NotChecked, NotRead, NotReadAfter, NotBound, NotLowered, NotMade}
 
 -- ---- what is read
 
@@ -32,6 +40,7 @@ abbrev by_file : (x y : Option (List ℕ)) → CommandFile → Option (List ℕ)
 by_file x y Design = x
 by_file x y Definitions = y
 by_file x y (Bundle file) = None
+by_file x y Case = None
 
 abbrev pick : Command → Option Files → (x y : Option (List ℕ)) → Inputs
 pick c None x y = by_file x y
@@ -84,12 +93,12 @@ defs_long d e o (Some files) x h = record { bytes = h.0; are = h.1; long = h.2 }
 
 -- ---- the steps
 
--- the steps from an accepted design on, from one that keeps the rules and the limits, from the texts, and from the definitions
-abbrev accepted : List Step
-accepted = definitions_read ∷ definitions_accepted ∷ bundle_within ∷ bundle_written ∷ []
+-- the steps from definitions that fit on, from a design that keeps the rules and the limits, from the texts, and from the definitions
+abbrev matched : List Step
+matched = design_accepted ∷ lowering_within ∷ bundle_within ∷ bundle_written ∷ []
 
 abbrev checked : List Step
-checked = design_accepted ∷ accepted
+checked = definitions_read ∷ definitions_fit ∷ definitions_within ∷ matched
 
 abbrev later : List Step
 later = design_reads ∷ design_well_formed ∷ design_within ∷ checked
@@ -230,22 +239,36 @@ answers_both d e o before x y outcome g rest =
 abbrev is_design : (d e o : List ℕ) (before : Option Files) (x y : List ℕ) (t : tree.Design) → HasBoth before d e x y → Reads x t → DesignIs (both d e o before x y) t
 is_design d e o before x y t g h = record { text = x; is = both_design d e o before x y g; reads = h }
 
--- the steps on the design up to its limits are good, and up to its being taken
+abbrev are_defs : (d e o : List ℕ) (before : Option Files) (x y : List ℕ) (es : tree.DefsText) → HasBoth before d e x y → ReadsDefs y es → DefinitionsAre (both d e o before x y) es
+are_defs d e o before x y es g h = record { text = y; are = both_defs d e o before x y g; read = h }
+
+-- the steps on the design up to its limits are good, and those on the definitions
 answers_checked : (d e o : List ℕ) (before : Option Files) (x y : List ℕ) (t : tree.Design) (outcome : Result Report Refusal) → HasBoth before d e x y → ReadsChecked x t
     → AnswersFrom (compile d e o) (both d e o before x y) checked outcome → Answers (compile d e o) (both d e o before x y) outcome
 answers_checked d e o before x y t outcome g h rest =
     let is = is_design d e o before x y t g h.reads in
     answers_both d e o before x y outcome g (inr ((t, is), inr ((t, is, h.resolves.rules), inr ((t, is, h.resolves.limits), rest))))
 
-answers_accepted : (d e o : List ℕ) (before : Option Files) (x y : List ℕ) (t : tree.Design) (outcome : Result Report Refusal) → HasBoth before d e x y → ReadsAccepted x t
-    → AnswersFrom (compile d e o) (both d e o before x y) accepted outcome → Answers (compile d e o) (both d e o before x y) outcome
-answers_accepted d e o before x y t outcome g h rest =
-    answers_checked d e o before x y t outcome g h.checked (inr ((t, is_design d e o before x y t g h.checked.reads, h.accepts), rest))
+answers_read : (d e o : List ℕ) (before : Option Files) (x y : List ℕ) (t : tree.Design) (es : tree.DefsText) (outcome : Result Report Refusal) → HasBoth before d e x y → ReadsChecked x t → ReadsDefs y es
+    → AnswersFrom (compile d e o) (both d e o before x y) (definitions_fit ∷ definitions_within ∷ matched) outcome → Answers (compile d e o) (both d e o before x y) outcome
+answers_read d e o before x y t es outcome g h k rest = answers_checked d e o before x y t outcome g h (inr ((es, are_defs d e o before x y es g k), rest))
 
-texts_answer : (d e o : List ℕ) (before : Option Files) (x y : List ℕ) (r : Refusal) → HasBoth before d e x y → NotLowered x y r → Answers (compile d e o) (both d e o before x y) (Err r)
-texts_answer d e o before x y (refusal.Language (NoTree f)) g h =
+answers_bound : (d e o : List ℕ) (before : Option Files) (x y : List ℕ) (t : tree.Design) (es : tree.DefsText) (outcome : Result Report Refusal) → HasBoth before d e x y → Binds x y t es
+    → AnswersFrom (compile d e o) (both d e o before x y) (definitions_within ∷ matched) outcome → Answers (compile d e o) (both d e o before x y) outcome
+answers_bound d e o before x y t es outcome g h rest =
+    answers_read d e o before x y t es outcome g h.checked h.read
+    (inr ((t, es, is_design d e o before x y t g h.checked.reads, are_defs d e o before x y es g h.read, h.fits), rest))
+
+answers_matched : (d e o : List ℕ) (before : Option Files) (x y : List ℕ) (t : tree.Design) (p : Places) (outcome : Result Report Refusal) → HasBoth before d e x y → BindsTables x y t p
+    → AnswersFrom (compile d e o) (both d e o before x y) matched outcome → Answers (compile d e o) (both d e o before x y) outcome
+answers_matched d e o before x y t p outcome g h rest =
+    answers_bound d e o before x y t h.entries outcome g h.binds (inr ((h.entries, are_defs d e o before x y h.entries g h.binds.read, h.are.bound.few), rest))
+
+-- why a design is not read
+design_answers : (d e o : List ℕ) (before : Option Files) (x y : List ℕ) (r : Refusal) → HasBoth before d e x y → NotChecked x r → Answers (compile d e o) (both d e o before x y) (Err r)
+design_answers d e o before x y (refusal.Language (NoTree f)) g h =
     answers_both d e o before x y _ g (inl (refusal.Language (NoTree f), inl (x, f, both_design d e o before x y g, h, refl), refl))
-texts_answer d e o before x y (refusal.Language (Rule rule p)) g h =
+design_answers d e o before x y (refusal.Language (Rule rule p)) g h =
     let is = is_design d e o before x y h.0 g h.2 in
     answers_both d e o before x y _ g (inr (
       (h.0, is),
@@ -255,21 +278,70 @@ texts_answer d e o before x y (refusal.Language (Rule rule p)) g h =
         ap (λ (q : Position). Err (refusal.Language (Rule rule q))) h.4,
       ),
     ))
-texts_answer d e o before x y (refusal.Language NotYet) g h =
-    answers_checked d e o before x y h.0 _ g h.1 (inl (refusal.Language NotYet, inl (h.0, is_design d e o before x y h.0 g h.1.reads, h.2, refl), refl))
-texts_answer d e o before x y (refusal.OverLimit l n) g h =
+design_answers d e o before x y (refusal.OverLimit l n) g h =
     let is = is_design d e o before x y h.0 g h.1 in
     answers_both d e o before x y _ g (inr ((h.0, is), inr ((h.0, is, h.2), inl (refusal.OverLimit l n, inl (h.0, l, n, is, h.3, refl), refl))))
-texts_answer d e o before x y (refusal.Definitions (NoTree f)) g h =
-    answers_accepted d e o before x y h.0 _ g h.1 (inl (refusal.Definitions (NoTree f), inl (y, f, both_defs d e o before x y g, h.2, refl), refl))
-texts_answer d e o before x y (refusal.Definitions NotYet) g h =
-    let t = is_design d e o before x y h.0 g h.2.checked.reads in
-    let u : DefinitionsAre (both d e o before x y) h.1 = record { text = y; are = both_defs d e o before x y g; read = h.3 } in
-    answers_accepted d e o before x y h.0 _ g h.2 (inr ((h.1, u), inl (refusal.Definitions NotYet, inl (h.0, h.1, t, u, h.4, refl), refl)))
-texts_answer d e o before x y refusal.NoMemory g h = inl refl
-texts_answer d e o before x y r g h = absurd h
+design_answers d e o before x y refusal.NoMemory g h = inl refl
+design_answers d e o before x y r g h = absurd h
 
-pub texts_refused : (d e o : List ℕ) (before after : Option Files) (x y : List ℕ) (r : Refusal) → after ≡ before → HasBoth before d e x y → NotLowered x y r → Performs (compile d e o) before after (Err r)
+-- why definitions are not read
+defs_answer : (d e o : List ℕ) (before : Option Files) (x y : List ℕ) (t : tree.Design) (r : Refusal) → HasBoth before d e x y → ReadsChecked x t → NotRead y r → Answers (compile d e o) (both d e o before x y) (Err r)
+defs_answer d e o before x y t (refusal.Definitions (definitions.NoTree f)) g c h =
+    answers_checked d e o before x y t _ g c (inl (refusal.Definitions (definitions.NoTree f), inl (y, f, both_defs d e o before x y g, h, refl), refl))
+defs_answer d e o before x y t refusal.NoMemory g c h = inl refl
+defs_answer d e o before x y t r g c h = absurd h
+
+-- why they are not bound
+bound_answers : (d e o : List ℕ) (before : Option Files) (x y : List ℕ) (r : Refusal) → HasBoth before d e x y → NotBound x y r → Answers (compile d e o) (both d e o before x y) (Err r)
+bound_answers d e o before x y (refusal.Definitions f) g h =
+    answers_read d e o before x y h.tree h.entries _ g h.checked h.read (inl (
+      refusal.Definitions (told y h.first),
+      inl (h.tree, h.entries, h.first, is_design d e o before x y h.tree g h.checked.reads, are_defs d e o before x y h.entries g h.read, h.is_first, refl),
+      ap (λ (z : DefinitionsFault). Err (refusal.Definitions z)) h.is_told,
+    ))
+bound_answers d e o before x y (refusal.OverLimit l n) g h =
+    let over : most_rows < row_count h.entries = subst (λ (m : ℕ). most_rows < m) h.counted h.over in
+    answers_bound d e o before x y h.tree h.entries _ g h.binds (inl (
+      refusal.OverLimit Rows (row_count h.entries),
+      inl (h.entries, are_defs d e o before x y h.entries g h.binds.read, over, refl),
+      ap₂ (λ (z : LimitName) (m : ℕ). Err (refusal.OverLimit z m)) h.name h.counted,
+    ))
+bound_answers d e o before x y refusal.NoMemory g h = inl refl
+bound_answers d e o before x y r g h = absurd h
+
+-- why no network is made of both
+lowered_answers : (d e o : List ℕ) (before : Option Files) (x y : List ℕ) (r : Refusal) → HasBoth before d e x y → NotLowered x y r → Answers (compile d e o) (both d e o before x y) (Err r)
+lowered_answers d e o before x y (refusal.Language NotYet) g (t, p, h, untaken) =
+    answers_matched d e o before x y t p _ g h (inl (refusal.Language NotYet, inl (t, is_design d e o before x y t g h.binds.checked.reads, untaken, refl), refl))
+lowered_answers d e o before x y (refusal.OverLimit l n) g (t, p, h, accepts, over) =
+    let is = is_design d e o before x y t g h.binds.checked.reads in
+    answers_matched d e o before x y t p _ g h (inr (
+      (t, is, accepts),
+      inl (refusal.OverLimit l n, inl (t, h.entries, l, n, is, are_defs d e o before x y h.entries g h.binds.read, over, refl), refl),
+    ))
+lowered_answers d e o before x y refusal.NoMemory g h = inl refl
+lowered_answers d e o before x y r g h = absurd h
+
+texts_answer : (d e o : List ℕ) (before : Option Files) (x y : List ℕ) (r : Refusal) → HasBoth before d e x y → NotMade x y r → Answers (compile d e o) (both d e o before x y) (Err r)
+texts_answer d e o before x y r g (inl (inl h)) = design_answers d e o before x y r g h
+texts_answer d e o before x y r g (inl (inr (inl h))) = defs_answer d e o before x y h.tree r g h.checked h.unread
+texts_answer d e o before x y r g (inl (inr (inr h))) = bound_answers d e o before x y r g h
+texts_answer d e o before x y r g (inr h) = lowered_answers d e o before x y r g h
+
+-- texts are about no fault of the folder
+no_write : (x y : List ℕ) (f : CommandFile) → NotMade x y (refusal.WriteFault f) → ⊥
+no_write x y f (inl (inl h)) = h
+no_write x y f (inl (inr (inl h))) = h.unread
+no_write x y f (inl (inr (inr h))) = h
+no_write x y f (inr h) = h
+
+no_read : (x y : List ℕ) (f : CommandFile) → NotMade x y (refusal.ReadFault f) → ⊥
+no_read x y f (inl (inl h)) = h
+no_read x y f (inl (inr (inl h))) = h.unread
+no_read x y f (inl (inr (inr h))) = h
+no_read x y f (inr h) = h
+
+pub texts_refused : (d e o : List ℕ) (before after : Option Files) (x y : List ℕ) (r : Refusal) → after ≡ before → HasBoth before d e x y → NotMade x y r → Performs (compile d e o) before after (Err r)
 texts_refused d e o before after x y r same g h = record {
   inputs = both d e o before x y;
   inputs_are = both_are d e o before x y;
@@ -277,21 +349,26 @@ texts_refused d e o before after x y r same g h = record {
   leaves = leaves r h;
 }
   where
-    leaves : (r : Refusal) → NotLowered x y r → LeavesRefused (compile d e o) (both d e o before x y) before after r
+    leaves : (r : Refusal) → NotMade x y r → LeavesRefused (compile d e o) (both d e o before x y) before after r
     leaves (refusal.Language f) h = same
     leaves (refusal.Definitions f) h = same
+    leaves (refusal.ReadFault f) h = same
+    leaves (refusal.WriteFault f) h = absurd (no_write x y f h)
+    leaves (refusal.TooLong f n) h = same
     leaves (refusal.OverLimit l n) h = same
+    leaves (refusal.NoLevel l n) h = same
+    leaves (refusal.Line f n) h = same
     leaves refusal.NoMemory h = inl same
-    leaves r h = absurd h
+    leaves (refusal.NoFile f) h = same
 
 -- ---- a network that is made
 
 abbrev makes : (d e o : List ℕ) (before : Option Files) (x y : List ℕ) (net : NetData) → HasBoth before d e x y → LowersTexts x y net → Makes (both d e o before x y) net
 makes d e o before x y net g h = record {
   design = h.tree;
-  defs = h.entries;
-  design_is = is_design d e o before x y h.tree g h.design_reads.checked.reads;
-  defs_are = record { text = y; are = both_defs d e o before x y g; read = h.defs_read };
+  defs = h.binds.entries;
+  design_is = is_design d e o before x y h.tree g h.binds.binds.checked.reads;
+  defs_are = are_defs d e o before x y h.binds.entries g h.binds.binds.read;
   lowers = h.lowers;
 }
 
@@ -303,7 +380,7 @@ answers_made : (d e o : List ℕ) (before : Option Files) (x y : List ℕ) (net 
     → AnswersFrom (compile d e o) (both d e o before x y) (bundle_within ∷ bundle_written ∷ []) outcome → Answers (compile d e o) (both d e o before x y) outcome
 answers_made d e o before x y net outcome g h rest =
     let m = makes d e o before x y net g h in
-    answers_accepted d e o before x y h.tree outcome g h.design_reads (inr ((h.entries, m.defs_are), inr ((net, m), rest)))
+    answers_matched d e o before x y h.tree h.tables outcome g h.binds (inr ((h.tree, m.design_is, h.accepts), inr ((net, m, h.within), rest)))
 
 -- and all of them, where the files fit
 may_write : (d e o : List ℕ) (before : Option Files) (x y : List ℕ) (net : NetData) → HasBoth before d e x y → LowersTexts x y net → AllFit (bundle x net None)
@@ -313,7 +390,8 @@ may_write d e o before x y net g h fit =
     let fs = makes_files d e o before x y net g h in
     let design = both_design d e o before x y g in
     let defs = both_defs d e o before x y g in
-    let rules = h.design_reads.checked.resolves in record {
+    let rules = h.binds.binds.checked.resolves in
+    let es = h.binds.entries in record {
       good = (
         (x, design),
         (
@@ -328,7 +406,16 @@ may_write d e o before x y net g h fit =
                   (h.tree, m.design_is, rules.rules),
                   (
                     (h.tree, m.design_is, rules.limits),
-                    ((h.tree, m.design_is, h.design_reads.accepts), ((h.entries, m.defs_are), ((net, m), ((bundle x net None, fs, fit), (tt, tt))))),
+                    (
+                      (es, m.defs_are),
+                      (
+                        (h.tree, es, m.design_is, m.defs_are, h.binds.binds.fits),
+                        (
+                          (es, m.defs_are, h.binds.are.bound.few),
+                          ((h.tree, m.design_is, h.accepts), ((net, m, h.within), ((bundle x net None, fs, fit), (tt, tt)))),
+                        ),
+                      ),
+                    ),
                   ),
                 ),
               ),
@@ -370,9 +457,14 @@ write_refused d e o before mid after x y net fault.NoMemory same g h (inr n) = r
   leaves = inr (bundle x net None, may_write d e o before x y net g h n.0, subst (λ (content : Option Files). SomeWritten o (bundle x net None) content after) same n.1);
 }
 
+-- a report of one command is none of another
+never_stepped : (s : Option Sent) (t : Totals) → ◌≡◌ {A = Report} (Stepped s) (Compiled t) → ⊥
+never_stepped s t e = cc
+
 -- the bundle was written
 pub done : (d e o : List ℕ) (before mid after : Option Files) (x y : List ℕ) (net : NetData) (report : Report) → mid ≡ before → HasBoth before d e x y → LowersTexts x y net
     → after ≡ with_files o (bundle x net None) mid → AllFit (bundle x net None) → report ≡ Compiled (totals_of net) → Performs (compile d e o) before after (Ok report)
+done d e o before mid after x y net (Stepped s) same g h w fit r = absurd (never_stepped s (totals_of net) r)
 done d e o before mid after x y net (Compiled totals) same g h w fit r =
     let fs = makes_files d e o before x y net g h in record {
       inputs = both d e o before x y;
@@ -396,9 +488,9 @@ defs_named last d e o content (refusal.ReadFault f) h n = subst (λ (g : Command
 defs_named last d e o content (refusal.WriteFault f) h n = absurd h
 defs_named last d e o content r h n = tt
 
-pub texts_named : (last : List ℕ → Type 0) (c : Command) (x y : List ℕ) (r : Refusal) → NotLowered x y r → NamesFailure last c (Err r)
-texts_named last c x y (refusal.ReadFault f) h = absurd h
-texts_named last c x y (refusal.WriteFault f) h = absurd h
+pub texts_named : (last : List ℕ → Type 0) (c : Command) (x y : List ℕ) (r : Refusal) → NotMade x y r → NamesFailure last c (Err r)
+texts_named last c x y (refusal.ReadFault f) h = absurd (no_read x y f h)
+texts_named last c x y (refusal.WriteFault f) h = absurd (no_write x y f h)
 texts_named last c x y r h = tt
 
 pub write_named : (last : List ℕ → Type 0) (d e o : List ℕ) (f : BundleFault) → BundleNamesFailure last o f → NamesFailure last (compile d e o) (Err (bundle_refusal f))

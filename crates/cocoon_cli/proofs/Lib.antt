@@ -1,4 +1,6 @@
+pub mod Lines
 pub mod Compiling
+pub mod Stepped
 pub mod Headlines
 pub mod RuleValues
 pub mod Running

@@ -1,12 +1,15 @@
 -- By what is read of its files, a command has one outcome at most.
-use Rattle.std.proofs.Common.{◌≡◌, ◌≤◌, ◌<◌, ℕ, List, [], ◌∷◌, length, Option, Some, None, Result, Ok, Err, sym, ap, subst, ◌∙◌, inl, inr, arith}
+use Rattle.std.proofs.Common.{◌≡◌, ◌≤◌, ◌<◌, ℕ, List, [], ◌∷◌, length, Option, Some, None, Result, Ok, Err, sym, ap, ap₂, subst, ◌∙◌, inl, inr, arith}
+use Rattle.cocoon_num.specs.Lists.{first_of}
 use Rattle.cocoon_num.specs.Tree as tree
 use Rattle.cocoon_num.specs.declared.limit_name.LimitName.{LimitName}
+use Rattle.cocoon_num.specs.declared.limit_name.LimitName.TheVariants.{Rows}
 use Rattle.cocoon_num.specs.Reads.{Reads, ReadsDefs}
 use Rattle.cocoon_num.specs.FirstFaults.{BeginsDesign, BeginsDefs}
 use Rattle.cocoon_text.specs.Positions.{token_position}
 use Rattle.cocoon_text.specs.TextFaults.{FirstFault}
 use Rattle.cocoon_text.specs.declared.fault.TextFault.{TextFault}
+use Rattle.cocoon_types.specs.DefsRules.{DefsFault, defs_faults}
 use Rattle.cocoon_types.specs.FirstFault as rules
 use Rattle.cocoon_types.specs.Limits.{WithinLimits, FirstOver as LimitOver, reported}
 use Rattle.cocoon_types.specs.RuleNames.{fault_at}
@@ -16,19 +19,29 @@ use Rattle.p4_ir.specs.NetTree.{NetData}
 use Rattle.net_bundle.specs.Bundle.{MadeFile, bundle}
 use Rattle.net_bundle.specs.Writing.{AllFit, FirstOver, most_of}
 use Rattle.net_bundle.specs.declared.file.BundleFile.{BundleFile}
-use Rattle.lower_p4.specs.Accepts.{Accepts, AcceptsDefs, Lowers}
-use Rattle.cocoon_cli.specs.declared.files.CommandFile.TheVariants.{Design, Definitions, Bundle}
+use Rattle.runtime_defs.specs.Bound.{most_rows, row_count}
+use Rattle.lower_p4.specs.Accepts.{Accepts, Lowers}
+use Rattle.lower_p4.specs.LowerLimits.{IsOver, IsWithin}
+use Rattle.cocoon_cli.specs.declared.files.CommandFile.TheVariants.{Design, Definitions, Bundle, Case as CaseFile}
 use Rattle.cocoon_cli.specs.declared.refusal.InputFault.TheVariants.{NoTree, Rule}
+use Rattle.cocoon_cli.specs.declared.refusal.DefinitionsFault.TheVariants as definitions
 use Rattle.cocoon_cli.specs.declared.refusal.Refusal.{Refusal}
 use Rattle.cocoon_cli.specs.declared.refusal.Refusal.TheVariants as refusal
 use Rattle.cocoon_cli.specs.declared.report.Report.{Report}
-use Rattle.cocoon_cli.specs.declared.report.Report.TheVariants.{Compiled}
-use Rattle.command_line.specs.Command.{Command, compile}
+use Rattle.cocoon_cli.specs.declared.report.Report.TheVariants.{Compiled, Stepped}
+use Rattle.case_file.specs.Cases.{Case, case_of}
+use Rattle.cocoon_types.specs.Design.{last_level}
+use Rattle.cocoon_types.specs.Tables.{defs_of}
+use Rattle.command_line.specs.Command.{Command, compile, step}
+use Rattle.cocoon_cli.specs.LowerTexts.{told}
+use Rattle.case_runs.specs.Stepping.{Steps}
+use Rattle.case_runs.specs.declared.sent.Sent.{Sent}
+use Rattle.cocoon_types.specs.Tables as tables
 use Rattle.cocoon_cli.proofs.RuleValues.{same_rule}
-use Rattle.cocoon_cli.specs.Steps.{Inputs, Step, is_there, is_within, design_reads, design_well_formed, design_within, design_accepted, definitions_read, definitions_accepted, bundle_within, bundle_written, steps, DesignIs, DefinitionsAre, Makes, MakesFiles, IsGood, Refuses, totals_of, Reports, HasOutcomeFrom, HasOutcome}
+use Rattle.cocoon_cli.specs.Steps.{Inputs, Step, is_there, is_within, design_reads, design_well_formed, design_within, definitions_read, definitions_fit, definitions_within, design_accepted, lowering_within, level_there, lines_formed, bundle_within, bundle_written, steps, CaseIs, DesignIs, DefinitionsAre, Makes, MakesFiles, IsGood, Refuses, totals_of, Reports, HasOutcomeFrom, HasOutcome}
 
 -- that texts have one tree or one first fault, that a design keeps the rules or breaks one first and so with the limits, and
--- that the compiler makes one network of two trees that it takes
+-- that the compiler makes one network of two trees, or is over one limit first
 pub record Laws : Type 0 where
   pub one_tree : (text : List ℕ) (x y : tree.Design) → Reads text x → Reads text y → x ≡ y
   pub one_defs_tree : (text : List ℕ) (x y : tree.DefsText) → ReadsDefs text x → ReadsDefs text y → x ≡ y
@@ -41,7 +54,9 @@ pub record Laws : Type 0 where
   pub one_limit : (d : tree.Design) (x y : LimitName) (m n : ℕ) → LimitOver d x m → LimitOver d y n → (x ≡ y) × (m ≡ n)
   pub no_limit : (d : tree.Design) (x : LimitName) (n : ℕ) → WithinLimits d → LimitOver d x n → ⊥
   pub one_net : (d : tree.Design) (e : tree.DefsText) (m n : NetData) → Lowers d e m → Lowers d e n → m ≡ n
-  pub accepted : (d : tree.Design) (e : tree.DefsText) (n : NetData) → Lowers d e n → Accepts d × AcceptsDefs d e
+  pub one_over : (d : tree.Design) (e : tree.DefsText) (x y : LimitName) (m n : ℕ) → IsOver d e x m → IsOver d e y n → (x ≡ y) × (m ≡ n)
+  pub one_step : (level : ℕ) (d : tree.Design) (defs : tables.Defs) (case : Case) (told other : Option Sent) → Steps level d defs case told → Steps level d defs case other → other ≡ told
+  pub no_over : (d : tree.Design) (e : tree.DefsText) (x : LimitName) (n : ℕ) → IsWithin d e → IsOver d e x n → ⊥
 
 -- ---- what is read
 
@@ -70,6 +85,21 @@ same_files laws i fs gs a b =
     ∙ ap (λ (n : NetData). bundle b.makes.design_is.text n None) (same_net laws i a.net b.net a.makes b.makes)
     ∙ sym b.files_are
 
+-- ---- cases
+
+same_line : (r : Result Case ℕ) (m n : ℕ) → r ≡ Err m → r ≡ Err n → m ≡ n
+same_line r m n p q = let e : ◌≡◌ {A = Result Case ℕ} (Err m) (Err n) = sym p ∙ q in cc
+
+said_or_not : (r : Result Case ℕ) (c : Case) (n : ℕ) → r ≡ Ok c → r ≡ Err n → ⊥
+said_or_not r c n p q = let e : ◌≡◌ {A = Result Case ℕ} (Ok c) (Err n) = sym p ∙ q in cc
+
+same_said : (r : Result Case ℕ) (x y : Case) → r ≡ Ok x → r ≡ Ok y → x ≡ y
+same_said r x y p q = let e : ◌≡◌ {A = Result Case ℕ} (Ok x) (Ok y) = sym p ∙ q in cc
+
+same_case : Laws → (i : Inputs) (level : ℕ) (d : tree.Design) (x y : Case) → CaseIs i d level x → CaseIs i d level y → x ≡ y
+same_case laws i level d x y a b =
+    same_said (case_of level d b.text) x y (ap (case_of level d) (sym (same_bytes (i CaseFile) a.text b.text a.is b.is)) ∙ a.says) b.says
+
 -- ---- rules
 
 rule_at : (x y : TypeRule) (m n : ℕ) (s t : List ℕ) → fault_at x m ≡ fault_at y n → s ≡ t → refusal.Language (Rule x (token_position s m)) ≡ refusal.Language (Rule y (token_position t n))
@@ -95,6 +125,20 @@ none_over [] f a h = h
 none_over (x ∷ fs) f a (inl h) = let b : most_of x.file < length x.bytes = h.1 in let c : length x.bytes ≤ most_of x.file = a.0 in omega arith
 none_over (x ∷ fs) f a (inr h) = none_over fs f a.1 h.1
 
+-- ---- definitions
+
+-- what is told of one fault of one text is one thing
+same_told : (s t : List ℕ) (f g : DefsFault) → s ≡ t → Some f ≡ Some g → refusal.Definitions (told s f) ≡ refusal.Definitions (told t g)
+same_told s t f g e p = ap₂ (λ (b : List ℕ) (x : DefsFault). refusal.Definitions (told b x)) e (same_fault p)
+  where
+    same_fault : Some f ≡ Some g → f ≡ g
+    same_fault p = cc
+
+-- what is over a limit is so by each reading of the files
+over_same : Laws → (i : Inputs) (d e : tree.Design) (x y : tree.DefsText) (l : LimitName) (n : ℕ) → DesignIs i d → DesignIs i e → DefinitionsAre i x → DefinitionsAre i y → IsOver d x l n → IsOver e y l n
+over_same laws i d e x y l n a b p q h =
+    subst (λ (z : tree.DefsText). IsOver e z l n) (same_defs laws i x y p q) (subst (λ (c : tree.Design). IsOver c x l n) (same_design laws i d e a b) h)
+
 -- ---- one step
 
 refuses_once : Laws → (i : Inputs) (s : Step) (r q : Refusal) → Refuses i s r → Refuses i s q → r ≡ q
@@ -112,12 +156,25 @@ refuses_once laws i design_within r q h k =
     let same = same_design laws i h.0 k.0 h.3 k.3 in
     let one = laws.one_limit k.0 h.1 k.1 h.4.0 k.4.0 (subst (λ (d : tree.Design). LimitOver d h.1 h.4.0) same h.4.1) k.4.1 in
     h.5 ∙ over_by h.1 k.1 h.2 k.2 one.0 (h.4.2 ∙ ap reported one.1 ∙ sym k.4.2) ∙ sym k.5
-refuses_once laws i design_accepted r q h k = h.3 ∙ sym k.3
 refuses_once laws i definitions_read r q h k =
     let same : h.0 ≡ k.0 = same_bytes (i Definitions) h.0 k.0 h.2 k.2 in
     let one : h.1 ≡ k.1 = laws.one_defs_fault k.0 h.1 k.1 (subst (λ (t : List ℕ). FirstFault BeginsDefs t h.1) same h.3) k.3 in
-    h.4 ∙ ap (λ f. refusal.Definitions (NoTree f)) one ∙ sym k.4
-refuses_once laws i definitions_accepted r q h k = h.5 ∙ sym k.5
+    h.4 ∙ ap (λ f. refusal.Definitions (definitions.NoTree f)) one ∙ sym k.4
+refuses_once laws i definitions_fit r q h k =
+    let design : h.0 ≡ k.0 = same_design laws i h.0 k.0 h.3 k.3 in
+    let defs : h.1 ≡ k.1 = same_defs laws i h.1 k.1 h.4 k.4 in
+    let one : Some h.2 ≡ Some k.2 = sym h.5 ∙ ap₂ (λ (d : tree.Design) (e : tree.DefsText). first_of (defs_faults d e)) design defs ∙ k.5 in
+    h.6 ∙ same_told h.4.text k.4.text h.2 k.2 (same_bytes (i Definitions) h.4.text k.4.text h.4.are k.4.are) one ∙ sym k.6
+refuses_once laws i definitions_within r q h k = h.3 ∙ ap (λ (e : tree.DefsText). refusal.OverLimit Rows (row_count e)) (same_defs laws i h.0 k.0 h.1 k.1) ∙ sym k.3
+refuses_once laws i design_accepted r q h k = h.3 ∙ sym k.3
+refuses_once laws i lowering_within r q h k =
+    let one = laws.one_over k.0 k.1 h.2 k.2 h.3 k.3 (over_same laws i h.0 k.0 h.1 k.1 h.2 h.3 h.4 k.4 h.5 k.5 h.6) k.6 in
+    h.7 ∙ over_by h.2 k.2 h.3 k.3 one.0 one.1 ∙ sym k.7
+refuses_once laws i (level_there level) r q h k = h.3 ∙ ap (λ (d : tree.Design). refusal.NoLevel level (last_level d)) (same_design laws i h.0 k.0 h.1 k.1) ∙ sym k.3
+refuses_once laws i (lines_formed level) r q h k =
+    let one = same_line (case_of level k.0 k.1) h.2 k.2
+    (ap₂ (case_of level) (sym (same_design laws i h.0 k.0 h.3 k.3)) (sym (same_bytes (i CaseFile) h.1 k.1 h.4 k.4)) ∙ h.5) k.5 in
+    h.6 ∙ ap (refusal.Line CaseFile) one ∙ sym k.6
 refuses_once laws i bundle_within r q h k =
     let same : h.0 ≡ k.0 = same_files laws i h.0 k.0 h.2 k.2 in
     let one : h.1 ≡ k.1 = one_over k.0 h.1 k.1 (subst (λ (fs : List MadeFile). FirstOver fs h.1) same h.3) k.3 in
@@ -136,15 +193,29 @@ good_or_refused laws i design_reads r g h =
     laws.no_fault h.0 g.0 h.1 (subst (λ (t : List ℕ). Reads t g.0) (same_bytes (i Design) d.text h.0 d.is h.2) d.reads) h.3
 good_or_refused laws i design_well_formed r g h = laws.no_rule h.0 (fault_at h.1 h.2) (subst WellFormed (same_design laws i g.0 h.0 g.1 h.3) g.2) h.4
 good_or_refused laws i design_within r g h = laws.no_limit h.0 h.1 h.4.0 (subst WithinLimits (same_design laws i g.0 h.0 g.1 h.3) g.2) h.4.1
-good_or_refused laws i design_accepted r g h = h.2 (subst (λ (d : tree.Design). Accepts d) (same_design laws i g.0 h.0 g.1 h.1) g.2)
 good_or_refused laws i definitions_read r g h =
     let d = g.1 in
     laws.no_defs_fault h.0 g.0 h.1 (subst (λ (t : List ℕ). ReadsDefs t g.0) (same_bytes (i Definitions) d.text h.0 d.are h.2) d.read) h.3
-good_or_refused laws i definitions_accepted r g h =
+good_or_refused laws i definitions_fit r g h =
+    let design : g.0 ≡ h.0 = same_design laws i g.0 h.0 g.2 h.3 in
+    let defs : g.1 ≡ h.1 = same_defs laws i g.1 h.1 g.3 h.4 in
+    let no : ◌≡◌ {A = Option DefsFault} None (Some h.2) = sym (ap first_of g.4) ∙ ap₂ (λ (d : tree.Design) (e : tree.DefsText). first_of (defs_faults d e)) design defs ∙ h.5 in
+    cc
+good_or_refused laws i definitions_within r g h =
+    let few : row_count h.0 ≤ most_rows = subst (λ (e : tree.DefsText). row_count e ≤ most_rows) (same_defs laws i g.0 h.0 g.1 h.1) g.2 in
+    let many : most_rows < row_count h.0 = h.2 in
+    omega arith
+good_or_refused laws i design_accepted r g h = h.2 (subst (λ (d : tree.Design). Accepts d) (same_design laws i g.0 h.0 g.1 h.1) g.2)
+good_or_refused laws i lowering_within r g h =
     let m = g.1 in
-    let both = laws.accepted m.design m.defs g.0 m.lowers in
-    h.4 (subst (λ (e : tree.DefsText). AcceptsDefs h.0 e) (same_defs laws i m.defs h.1 m.defs_are h.3)
-    (subst (λ (d : tree.Design). AcceptsDefs d m.defs) (same_design laws i m.design h.0 m.design_is h.2) both.1))
+    laws.no_over m.design m.defs h.2 h.3 g.2 (over_same laws i h.0 m.design h.1 m.defs h.2 h.3 h.4 m.design_is h.5 m.defs_are h.6)
+good_or_refused laws i (level_there level) r g h =
+    let within : level ≤ last_level h.0 = subst (λ (d : tree.Design). level ≤ last_level d) (same_design laws i g.0 h.0 g.1 h.1) g.2 in
+    let over : last_level h.0 < level = h.2 in
+    omega arith
+good_or_refused laws i (lines_formed level) r g h =
+    said_or_not (case_of level h.0 h.1) g.1 h.2
+    (ap₂ (case_of level) (sym (same_design laws i g.0 h.0 g.2 h.3)) (sym (same_bytes (i CaseFile) g.3.text h.1 g.3.is h.4)) ∙ g.3.says) h.5
 good_or_refused laws i bundle_within r g h =
     none_over h.0 h.1 (subst (λ (fs : List MadeFile). AllFit fs) (same_files laws i g.0 h.0 g.1 h.2) g.2) h.3
 good_or_refused laws i bundle_written r g h = h
@@ -154,6 +225,18 @@ good_or_refused laws i bundle_written r g h = h
 one_report : Laws → (c : Command) (i : Inputs) (r q : Report) → Reports c i r → Reports c i q → q ≡ r
 one_report laws (compile d e o) i (Compiled t) (Compiled u) h k =
     ap Compiled (k.2 ∙ ap totals_of (same_net laws i k.0 h.0 k.1 h.1) ∙ sym h.2)
+one_report laws (compile d e o) i (Compiled t) (Stepped u) h k = absurd k
+one_report laws (compile d e o) i (Stepped t) q h k = absurd h
+one_report laws (step d e l f) i (Compiled t) q h k = absurd h
+one_report laws (step d e l f) i (Stepped s) (Compiled t) h k = absurd k
+one_report laws (step d e l f) i (Stepped s) (Stepped t) h k =
+    let design = same_design laws i h.0 k.0 h.3.design_is k.3.design_is in
+    let defs = same_defs laws i h.1 k.1 h.3.defs_are k.3.defs_are in
+    let case = same_case laws i l k.0 h.2 k.2 (subst (λ (x : tree.Design). CaseIs i x l h.2) design h.3.case_is) k.3.case_is in
+    ap Stepped (laws.one_step l k.0 (defs_of k.0 k.1) k.2 s t
+    (subst (λ (x : Case). Steps l k.0 (defs_of k.0 k.1) x s) case
+    (subst (λ (x : tree.DefsText). Steps l k.0 (defs_of k.0 x) h.2 s) defs
+    (subst (λ (x : tree.Design). Steps l x (defs_of x h.1) h.2 s) design h.4))) k.4)
 
 one_from : Laws → (c : Command) (i : Inputs) (ss : List Step) (outcome other : Result Report Refusal) → HasOutcomeFrom c i ss outcome → HasOutcomeFrom c i ss other → other ≡ outcome
 one_from laws c i [] (Ok r) (Ok q) h k = ap Ok (one_report laws c i r q h k)

@@ -7,20 +7,20 @@ use Rattle.net_bundle.specs.Bundle.{MadeFile}
 use Rattle.net_bundle.specs.declared.file.BundleFile.{BundleFile}
 use Rattle.net_bundle.specs.Writing.{SomeWritten, StopsAt, with_files}
 use Rattle.cocoon_cli.specs.declared.files.CommandFile.{CommandFile}
-use Rattle.cocoon_cli.specs.declared.files.CommandFile.TheVariants.{Design, Definitions, Bundle as BundleOf}
+use Rattle.cocoon_cli.specs.declared.files.CommandFile.TheVariants.{Design, Definitions, Bundle as BundleOf, Case as CaseFile}
 use Rattle.cocoon_cli.specs.declared.refusal.Refusal.{Refusal}
 use Rattle.cocoon_cli.specs.declared.refusal.Refusal.TheVariants as refusal
 use Rattle.cocoon_cli.specs.declared.report.Report.{Report}
 use Rattle.cocoon_cli.specs.declared.status.Status.{Status}
-use Rattle.cocoon_cli.specs.declared.status.Status.TheVariants.{Done, Usage, Language, Broken, ReadFault, WriteFault, Limit, NoMemory, NoFile}
-use Rattle.command_line.specs.Command.{Command, compile}
+use Rattle.cocoon_cli.specs.declared.status.Status.TheVariants.{Done, Usage, Language, Broken, ReadFault, WriteFault, Limit, Lines, NoMemory, NoFile}
+use Rattle.command_line.specs.Command.{Command, compile, step}
 use Rattle.command_line.specs.Words.{command}
 use Rattle.cocoon_cli.specs.Headline.{CompiledOf}
 use Rattle.cocoon_cli.specs.Leaves.{Leaves, LeavesSome}
 use Rattle.cocoon_cli.specs.Report.{Ending, Puts, all, a_prefix, nothing, Prints, ending_of, no_memory, usage}
 use Rattle.cocoon_cli.specs.Run.{Call, Counted, Count, inputs_of, InputsAre, Performs, HasFault, Cause, CauseOf, LineNames, NamesFailure, EndsWith, Yields, to_read_fault, to_write_fault, to_no_memory, TheOutcome, OutcomeOf, DoneOf, LeavesOf, MayWrite, done, failed, UsageOf, Keeps}
 use Rattle.cocoon_cli.specs.Run as run
-use Rattle.cocoon_cli.specs.Steps.{Inputs, Step, is_there, is_within, design_reads, design_well_formed, design_within, design_accepted, definitions_read, definitions_accepted, bundle_within, bundle_written, Reports, HasOutcomeFrom, HasOutcome, Stops, AnswersFrom, steps}
+use Rattle.cocoon_cli.specs.Steps.{Inputs, Step, is_there, is_within, design_reads, design_well_formed, design_within, definitions_read, definitions_fit, definitions_within, design_accepted, lowering_within, level_there, lines_formed, bundle_within, bundle_written, Reports, HasOutcomeFrom, HasOutcome, Stops, AnswersFrom, steps}
 
 -- ---- what is printed
 
@@ -45,9 +45,13 @@ stopped i (is_within file most) r outcome h e = absurd h
 stopped i design_reads r outcome h e = absurd h
 stopped i design_well_formed r outcome h e = absurd h
 stopped i design_within r outcome h e = absurd h
-stopped i design_accepted r outcome h e = absurd h
 stopped i definitions_read r outcome h e = absurd h
-stopped i definitions_accepted r outcome h e = absurd h
+stopped i definitions_fit r outcome h e = absurd h
+stopped i definitions_within r outcome h e = absurd h
+stopped i design_accepted r outcome h e = absurd h
+stopped i lowering_within r outcome h e = absurd h
+stopped i (level_there l) r outcome h e = absurd h
+stopped i (lines_formed l) r outcome h e = absurd h
 stopped i bundle_within r outcome h e = absurd h
 stopped i bundle_written r outcome h e = inr (BundleOf h.0, e ∙ ap Err h.1)
 
@@ -116,6 +120,8 @@ never_usage c (Err (refusal.ReadFault f)) e = cc
 never_usage c (Err (refusal.WriteFault f)) e = cc
 never_usage c (Err (refusal.TooLong f n)) e = cc
 never_usage c (Err (refusal.OverLimit l m)) e = cc
+never_usage c (Err (refusal.NoLevel l m)) e = cc
+never_usage c (Err (refusal.Line f n)) e = cc
 never_usage c (Err refusal.NoMemory) e = cc
 never_usage c (Err (refusal.NoFile f)) e = cc
 
@@ -136,6 +142,8 @@ is_read_fault c reads writes (Err (refusal.ReadFault f)) h e = h
 is_read_fault c reads writes (Err (refusal.WriteFault f)) h e = cc
 is_read_fault c reads writes (Err (refusal.TooLong f n)) h e = cc
 is_read_fault c reads writes (Err (refusal.OverLimit l m)) h e = cc
+is_read_fault c reads writes (Err (refusal.NoLevel l m)) h e = cc
+is_read_fault c reads writes (Err (refusal.Line f n)) h e = cc
 is_read_fault c reads writes (Err refusal.NoMemory) h e = cc
 is_read_fault c reads writes (Err (refusal.NoFile f)) h e = cc
 
@@ -147,6 +155,8 @@ is_write_fault c reads writes (Err (refusal.ReadFault f)) h e = cc
 is_write_fault c reads writes (Err (refusal.WriteFault f)) h e = h
 is_write_fault c reads writes (Err (refusal.TooLong f n)) h e = cc
 is_write_fault c reads writes (Err (refusal.OverLimit l m)) h e = cc
+is_write_fault c reads writes (Err (refusal.NoLevel l m)) h e = cc
+is_write_fault c reads writes (Err (refusal.Line f n)) h e = cc
 is_write_fault c reads writes (Err refusal.NoMemory) h e = cc
 is_write_fault c reads writes (Err (refusal.NoFile f)) h e = cc
 
@@ -214,6 +224,8 @@ read_line last c call (Err (refusal.ReadFault f)) h e n = (f, h, n)
 read_line last c call (Err (refusal.WriteFault f)) h e n = cc
 read_line last c call (Err (refusal.TooLong f m)) h e n = cc
 read_line last c call (Err (refusal.OverLimit l m)) h e n = cc
+read_line last c call (Err (refusal.NoLevel l m)) h e n = cc
+read_line last c call (Err (refusal.Line f m)) h e n = cc
 read_line last c call (Err refusal.NoMemory) h e n = cc
 read_line last c call (Err (refusal.NoFile f)) h e n = cc
 
@@ -225,6 +237,8 @@ write_line last c call (Err (refusal.ReadFault f)) h e n = cc
 write_line last c call (Err (refusal.WriteFault f)) h e n = (f, h, n)
 write_line last c call (Err (refusal.TooLong f m)) h e n = cc
 write_line last c call (Err (refusal.OverLimit l m)) h e n = cc
+write_line last c call (Err (refusal.NoLevel l m)) h e n = cc
+write_line last c call (Err (refusal.Line f m)) h e n = cc
 write_line last c call (Err refusal.NoMemory) h e n = cc
 write_line last c call (Err (refusal.NoFile f)) h e n = cc
 
@@ -262,6 +276,8 @@ done_ok c call (Err (refusal.ReadFault f)) performs d n = cc
 done_ok c call (Err (refusal.WriteFault f)) performs d n = cc
 done_ok c call (Err (refusal.TooLong f m)) performs d n = cc
 done_ok c call (Err (refusal.OverLimit l m)) performs d n = cc
+done_ok c call (Err (refusal.NoLevel l m)) performs d n = cc
+done_ok c call (Err (refusal.Line f m)) performs d n = cc
 done_ok c call (Err refusal.NoMemory) performs d n = cc
 done_ok c call (Err (refusal.NoFile f)) performs d n = cc
 
@@ -280,6 +296,23 @@ writes_of (Some c) call h d =
     let s = done_printed call (ending_of c h.outcome) h.prints d in
     done_ok c call h.outcome h.performs s.0 s.1
 
+-- `step` leaves the folder as it was
+step_same : (d e : List ℕ) (l : ℕ) (f : List ℕ) (i : Inputs) (before after : Option Files) (outcome : Result Report Refusal) → Leaves (step d e l f) i before after outcome → after ≡ before
+step_same d e l f i before after (Ok report) h = h
+step_same d e l f i before after (Err (refusal.Language x)) h = h
+step_same d e l f i before after (Err (refusal.Definitions x)) h = h
+step_same d e l f i before after (Err (refusal.ReadFault x)) h = h
+step_same d e l f i before after (Err (refusal.WriteFault Design)) h = h
+step_same d e l f i before after (Err (refusal.WriteFault Definitions)) h = h
+step_same d e l f i before after (Err (refusal.WriteFault (BundleOf file))) h = h
+step_same d e l f i before after (Err (refusal.WriteFault CaseFile)) h = h
+step_same d e l f i before after (Err (refusal.TooLong x n)) h = h
+step_same d e l f i before after (Err (refusal.OverLimit x n)) h = h
+step_same d e l f i before after (Err (refusal.NoLevel x n)) h = h
+step_same d e l f i before after (Err (refusal.Line x n)) h = h
+step_same d e l f i before after (Err refusal.NoMemory) h = h
+step_same d e l f i before after (Err (refusal.NoFile x)) h = h
+
 -- a refusal that wrote nothing, or a status that may have
 same_or_writes : (c : Command) (i : Inputs) (before after : Option Files) (outcome : Result Report Refusal) → Leaves c i before after outcome → MayWrite (ending_of c outcome).status ⊎ (after ≡ before)
 same_or_writes (compile d e o) i before after (Ok report) h = inl (done refl)
@@ -289,8 +322,11 @@ same_or_writes (compile d e o) i before after (Err (refusal.ReadFault f)) h = in
 same_or_writes (compile d e o) i before after (Err (refusal.WriteFault f)) h = inl (failed refl)
 same_or_writes (compile d e o) i before after (Err (refusal.TooLong f n)) h = inr h
 same_or_writes (compile d e o) i before after (Err (refusal.OverLimit l m)) h = inr h
+same_or_writes (compile d e o) i before after (Err (refusal.NoLevel l m)) h = inr h
+same_or_writes (compile d e o) i before after (Err (refusal.Line f n)) h = inr h
 same_or_writes (compile d e o) i before after (Err refusal.NoMemory) h = inl (run.no_memory refl)
 same_or_writes (compile d e o) i before after (Err (refusal.NoFile f)) h = inr h
+same_or_writes (step d e l f) i before after outcome h = inr (step_same d e l f i before after outcome h)
 
 ending_writes : (s : Status) → IsEnding s → MayWrite s
 ending_writes s (inl e) = failed e
@@ -323,11 +359,15 @@ leaves_some (compile d e o) i before after (Err (refusal.Definitions f)) h = inl
 leaves_some (compile d e o) i before after (Err (refusal.ReadFault f)) h = inl h
 leaves_some (compile d e o) i before after (Err (refusal.WriteFault Design)) h = inl h
 leaves_some (compile d e o) i before after (Err (refusal.WriteFault Definitions)) h = inl h
+leaves_some (compile d e o) i before after (Err (refusal.WriteFault CaseFile)) h = inl h
 leaves_some (compile d e o) i before after (Err (refusal.WriteFault (BundleOf file))) (fs, m, s) = inr (fs, m, stopped_some o fs file before after s)
 leaves_some (compile d e o) i before after (Err (refusal.TooLong f n)) h = inl h
 leaves_some (compile d e o) i before after (Err (refusal.OverLimit l m)) h = inl h
+leaves_some (compile d e o) i before after (Err (refusal.NoLevel l m)) h = inl h
+leaves_some (compile d e o) i before after (Err (refusal.Line f n)) h = inl h
 leaves_some (compile d e o) i before after (Err refusal.NoMemory) h = h
 leaves_some (compile d e o) i before after (Err (refusal.NoFile f)) h = inl h
+leaves_some (step d e l f) i before after outcome h = step_same d e l f i before after outcome h
 
 leaves_of : (c : Option Command) (call : Call) → CauseOf c call → LeavesOf c call
 leaves_of None call h = h.0
@@ -345,6 +385,7 @@ any_are c (Some files) = refl
 
 leaves_same : (c : Command) (i : Inputs) (before after : Option Files) → after ≡ before → Leaves c i before after (Err refusal.NoMemory)
 leaves_same (compile d e o) i before after same = inl same
+leaves_same (step d e l f) i before after same = same
 
 memory_cause : (last : List ℕ → Type 0) (c : Option Command) (call : Call) → call.content_after ≡ call.content_before → Puts (Counted call.puts) no_memory call.output_before call.output_after call.status → (h : CauseOf c call) × NamedOf last c call h
 memory_cause last None call same p = ((same, inr p), tt)
@@ -374,6 +415,8 @@ headline_of c call (Err (refusal.ReadFault f)) prints h d = let e : ◌≡◌ {A
 headline_of c call (Err (refusal.WriteFault f)) prints h d = let e : ◌≡◌ {A = Status} WriteFault Done = (done_printed call _ prints d).0 in cc
 headline_of c call (Err (refusal.TooLong f n)) prints h d = let e : ◌≡◌ {A = Status} Limit Done = (done_printed call _ prints d).0 in cc
 headline_of c call (Err (refusal.OverLimit l m)) prints h d = let e : ◌≡◌ {A = Status} Limit Done = (done_printed call _ prints d).0 in cc
+headline_of c call (Err (refusal.NoLevel l m)) prints h d = let e : ◌≡◌ {A = Status} Limit Done = (done_printed call _ prints d).0 in cc
+headline_of c call (Err (refusal.Line f n)) prints h d = let e : ◌≡◌ {A = Status} Lines Done = (done_printed call _ prints d).0 in cc
 headline_of c call (Err refusal.NoMemory) prints h d = let e : ◌≡◌ {A = Status} NoMemory Done = (done_printed call _ prints d).0 in cc
 headline_of c call (Err (refusal.NoFile f)) prints h d = let e : ◌≡◌ {A = Status} NoFile Done = (done_printed call _ prints d).0 in cc
 

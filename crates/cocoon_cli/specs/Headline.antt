@@ -15,7 +15,7 @@ use Rattle.p4_ir.specs.NetTree.{NetData}
 use Rattle.net_bundle.specs.BundleNames.{digest_of}
 use Rattle.net_bundle.specs.Network.{Network, InBundle}
 use Rattle.lower_p4.specs.Delivers.{DeliversExactly, DeliversWithin}
-use Rattle.command_line.specs.Command.{Command, compile}
+use Rattle.command_line.specs.Command.{Command, compile, step}
 use Rattle.command_line.specs.Words.{command}
 
 -- what the files hold `after` a `compile` of the design and the definitions that stood in the files
@@ -42,14 +42,16 @@ pub record Compiled (before after : Files) (design_name defs_name out : List ℕ
   pub exact : DeliversExactly net design (defs_of design entries)
   pub within : DeliversWithin net design (defs_of design entries)
 
+-- the same of a command; of one that compiles nothing there is nothing to say
 abbrev pub CompiledOf : Option Command → Option Files → Option Files → Type 0
 CompiledOf None before after = ⊥
 CompiledOf (Some (compile design defs out)) None after = Unit {0}
 CompiledOf (Some (compile design defs out)) (Some before) None = ⊥
 CompiledOf (Some (compile design defs out)) (Some before) (Some after) =
     Compiled before after design defs out
+CompiledOf (Some (step design defs level file)) before after = Unit {0}
 
--- The words are a `compile`, and where the folder's content is known the files are those of its
--- design and definitions.
+-- The words are a command, and where they are a `compile` and the folder's content is known the files
+-- are those of its design and definitions.
 abbrev pub Headline : List (List ℕ) → Option Files → Option Files → Type 0
 Headline words before after = CompiledOf (command words) before after

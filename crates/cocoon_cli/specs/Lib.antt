@@ -2,6 +2,7 @@ pub mod FileNames
 pub mod Report
 pub mod Steps
 pub mod LowerTexts
+pub mod Stepping
 pub mod Reading
 pub mod Leaves
 pub mod Headline

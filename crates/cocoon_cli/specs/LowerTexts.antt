@@ -1,70 +1,146 @@
--- Cited by the clauses of lower_texts.rt. The two texts of a command: the network that is made of
--- them, or why none is.
-use Rattle.std.specs.Prelude.{◌≡◌, ℕ, List, Some}
+-- Cited by the clauses of lower_texts.rt. The two texts of a command: a design with definitions that
+-- fit it, and the network that is made of them, or why there is none.
+use Rattle.std.specs.Prelude.{◌≡◌, ◌⊎◌, ◌<◌, ℕ, List, Some, IsTrue}
+use Rattle.cocoon_num.specs.Lists.{first_of}
+use Rattle.cocoon_num.specs.Spelled.{is_spelled}
 use Rattle.cocoon_num.specs.Tree.{Design, DefsText}
 use Rattle.cocoon_num.specs.Reads.{Reads, ReadsDefs}
 use Rattle.cocoon_num.specs.FirstFaults.{BeginsDesign, BeginsDefs}
+use Rattle.cocoon_num.specs.declared.limit_name.LimitName.{LimitName}
+use Rattle.cocoon_num.specs.declared.limit_name.LimitName.TheVariants.{Rows}
 use Rattle.cocoon_resolve.specs.Resolved.{Resolves}
 use Rattle.cocoon_text.specs.Positions.{token_position}
 use Rattle.cocoon_text.specs.TextFaults.{FirstFault}
+use Rattle.cocoon_types.specs.DefsRules as defs_rules
+use Rattle.cocoon_types.specs.DefsRules.{defs_faults, DefsFit}
 use Rattle.cocoon_types.specs.FirstFault as rules
 use Rattle.cocoon_types.specs.RuleNames.{fault_at}
 use Rattle.cocoon_types.specs.Rules.{WellFormed}
 use Rattle.design_limits.specs.First.{IsFirstOver}
 use Rattle.p4_ir.specs.NetTree.{NetData}
-use Rattle.lower_p4.specs.Accepts.{Accepts, AcceptsDefs, Lowers}
-use Rattle.lower_p4.specs.Lowering.{IsLowering, IsSound}
+use Rattle.runtime_defs.specs.Bound.{most_rows, row_count}
+use Rattle.runtime_defs.specs.Fitting.{FitsDesign}
+use Rattle.runtime_defs.specs.Places.{Places}
+use Rattle.lower_p4.specs.Accepts.{Accepts, Lowers}
+use Rattle.lower_p4.specs.LowerLimits.{IsOver, IsWithin}
+use Rattle.lower_p4.specs.Lowering.{AreOfText, IsLowering, IsSound}
 use Rattle.cocoon_cli.specs.declared.refusal.InputFault.TheVariants.{NoTree, Rule, NotYet}
+use Rattle.cocoon_cli.specs.declared.refusal.EntryRule.TheVariants.{UnknownFunction, WrongRow, TwoDefaults, GuardRows, ForkRows}
+use Rattle.cocoon_cli.specs.declared.refusal.DefinitionsFault.{DefinitionsFault}
+use Rattle.cocoon_cli.specs.declared.refusal.DefinitionsFault.TheVariants as definitions
 use Rattle.cocoon_cli.specs.declared.refusal.Refusal.{Refusal}
 use Rattle.cocoon_cli.specs.declared.refusal.Refusal.TheVariants.{Language, Definitions, OverLimit, NoMemory}
+
+-- ---- what is made of the texts
 
 -- the text reads as a design that keeps the rules and the limits
 pub record ReadsChecked (design : List ℕ) (tree : Design) : Type 0 where
   pub reads : Reads design tree
   pub resolves : Resolves tree
 
--- and the compiler takes it
-pub record ReadsAccepted (design : List ℕ) (tree : Design) : Type 0 where
+-- the definitions, which have a tree, fit the design and are within the limit on rows
+pub record Binds (design defs : List ℕ) (tree : Design) (entries : DefsText) : Type 0 where
   pub checked : ReadsChecked design tree
-  pub accepts : Accepts tree
+  pub read : ReadsDefs defs entries
+  pub fits : DefsFit tree entries
 
--- the texts read, and this is the network of their trees
+-- and these are their tables
+pub record BindsTables (design defs : List ℕ) (tree : Design) (tables : Places) : Type 0 where
+  pub entries : DefsText
+  pub binds : Binds design defs tree entries
+  pub are : AreOfText tree entries tables
+  pub words : IsTrue (is_spelled tree)
+  pub fit : FitsDesign tree tables
+
+-- the compiler takes the design, and this is the network of both
 pub record LowersTexts (design defs : List ℕ) (net : NetData) : Type 0 where
   pub tree : Design
-  pub entries : DefsText
-  pub design_reads : ReadsAccepted design tree
-  pub defs_read : ReadsDefs defs entries
-  pub lowers : Lowers tree entries net
-  pub lowering : IsLowering tree entries net
-  pub sound : IsSound tree entries net
+  pub tables : Places
+  pub binds : BindsTables design defs tree tables
+  pub accepts : Accepts tree
+  pub within : IsWithin tree binds.entries
+  pub lowers : Lowers tree binds.entries net
+  pub lowering : IsLowering tree binds.entries net
+  pub sound : IsSound tree binds.entries net
 
--- why a design is not taken
-abbrev pub NotAccepted : (design : List ℕ) → Refusal → Type 0
-NotAccepted design (Language (NoTree f)) = FirstFault BeginsDesign design f
-NotAccepted design (Language (Rule rule position)) =
+-- ---- faults of definitions
+
+-- what is told of a fault: of an entry the position of its name, of a missing default the function
+abbrev pub told : (defs : List ℕ) → defs_rules.DefsFault → DefinitionsFault
+told defs (defs_rules.unknown_function at) =
+    definitions.Entry UnknownFunction (token_position defs at)
+told defs (defs_rules.wrong_row at) = definitions.Entry WrongRow (token_position defs at)
+told defs (defs_rules.two_defaults at) = definitions.Entry TwoDefaults (token_position defs at)
+told defs (defs_rules.no_default f) = definitions.NoDefault f
+told defs (defs_rules.guard_rows at) = definitions.Entry GuardRows (token_position defs at)
+told defs (defs_rules.fork_rows at) = definitions.Entry ForkRows (token_position defs at)
+
+-- the definitions have a tree, and this is told of their first fault
+pub record Unfit (design defs : List ℕ) (fault : DefinitionsFault) : Type 0 where
+  pub tree : Design
+  pub entries : DefsText
+  pub checked : ReadsChecked design tree
+  pub read : ReadsDefs defs entries
+  pub first : defs_rules.DefsFault
+  pub is_first : first_of (defs_faults tree entries) ≡ Some first
+  pub is_told : fault ≡ told defs first
+
+-- they fit, and have so many rows, over the limit
+pub record ManyRows (design defs : List ℕ) (limit : LimitName) (count : ℕ) : Type 0 where
+  pub tree : Design
+  pub entries : DefsText
+  pub binds : Binds design defs tree entries
+  pub name : limit ≡ Rows
+  pub counted : count ≡ row_count entries
+  pub over : most_rows < count
+
+-- ---- why there is none
+
+-- why a design is not read
+abbrev pub NotChecked : (design : List ℕ) → Refusal → Type 0
+NotChecked design (Language (NoTree f)) = FirstFault BeginsDesign design f
+NotChecked design (Language (Rule rule position)) =
     (tree : Design) × (token : ℕ) × Reads design tree
     × rules.FirstFault tree (fault_at rule token) × (position ≡ token_position design token)
-NotAccepted design (Language NotYet) =
-    (tree : Design) × ReadsChecked design tree × (¬ Accepts tree)
-NotAccepted design (OverLimit limit count) =
+NotChecked design (OverLimit limit count) =
     (tree : Design) × Reads design tree × WellFormed tree × IsFirstOver tree (Some (limit, count))
-NotAccepted design NoMemory = Unit {0}
-NotAccepted design _ = ⊥
+NotChecked design NoMemory = Unit {0}
+NotChecked design _ = ⊥
 
 -- why definitions do not read
 abbrev pub NotRead : (defs : List ℕ) → Refusal → Type 0
-NotRead defs (Definitions (NoTree f)) = FirstFault BeginsDefs defs f
+NotRead defs (Definitions (definitions.NoTree f)) = FirstFault BeginsDefs defs f
 NotRead defs NoMemory = Unit {0}
 NotRead defs _ = ⊥
 
--- why no network is made of two texts; the design is judged first
+-- why definitions are not bound to a design that reads
+abbrev pub NotBound : (design defs : List ℕ) → Refusal → Type 0
+NotBound design defs (Definitions fault) = Unfit design defs fault
+NotBound design defs (OverLimit limit count) = ManyRows design defs limit count
+NotBound design defs NoMemory = Unit {0}
+NotBound design defs _ = ⊥
+
+-- why no network is made of a design and definitions that fit it
 abbrev pub NotLowered : (design defs : List ℕ) → Refusal → Type 0
-NotLowered design defs (Language fault) = NotAccepted design (Language fault)
-NotLowered design defs (OverLimit limit count) = NotAccepted design (OverLimit limit count)
-NotLowered design defs (Definitions (NoTree f)) =
-    (tree : Design) × ReadsAccepted design tree × FirstFault BeginsDefs defs f
-NotLowered design defs (Definitions NotYet) =
-    (tree : Design) × (entries : DefsText) × ReadsAccepted design tree × ReadsDefs defs entries
-    × (¬ AcceptsDefs tree entries)
+NotLowered design defs (Language NotYet) =
+    (tree : Design) × (tables : Places) × BindsTables design defs tree tables × (¬ Accepts tree)
+NotLowered design defs (OverLimit limit count) =
+    (tree : Design) × (tables : Places) × (binds : BindsTables design defs tree tables)
+    × Accepts tree × IsOver tree binds.entries limit count
 NotLowered design defs NoMemory = Unit {0}
 NotLowered design defs _ = ⊥
+
+-- definitions are judged where the design reads
+pub record NotReadAfter (design defs : List ℕ) (refusal : Refusal) : Type 0 where
+  pub tree : Design
+  pub checked : ReadsChecked design tree
+  pub unread : NotRead defs refusal
+
+-- why there is no design with definitions that fit it; the design is judged first
+abbrev pub NotMatched : (design defs : List ℕ) → Refusal → Type 0
+NotMatched design defs refusal =
+    NotChecked design refusal ⊎ (NotReadAfter design defs refusal ⊎ NotBound design defs refusal)
+
+-- why no network is made of two texts
+abbrev pub NotMade : (design defs : List ℕ) → Refusal → Type 0
+NotMade design defs refusal = NotMatched design defs refusal ⊎ NotLowered design defs refusal

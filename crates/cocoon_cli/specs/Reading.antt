@@ -1,4 +1,4 @@
--- Cited by the clauses of `read` in compile.rt, and by `From<BundleFault>` in refusal.rt. What is
+-- Cited by the clauses of `read_file` in reading.rt, and by `From<BundleFault>` in refusal.rt. What is
 -- read of one file, and why a bundle was not written. Of a folder whose content is not known the
 -- first says nothing.
 use Rattle.std.specs.Prelude.{◌≡◌, ◌≤◌, ◌<◌, ℕ, List, length, Option, Some, None}

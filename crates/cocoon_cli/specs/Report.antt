@@ -1,23 +1,33 @@
 -- Cited by the clauses of report.rt, refusal.rt and driver.rt, and through Run.antt by `keeps` of
 -- `run`. How a command ends: with a status, and a whole report. It follows "Reports" in
 -- docs/FORMATS.md.
-use Rattle.std.specs.Prelude.{◌≡◌, ◌⊎◌, ℕ, List, ◌++◌, Option, Result, Ok, Err, codes, decimal}
+use Rattle.std.specs.Prelude.{◌≡◌, ◌⊎◌, ℕ, List, [], ◌∷◌, ◌++◌, Option, Some, None, Result, Ok, Err, Vec, String, codes, decimal, string_bytes}
+use Rattle.std.specs.declared.alloc.Global.{Global}
 use Rattle.cocoon_io.specs.Calls.{appended, AppendsPrefix}
 use Rattle.cocoon_num.specs.LimitNames.{limit_text}
+use Rattle.cocoon_num.specs.declared.NoMemory.{NoMemory}
 use Rattle.cocoon_num.specs.declared.limit_name.LimitName.{LimitName}
+use Rattle.cocoon_num.specs.declared.limit_name.LimitName.TheVariants as limit
 use Rattle.cocoon_resolve.specs.RuleTexts.{rule_text}
 use Rattle.cocoon_text.specs.TextFaults.{kind_name}
 use Rattle.cocoon_types.specs.Limits.{most}
+use Rattle.lower_p4.specs.LowerLimits.{most_hosts, most_switches}
+use Rattle.runtime_defs.specs.Bound.{most_rows}
 use Rattle.cocoon_cli.specs.declared.files.CommandFile.TheVariants.{Design, Definitions}
 use Rattle.cocoon_cli.specs.declared.status.Status.{Status}
 use Rattle.cocoon_cli.specs.declared.status.Status.TheVariants as status
 use Rattle.cocoon_cli.specs.declared.refusal.InputFault.{InputFault}
 use Rattle.cocoon_cli.specs.declared.refusal.InputFault.TheVariants.{NoTree, Rule, NotYet}
+use Rattle.cocoon_cli.specs.declared.refusal.EntryRule.{EntryRule}
+use Rattle.cocoon_cli.specs.declared.refusal.EntryRule.TheVariants.{UnknownFunction, WrongRow, TwoDefaults, GuardRows, ForkRows}
+use Rattle.cocoon_cli.specs.declared.refusal.DefinitionsFault.{DefinitionsFault}
+use Rattle.cocoon_cli.specs.declared.refusal.DefinitionsFault.TheVariants as definitions
 use Rattle.cocoon_cli.specs.declared.refusal.Refusal.{Refusal}
 use Rattle.cocoon_cli.specs.declared.refusal.Refusal.TheVariants as refusal
 use Rattle.cocoon_cli.specs.declared.report.Totals.{Totals}
 use Rattle.cocoon_cli.specs.declared.report.Report.{Report}
-use Rattle.cocoon_cli.specs.declared.report.Report.TheVariants.{Compiled}
+use Rattle.cocoon_cli.specs.declared.report.Report.TheVariants.{Compiled, Stepped}
+use Rattle.case_runs.specs.declared.sent.Sent.{Sent}
 use Rattle.command_line.specs.Command.{Command}
 use Rattle.cocoon_cli.specs.FileNames.{name_in}
 
@@ -28,7 +38,7 @@ pub record Ending : Type 0 where
 
 -- ---- what is wrong with a text
 
--- the line of its position
+-- the line of the position of a design's fault
 abbrev pub line_number : InputFault → ℕ
 line_number (NoTree f) = f.line
 line_number (Rule rule position) = position.line
@@ -46,11 +56,35 @@ fault_name (NoTree f) = kind_name f.kind
 fault_name (Rule rule position) = rule_text rule
 fault_name NotYet = codes "NotYet"
 
+-- the name of a rule of entries
+abbrev pub entry_rule_name : EntryRule → List ℕ
+entry_rule_name UnknownFunction = codes "UnknownFunction"
+entry_rule_name WrongRow = codes "WrongRow"
+entry_rule_name TwoDefaults = codes "TwoDefaults"
+entry_rule_name GuardRows = codes "GuardRows"
+entry_rule_name ForkRows = codes "ForkRows"
+
 -- PREFIX FILE LINE:COLUMN NAME
-abbrev pub fault_line : List ℕ → List ℕ → InputFault → List ℕ
-fault_line prefix file fault =
-    prefix ++ (codes " " ++ (file ++ (codes " " ++ (decimal (line_number fault) ++ (codes ":"
-    ++ (decimal (column_number fault) ++ (codes " " ++ (fault_name fault ++ codes "\n"))))))))
+abbrev pub fault_line : (prefix file : List ℕ) → (line column : ℕ) → (name : List ℕ) → List ℕ
+fault_line prefix file line column name =
+    prefix ++ (codes " " ++ (file ++ (codes " " ++ (decimal line ++ (codes ":"
+    ++ (decimal column ++ (codes " " ++ (name ++ codes "\n"))))))))
+
+-- definitions FILE NoDefault NAME
+abbrev pub no_default_line : (file name : List ℕ) → List ℕ
+no_default_line file name =
+    codes "definitions " ++ (file ++ (codes " NoDefault " ++ (name ++ codes "\n")))
+
+abbrev pub language_line : List ℕ → InputFault → List ℕ
+language_line file f =
+    fault_line (codes "language") file (line_number f) (column_number f) (fault_name f)
+
+abbrev pub definitions_line : List ℕ → DefinitionsFault → List ℕ
+definitions_line file (definitions.NoTree f) =
+    fault_line (codes "definitions") file f.line f.column (kind_name f.kind)
+definitions_line file (definitions.Entry rule p) =
+    fault_line (codes "definitions") file p.line p.column (entry_rule_name rule)
+definitions_line file (definitions.NoDefault name) = no_default_line file name
 
 -- ---- refusals
 
@@ -61,6 +95,8 @@ refusal_status (refusal.ReadFault file) = status.ReadFault
 refusal_status (refusal.WriteFault file) = status.WriteFault
 refusal_status (refusal.TooLong file most) = status.Limit
 refusal_status (refusal.OverLimit limit count) = status.Limit
+refusal_status (refusal.NoLevel level last) = status.Limit
+refusal_status (refusal.Line file number) = status.Lines
 refusal_status refusal.NoMemory = status.NoMemory
 refusal_status (refusal.NoFile file) = status.NoFile
 
@@ -76,20 +112,38 @@ abbrev pub limit_line : List ℕ → ℕ → List ℕ
 limit_line name most =
     codes "limit file " ++ (name ++ (codes " over " ++ (decimal most ++ codes "\n")))
 
--- that of a design that is over a limit
+-- the most that a count of a limit may be
+abbrev pub most_allowed : LimitName → ℕ
+most_allowed limit.Rows = most_rows
+most_allowed limit.Switches = most_switches
+most_allowed limit.Hosts = most_hosts
+most_allowed name = most name
+
+-- that of a design or definitions that are over a limit
 abbrev pub over_line : LimitName → ℕ → List ℕ
 over_line limit count =
     codes "limit " ++ (limit_text limit ++ (codes " " ++ (decimal count ++ (codes " over "
-    ++ (decimal (most limit) ++ codes "\n")))))
+    ++ (decimal (most_allowed limit) ++ codes "\n")))))
+
+-- that of a level that is over the last one
+abbrev pub level_line : (level last : ℕ) → List ℕ
+level_line level last =
+    codes "limit level " ++ (decimal level ++ (codes " over " ++ (decimal last ++ codes "\n")))
+
+-- that of a file of which this line is not of its form
+abbrev pub form_line : (file : List ℕ) → (number : ℕ) → List ℕ
+form_line file number =
+    codes "line " ++ (file ++ (codes " " ++ (decimal number ++ codes " Form\n")))
 
 abbrev pub refusal_line : Command → Refusal → List ℕ
-refusal_line c (refusal.Language fault) = fault_line (codes "language") (name_in c Design) fault
-refusal_line c (refusal.Definitions fault) =
-    fault_line (codes "definitions") (name_in c Definitions) fault
+refusal_line c (refusal.Language fault) = language_line (name_in c Design) fault
+refusal_line c (refusal.Definitions fault) = definitions_line (name_in c Definitions) fault
 refusal_line c (refusal.ReadFault file) = line_with (codes "read fault ") (name_in c file)
 refusal_line c (refusal.WriteFault file) = line_with (codes "write fault ") (name_in c file)
 refusal_line c (refusal.TooLong file most) = limit_line (name_in c file) most
 refusal_line c (refusal.OverLimit limit count) = over_line limit count
+refusal_line c (refusal.NoLevel level last) = level_line level last
+refusal_line c (refusal.Line file number) = form_line (name_in c file) number
 refusal_line c refusal.NoMemory = no_memory_line
 refusal_line c (refusal.NoFile file) = line_with (codes "no file ") (name_in c file)
 
@@ -100,8 +154,30 @@ totals_line t =
     codes "compiled switches " ++ (decimal t.switches ++ (codes " hosts " ++ (decimal t.hosts
     ++ (codes " links " ++ (decimal t.links ++ codes " obligations 0\n")))))
 
+-- some numbers, each behind a space
+abbrev pub spaced : List ℕ → List ℕ
+spaced [] = []
+spaced (n ∷ ns) = 32 ∷ (decimal n ++ spaced ns)
+
+-- a list of numbers behind a space; `-` where it is empty
+abbrev pub list_text : List ℕ → List ℕ
+list_text [] = codes " -"
+list_text (n ∷ ns) = spaced (n ∷ ns)
+
+-- ROLE VALUES : FIELDS
+abbrev pub sent_line : Sent → List ℕ
+sent_line s = s.role ++ (list_text s.values ++ (codes " :" ++ (list_text s.fields ++ codes "\n")))
+
 abbrev pub report_line : Report → List ℕ
 report_line (Compiled totals) = totals_line totals
+report_line (Stepped None) = codes "nothing\n"
+report_line (Stepped (Some sent)) = sent_line sent
+
+-- the second has the bytes of the first, where both were made; it is made only of one that was
+abbrev pub HasBytes : Result (String Global) NoMemory → Result (Vec ℕ Global) NoMemory → Type 0
+HasBytes line (Err e) = Unit {0}
+HasBytes (Ok line) (Ok bytes) = bytes.items ≡ string_bytes line
+HasBytes (Err e) (Ok bytes) = ⊥
 
 -- ---- endings
 

@@ -143,7 +143,7 @@ OutcomeOf (Some c) (Some files) call =
 
 -- ---- what is left
 
--- the bundle stands, nothing else was touched, and the whole line was printed
+-- what the command leaves stands, nothing else was touched, and the whole line was printed
 abbrev pub DoneOf : Option Command → Call → Type 0
 DoneOf None call = ⊥
 DoneOf (Some c) call =

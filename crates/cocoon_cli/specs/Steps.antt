@@ -3,13 +3,16 @@
 -- command's files; each is a case of its own, and a new rule, limit or command adds cases. It
 -- follows "Statuses" in docs/FORMATS.md.
 use Rattle.std.specs.Prelude.{◌≡◌, ◌⊎◌, ◌≤◌, ◌<◌, ℕ, List, [], ◌∷◌, length, Option, Some, None, Result, Ok, Err}
+use Rattle.cocoon_num.specs.Lists.{first_of}
 use Rattle.cocoon_num.specs.Tree as tree
 use Rattle.cocoon_num.specs.declared.limit_name.LimitName.{LimitName}
+use Rattle.cocoon_num.specs.declared.limit_name.LimitName.TheVariants.{Rows}
 use Rattle.cocoon_num.specs.Reads.{Reads, ReadsDefs}
 use Rattle.cocoon_num.specs.FirstFaults.{BeginsDesign, BeginsDefs}
 use Rattle.cocoon_text.specs.Positions.{token_position}
 use Rattle.cocoon_text.specs.TextFaults.{FirstFault}
 use Rattle.cocoon_text.specs.declared.fault.TextFault.{TextFault}
+use Rattle.cocoon_types.specs.DefsRules.{DefsFault, DefsFit, defs_faults}
 use Rattle.cocoon_types.specs.FirstFault as rules
 use Rattle.cocoon_types.specs.Limits.{WithinLimits}
 use Rattle.cocoon_types.specs.RuleNames.{fault_at}
@@ -20,16 +23,25 @@ use Rattle.p4_ir.specs.NetTree.{NetData}
 use Rattle.net_bundle.specs.Bundle.{MadeFile, bundle}
 use Rattle.net_bundle.specs.Writing.{AllFit, FirstOver, most_of}
 use Rattle.net_bundle.specs.declared.file.BundleFile.{BundleFile}
-use Rattle.lower_p4.specs.Accepts.{Accepts, AcceptsDefs, Lowers}
+use Rattle.runtime_defs.specs.Bound.{most_rows, row_count}
+use Rattle.lower_p4.specs.Accepts.{Accepts, Lowers}
+use Rattle.lower_p4.specs.LowerLimits.{IsOver, IsWithin}
 use Rattle.cocoon_cli.specs.declared.files.CommandFile.{CommandFile}
-use Rattle.cocoon_cli.specs.declared.files.CommandFile.TheVariants.{Design, Definitions, Bundle}
+use Rattle.cocoon_cli.specs.declared.files.CommandFile.TheVariants.{Design, Definitions, Bundle, Case}
 use Rattle.cocoon_cli.specs.declared.refusal.InputFault.TheVariants.{NoTree, Rule, NotYet}
+use Rattle.cocoon_cli.specs.declared.refusal.DefinitionsFault.TheVariants as definitions
 use Rattle.cocoon_cli.specs.declared.refusal.Refusal.{Refusal}
 use Rattle.cocoon_cli.specs.declared.refusal.Refusal.TheVariants as refusal
 use Rattle.cocoon_cli.specs.declared.report.Totals.{Totals}
 use Rattle.cocoon_cli.specs.declared.report.Report.{Report}
-use Rattle.cocoon_cli.specs.declared.report.Report.TheVariants.{Compiled}
-use Rattle.command_line.specs.Command.{Command, compile}
+use Rattle.cocoon_cli.specs.declared.report.Report.TheVariants.{Compiled, Stepped}
+use Rattle.case_file.specs.Cases as cases
+use Rattle.case_file.specs.Cases.{case_of}
+use Rattle.cocoon_types.specs.Design.{last_level}
+use Rattle.cocoon_types.specs.Tables.{defs_of}
+use Rattle.command_line.specs.Command.{Command, compile, step}
+use Rattle.cocoon_cli.specs.LowerTexts.{told}
+use Rattle.case_runs.specs.Stepping.{Steps}
 
 -- what is read of each file of a command; nothing where it is not there
 abbrev pub Inputs : Type 0
@@ -40,10 +52,16 @@ pub data Step : Type 0 where
   is_there : (file : CommandFile) → Step
   -- it has at most so many bytes
   is_within : (file : CommandFile) (most : ℕ) → Step
-  -- the design reads as a tree, keeps the rules, is within the limits, and the compiler takes it
-  design_reads design_well_formed design_within design_accepted : Step
-  -- the definitions read as a tree, and the compiler takes them for the design
-  definitions_read definitions_accepted : Step
+  -- the design reads as a tree, keeps the rules, and is within the limits
+  design_reads design_well_formed design_within : Step
+  -- the definitions read as a tree, fit the design, and are within the limit on rows
+  definitions_read definitions_fit definitions_within : Step
+  -- the compiler takes the design, and the network is within the limits
+  design_accepted lowering_within : Step
+  -- the level is one of the design
+  level_there : (level : ℕ) → Step
+  -- the lines of the case are of their forms, at this level
+  lines_formed : (level : ℕ) → Step
   -- each file of the bundle has at most the bytes that it may have
   bundle_within : Step
   -- the files of the bundle are written
@@ -55,14 +73,25 @@ design_most = 1048576
 abbrev pub definitions_most : ℕ
 definitions_most = 4194304
 
+abbrev pub case_most : ℕ
+case_most = 65536
+
 -- the steps of a command, in their order
 abbrev pub steps : Command → List Step
 steps (compile design defs out) =
     is_there Design ∷ is_within Design design_most
     ∷ is_there Definitions ∷ is_within Definitions definitions_most
-    ∷ design_reads ∷ design_well_formed ∷ design_within ∷ design_accepted
-    ∷ definitions_read ∷ definitions_accepted
+    ∷ design_reads ∷ design_well_formed ∷ design_within
+    ∷ definitions_read ∷ definitions_fit ∷ definitions_within
+    ∷ design_accepted ∷ lowering_within
     ∷ bundle_within ∷ bundle_written ∷ []
+steps (step design defs level file) =
+    is_there Design ∷ is_within Design design_most
+    ∷ is_there Definitions ∷ is_within Definitions definitions_most
+    ∷ is_there Case ∷ is_within Case case_most
+    ∷ design_reads ∷ design_well_formed ∷ design_within
+    ∷ definitions_read ∷ definitions_fit ∷ definitions_within
+    ∷ level_there level ∷ lines_formed level ∷ []
 
 -- ---- what the files say
 
@@ -77,6 +106,13 @@ pub record DefinitionsAre (inputs : Inputs) (defs : tree.DefsText) : Type 0 wher
   pub text : List ℕ
   pub are : inputs Definitions ≡ Some text
   pub read : ReadsDefs text defs
+
+-- the lines of the case say this of a design, at a level
+pub record CaseIs (inputs : Inputs) (design : tree.Design) (level : ℕ) (case : cases.Case)
+    : Type 0 where
+  pub text : List ℕ
+  pub is : inputs Case ≡ Some text
+  pub says : case_of level design text ≡ Ok case
 
 -- the network that the compiler makes of both
 pub record Makes (inputs : Inputs) (net : NetData) : Type 0 where
@@ -103,9 +139,20 @@ IsGood inputs design_reads = (design : tree.Design) × DesignIs inputs design
 IsGood inputs design_well_formed =
     (design : tree.Design) × DesignIs inputs design × WellFormed design
 IsGood inputs design_within = (design : tree.Design) × DesignIs inputs design × WithinLimits design
-IsGood inputs design_accepted = (design : tree.Design) × DesignIs inputs design × Accepts design
 IsGood inputs definitions_read = (defs : tree.DefsText) × DefinitionsAre inputs defs
-IsGood inputs definitions_accepted = (net : NetData) × Makes inputs net
+IsGood inputs definitions_fit =
+    (design : tree.Design) × (defs : tree.DefsText) × DesignIs inputs design
+    × DefinitionsAre inputs defs × DefsFit design defs
+IsGood inputs definitions_within =
+    (defs : tree.DefsText) × DefinitionsAre inputs defs × (row_count defs ≤ most_rows)
+IsGood inputs design_accepted = (design : tree.Design) × DesignIs inputs design × Accepts design
+IsGood inputs lowering_within =
+    (net : NetData) × (makes : Makes inputs net) × IsWithin makes.design makes.defs
+IsGood inputs (level_there level) =
+    (design : tree.Design) × DesignIs inputs design × (level ≤ last_level design)
+IsGood inputs (lines_formed level) =
+    (design : tree.Design) × (case : cases.Case) × DesignIs inputs design
+    × CaseIs inputs design level case
 IsGood inputs bundle_within = (files : List MadeFile) × MakesFiles inputs files × AllFit files
 IsGood inputs bundle_written = Unit {0}
 
@@ -125,16 +172,31 @@ Refuses inputs design_well_formed r =
 Refuses inputs design_within r =
     (design : tree.Design) × (limit : LimitName) × (count : ℕ) × DesignIs inputs design
     × IsFirstOver design (Some (limit, count)) × (r ≡ refusal.OverLimit limit count)
+Refuses inputs definitions_read r =
+    (text : List ℕ) × (fault : TextFault) × (inputs Definitions ≡ Some text)
+    × FirstFault BeginsDefs text fault × (r ≡ refusal.Definitions (definitions.NoTree fault))
+Refuses inputs definitions_fit r =
+    (design : tree.Design) × (defs : tree.DefsText) × (fault : DefsFault)
+    × DesignIs inputs design × (given : DefinitionsAre inputs defs)
+    × (first_of (defs_faults design defs) ≡ Some fault)
+    × (r ≡ refusal.Definitions (told given.text fault))
+Refuses inputs definitions_within r =
+    (defs : tree.DefsText) × DefinitionsAre inputs defs × (most_rows < row_count defs)
+    × (r ≡ refusal.OverLimit Rows (row_count defs))
 Refuses inputs design_accepted r =
     (design : tree.Design) × DesignIs inputs design × (¬ Accepts design)
     × (r ≡ refusal.Language NotYet)
-Refuses inputs definitions_read r =
-    (text : List ℕ) × (fault : TextFault) × (inputs Definitions ≡ Some text)
-    × FirstFault BeginsDefs text fault × (r ≡ refusal.Definitions (NoTree fault))
-Refuses inputs definitions_accepted r =
-    (design : tree.Design) × (defs : tree.DefsText) × DesignIs inputs design
-    × DefinitionsAre inputs defs × (¬ AcceptsDefs design defs)
-    × (r ≡ refusal.Definitions NotYet)
+Refuses inputs lowering_within r =
+    (design : tree.Design) × (defs : tree.DefsText) × (limit : LimitName) × (count : ℕ)
+    × DesignIs inputs design × DefinitionsAre inputs defs × IsOver design defs limit count
+    × (r ≡ refusal.OverLimit limit count)
+Refuses inputs (level_there level) r =
+    (design : tree.Design) × DesignIs inputs design × (last_level design < level)
+    × (r ≡ refusal.NoLevel level (last_level design))
+Refuses inputs (lines_formed level) r =
+    (design : tree.Design) × (text : List ℕ) × (line : ℕ) × DesignIs inputs design
+    × (inputs Case ≡ Some text) × (case_of level design text ≡ Err line)
+    × (r ≡ refusal.Line Case line)
 Refuses inputs bundle_within r =
     (files : List MadeFile) × (file : BundleFile) × MakesFiles inputs files × FirstOver files file
     × (r ≡ refusal.TooLong (Bundle file) (most_of file))
@@ -150,10 +212,22 @@ totals_of net = record {
   links = length net.links;
 }
 
+-- what a step is of: a design, definitions, and a case at a level of the design
+pub record StepIs (inputs : Inputs) (level : ℕ) (design : tree.Design) (defs : tree.DefsText)
+    (case : cases.Case) : Type 0 where
+  pub design_is : DesignIs inputs design
+  pub defs_are : DefinitionsAre inputs defs
+  pub case_is : CaseIs inputs design level case
+
 -- the report of a command that nothing stopped
 abbrev pub Reports : Command → Inputs → Report → Type 0
 Reports (compile design defs out) inputs (Compiled totals) =
     (net : NetData) × Makes inputs net × (totals ≡ totals_of net)
+Reports (compile design defs out) inputs (Stepped sent) = ⊥
+Reports (step design defs level file) inputs (Stepped sent) =
+    (d : tree.Design) × (entries : tree.DefsText) × (case : cases.Case)
+    × StepIs inputs level d entries case × Steps level d (defs_of d entries) case sent
+Reports (step design defs level file) inputs (Compiled totals) = ⊥
 
 abbrev pub AllGood : Inputs → List Step → Type 0
 AllGood inputs [] = Unit {0}
@@ -177,7 +251,7 @@ HasOutcome c inputs outcome = HasOutcomeFrom c inputs (steps c) outcome
 abbrev pub Stops : Inputs → Step → Refusal → Type 0
 Stops inputs (is_there file) r = r ≡ refusal.ReadFault file
 Stops inputs bundle_written r = (file : BundleFile) × (r ≡ refusal.WriteFault (Bundle file))
-Stops inputs step r = ⊥
+Stops inputs s r = ⊥
 
 -- what a command answers from these steps on: its outcome, or the fault of the folder that stopped
 -- a step before which all are good

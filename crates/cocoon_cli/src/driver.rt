@@ -12,6 +12,7 @@ use crate::laws::one_outcome;
 use crate::refusal::Refusal;
 use crate::report::{Report, status, whole_report};
 use crate::status::Status;
+use crate::step::step;
 use cocoon_io::{Folder, Sink, SinkFault};
 use cocoon_num::NoMemory;
 use command_line::{Command, parse_command};
@@ -51,7 +52,7 @@ fn print<S: Sink>(
         (ending_of (stands_for command.now) outcome.now) (S.output out.old) (S.output out.new) result }
 {
     match whole_report(alloc, command, outcome) {
-        Ok(line) => put(alloc, out, line.as_bytes(), status(outcome)),
+        Ok(line) => put(alloc, out, &line, status(outcome)),
         Err(NoMemory) => tell_no_memory(alloc, out),
     }
 }
@@ -74,6 +75,7 @@ fn perform<F: Folder>(
 {
     match command {
         Command::Compile(names) => compile(alloc, names, folder),
+        Command::Step(asked) => step(alloc, asked, folder),
     }
 }
 

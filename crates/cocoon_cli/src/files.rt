@@ -1,10 +1,11 @@
 //! The files that a command reads and writes.
 ghost use Rattle.std.specs.Prelude.{◌≡◌, IfOk, string_bytes};
-ghost use Rattle.cocoon_cli.specs.FileNames.{name_in};
+ghost use Rattle.command_line.specs.Command as spec;
 ghost use Rattle.command_line.specs.Stands.{stands_for};
+ghost use Rattle.cocoon_cli.specs.FileNames.{name_in};
 
 use cocoon_num::NoMemory;
-use command_line::Command;
+use command_line::{Command, Compile, Step};
 use net_bundle::BundleFile;
 use std::alloc::Global;
 
@@ -15,18 +16,43 @@ pub enum CommandFile {
     Definitions,
     /// A file of the bundle.
     Bundle(BundleFile),
+    /// The case of a step.
+    Case,
 }
 
 impl CommandFile {
-    /// The name that the command gives it.
+    /// The name that the command gives it; none where the command has no such file.
     pub fn name(self, alloc: Global, command: &Command<'_>) -> Result<String, NoMemory>
         ensures { IfOk result (λ name. string_bytes name ≡ name_in (stands_for command.now) self) }
     {
-        let Command::Compile(names) = command;
+        match command {
+            Command::Compile(names) => self.compile_name(alloc, names),
+            Command::Step(asked) => self.step_name(alloc, asked),
+        }
+    }
+
+    fn compile_name(self, alloc: Global, names: &Compile<'_>) -> Result<String, NoMemory>
+        ensures { IfOk result (λ name. string_bytes name ≡ name_in
+            (spec.compile names.now.design.now names.now.defs.now names.now.out.now) self) }
+    {
         match self {
             CommandFile::Design => Ok(String::from_str(alloc, names.design)?),
             CommandFile::Definitions => Ok(String::from_str(alloc, names.defs)?),
             CommandFile::Bundle(file) => file.whole_name(alloc, names.out),
+            CommandFile::Case => Ok(String::new(alloc)),
+        }
+    }
+
+    fn step_name(self, alloc: Global, asked: &Step<'_>) -> Result<String, NoMemory>
+        ensures { IfOk result (λ name. string_bytes name ≡ name_in
+            (spec.step asked.now.design.now asked.now.defs.now asked.now.level asked.now.file.now)
+            self) }
+    {
+        match self {
+            CommandFile::Design => Ok(String::from_str(alloc, asked.design)?),
+            CommandFile::Definitions => Ok(String::from_str(alloc, asked.defs)?),
+            CommandFile::Bundle(_) => Ok(String::new(alloc)),
+            CommandFile::Case => Ok(String::from_str(alloc, asked.file)?),
         }
     }
 }

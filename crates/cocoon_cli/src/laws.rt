@@ -5,6 +5,7 @@ ghost use Rattle.cocoon_cli.specs.Steps.{HasOutcome, Inputs};
 ghost use Rattle.cocoon_cli.specs.declared.refusal.Refusal.{Refusal};
 ghost use Rattle.cocoon_cli.specs.declared.report.Report.{Report};
 
+use case_runs::laws::one_step;
 use cocoon_text::laws::{one_fault, trees_have_no_fault};
 use cocoon_types::first_faults::{first_or_well_formed, one_first_fault};
 use cocoon_types::limits::{one_first_over, within_is_not_over};
@@ -26,4 +27,5 @@ pub fn one_outcome()
     one_first_over();
     within_is_not_over();
     one_lowering();
+    one_step();
 }

@@ -8,9 +8,11 @@ pub mod driver;
 pub mod files;
 pub mod laws;
 pub mod lower_texts;
+pub mod reading;
 pub mod refusal;
 pub mod report;
 pub mod status;
+pub mod step;
 
 pub use driver::{run, tell_no_memory};
 pub use status::Status;

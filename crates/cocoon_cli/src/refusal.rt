@@ -1,17 +1,17 @@
 //! Why a command stopped.
 ghost use Rattle.std.specs.Prelude.{◌≡◌};
-ghost use Rattle.cocoon_cli.specs.Report.{column_number, fault_name, line_number, refusal_status};
+ghost use Rattle.cocoon_cli.specs.Report.{column_number, entry_rule_name, fault_name, line_number, refusal_status};
 
 use crate::files::CommandFile;
 use crate::status::Status;
-use cocoon_num::{LimitName, NoMemory};
+use cocoon_num::{LimitName, NoMemory, Text};
 use cocoon_resolve::rule_name;
 use cocoon_text::{Position, TextFault};
 use cocoon_types::TypeRule;
 use net_bundle::BundleFault;
 use std::alloc::AllocError;
 
-/// What is wrong with a text.
+/// What is wrong with a design.
 #[derive(Clone, Copy, Drop)]
 pub enum InputFault {
     /// It has no tree, and this is its first fault.
@@ -57,19 +57,65 @@ impl InputFault {
     }
 }
 
-/// Why a command stopped, with the file that it is about.
+/// A rule that an entry of definitions breaks.
 #[derive(Clone, Copy, Drop)]
+pub enum EntryRule {
+    /// The name is no function that is defined at run time.
+    UnknownFunction,
+    /// Another number of patterns than the function has parameters, or a pattern, mask or value of
+    /// another type.
+    WrongRow,
+    /// A second default of a function.
+    TwoDefaults,
+    /// Neither literal nor the default `false`, of a function of a host or switch guard.
+    GuardRows,
+    /// The same of a function under a `fork` of the last level.
+    ForkRows,
+}
+
+impl EntryRule {
+    /// Its name in a report.
+    pub fn name(self) -> &'static str
+        ensures { result.now ≡ entry_rule_name self }
+    {
+        match self {
+            EntryRule::UnknownFunction => "UnknownFunction",
+            EntryRule::WrongRow => "WrongRow",
+            EntryRule::TwoDefaults => "TwoDefaults",
+            EntryRule::GuardRows => "GuardRows",
+            EntryRule::ForkRows => "ForkRows",
+        }
+    }
+}
+
+/// What is wrong with definitions.
+#[derive(Drop)]
+pub enum DefinitionsFault {
+    /// They have no tree, and this is their first fault.
+    NoTree(TextFault),
+    /// An entry breaks this rule first; the position is that of its name.
+    Entry(EntryRule, Position),
+    /// The function of this name has no default.
+    NoDefault(Text),
+}
+
+/// Why a command stopped, with the file that it is about.
+#[derive(Drop)]
 pub enum Refusal {
     /// The design has this fault.
     Language(InputFault),
     /// The definitions have this fault.
-    Definitions(InputFault),
+    Definitions(DefinitionsFault),
     ReadFault(CommandFile),
     WriteFault(CommandFile),
     /// The file has more bytes than this number.
     TooLong(CommandFile, u64),
-    /// The design is over this limit, by this count.
+    /// The design or the definitions are over this limit, by this count.
     OverLimit(LimitName, u64),
+    /// The level of the first number is over the last level, whose number is the second.
+    NoLevel(u64, u64),
+    /// The line of this number is the first of the file that is not of its form.
+    Line(CommandFile, u64),
     NoMemory,
     NoFile(CommandFile),
 }
@@ -123,6 +169,8 @@ impl Refusal {
             Refusal::WriteFault(_) => Status::WriteFault,
             Refusal::TooLong(_, _) => Status::Limit,
             Refusal::OverLimit(_, _) => Status::Limit,
+            Refusal::NoLevel(_, _) => Status::Limit,
+            Refusal::Line(_, _) => Status::Lines,
             Refusal::NoMemory => Status::NoMemory,
             Refusal::NoFile(_) => Status::NoFile,
         }

@@ -1,16 +1,22 @@
 //! What a command reports, and the lines that are printed.
-ghost use Rattle.std.specs.Prelude.{◌≡◌, IfOk, string_bytes};
+ghost use Rattle.std.specs.Prelude.{◌≡◌, ◌++◌, codes, IfOk, OnOk, string_bytes};
 ghost use Rattle.cocoon_cli.specs.FileNames.{name_in};
-ghost use Rattle.cocoon_cli.specs.Report.{fault_line, limit_line, line_of, line_with, over_line, refusal_line, report_line, status_of, totals_line};
+ghost use Rattle.cocoon_cli.specs.Report.{HasBytes, definitions_line, fault_line, form_line, language_line, level_line, limit_line, line_of, line_with, list_text, most_allowed, no_default_line, over_line, refusal_line, report_line, sent_line, spaced, status_of, totals_line};
 ghost use Rattle.command_line.specs.Stands.{stands_for};
 
 use crate::files::CommandFile;
-use crate::refusal::{InputFault, Refusal};
+use crate::refusal::{DefinitionsFault, InputFault, Refusal};
 use crate::status::Status;
+use case_runs::Sent;
 use cocoon_num::{LimitName, NoMemory};
+use cocoon_text::Position;
 use command_line::Command;
 use design_limits::most_of;
+use lower_p4::limits::{MOST_HOSTS, MOST_SWITCHES};
 use std::alloc::Global;
+
+/// The most `define` rows of a definitions text.
+const MOST_ROWS: u64 = 8192;
 
 /// How many of each thing a compiled network has. Hosts at no port count, too.
 #[derive(Clone, Copy, Debug, Drop)]
@@ -21,9 +27,11 @@ pub struct Totals {
 }
 
 /// What a command reports that was not stopped.
-#[derive(Clone, Copy, Debug, Drop)]
+#[derive(Drop)]
 pub enum Report {
     Compiled(Totals),
+    /// What a body does with a packet: it sends it, or nothing is sent.
+    Stepped(Option<Sent>),
 }
 
 /// A line that ends with the name of a file of the command.
@@ -54,57 +62,143 @@ fn limit_line(
     Ok(format!(in alloc; "limit file {name} over {most}\n")?)
 }
 
-/// The line of a design that is over a limit by this count.
+/// The most that a count of a limit may be.
+fn most_allowed(limit: LimitName) -> u64
+    ensures { result ≡ most_allowed limit }
+{
+    match limit {
+        LimitName::Rows => MOST_ROWS,
+        LimitName::Switches => MOST_SWITCHES,
+        LimitName::Hosts => MOST_HOSTS,
+        _ => most_of(limit),
+    }
+}
+
+/// The line of a design or definitions that are over a limit by this count.
 fn over_line(alloc: Global, limit: LimitName, count: u64) -> Result<String, NoMemory>
     ensures { IfOk result (λ line. string_bytes line ≡ over_line limit count) }
 {
     let name = limit.text();
-    let most = most_of(limit);
+    let most = most_allowed(limit);
     Ok(format!(in alloc; "limit {name} {count} over {most}\n")?)
 }
 
-/// The line of a fault in a file.
-fn fault_line(
+/// The line of a fault that stands in a design.
+fn language_line(
     alloc: Global,
-    prefix: &str,
     command: &Command<'_>,
-    file: CommandFile,
     fault: &InputFault,
 ) -> Result<String, NoMemory>
     ensures { IfOk result (λ line. string_bytes line
-        ≡ fault_line prefix.now (name_in (stands_for command.now) file) fault.now) }
+        ≡ language_line (name_in (stands_for command.now) CommandFile.Design) fault.now) }
 {
-    let name = file.name(alloc, command)?;
+    let name = CommandFile::Design.name(alloc, command)?;
     let line = fault.line();
     let column = fault.column();
     let kind = fault.name();
-    Ok(format!(in alloc; "{prefix} {name} {line}:{column} {kind}\n")?)
+    Ok(format!(in alloc; "language {name} {line}:{column} {kind}\n")?)
+}
+
+/// The line of a fault that stands in definitions.
+fn entry_line(
+    alloc: Global,
+    command: &Command<'_>,
+    position: Position,
+    kind: &str,
+) -> Result<String, NoMemory>
+    ensures { IfOk result (λ line. string_bytes line
+        ≡ fault_line (codes "definitions") (name_in (stands_for command.now) CommandFile.Definitions)
+        position.line position.column kind.now) }
+{
+    let name = CommandFile::Definitions.name(alloc, command)?;
+    let Position { line, column } = position;
+    Ok(format!(in alloc; "definitions {name} {line}:{column} {kind}\n")?)
+}
+
+/// The line of a function without a default.
+fn no_default_line(alloc: Global, command: &Command<'_>, name: &[u8]) -> Result<Vec<u8>, NoMemory>
+    ensures { IfOk result (λ line. line.items
+        ≡ no_default_line (name_in (stands_for command.now) CommandFile.Definitions) name.now) }
+{
+    let file = CommandFile::Definitions.name(alloc, command)?;
+    let mut line = format!(in alloc; "definitions {file} NoDefault ")?.into_bytes();
+    line.extend_from_slice(name)?;
+    line.push(b'\n')?;
+    Ok(line)
+}
+
+/// The line of a fault of definitions.
+fn definitions_line(
+    alloc: Global,
+    command: &Command<'_>,
+    fault: &DefinitionsFault,
+) -> Result<Vec<u8>, NoMemory>
+    ensures { IfOk result (λ line. line.items
+        ≡ definitions_line (name_in (stands_for command.now) CommandFile.Definitions) fault.now) }
+{
+    match fault {
+        DefinitionsFault::NoTree(fault) => {
+            let position = Position {
+                line: fault.line,
+                column: fault.column,
+            };
+            bytes_of(entry_line(alloc, command, position, fault.kind.name()))
+        }
+        DefinitionsFault::Entry(rule, position) => {
+            bytes_of(entry_line(alloc, command, *position, rule.name()))
+        }
+        DefinitionsFault::NoDefault(name) => no_default_line(alloc, command, name.bytes()),
+    }
+}
+
+/// The line of a level that is over the last one.
+fn level_line(alloc: Global, level: u64, last: u64) -> Result<String, NoMemory>
+    ensures { IfOk result (λ line. string_bytes line ≡ level_line level last) }
+{
+    Ok(format!(in alloc; "limit level {level} over {last}\n")?)
+}
+
+/// The line of a file of which this line is not of its form.
+fn form_line(
+    alloc: Global,
+    command: &Command<'_>,
+    file: CommandFile,
+    number: u64,
+) -> Result<String, NoMemory>
+    ensures { IfOk result (λ line. string_bytes line
+        ≡ form_line (name_in (stands_for command.now) file) number) }
+{
+    let name = file.name(alloc, command)?;
+    Ok(format!(in alloc; "line {name} {number} Form\n")?)
+}
+
+/// The bytes of a line that was made.
+fn bytes_of(line: Result<String, NoMemory>) -> Result<Vec<u8>, NoMemory>
+    ensures { HasBytes line result }
+{
+    Ok(line?.into_bytes())
 }
 
 /// The line of a command that stopped.
-fn refusal_line(alloc: Global, command: &Command<'_>, refusal: &Refusal) -> Result<String, NoMemory>
-    ensures { IfOk result (λ line. string_bytes line
+fn refusal_line(
+    alloc: Global,
+    command: &Command<'_>,
+    refusal: &Refusal,
+) -> Result<Vec<u8>, NoMemory>
+    ensures { IfOk result (λ line. line.items
         ≡ refusal_line (stands_for command.now) refusal.now) }
 {
     match refusal {
-        Refusal::Language(fault) => {
-            fault_line(alloc, "language", command, CommandFile::Design, fault)
-        }
-        Refusal::Definitions(fault) => {
-            fault_line(
-                alloc,
-                "definitions",
-                command,
-                CommandFile::Definitions,
-                fault,
-            )
-        }
-        Refusal::ReadFault(file) => line_with(alloc, "read fault ", command, *file),
-        Refusal::WriteFault(file) => line_with(alloc, "write fault ", command, *file),
-        Refusal::TooLong(file, most) => limit_line(alloc, command, *file, *most),
-        Refusal::OverLimit(limit, count) => over_line(alloc, *limit, *count),
-        Refusal::NoMemory => Ok(String::from_str(alloc, "no memory\n")?),
-        Refusal::NoFile(file) => line_with(alloc, "no file ", command, *file),
+        Refusal::Language(fault) => bytes_of(language_line(alloc, command, fault)),
+        Refusal::Definitions(fault) => definitions_line(alloc, command, fault),
+        Refusal::ReadFault(file) => bytes_of(line_with(alloc, "read fault ", command, *file)),
+        Refusal::WriteFault(file) => bytes_of(line_with(alloc, "write fault ", command, *file)),
+        Refusal::TooLong(file, most) => bytes_of(limit_line(alloc, command, *file, *most)),
+        Refusal::OverLimit(limit, count) => bytes_of(over_line(alloc, *limit, *count)),
+        Refusal::NoLevel(level, last) => bytes_of(level_line(alloc, *level, *last)),
+        Refusal::Line(file, number) => bytes_of(form_line(alloc, command, *file, *number)),
+        Refusal::NoMemory => Ok(b"no memory\n".to_vec(alloc)?),
+        Refusal::NoFile(file) => bytes_of(line_with(alloc, "no file ", command, *file)),
     }
 }
 
@@ -121,11 +215,47 @@ fn totals_line(alloc: Global, totals: &Totals) -> Result<String, NoMemory>
     )?)
 }
 
-fn report_line(alloc: Global, report: &Report) -> Result<String, NoMemory>
-    ensures { IfOk result (λ line. string_bytes line ≡ report_line report.now) }
+/// Some numbers, each behind a space.
+fn push_numbers(alloc: Global, line: &mut Vec<u8>, numbers: &[u64]) -> Result<(), NoMemory>
+    ensures { OnOk result (line.new.items ≡ line.old.items ++ spaced numbers.now) }
+{
+    for number in numbers {
+        line.push(b' ')?;
+        line.extend_from_slice(number.to_string(alloc)?.as_bytes())?;
+    }
+    Ok(())
+}
+
+/// A list of numbers behind a space.
+fn push_list(alloc: Global, line: &mut Vec<u8>, numbers: &[u64]) -> Result<(), NoMemory>
+    ensures { OnOk result (line.new.items ≡ line.old.items ++ list_text numbers.now) }
+{
+    if numbers.is_empty() {
+        line.extend_from_slice(b" -")?;
+        return Ok(());
+    }
+    push_numbers(alloc, line, numbers)
+}
+
+/// The line of what a body sends, and where.
+fn sent_line(alloc: Global, sent: &Sent) -> Result<Vec<u8>, NoMemory>
+    ensures { IfOk result (λ line. line.items ≡ sent_line sent.now) }
+{
+    let mut line = sent.role.bytes().to_vec(alloc)?;
+    push_list(alloc, &mut line, sent.values.items())?;
+    line.extend_from_slice(b" :")?;
+    push_list(alloc, &mut line, sent.fields.items())?;
+    line.push(b'\n')?;
+    Ok(line)
+}
+
+fn report_line(alloc: Global, report: &Report) -> Result<Vec<u8>, NoMemory>
+    ensures { IfOk result (λ line. line.items ≡ report_line report.now) }
 {
     match report {
-        Report::Compiled(totals) => totals_line(alloc, totals),
+        Report::Compiled(totals) => bytes_of(totals_line(alloc, totals)),
+        Report::Stepped(None) => Ok(b"nothing\n".to_vec(alloc)?),
+        Report::Stepped(Some(sent)) => sent_line(alloc, sent),
     }
 }
 
@@ -134,9 +264,8 @@ pub fn whole_report(
     alloc: Global,
     command: &Command<'_>,
     outcome: &Result<Report, Refusal>,
-) -> Result<String, NoMemory>
-    ensures { IfOk result (λ line. string_bytes line
-        ≡ line_of (stands_for command.now) outcome.now) }
+) -> Result<Vec<u8>, NoMemory>
+    ensures { IfOk result (λ line. line.items ≡ line_of (stands_for command.now) outcome.now) }
 {
     match outcome {
         Ok(report) => report_line(alloc, report),

@@ -1,1 +1,3 @@
 pub mod Matching
+pub mod Staying
+pub mod CompileStays

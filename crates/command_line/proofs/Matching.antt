@@ -11,7 +11,7 @@ use Rattle.clap.specs.declared.parser.ArgMatches.{ArgMatches}
 use Rattle.clap.proofs.WalkLemmas.{first_value-rows}
 use Rattle.command_line.specs.Names.{is_file_name}
 use Rattle.command_line.specs.Syntax.{cocoon_app, required_argument, with_arguments}
-use Rattle.command_line.specs.Words.{argument_name, name_of, subcommand, unless_refused}
+use Rattle.command_line.specs.Words.{argument_name, name_of, subcommand, subcommand_by, unless_refused}
 
 -- ---- the command line
 
@@ -60,13 +60,13 @@ refused (x ∷ kinds) k met h = refl
 
 -- words that are taken, and words that are not
 pub taken : (words : List Text) (app : App) (m : ArgMatches) → app ≡ cocoon_app → HasMatchesOf app words m → (is_simple_and_free app ≡ true → fault_of app words ≡ []) → subcommand_rows_of m ≡ subcommand words
-unfolding subcommand
+unfolding subcommand_by
 taken words app m is h k =
     (h (ap is_simple is ∙ is_walked)).1 ∙ ap (λ a. subcommand_of a words) is
     ∙ sym (accepted (fault_of cocoon_app words) _ (ap (λ a. fault_of a words) (sym is) ∙ k (ap is_simple_and_free is ∙ is_checked)))
 
 pub not_taken : (words : List Text) (app : App) (e : Error) → app ≡ cocoon_app → (is_simple_and_free app ≡ true → HasKind (fault_of app words) e) → kind_of e ≢ OutOfMemory → None ≡ subcommand words
-unfolding subcommand
+unfolding subcommand_by
 not_taken words app e is h other = elim (h (ap is_simple_and_free is ∙ is_checked)) [
   | inl memory ↦ absurd (other memory)
   | inr among ↦ sym (refused (fault_of cocoon_app words) (kind_of e) _ (subst (λ a. IsAmong (kind_of e) (fault_of a words)) is among))

@@ -4,3 +4,4 @@ use Rattle.std.specs.Prelude.{ℕ, List}
 -- what a command asks for
 pub data Command : Type 0 where
   compile : (design defs out : List ℕ) → Command
+  step : (design defs : List ℕ) (level : ℕ) (file : List ℕ) → Command

@@ -20,6 +20,14 @@ defs_argument = codes "DEFS"
 abbrev pub out_argument : Text
 out_argument = codes "OUT"
 
+-- that for the number of a level
+abbrev pub level_argument : Text
+level_argument = codes "LEVEL"
+
+-- that for the file of a case
+abbrev pub case_argument : Text
+case_argument = codes "CASE"
+
 -- a command with these arguments, in their order
 abbrev pub with_arguments : App → List Text → App
 with_arguments app [] = app
@@ -35,6 +43,16 @@ abbrev pub compile_app : App
 compile_app =
     with_arguments (new_app (codes "compile")) (design_argument ∷ defs_argument ∷ out_argument ∷ [])
 
+-- the subcommand `step`
+abbrev pub step_app : App
+step_app =
+    with_arguments (new_app (codes "step"))
+    (design_argument ∷ defs_argument ∷ level_argument ∷ case_argument ∷ [])
+
+-- the command line with these subcommands
+abbrev pub app_with : List App → App
+app_with subs = with_subcommands (new_app (codes "cocoon")) subs
+
 -- the whole command line
 abbrev pub cocoon_app : App
-cocoon_app = with_subcommands (new_app (codes "cocoon")) (compile_app ∷ [])
+cocoon_app = app_with (compile_app ∷ step_app ∷ [])

@@ -2,12 +2,13 @@
 -- Syntax.antt, with each name in its form. There is none where `clap` refuses the words or they ask
 -- for help, where they have no subcommand, and where a name is of another form. It follows the
 -- section "Commands" of README.md.
-use Rattle.std.specs.Prelude.{ℕ, List, [], ◌∷◌, if◌then◌else◌, Option, Some, None, option_and_then, codes}
-use Rattle.clap.specs.Words.{Kinds, Row, Text, fault_of, first_of, subcommand_of}
+use Rattle.std.specs.Prelude.{ℕ, List, [], ◌∷◌, if◌then◌else◌, length, nat_le, Option, Some, None, option_and_then, codes}
+use Rattle.clap.specs.Words.{App, Kinds, Row, Text, fault_of, first_of, subcommand_of}
 use Rattle.cocoon_num.specs.Names.{same_name}
-use Rattle.command_line.specs.Command.{Command, compile}
+use Rattle.cocoon_num.specs.Tokens.{decimal_value, kept_if}
+use Rattle.command_line.specs.Command.{Command, compile, step}
 use Rattle.command_line.specs.Names.{is_file_name}
-use Rattle.command_line.specs.Syntax.{cocoon_app, design_argument, defs_argument, out_argument}
+use Rattle.command_line.specs.Syntax.{case_argument, cocoon_app, design_argument, defs_argument, level_argument, out_argument}
 
 -- a word that is a name
 abbrev pub name_of : Text → Option (List ℕ)
@@ -28,20 +29,62 @@ compile_of rows =
     with_names (argument_name design_argument rows) (argument_name defs_argument rows)
     (argument_name out_argument rows)
 
+-- the most decimal digits of a number
+abbrev pub most_digits : ℕ
+most_digits = 7
+
+-- the number of the highest level
+abbrev pub highest_level : ℕ
+highest_level = 16
+
+-- a word that is a number
+abbrev pub number_of : Text → Option ℕ
+number_of word = if nat_le (length word) most_digits then decimal_value word else None
+
+-- one that is none above this
+abbrev pub number_up_to : (most : ℕ) → Text → Option ℕ
+number_up_to most word = option_and_then (λ n. kept_if (nat_le n most) n) (number_of word)
+
+-- the number of a level, by what `clap` matched
+abbrev pub level_in : List Row → Option ℕ
+level_in rows = option_and_then (number_up_to highest_level) (first_of level_argument rows)
+
+-- `step` with names and a number that are all there
+abbrev pub with_level : Option (List ℕ) → Option (List ℕ) → Option ℕ → Option (List ℕ) → Option Command
+with_level (Some design) (Some defs) (Some level) (Some file) = Some (step design defs level file)
+with_level _ _ _ _ = None
+
+-- what `step` asks for, by its matches
+abbrev pub step_of : List Row → Option Command
+step_of rows =
+    with_level (argument_name design_argument rows) (argument_name defs_argument rows)
+    (level_in rows) (argument_name case_argument rows)
+
 -- what a subcommand asks for, by its name and its matches
 abbrev pub command_of : Text × List Row → Option Command
-command_of met = if same_name met.0 (codes "compile") then compile_of met.1 else None
+command_of met =
+    if same_name met.0 (codes "compile") then compile_of met.1
+    else if same_name met.0 (codes "step") then step_of met.1
+    else None
 
 -- what was met, where no kind of fault comes
 abbrev pub unless_refused : Kinds → Option (Text × List Row) → Option (Text × List Row)
 unless_refused [] met = met
 unless_refused (kind ∷ kinds) met = None
 
--- the subcommand of the words with its matches, where `clap` takes the words; a call for help
--- counts as a fault
-unfoldable pub subcommand : List (List ℕ) → Option (Text × List Row)
-subcommand words = unless_refused (fault_of cocoon_app words) (subcommand_of cocoon_app words)
+-- the subcommand of the words with its matches, where `clap` takes the words by a command line; a
+-- call for help counts as a fault
+unfoldable pub subcommand_by : App → List (List ℕ) → Option (Text × List Row)
+subcommand_by app words = unless_refused (fault_of app words) (subcommand_of app words)
 
--- the command that the words give, the program's name first
+-- the command that the words give by a command line, the program's name first
+abbrev pub command_by : App → List (List ℕ) → Option Command
+command_by app words = option_and_then command_of (subcommand_by app words)
+
+-- the subcommand of the words
+abbrev pub subcommand : List (List ℕ) → Option (Text × List Row)
+subcommand words = subcommand_by cocoon_app words
+
+-- the command that the words give
 unfoldable pub command : List (List ℕ) → Option Command
-command words = option_and_then command_of (subcommand words)
+command words = command_by cocoon_app words

@@ -1,9 +1,10 @@
 //! What the words ask for.
 
-/// A command with the names that it is given.
+/// A command with what it is given.
 #[derive(Clone, Copy, Debug, Drop)]
 pub enum Command<'w> {
     Compile(Compile<'w>),
+    Step(Step<'w>),
 }
 
 /// The names that `compile` is given.
@@ -15,4 +16,17 @@ pub struct Compile<'w> {
     pub defs: &'w str,
     /// The name of the bundle, with which the names of its files begin.
     pub out: &'w str,
+}
+
+/// What `step` is given.
+#[derive(Clone, Copy, Debug, Drop)]
+pub struct Step<'w> {
+    /// The file of the design.
+    pub design: &'w str,
+    /// The file of the definitions.
+    pub defs: &'w str,
+    /// The number of the level, from 0 to 16.
+    pub level: u32,
+    /// The file of the case.
+    pub file: &'w str,
 }

@@ -3,8 +3,9 @@
 #![tactic(auto)]
 
 pub mod command;
+pub mod laws;
 pub mod parse;
 pub mod syntax;
 
-pub use command::{Command, Compile};
+pub use command::{Command, Compile, Step};
 pub use parse::parse_command;

@@ -4,14 +4,20 @@ ghost use Rattle.clap.specs.Words.{found_of, rows_of, subcommand_rows_of};
 ghost use Rattle.command_line.specs.Command as spec;
 ghost use Rattle.command_line.specs.Names.{is_file_name, is_name_byte};
 ghost use Rattle.command_line.specs.Stands.{stands_for};
-ghost use Rattle.command_line.specs.Words.{argument_name, command, command_of, compile_of, subcommand};
+ghost use Rattle.command_line.specs.Words.{argument_name, command, command_of, compile_of, level_in, number_of, number_up_to, step_of, subcommand};
 
-use crate::command::{Command, Compile};
-use crate::syntax::{DEFS, DESIGN, OUT, cocoon_app};
+use crate::command::{Command, Compile, Step};
+use crate::syntax::{CASE, DEFS, DESIGN, LEVEL, OUT, cocoon_app};
 use clap::ArgMatches;
 use clap::error::ErrorKind;
 use cocoon_num::NoMemory;
 use std::alloc::Global;
+use text_lines::decimal_value;
+
+/// The most decimal digits of a number.
+const MOST_DIGITS: usize = 7;
+
+const HIGHEST_LEVEL: u32 = 16;
 
 /// What `clap` makes of the words; nothing where it refuses them, or is asked for help.
 fn matches<'w>(alloc: Global, words: &'w [String]) -> Result<Option<ArgMatches<'w>>, NoMemory>
@@ -68,6 +74,56 @@ fn compile_of<'w>(matches: &ArgMatches<'w>) -> Option<Compile<'w>>
     Some(Compile { design, defs, out })
 }
 
+/// The number that a word is, of one to seven decimal digits.
+fn number(word: &str) -> Option<u128>
+    ensures { result ≡ number_of word.now }
+{
+    if word.len() <= MOST_DIGITS {
+        decimal_value(word.as_bytes())
+    } else {
+        None
+    }
+}
+
+/// The number that a word is, if it is none above `most`.
+fn number_up_to(most: u32, word: &str) -> Option<u32>
+    ensures { result ≡ number_up_to most word.now }
+{
+    let number = number(word)?;
+    if number <= u128::from(most) {
+        Some(number as u32)
+    } else {
+        None
+    }
+}
+
+/// The word for the level, where it is the number of one.
+fn level<'w>(matches: &ArgMatches<'w>) -> Option<u32>
+    ensures { result ≡ level_in (rows_of (found_of matches.now)) }
+{
+    match matches.get_str(LEVEL) {
+        Some(word) => number_up_to(HIGHEST_LEVEL, word),
+        None => None,
+    }
+}
+
+/// What a `step` is given, where each part has its form.
+fn step_of<'w>(matches: &ArgMatches<'w>) -> Option<Step<'w>>
+    ensures { option_map (λ s. spec.step s.design.now s.defs.now s.level s.file.now) result
+        ≡ step_of (rows_of (found_of matches.now)) }
+{
+    let design = argument_name(matches, DESIGN)?;
+    let defs = argument_name(matches, DEFS)?;
+    let level = level(matches)?;
+    let file = argument_name(matches, CASE)?;
+    Some(Step {
+        design,
+        defs,
+        level,
+        file,
+    })
+}
+
 /// What a subcommand asks for, by its name and its matches.
 fn command_of<'w>(name: &str, matches: &ArgMatches<'w>) -> Option<Command<'w>>
     ensures { option_map stands_for result
@@ -75,6 +131,8 @@ fn command_of<'w>(name: &str, matches: &ArgMatches<'w>) -> Option<Command<'w>>
 {
     if name == "compile" {
         compile_of(matches).map(Command::Compile)
+    } else if name == "step" {
+        step_of(matches).map(Command::Step)
     } else {
         None
     }

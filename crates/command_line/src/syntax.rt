@@ -2,7 +2,7 @@
 ghost use Rattle.std.specs.Prelude.{◌≡◌, IfOk, false, map};
 ghost use Rattle.clap.specs.Words.{app_of, rule_of, with_subcommand};
 ghost use Rattle.clap.specs.declared.builder.Command.TheViews.{out-Command};
-ghost use Rattle.command_line.specs.Syntax.{cocoon_app, compile_app, required_argument, with_arguments};
+ghost use Rattle.command_line.specs.Syntax.{cocoon_app, compile_app, required_argument, step_app, with_arguments};
 
 use clap::{Arg, ArgAction, Command};
 use cocoon_num::NoMemory;
@@ -16,6 +16,12 @@ pub const DEFS: &str = "DEFS";
 
 /// That for the name of the bundle.
 pub const OUT: &str = "OUT";
+
+/// That for the number of a level.
+pub const LEVEL: &str = "LEVEL";
+
+/// That for the file of a case.
+pub const CASE: &str = "CASE";
 
 /// An argument that has to be there.
 fn required_argument<'w>(alloc: Global, id: &'w str) -> Arg<'w>
@@ -51,6 +57,18 @@ fn compile_app<'w>(alloc: Global) -> Result<Command<'w>, NoMemory>
     with_arguments(alloc, Command::new(alloc, "compile"), &[DESIGN, DEFS, OUT])
 }
 
+/// The subcommand `step`.
+fn step_app<'w>(alloc: Global) -> Result<Command<'w>, NoMemory>
+    ensures app { IfOk result (λ c. app_of c ≡ step_app) }
+    ensures local { IfOk result (λ c. (out-Command c).has_globals ≡ false) }
+{
+    with_arguments(
+        alloc,
+        Command::new(alloc, "step"),
+        &[DESIGN, DEFS, LEVEL, CASE],
+    )
+}
+
 /// The command with one more subcommand.
 fn with_subcommand<'w>(command: Command<'w>, sub: Command<'w>) -> Result<Command<'w>, NoMemory>
     requires { (out-Command sub).has_globals ≡ false }
@@ -65,5 +83,6 @@ pub fn cocoon_app<'w>(alloc: Global) -> Result<Command<'w>, NoMemory>
     ensures { IfOk result (λ c. app_of c ≡ cocoon_app) }
 {
     let command = Command::new(alloc, "cocoon");
-    with_subcommand(command, compile_app(alloc)?)
+    let command = with_subcommand(command, compile_app(alloc)?)?;
+    with_subcommand(command, step_app(alloc)?)
 }

@@ -7,7 +7,7 @@ use Rattle.cocoon_cli.specs.Reading.{FileNotRead}
 use Rattle.cocoon_cli.specs.Steps.{definitions_most}
 use Rattle.cocoon_cli.specs.declared.files.CommandFile.TheVariants.{Definitions}
 use Rattle.cocoon_cli.specs.declared.report.Report.TheVariants.{Compiled}
-use Rattle.cocoon_cli.specs.LowerTexts.{LowersTexts, NotLowered}
+use Rattle.cocoon_cli.specs.LowerTexts.{LowersTexts, NotMade}
 use Rattle.command_line.specs.Command.{compile as command}
 use Rattle.cocoon_cli.proofs.Compiling.{passed, design_refused, defs_refused, has_both, moved, texts_refused, write_refused, done, same_refused, same_held, design_named, defs_named, texts_named, write_named, named_passed}
 use Rattle.cocoon_cli.proofs.Headlines.{headline}
@@ -29,7 +29,7 @@ returns-in_err-net-clause-performs g c =
     passed _ _ _ _ c.in_err-net.field-0.0 c.from_residual-in_err-net.ensures.1
     (texts_refused _ _ _ _ _ c.in_ok-design.design.items c.in_ok-defs.defs.items c.in_err-net.field-0.0 (c.in_ok-defs.ensures.same ∙ c.in_ok-design.ensures.same)
     (has_both _ _ _ _ _ _ c.in_ok-design.ensures.same c.in_ok-design.ensures.ok c.in_ok-design.ensures.short c.in_ok-defs.ensures.ok c.in_ok-defs.ensures.short)
-    (moved (λ a b. NotLowered a b c.in_err-net.field-0.0) _ _ _ _ c.deref.ensures.value c.deref-2.ensures.value c.in_err-net.ensures.refused))
+    (moved (λ a b. NotMade a b c.in_err-net.field-0.0) _ _ _ _ c.deref.ensures.value c.deref-2.ensures.value c.in_err-net.ensures.refused))
 
 pub returns-in_err-write_bundle-clause-performs : goal.returns-in_err-write_bundle-clause-performs
 returns-in_err-write_bundle-clause-performs g c =
@@ -46,7 +46,7 @@ returns-clause-performs g c =
     done _ _ _ _ _ _ c.in_ok-design.design.items c.in_ok-defs.defs.items net _ (c.in_ok-defs.ensures.same ∙ c.in_ok-design.ensures.same)
     (has_both _ _ _ _ _ _ c.in_ok-design.ensures.same c.in_ok-design.ensures.ok c.in_ok-design.ensures.short c.in_ok-defs.ensures.ok c.in_ok-defs.ensures.short)
     (moved (λ a b. LowersTexts a b net) _ _ _ _ c.deref.ensures.value c.deref-2.ensures.value c.in_ok-net.ensures.lowers)
-    (c.in_ok-write_bundle.ensures.written ∙ ap (λ a. with_files c.args.names.now.out.now (bundle a net None) (g.F.Folder.content c.read-2.new.folder)) c.deref-3.ensures.value)
+    (c.in_ok-write_bundle.ensures.written ∙ ap (λ a. with_files c.args.names.now.out.now (bundle a net None) (g.F.Folder.content c.read_file-2.new.folder)) c.deref-3.ensures.value)
     (subst (λ a. AllFit (bundle a net None)) c.deref-3.ensures.value c.in_ok-write_bundle.ensures.fit)
     (ap Compiled c.totals.ensures)
 
@@ -60,21 +60,21 @@ returns-clause-headline g c =
 
 pub returns-in_err-design-clause-named : goal.returns-in_err-design-clause-named
 returns-in_err-design-clause-named g c =
-    let last = g.F.Folder.last_failure c.read.new.folder in
+    let last = g.F.Folder.last_failure c.read_file.new.folder in
     let names = c.args.names.now in
     named_passed last (command names.design.now names.defs.now names.out.now) _ c.in_err-design.field-0.0 c.from_residual.ensures.1
     (design_named last names.design.now names.defs.now names.out.now _ c.in_err-design.field-0.0 c.in_err-design.ensures.err c.in_err-design.ensures.named)
 
 pub returns-in_err-defs-clause-named : goal.returns-in_err-defs-clause-named
 returns-in_err-defs-clause-named g c =
-    let last = g.F.Folder.last_failure c.read-2.new.folder in
+    let last = g.F.Folder.last_failure c.read_file-2.new.folder in
     let names = c.args.names.now in
     named_passed last (command names.design.now names.defs.now names.out.now) _ c.in_err-defs.field-0.0 c.from_residual-in_err-defs.ensures.1
     (defs_named last names.design.now names.defs.now names.out.now _ c.in_err-defs.field-0.0 c.in_err-defs.ensures.err c.in_err-defs.ensures.named)
 
 pub returns-in_err-net-clause-named : goal.returns-in_err-net-clause-named
 returns-in_err-net-clause-named g c =
-    let last = g.F.Folder.last_failure c.read-2.new.folder in
+    let last = g.F.Folder.last_failure c.read_file-2.new.folder in
     let names = c.args.names.now in
     let asked = command names.design.now names.defs.now names.out.now in
     named_passed last asked _ c.in_err-net.field-0.0 c.from_residual-in_err-net.ensures.1

@@ -14,5 +14,7 @@ returns c = one (record {
   one_limit = c.one_first_over.ensures;
   no_limit = c.within_is_not_over.ensures;
   one_net = c.one_lowering.ensures.one;
-  accepted = c.one_lowering.ensures.accepted;
+  one_over = c.one_lowering.ensures.one_limit;
+  one_step = c.one_step.ensures;
+  no_over = c.one_lowering.ensures.no_limit;
 })

@@ -1,0 +1,13 @@
+//! What further subcommands leave as it was. The function does nothing; its contract is the law.
+ghost use Rattle.std.specs.Prelude.{◌≡◌, ℕ, List, [], ◌∷◌, Some};
+ghost use Rattle.command_line.specs.Command.{compile};
+ghost use Rattle.command_line.specs.Syntax.{app_with, compile_app};
+ghost use Rattle.command_line.specs.Words.{command, command_by};
+
+/// The words that are a `compile` by the command line that has that subcommand alone are the same
+/// `compile`.
+pub fn compile_stays()
+    ensures { (words : List (List ℕ)) (design defs out : List ℕ)
+        → command_by (app_with (compile_app ∷ [])) words ≡ Some (compile design defs out)
+        → command words ≡ Some (compile design defs out) }
+{}
