@@ -6,41 +6,41 @@ use Rattle.std.proofs.Math.ListN.{drop_of_length-le}
 use Rattle.bit_blast.specs.declared.bit.Bit.{Bit}
 use Rattle.bit_blast.specs.declared.made.Gates.{Gates}
 use Rattle.std.specs.Prelude.{if◌then◌else◌, ◌==◌, ◌%◌, ◌/◌, ◌-◌}
-use Rattle.bit_blast.specs.Gates.{constant_bits, true_bit, false_bit, fresh, Part, plain, before, bitwise, sums, equals_from, less_from, same_gate, and_gate, xor_gate, choice_gate}
+use Rattle.bit_blast.specs.Gates.{constant_bits, true_bit, false_bit, fresh, Circuit, plain, before, bitwise, sums, equals_from, less_from, same_gate, and_gate, xor_gate, choice_gate}
 use Rattle.bit_blast.specs.Emitted.{numbers, listed, IsGate, AreGates, IsPair, IsSumBit, sum_gates, Continues}
 
-pub continues-start : (old : Gates) (whole : Part) → Continues old old whole whole []
+pub continues-start : (old : Gates) (whole : Circuit) → Continues old old whole whole []
 continues-start old whole = record { bits_ = refl; clauses_ = refl; next_ = refl }
 
-pub continues-end : (old now : Gates) (whole rest : Part) (made bits : List ℤ) → rest ≡ plain bits now.next → Continues old now whole rest made
+pub continues-end : (old now : Gates) (whole rest : Circuit) (made bits : List ℤ) → rest ≡ plain bits now.next → Continues old now whole rest made
     → AreGates old now whole (made ++ bits)
 continues-end old now whole rest made bits e h = record {
-  are = sym (h.bits_ ∙ ap (λ (p : Part). made ++ p.bits) e);
-  next = sym (h.next_ ∙ ap (λ (p : Part). p.next) e);
-  listed_ = sym (h.clauses_ ∙ ap (λ (p : Part). listed now ++ p.clauses) e ∙ append-nil (listed now));
+  are = sym (h.bits_ ∙ ap (λ (p : Circuit). made ++ p.bits) e);
+  next = sym (h.next_ ∙ ap (λ (p : Circuit). p.next) e);
+  listed_ = sym (h.clauses_ ∙ ap (λ (p : Circuit). listed now ++ p.clauses) e ∙ append-nil (listed now));
 }
 
-continues-step : (old now new : Gates) (whole rest after : Part) (made bits : List ℤ) (clauses : List (List ℤ)) → Continues old now whole rest made
+continues-step : (old now new : Gates) (whole rest after : Circuit) (made bits : List ℤ) (clauses : List (List ℤ)) → Continues old now whole rest made
     → rest ≡ before bits clauses after → listed new ≡ listed now ++ clauses → Continues old new whole after (made ++ bits)
 continues-step old now new whole rest after made bits clauses h e l = record {
-  bits_ = h.bits_ ∙ ap (λ (p : Part). made ++ p.bits) e ∙ sym (append_assoc made bits after.bits);
-  clauses_ = h.clauses_ ∙ ap (λ (p : Part). listed now ++ p.clauses) e ∙ sym (append_assoc (listed now) clauses after.clauses) ∙ ap (λ cs. cs ++ after.clauses) (sym l);
-  next_ = h.next_ ∙ ap (λ (p : Part). p.next) e;
+  bits_ = h.bits_ ∙ ap (λ (p : Circuit). made ++ p.bits) e ∙ sym (append_assoc made bits after.bits);
+  clauses_ = h.clauses_ ∙ ap (λ (p : Circuit). listed now ++ p.clauses) e ∙ sym (append_assoc (listed now) clauses after.clauses) ∙ ap (λ cs. cs ++ after.clauses) (sym l);
+  next_ = h.next_ ∙ ap (λ (p : Circuit). p.next) e;
 }
 
 -- ---- the bits to come
 
-next-number : (bits : List Bit) (i : ℕ) (b : Bit) → i < length bits → b ≡ get_or bits i b → numbers (drop i bits) ≡ b.number ∷ numbers (drop (i + 1) bits)
+pub next-number : (bits : List Bit) (i : ℕ) (b : Bit) → i < length bits → b ≡ get_or bits i b → numbers (drop i bits) ≡ b.number ∷ numbers (drop (i + 1) bits)
 next-number bits i b l e =
     ap numbers (drop-cons bits i b l) ∙ ap (λ (x : Bit). x.number ∷ numbers (drop (suc i) bits)) (sym e)
     ∙ ap (λ k. b.number ∷ numbers (drop k bits)) (let q : suc i ≡ i + 1 = omega arith in q)
 
-no-more : (bits : List Bit) (i : ℕ) → length bits ≤ i → numbers (drop i bits) ≡ []
+pub no-more : (bits : List Bit) (i : ℕ) → length bits ≤ i → numbers (drop i bits) ≡ []
 no-more bits i l = ap numbers (drop_of_length-le bits l)
 
 -- ---- one gate a bit
 
-pub bitwise-step : (gate : ℤ → ℤ → ℤ → List (List ℤ)) (old now new : Gates) (whole : Part) (xs ys : List Bit) (i : ℕ) (a b : Bit) (g : ℤ) (made : List ℤ)
+pub bitwise-step : (gate : ℤ → ℤ → ℤ → List (List ℤ)) (old now new : Gates) (whole : Circuit) (xs ys : List Bit) (i : ℕ) (a b : Bit) (g : ℤ) (made : List ℤ)
     → i < length xs → length xs ≡ length ys → a ≡ get_or xs i a → b ≡ get_or ys i b
     → Continues old now whole (bitwise gate now.next (numbers (drop i xs)) (numbers (drop i ys))) made → IsGate now new (gate (pos now.next) a.number b.number) g
     → Continues old new whole (bitwise gate new.next (numbers (drop (i + 1) xs)) (numbers (drop (i + 1) ys))) (made ++ g ∷ [])
@@ -53,7 +53,7 @@ bitwise-step gate old now new whole xs ys i a b g made l e ea eb h is =
     (subst (λ n. Continues old new whole (bitwise gate n (numbers (drop (i + 1) xs)) (numbers (drop (i + 1) ys))) (made ++ pos now.next ∷ [])) (sym is.next)
     (continues-step old now new whole _ after made (pos now.next ∷ []) (gate (pos now.next) a.number b.number) h rest is.listed_))
 
-pub bitwise-whole : (gate : ℤ → ℤ → ℤ → List (List ℤ)) (old now : Gates) (whole : Part) (xs ys : List Bit) (i : ℕ) (made : List ℤ) → length xs ≤ i
+pub bitwise-whole : (gate : ℤ → ℤ → ℤ → List (List ℤ)) (old now : Gates) (whole : Circuit) (xs ys : List Bit) (i : ℕ) (made : List ℤ) → length xs ≤ i
     → Continues old now whole (bitwise gate now.next (numbers (drop i xs)) (numbers (drop i ys))) made → AreGates old now whole made
 bitwise-whole gate old now whole xs ys i made l h =
     subst (AreGates old now whole) (append-nil made)
@@ -61,7 +61,7 @@ bitwise-whole gate old now whole xs ys i made l h =
 
 -- ---- sums
 
-pub sums-step : (old now new : Gates) (whole : Part) (xs ys : List Bit) (i : ℕ) (a b : Bit) (below sum carry : ℤ) (made : List ℤ)
+pub sums-step : (old now new : Gates) (whole : Circuit) (xs ys : List Bit) (i : ℕ) (a b : Bit) (below sum carry : ℤ) (made : List ℤ)
     → i < length xs → length xs ≡ length ys → a ≡ get_or xs i a → b ≡ get_or ys i b
     → Continues old now whole (sums now.next below (numbers (drop i xs)) (numbers (drop i ys))) made → IsSumBit now new below a.number b.number sum carry
     → Continues old new whole (sums new.next carry (numbers (drop (i + 1) xs)) (numbers (drop (i + 1) ys))) (made ++ sum ∷ [])
@@ -76,7 +76,7 @@ sums-step old now new whole xs ys i a b below sum carry made l e ea eb h is =
     (subst (λ m. Continues old new whole (sums m (pos (n + 2)) (numbers (drop (i + 1) xs)) (numbers (drop (i + 1) ys))) (made ++ pos (n + 1) ∷ [])) (sym is.next)
     (continues-step old now new whole _ after made (pos (n + 1) ∷ []) (sum_gates n below a.number b.number) h rest is.listed_)))
 
-pub sums-whole : (old now : Gates) (whole : Part) (xs ys : List Bit) (i : ℕ) (below : ℤ) (made : List ℤ) → length xs ≤ i
+pub sums-whole : (old now : Gates) (whole : Circuit) (xs ys : List Bit) (i : ℕ) (below : ℤ) (made : List ℤ) → length xs ≤ i
     → Continues old now whole (sums now.next below (numbers (drop i xs)) (numbers (drop i ys))) made → AreGates old now whole made
 sums-whole old now whole xs ys i below made l h =
     subst (AreGates old now whole) (append-nil made)
@@ -84,7 +84,7 @@ sums-whole old now whole xs ys i below made l h =
 
 -- ---- chains
 
-pub equals-step : (old now new : Gates) (whole : Part) (xs ys : List Bit) (i : ℕ) (a b : Bit) (chain g : ℤ)
+pub equals-step : (old now new : Gates) (whole : Circuit) (xs ys : List Bit) (i : ℕ) (a b : Bit) (chain g : ℤ)
     → i < length xs → length xs ≡ length ys → a ≡ get_or xs i a → b ≡ get_or ys i b
     → Continues old now whole (equals_from now.next chain (numbers (drop i xs)) (numbers (drop i ys))) []
     → IsPair now new (same_gate (pos now.next) a.number b.number ++ and_gate (pos (now.next + 1)) chain (pos now.next)) g
@@ -100,12 +100,12 @@ equals-step old now new whole xs ys i a b chain g l e ea eb h is =
     (subst (λ m. Continues old new whole (equals_from m (pos (n + 1)) (numbers (drop (i + 1) xs)) (numbers (drop (i + 1) ys))) []) (sym is.next)
     (continues-step old now new whole _ after [] [] clauses h rest is.listed_))
 
-pub equals-whole : (old now : Gates) (whole : Part) (xs ys : List Bit) (i : ℕ) (chain : ℤ) → length xs ≤ i
+pub equals-whole : (old now : Gates) (whole : Circuit) (xs ys : List Bit) (i : ℕ) (chain : ℤ) → length xs ≤ i
     → Continues old now whole (equals_from now.next chain (numbers (drop i xs)) (numbers (drop i ys))) [] → AreGates old now whole (chain ∷ [])
 equals-whole old now whole xs ys i chain l h =
     continues-end old now whole _ [] (chain ∷ []) (ap (λ bs. equals_from now.next chain bs (numbers (drop i ys))) (no-more xs i l)) h
 
-pub less-step : (old now new : Gates) (whole : Part) (xs ys : List Bit) (i : ℕ) (a b : Bit) (below g : ℤ)
+pub less-step : (old now new : Gates) (whole : Circuit) (xs ys : List Bit) (i : ℕ) (a b : Bit) (below g : ℤ)
     → i < length xs → length xs ≡ length ys → a ≡ get_or xs i a → b ≡ get_or ys i b
     → Continues old now whole (less_from now.next below (numbers (drop i xs)) (numbers (drop i ys))) []
     → IsPair now new (xor_gate (pos now.next) a.number b.number ++ choice_gate (pos now.next) (pos (now.next + 1)) b.number below) g
@@ -121,14 +121,14 @@ less-step old now new whole xs ys i a b below g l e ea eb h is =
     (subst (λ m. Continues old new whole (less_from m (pos (n + 1)) (numbers (drop (i + 1) xs)) (numbers (drop (i + 1) ys))) []) (sym is.next)
     (continues-step old now new whole _ after [] [] clauses h rest is.listed_))
 
-pub less-whole : (old now : Gates) (whole : Part) (xs ys : List Bit) (i : ℕ) (below : ℤ) → length xs ≤ i
+pub less-whole : (old now : Gates) (whole : Circuit) (xs ys : List Bit) (i : ℕ) (below : ℤ) → length xs ≤ i
     → Continues old now whole (less_from now.next below (numbers (drop i xs)) (numbers (drop i ys))) [] → AreGates old now whole (below ∷ [])
 less-whole old now whole xs ys i below l h =
     continues-end old now whole _ [] (below ∷ []) (ap (λ bs. less_from now.next below bs (numbers (drop i ys))) (no-more xs i l)) h
 
 -- ---- the loops
 
-pub start-at : (old : Gates) (whole rest : Part) (made : List ℤ) → rest ≡ whole → made ≡ [] → Continues old old whole rest made
+pub start-at : (old : Gates) (whole rest : Circuit) (made : List ℤ) → rest ≡ whole → made ≡ [] → Continues old old whole rest made
 start-at old whole rest made e m =
     subst (λ r. Continues old old whole r made) (sym e) (subst (Continues old old whole whole) (sym m) (continues-start old whole))
 

@@ -3,3 +3,12 @@ pub mod GateMeanings
 pub mod CountFacts
 pub mod OrderFacts
 pub mod WalkFacts
+pub mod Places
+pub mod Walking
+pub mod Ordered
+pub mod Defining
+pub mod Tabling
+pub mod BitNumbers
+pub mod Meaning
+pub mod Extending
+pub mod InputFacts

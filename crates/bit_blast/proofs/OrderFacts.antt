@@ -21,15 +21,16 @@ use Rattle.cnf_core.specs.declared.clauses.Cnf.{Cnf}
 use Rattle.bit_blast.specs.declared.bit.Bit.{Bit}
 use Rattle.bit_blast.specs.declared.made.Gates.{Gates}
 use Rattle.bit_blast.specs.declared.table.Table.{Table}
-use Rattle.bit_blast.specs.Gates.{Part, plain, bitwise, sums, equals, equals_from, less_from, fresh, constant_bits, choice_gate, and_gate, or_gate, xor_gate, true_bit, false_bit}
-use Rattle.bit_blast.specs.Clauses.{walk, goal_blasted, goal_bit, same_term, blasted, Blasted, with_term, part_of, bits_in, joined, first_bit, OperandsMatch}
+use Rattle.bit_blast.specs.Gates.{Circuit, plain, bitwise, sums, equals, equals_from, less_from, fresh, constant_bits, choice_gate, and_gate, or_gate, xor_gate, true_bit, false_bit}
+use Rattle.bit_blast.specs.Clauses.{walk, goal_blasted, goal_bit, same_term, blasted, Blasted, with_term, circuit_of, bits_in, joined, first_bit, OperandsMatch}
 use Rattle.bit_blast.specs.Emitted.{numbers, listed, AreGates}
-use Rattle.bit_blast.specs.Tables.{bits_at, index_at, HasRow, HasBits, count_at, part_of_node}
-use Rattle.bit_blast.specs.Orders.{first_index, terms_of, IsBefore, IsOrder, rows_of, row_numbers, IsTable, IsEmitted, IsClauses}
+use Rattle.bit_blast.specs.Tables.{bits_at, index_at, HasRow, HasBits, count_at, circuit_of_node}
+use Rattle.bit_blast.specs.Orders.{first_index, terms_of, IsBefore, IsOrder, rows_of, row_numbers, IsTable, IsEmitted}
+use Rattle.bit_blast.specs.Blasting.{IsClauses}
 
 -- ---- the bits of a part
 
-option-suc : (o : Option ℕ) (j : ℕ) → option_map suc o ≡ Some j → (k : ℕ) × (o ≡ Some k) × (j ≡ suc k)
+pub option-suc : (o : Option ℕ) (j : ℕ) → option_map suc o ≡ Some j → (k : ℕ) × (o ≡ Some k) × (j ≡ suc k)
 option-suc None j e = absurd cc
 option-suc (Some k) j e = (k, refl, cc)
 
@@ -55,20 +56,20 @@ bits-in (t ∷ ts) (r ∷ rows) (suc i) j u e l m n =
 
 -- ---- how many bits
 
-constant-length : (w v : ℕ) → length (constant_bits w v) ≡ w
+pub constant-length : (w v : ℕ) → length (constant_bits w v) ≡ w
 constant-length zero v = refl
 constant-length (suc w) v = let h = constant-length w (v / 2) in omega arith
 
-fresh-length : (n w : ℕ) → length (fresh n w) ≡ w
+pub fresh-length : (n w : ℕ) → length (fresh n w) ≡ w
 fresh-length n zero = refl
 fresh-length n (suc w) = let h = fresh-length (suc n) w in omega arith
 
-bitwise-length : (gate : ℤ → ℤ → ℤ → List (List ℤ)) (n : ℕ) (xs ys : List ℤ) → length xs ≡ length ys → length (bitwise gate n xs ys).bits ≡ length xs
+pub bitwise-length : (gate : ℤ → ℤ → ℤ → List (List ℤ)) (n : ℕ) (xs ys : List ℤ) → length xs ≡ length ys → length (bitwise gate n xs ys).bits ≡ length xs
 bitwise-length gate n [] ys e = refl
 bitwise-length gate n (x ∷ xs) [] e = absurd (omega arith)
 bitwise-length gate n (x ∷ xs) (y ∷ ys) e = let h = bitwise-length gate (n + 1) xs ys (omega arith) in omega arith
 
-sums-length : (n : ℕ) (c : ℤ) (xs ys : List ℤ) → length xs ≡ length ys → length (sums n c xs ys).bits ≡ length xs
+pub sums-length : (n : ℕ) (c : ℤ) (xs ys : List ℤ) → length xs ≡ length ys → length (sums n c xs ys).bits ≡ length xs
 sums-length n c [] ys e = refl
 sums-length n c (x ∷ xs) [] e = absurd (omega arith)
 sums-length n c (x ∷ xs) (y ∷ ys) e = let h = sums-length (n + 3) (pos (n + 2)) xs ys (omega arith) in omega arith
@@ -88,7 +89,7 @@ less-length n c [] ys = refl
 less-length n c (x ∷ xs) [] = refl
 less-length n c (x ∷ xs) (y ∷ ys) = less-length (n + 2) (pos (n + 1)) xs ys
 
-joined-length : (op : TermOp) (n v w : ℕ) (xs ys : List ℤ) → length xs ≡ v → length ys ≡ w → OperandsFit op v w → length (joined op n xs ys).bits ≡ joined_width op v w
+pub joined-length : (op : TermOp) (n v w : ℕ) (xs ys : List ℤ) → length xs ≡ v → length ys ≡ w → OperandsFit op v w → length (joined op n xs ys).bits ≡ joined_width op v w
 joined-length Add n v w xs ys e f h = sums-length n false_bit xs ys (e ∙ h ∙ sym f) ∙ e
 joined-length Sub n v w xs ys e f h = sums-length n true_bit xs (map opposite ys) (e ∙ h ∙ sym f ∙ sym (length-map ys opposite)) ∙ e
 joined-length And n v w xs ys e f h = bitwise-length and_gate n xs ys (e ∙ h ∙ sym f) ∙ e
@@ -98,11 +99,11 @@ joined-length Concat n v w xs ys e f h = omega (arith, length-append ys xs)
 joined-length Equal n v w xs ys e f h = equals-length n xs ys
 joined-length Less n v w xs ys e f h = less-length n false_bit xs ys
 
-slice-length : (xs : List ℤ) (high low w : ℕ) → length xs ≡ w → low ≤ high → high < w → length (take (high - low + 1) (drop low xs)) ≡ high - low + 1
+pub slice-length : (xs : List ℤ) (high low w : ℕ) → length xs ≡ w → low ≤ high → high < w → length (take (high - low + 1) (drop low xs)) ≡ high - low + 1
 slice-length xs high low w e h k = length-take-le (high - low + 1) (drop low xs) (omega (arith, length-drop low xs))
 
 part-length : (rows : ℕ → List ℤ) (f : ℕ → Term) (n : ℕ) (node : Node) → AllByRecursion (λ p. length (rows p) ≡ width (f p)) (parts node) → IsTerm (made_of f node)
-    → ((g w : ℕ) (args : List ℕ) → node ≡ Apply g args w → ⊥) → length (part_of_node rows n node).bits ≡ width (made_of f node)
+    → ((g w : ℕ) (args : List ℕ) → node ≡ Apply g args w → ⊥) → length (circuit_of_node rows n node).bits ≡ width (made_of f node)
 part-length rows f n (Constant b) e h u = constant-length b.width b.value
 part-length rows f n (Input i w) e h u = fresh-length n w
 part-length rows f n (Apply g args w) e h u = absurd (u g w args refl)
@@ -114,7 +115,7 @@ part-length rows f n (Pick c a b) e h u = bitwise-length (choice_gate (first_bit
 -- ---- the part of a node is that of its term
 
 node-part : (rows : ℕ → List ℤ) (bits : Term → List ℤ) (f : ℕ → Term) (n : ℕ) (node : Node) → AllByRecursion (λ p. bits (f p) ≡ rows p) (parts node)
-    → part_of bits n (made_of f node) ≡ part_of_node rows n node
+    → circuit_of bits n (made_of f node) ≡ circuit_of_node rows n node
 node-part rows bits f n (Constant b) e = refl
 node-part rows bits f n (Input i w) e = refl
 node-part rows bits f n (Apply g args w) e = refl
@@ -146,7 +147,7 @@ has-bits table f (Slice a high low) r e h wide = (r.0, h.1, (let q = h.2 in let 
 has-bits table f (Pick c a b) r e h wide =
     (r.0, r.1.0, r.1.1.0, (let q = h.3 in let w = e.0 in omega arith), e.1.0 ∙ h.4 ∙ sym e.1.1.0)
 
-joined-wide : (op : TermOp) (v w : ℕ) → 1 ≤ v → 1 ≤ joined_width op v w
+pub joined-wide : (op : TermOp) (v w : ℕ) → 1 ≤ v → 1 ≤ joined_width op v w
 joined-wide Add v w h = h
 joined-wide Sub v w h = h
 joined-wide And v w h = h
@@ -156,7 +157,7 @@ joined-wide Concat v w h = omega arith
 joined-wide Equal v w h = omega arith
 joined-wide Less v w h = omega arith
 
-is-wide : (t : Term) → IsTerm t → 1 ≤ width t
+pub is-wide : (t : Term) → IsTerm t → 1 ≤ width t
 is-wide (constant w n) h = h.0.0
 is-wide (input i w) h = h.0
 is-wide (apply f args w) h = h.1.0
@@ -173,12 +174,12 @@ bits-at table p j e =
     ∙ ap (λ o. unwrap_or o []) (sym (slice_get-map (λ row. numbers row.items) table.rows.items j))
 
 -- what is known of a part of the next term
-record PartKnown (nodes : List Node) (order : List ℕ) (i : ℕ) (table : Table) (p : ℕ) : Type 0 where
-  row : HasRow table p
-  count : length (bits_at table p) ≡ width (term_at nodes p)
-  bits : bits_in (rows_of (take i (terms_of nodes order)) (row_numbers table)) (term_at nodes p) ≡ bits_at table p
+pub record PartKnown (nodes : List Node) (order : List ℕ) (i : ℕ) (table : Table) (p : ℕ) : Type 0 where
+  pub row : HasRow table p
+  pub count : length (bits_at table p) ≡ width (term_at nodes p)
+  pub bits : bits_in (rows_of (take i (terms_of nodes order)) (row_numbers table)) (term_at nodes p) ≡ bits_at table p
 
-part-known : (nodes : List Node) (order : List ℕ) (indices : List (Option ℕ)) (i : ℕ) (gates : Gates) (table : Table) (p : ℕ)
+pub part-known : (nodes : List Node) (order : List ℕ) (indices : List (Option ℕ)) (i : ℕ) (gates : Gates) (table : Table) (p : ℕ)
     → IsEmitted nodes order indices i gates table → IsBefore nodes order indices i p → PartKnown nodes order i table p
 part-known nodes order indices i gates table p h b =
     let has : index_at table p ≡ Some b.index = ap (λ is. option_and_then (λ (x : Option ℕ). x) (slice_get is p)) h.indices_are ∙ b.has in
@@ -194,7 +195,7 @@ part-known nodes order indices i gates table p h b =
       bits = bits-in (terms_of nodes order) (row_numbers table) i b.index (term_at nodes p) b.first s (omega arith) (omega arith) ∙ sym at;
     }
 
-each : {P Q : ℕ → Type 0} → ((p : ℕ) → P p → Q p) → (ps : List ℕ) → AllByRecursion P ps → AllByRecursion Q ps
+pub each : {P Q : ℕ → Type 0} → ((p : ℕ) → P p → Q p) → (ps : List ℕ) → AllByRecursion P ps → AllByRecursion Q ps
 each f [] h = tt
 each f (p ∷ ps) h = (f p h.0, each f ps h.1)
 
@@ -222,19 +223,19 @@ rows-push [] (x ∷ rows) t r e = absurd (omega arith)
 rows-push (u ∷ ts) [] t r e = absurd (omega arith)
 rows-push (u ∷ ts) (x ∷ rows) t r e = ap (λ rest. (u, x) ∷ rest) (rows-push ts rows t r (omega arith))
 
-table-push : (ts : List Term) (t : Term) (old new : Gates) (table more : Table) (rows : List (List ℤ)) (q : Part) (bits : List ℤ)
+table-push : (ts : List Term) (t : Term) (old new : Gates) (table more : Table) (rows : List (List ℤ)) (q : Circuit) (bits : List ℤ)
     → IsTable ts old table → length ts ≡ length (row_numbers table) → row_numbers more ≡ row_numbers table ++ bits ∷ []
-    → part_of (bits_in (rows_of ts (row_numbers table))) old.next t ≡ q → AreGates old new q bits → IsTable (ts ++ t ∷ []) new more
+    → circuit_of (bits_in (rows_of ts (row_numbers table))) old.next t ≡ q → AreGates old new q bits → IsTable (ts ++ t ∷ []) new more
 table-push ts t old new table more rows q bits h e m p a =
     let s = blasted ts in
     let whole : blasted (ts ++ t ∷ []) ≡ with_term s t = fold-append with_term (record { table = []; clauses = []; next = 2 }) ts (t ∷ []) in
-    let part : part_of (bits_in s.table) s.next t ≡ q
-    = ap (λ (rs : List (Term × List ℤ)). part_of (bits_in rs) s.next t) h.rows_are ∙ ap (λ n. part_of (bits_in (rows_of ts (row_numbers table))) n t) (sym h.next_is) ∙ p in
+    let part : circuit_of (bits_in s.table) s.next t ≡ q
+    = ap (λ (rs : List (Term × List ℤ)). circuit_of (bits_in rs) s.next t) h.rows_are ∙ ap (λ n. circuit_of (bits_in (rows_of ts (row_numbers table))) n t) (sym h.next_is) ∙ p in
     record {
-      rows_are = ap (λ (b : Blasted). b.table) whole ∙ ap (λ (x : Part). s.table ++ (t, x.bits) ∷ []) part ∙ ap (λ (x : List ℤ). s.table ++ (t, x) ∷ []) (sym a.are)
+      rows_are = ap (λ (b : Blasted). b.table) whole ∙ ap (λ (x : Circuit). s.table ++ (t, x.bits) ∷ []) part ∙ ap (λ (x : List ℤ). s.table ++ (t, x) ∷ []) (sym a.are)
           ∙ ap (λ (rs : List (Term × List ℤ)). rs ++ (t, bits) ∷ []) h.rows_are ∙ sym (rows-push ts (row_numbers table) t bits e) ∙ ap (rows_of (ts ++ t ∷ [])) (sym m);
-      clauses_are = a.listed_ ∙ ap (λ cs. cs ++ q.clauses) h.clauses_are ∙ ap (λ (x : Part). (true_bit ∷ []) ∷ (s.clauses ++ x.clauses)) (sym part) ∙ ap (λ (b : Blasted). (true_bit ∷ []) ∷ b.clauses) (sym whole);
-      next_is = a.next ∙ ap (λ (x : Part). x.next) (sym part) ∙ ap (λ (b : Blasted). b.next) (sym whole);
+      clauses_are = a.listed_ ∙ ap (λ cs. cs ++ q.clauses) h.clauses_are ∙ ap (λ (x : Circuit). (true_bit ∷ []) ∷ (s.clauses ++ x.clauses)) (sym part) ∙ ap (λ (b : Blasted). (true_bit ∷ []) ∷ b.clauses) (sym whole);
+      next_is = a.next ∙ ap (λ (x : Circuit). x.next) (sym part) ∙ ap (λ (b : Blasted). b.next) (sym whole);
     }
 
 snoc-old : {A : Type 0} (xs : List A) (y : A) (k : ℕ) → k < length xs → slice_get (xs ++ y ∷ []) k ≡ slice_get xs k
@@ -242,7 +243,7 @@ snoc-old [] y k h = absurd (omega arith)
 snoc-old (x ∷ xs) y zero h = refl
 snoc-old (x ∷ xs) y (suc k) h = snoc-old xs y k (omega arith)
 
-snoc-last : {A : Type 0} (xs : List A) (y : A) (k : ℕ) → k ≡ length xs → slice_get (xs ++ y ∷ []) k ≡ Some y
+pub snoc-last : {A : Type 0} (xs : List A) (y : A) (k : ℕ) → k ≡ length xs → slice_get (xs ++ y ∷ []) k ≡ Some y
 snoc-last [] y zero h = refl
 snoc-last [] y (suc k) h = absurd (omega arith)
 snoc-last (x ∷ xs) y zero h = absurd (omega arith)
@@ -250,7 +251,7 @@ snoc-last (x ∷ xs) y (suc k) h = snoc-last xs y k (omega arith)
 
 pub emit-step : (nodes : List Node) (order : List ℕ) (indices : List (Option ℕ)) (i d : ℕ) (old new : Gates) (table more : Table) (node : Node) (bits : Vec Bit Global)
     → IsEmitted nodes order indices i old table → i < length order → slice_get nodes (get_or order i d) ≡ Some node
-    → AreGates old new (part_of_node (bits_at table) old.next node) (numbers bits.items) → more.rows.items ≡ table.rows.items ++ bits ∷ []
+    → AreGates old new (circuit_of_node (bits_at table) old.next node) (numbers bits.items) → more.rows.items ≡ table.rows.items ++ bits ∷ []
     → more.indices.items ≡ table.indices.items → IsEmitted nodes order indices (i + 1) new more
 emit-step nodes order indices i d old new table more node bits h l n a rows same =
     let id = get_or order i d in
@@ -271,8 +272,8 @@ emit-step nodes order indices i d old new table more node bits h l n a rows same
     = take_more ts i t (omega arith) ∙ ap (λ x. take i ts ++ x ∷ []) (get_or_from_slice_get ts i t t at-i) in
     let pushed : row_numbers more ≡ rn ++ numbers bits.items ∷ []
     = ap (λ rs. map (λ row. numbers row.items) rs) rows ∙ map-append (λ row. numbers row.items) table.rows.items (bits ∷ []) in
-    let part : part_of (bits_in (rows_of (take i ts) rn)) old.next t ≡ part_of_node (bits_at table) old.next node
-    = ap (part_of (bits_in (rows_of (take i ts) rn)) old.next) made
+    let part : circuit_of (bits_in (rows_of (take i ts) rn)) old.next t ≡ circuit_of_node (bits_at table) old.next node
+    = ap (circuit_of (bits_in (rows_of (take i ts) rn)) old.next) made
     ∙ node-part (bits_at table) (bits_in (rows_of (take i ts) rn)) (term_at nodes) old.next node (each (λ p (k : PartKnown nodes order i table p). k.bits) (parts node) known) in
     let wide : length (numbers bits.items) ≡ width t
     = ap length a.are
@@ -285,7 +286,7 @@ emit-step nodes order indices i d old new table more node bits h l n a rows same
       count = omega (arith, ap length rows, length-append table.rows.items (bits ∷ []));
       within = omega arith;
       table_ = subst (λ xs. IsTable xs new more) (sym taken)
-          (table-push (take i ts) t old new table more rn (part_of_node (bits_at table) old.next node) (numbers bits.items) h.table_
+          (table-push (take i ts) t old new table more rn (circuit_of_node (bits_at table) old.next node) (numbers bits.items) h.table_
           (length-take-le i ts (omega arith) ∙ sym rows-count) pushed part a);
       widths = λ k u lt e. elim (cases_lt k i) [
         | inl b ↦ ap (λ rs. length (unwrap_or (slice_get rs k) [])) pushed ∙ ap (λ x. length (unwrap_or x [])) (snoc-old rn (numbers bits.items) k (omega arith)) ∙ h.widths k u b e

@@ -7,7 +7,7 @@ use Rattle.bv_terms.specs.TermTrees.{Term, Args, constant, input, apply, not_, b
 use Rattle.bit_blast.specs.Clauses.{op_number, same_term, same_args, is_among, leave, walk, walk_args}
 use Rattle.bit_blast.specs.Seen.{Seen, ArgsSeen}
 
-same-op : (o p : TermOp) → op_number o ≡ op_number p → o ≡ p
+pub same-op : (o p : TermOp) → op_number o ≡ op_number p → o ≡ p
 same-op Add Add e = refl
 same-op Add Sub e = absurd (omega arith)
 same-op Add And e = absurd (omega arith)

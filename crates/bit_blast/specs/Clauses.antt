@@ -1,11 +1,12 @@
--- Cited by the laws on walks and by private clauses: the clauses of a goal, in their order. It follows the section "Clauses" of docs/CLAUSES.md.
+-- Cited by the clauses of `blast`, by the laws on clauses and on walks, and by private clauses: the clauses of a goal, in their
+-- order. It follows the section "Clauses" of docs/CLAUSES.md.
 use Rattle.std.specs.Prelude.{◌≡◌, ℕ, ◌+◌, ◌-◌, ◌==◌, ◌&&◌, Bool, true, false, ℤ, List, [], ◌∷◌, ◌++◌, map, take, drop, fold, length, if◌then◌else◌, slice_index_or}
 use Rattle.std.specs.List.{list_any}
 use Rattle.bv_terms.specs.declared.node.TermOp.{TermOp}
 use Rattle.bv_terms.specs.declared.node.TermOp.TheVariants.{Add, Sub, And, Or, Xor, Concat, Equal, Less}
 use Rattle.bv_terms.specs.TermTrees.{Term, Args, constant, input, apply, not_, binary, slice, pick, no_args, arg}
 use Rattle.cnf_core.specs.Literals.{opposite}
-use Rattle.bit_blast.specs.Gates.{Part, and_gate, or_gate, xor_gate, choice_gate, true_bit, false_bit, constant_bits, fresh, plain, bitwise, sums, equals, less_from}
+use Rattle.bit_blast.specs.Gates.{Circuit, and_gate, or_gate, xor_gate, choice_gate, true_bit, false_bit, constant_bits, fresh, plain, bitwise, sums, equals, less_from}
 
 -- ---- equal terms: equal by structure, inputs by their numbers
 
@@ -65,7 +66,7 @@ abbrev mutual
 abbrev pub first_bit : List ℤ → ℤ
 first_bit bits = slice_index_or bits 0 true_bit
 
-abbrev pub joined : TermOp → (n : ℕ) → (a b : List ℤ) → Part
+abbrev pub joined : TermOp → (n : ℕ) → (a b : List ℤ) → Circuit
 joined Add n a b = sums n false_bit a b
 joined Sub n a b = sums n true_bit a (map opposite b)
 joined And n a b = bitwise and_gate n a b
@@ -81,14 +82,14 @@ OperandsMatch Concat v w = Unit {0}
 OperandsMatch op v w = v ≡ w
 
 -- the bits and gates of a term, given the bits of its parts. A goal has no applications
-abbrev pub part_of : (Term → List ℤ) → (n : ℕ) → Term → Part
-part_of bits n (constant w v) = plain (constant_bits w v) n
-part_of bits n (input i w) = plain (fresh n w) (n + w)
-part_of bits n (apply f args w) = plain [] n
-part_of bits n (not_ a) = plain (map opposite (bits a)) n
-part_of bits n (binary op a b) = joined op n (bits a) (bits b)
-part_of bits n (slice a high low) = plain (take (high - low + 1) (drop low (bits a))) n
-part_of bits n (pick c a b) = bitwise (choice_gate (first_bit (bits c))) n (bits a) (bits b)
+abbrev pub circuit_of : (Term → List ℤ) → (n : ℕ) → Term → Circuit
+circuit_of bits n (constant w v) = plain (constant_bits w v) n
+circuit_of bits n (input i w) = plain (fresh n w) (n + w)
+circuit_of bits n (apply f args w) = plain [] n
+circuit_of bits n (not_ a) = plain (map opposite (bits a)) n
+circuit_of bits n (binary op a b) = joined op n (bits a) (bits b)
+circuit_of bits n (slice a high low) = plain (take (high - low + 1) (drop low (bits a))) n
+circuit_of bits n (pick c a b) = bitwise (choice_gate (first_bit (bits c))) n (bits a) (bits b)
 
 -- terms with their bits, the clauses of their gates, and the variable that is free after them
 pub record Blasted : Type 0 where
@@ -101,15 +102,15 @@ abbrev pub bits_in : List (Term × List ℤ) → Term → List ℤ
 bits_in [] t = []
 bits_in (row ∷ rows) t = if same_term row.0 t then row.1 else bits_in rows t
 
-abbrev pub with_part : Blasted → Term → Part → Blasted
-with_part s t p = record {
+abbrev pub with_circuit : Blasted → Term → Circuit → Blasted
+with_circuit s t p = record {
   table = s.table ++ (t, p.bits) ∷ [];
   clauses = s.clauses ++ p.clauses;
   next = p.next;
 }
 
 abbrev pub with_term : Blasted → Term → Blasted
-with_term s t = with_part s t (part_of (bits_in s.table) s.next t)
+with_term s t = with_circuit s t (circuit_of (bits_in s.table) s.next t)
 
 -- variable 1 is the constant
 abbrev pub blasted : List Term → Blasted

@@ -1,15 +1,25 @@
--- Cited by private clauses: how many variables and clauses a part has.
-use Rattle.std.specs.Prelude.{◌≡◌, ℕ, ◌+◌, length}
+-- Cited by private clauses: how many clauses terms have, by their operators and widths.
+use Rattle.std.specs.Prelude.{ℕ, ◌+◌, ◌*◌, ◌-◌, List, [], ◌∷◌}
 use Rattle.bv_terms.specs.declared.node.TermOp.{TermOp}
-use Rattle.bv_terms.specs.declared.node.TermOp.TheVariants.{Concat}
-use Rattle.bit_blast.specs.Gates.{Part}
+use Rattle.bv_terms.specs.declared.node.TermOp.TheVariants.{Add, Sub, And, Or, Xor, Concat, Equal, Less}
+use Rattle.bv_terms.specs.TermTrees.{Term, binary, pick, width}
 
--- a part whose first variable is n
-pub record HasCount (p : Part) (n vars clauses : ℕ) : Type 0 where
-  pub next : p.next ≡ n + vars
-  pub count : length p.clauses ≡ clauses
+abbrev pub operator_clauses : TermOp → (width : ℕ) → ℕ
+operator_clauses Add w = 14 * w
+operator_clauses Sub w = 14 * w
+operator_clauses And w = 3 * w
+operator_clauses Or w = 3 * w
+operator_clauses Xor w = 4 * w
+operator_clauses Concat w = 0
+operator_clauses Equal w = 7 * w - 3
+operator_clauses Less w = 10 * w
 
--- operands of a width
-abbrev pub OperandsCount : TermOp → (width v w : ℕ) → Type 0
-OperandsCount Concat width v w = Unit {0}
-OperandsCount op width v w = (v ≡ width) × (w ≡ width)
+-- the clauses of a term's own gates
+abbrev pub term_clauses : Term → ℕ
+term_clauses (binary op a b) = operator_clauses op (width a)
+term_clauses (pick c a b) = 6 * width a
+term_clauses t = 0
+
+abbrev pub total_clauses : List Term → ℕ
+total_clauses [] = 0
+total_clauses (t ∷ ts) = term_clauses t + total_clauses ts

@@ -1,11 +1,12 @@
--- Cited by private clauses: the gates that code has made so far, as the definitions see them.
+-- Cited by private clauses, and `numbers` by what `InputMap` stands for: the gates that code has made so far, as the
+-- definitions see them.
 use Rattle.std.specs.Prelude.{◌≡◌, ℕ, ◌+◌, ℤ, pos, List, ◌++◌, map}
 use Rattle.cnf_core.specs.Clauses.{literals}
 use Rattle.bit_blast.specs.declared.bit.Bit.{Bit}
 use Rattle.bit_blast.specs.declared.made.Gates.{Gates}
 use Rattle.bit_blast.specs.declared.joining.BitGate.{BitGate}
 use Rattle.bit_blast.specs.declared.joining.BitGate.TheVariants.{And, Or, Xor, Choice}
-use Rattle.bit_blast.specs.Gates.{Part, and_gate, or_gate, xor_gate, choice_gate, carry_gate}
+use Rattle.bit_blast.specs.Gates.{Circuit, and_gate, or_gate, xor_gate, choice_gate, carry_gate}
 
 abbrev pub numbers : List Bit → List ℤ
 numbers bits = map (λ (b : Bit). b.number) bits
@@ -20,10 +21,10 @@ pub record IsGate (old new : Gates) (clauses : List (List ℤ)) (bit : ℤ) : Ty
   pub listed_ : listed new ≡ listed old ++ clauses
 
 -- the gates of some bits more
-pub record AreGates (old new : Gates) (part : Part) (bits : List ℤ) : Type 0 where
-  pub are : bits ≡ part.bits
-  pub next : new.next ≡ part.next
-  pub listed_ : listed new ≡ listed old ++ part.clauses
+pub record AreGates (old new : Gates) (circuit : Circuit) (bits : List ℤ) : Type 0 where
+  pub are : bits ≡ circuit.bits
+  pub next : new.next ≡ circuit.next
+  pub listed_ : listed new ≡ listed old ++ circuit.clauses
 
 -- one gate a bit, by one of these
 abbrev pub gate_of : BitGate → (g a b : ℤ) → List (List ℤ)
@@ -49,8 +50,8 @@ pub record IsPair (old new : Gates) (clauses : List (List ℤ)) (bit : ℤ) : Ty
   pub next : new.next ≡ old.next + 2
   pub listed_ : listed new ≡ listed old ++ clauses
 
--- a whole whose first bits and gates are made, and the rest is to come
-pub record Continues (old now : Gates) (whole rest : Part) (made : List ℤ) : Type 0 where
+-- a circuit whose first bits and gates are made, and the rest is to come
+pub record Continues (old now : Gates) (whole rest : Circuit) (made : List ℤ) : Type 0 where
   pub bits_ : whole.bits ≡ made ++ rest.bits
   pub clauses_ : listed old ++ whole.clauses ≡ listed now ++ rest.clauses
   pub next_ : whole.next ≡ rest.next

@@ -1,4 +1,4 @@
--- Cited by the laws on gates and by private clauses: gates as clauses, and how bits are joined by them, from bit 0 on.
+-- Cited by the laws on gates, by the definition of the clauses and by private clauses: gates as clauses, and how bits are joined by them, from bit 0 on.
 -- A literal is a signed number, as DIMACS writes it. It follows the section "Clauses" of docs/CLAUSES.md, clause by clause.
 use Rattle.std.specs.Prelude.{ℕ, ◌+◌, ◌/◌, ◌%◌, ◌==◌, zero, suc, ℤ, pos, negsuc, List, [], ◌∷◌, ◌++◌, if◌then◌else◌}
 use Rattle.cnf_core.specs.Literals.{opposite}
@@ -59,27 +59,27 @@ fresh n (suc w) = pos n ∷ fresh (suc n) w
 
 -- ---- bits by gates
 
--- bits, the clauses of their gates, and the variable that is free after them
-pub record Part : Type 0 where
+-- bits with the clauses of their gates, and the variable that is free after them
+pub record Circuit : Type 0 where
   pub bits : List ℤ
   pub clauses : List (List ℤ)
   pub next : ℕ
 
 -- bits that take no gate
-abbrev pub plain : List ℤ → ℕ → Part
+abbrev pub plain : List ℤ → ℕ → Circuit
 plain bits n = record { bits = bits; clauses = []; next = n }
 
--- bits and clauses, and then those of a part
-abbrev pub before : List ℤ → List (List ℤ) → Part → Part
+-- bits and clauses, and then those of a circuit
+abbrev pub before : List ℤ → List (List ℤ) → Circuit → Circuit
 before bits clauses p = record { bits = bits ++ p.bits; clauses = clauses ++ p.clauses; next = p.next }
 
 -- one gate a bit
-abbrev pub bitwise : (ℤ → ℤ → ℤ → List (List ℤ)) → (n : ℕ) → (xs ys : List ℤ) → Part
+abbrev pub bitwise : (ℤ → ℤ → ℤ → List (List ℤ)) → (n : ℕ) → (xs ys : List ℤ) → Circuit
 bitwise gate n (a ∷ xs) (b ∷ ys) = before (pos n ∷ []) (gate (pos n) a b) (bitwise gate (n + 1) xs ys)
 bitwise gate n xs ys = plain [] n
 
 -- a sum with a carry from below: the XOR of the operands, the XOR with the carry below, the carry
-abbrev pub sums : (n : ℕ) → (below : ℤ) → (xs ys : List ℤ) → Part
+abbrev pub sums : (n : ℕ) → (below : ℤ) → (xs ys : List ℤ) → Circuit
 sums n below (a ∷ xs) (b ∷ ys) =
     before (pos (n + 1) ∷ [])
     (xor_gate (pos n) a b ++ xor_gate (pos (n + 1)) (pos n) below ++ carry_gate (pos (n + 2)) a b below)
@@ -87,18 +87,18 @@ sums n below (a ∷ xs) (b ∷ ys) =
 sums n below xs ys = plain [] n
 
 -- the chain so far, and at each bit the equality and then the AND with the chain
-abbrev pub equals_from : (n : ℕ) → (chain : ℤ) → (xs ys : List ℤ) → Part
+abbrev pub equals_from : (n : ℕ) → (chain : ℤ) → (xs ys : List ℤ) → Circuit
 equals_from n chain (a ∷ xs) (b ∷ ys) =
     before [] (same_gate (pos n) a b ++ and_gate (pos (n + 1)) chain (pos n)) (equals_from (n + 2) (pos (n + 1)) xs ys)
 equals_from n chain xs ys = plain (chain ∷ []) n
 
 -- the first equality stands for itself
-abbrev pub equals : (n : ℕ) → (xs ys : List ℤ) → Part
+abbrev pub equals : (n : ℕ) → (xs ys : List ℤ) → Circuit
 equals n (a ∷ xs) (b ∷ ys) = before [] (same_gate (pos n) a b) (equals_from (n + 1) (pos n) xs ys)
 equals n xs ys = plain (true_bit ∷ []) n
 
 -- at each bit the XOR, and then the choice: the second operand's bit where they differ, else the answer below
-abbrev pub less_from : (n : ℕ) → (below : ℤ) → (xs ys : List ℤ) → Part
+abbrev pub less_from : (n : ℕ) → (below : ℤ) → (xs ys : List ℤ) → Circuit
 less_from n below (a ∷ xs) (b ∷ ys) =
     before [] (xor_gate (pos n) a b ++ choice_gate (pos n) (pos (n + 1)) b below)
     (less_from (n + 2) (pos (n + 1)) xs ys)

@@ -6,3 +6,8 @@ pub mod Tables
 pub mod Counts
 pub mod Orders
 pub mod Seen
+pub mod Goals
+pub mod Walks
+pub mod Readings
+pub mod Blasting
+pub mod InputTables

@@ -1,4 +1,4 @@
--- Cited by the laws of gates: under which values of literals clauses hold.
+-- Cited by the laws on gates and on clauses: under which values of literals clauses hold.
 use Rattle.std.specs.Prelude.{◌≡◌, ◌≢◌, ℤ, pos, Bool, not, List}
 use Rattle.std.specs.List.{list_all, list_any}
 use Rattle.cnf_core.specs.Literals.{opposite}

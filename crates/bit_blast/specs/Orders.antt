@@ -7,10 +7,8 @@ use Rattle.bv_terms.specs.TermTrees.{Term, width}
 use Rattle.bv_terms.specs.Arenas.{IsArena, parts, term_at}
 use Rattle.bit_blast.specs.declared.made.Gates.{Gates}
 use Rattle.bit_blast.specs.declared.table.Table.{Table}
-use Rattle.bit_blast.specs.Clauses.{same_term, blasted, clauses_of, vars_of}
+use Rattle.bit_blast.specs.Clauses.{same_term, blasted}
 use Rattle.bit_blast.specs.Gates.{true_bit}
-use Rattle.cnf_core.specs.declared.clauses.Cnf.{Cnf}
-use Rattle.cnf_core.specs.Clauses.{literals}
 use Rattle.bit_blast.specs.Emitted.{numbers, listed}
 
 -- the index of the first of some terms that is equal
@@ -62,8 +60,3 @@ pub record IsEmitted (nodes : List Node) (order : List ℕ) (indices : List (Opt
   pub table_ : IsTable (take i (terms_of nodes order)) gates table
   pub widths : (k : ℕ) (t : Term) → k < i → slice_get (terms_of nodes order) k ≡ Some t
       → length (unwrap_or (slice_get (row_numbers table) k) []) ≡ width t
-
--- the whole list of a goal, and how many variables it has
-pub record IsClauses (cnf : Cnf) (goal : Term) : Type 0 where
-  pub clauses_are : map literals cnf.clauses ≡ clauses_of goal
-  pub vars_are : cnf.vars ≡ vars_of goal

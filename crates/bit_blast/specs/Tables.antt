@@ -4,7 +4,7 @@ use Rattle.bv_terms.specs.declared.node.Node.{Node}
 use Rattle.bv_terms.specs.declared.node.Node.TheVariants.{Constant, Input, Apply, Not, Binary, Slice, Pick}
 use Rattle.cnf_core.specs.Literals.{opposite}
 use Rattle.bit_blast.specs.declared.table.Table.{Table}
-use Rattle.bit_blast.specs.Gates.{Part, choice_gate, constant_bits, fresh, plain, bitwise}
+use Rattle.bit_blast.specs.Gates.{Circuit, choice_gate, constant_bits, fresh, plain, bitwise}
 use Rattle.bit_blast.specs.Clauses.{OperandsMatch, first_bit, joined}
 use Rattle.bit_blast.specs.Emitted.{numbers}
 
@@ -35,12 +35,12 @@ HasBits t (Binary op a b) =
 HasBits t (Slice a high low) = HasRow t a × (low ≤ high) × (high < count_at t a)
 HasBits t (Pick c a b) = HasRow t c × HasRow t a × HasRow t b × (0 < count_at t c) × (count_at t a ≡ count_at t b)
 
--- the bits and gates of a node, by those of its parts, as `part_of` gives them of the node's term
-abbrev pub part_of_node : (ℕ → List ℤ) → (n : ℕ) → Node → Part
-part_of_node bits n (Constant b) = plain (constant_bits b.width b.value) n
-part_of_node bits n (Input i w) = plain (fresh n w) (n + w)
-part_of_node bits n (Apply f args w) = plain [] n
-part_of_node bits n (Not a) = plain (map opposite (bits a)) n
-part_of_node bits n (Binary op a b) = joined op n (bits a) (bits b)
-part_of_node bits n (Slice a high low) = plain (take (high - low + 1) (drop low (bits a))) n
-part_of_node bits n (Pick c a b) = bitwise (choice_gate (first_bit (bits c))) n (bits a) (bits b)
+-- the bits and gates of a node, by those of its parts, as `circuit_of` gives them of the node's term
+abbrev pub circuit_of_node : (ℕ → List ℤ) → (n : ℕ) → Node → Circuit
+circuit_of_node bits n (Constant b) = plain (constant_bits b.width b.value) n
+circuit_of_node bits n (Input i w) = plain (fresh n w) (n + w)
+circuit_of_node bits n (Apply f args w) = plain [] n
+circuit_of_node bits n (Not a) = plain (map opposite (bits a)) n
+circuit_of_node bits n (Binary op a b) = joined op n (bits a) (bits b)
+circuit_of_node bits n (Slice a high low) = plain (take (high - low + 1) (drop low (bits a))) n
+circuit_of_node bits n (Pick c a b) = bitwise (choice_gate (first_bit (bits c))) n (bits a) (bits b)

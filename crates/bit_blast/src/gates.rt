@@ -1,5 +1,5 @@
 //! Gates, each with its clauses.
-ghost use Rattle.std.specs.Prelude.{◌≡◌, ◌++◌, ◌∷◌, ◌-◌, [], IfOk, OnOk, map, pos};
+ghost use Rattle.std.specs.Prelude.{◌≡◌, ◌<◌, ◌^◌, ◌++◌, ◌∷◌, ◌-◌, [], IfOk, OnOk, map, pos};
 ghost use Rattle.cnf_core.specs.Clauses.{literals};
 ghost use Rattle.bit_blast.specs.Gates as gates;
 ghost use Rattle.bit_blast.specs.Emitted.{IsGate, listed, numbers};
@@ -38,6 +38,7 @@ impl Gates {
     pub(crate) fn into_cnf(self) -> Cnf
         ensures clauses { map literals result.clauses ≡ listed self }
         ensures vars { result.vars ≡ self.next - 1 }
+        ensures small { result.vars < 2 ^ 31 }
     {
         Cnf {
             vars: self.next - 1,

@@ -1,5 +1,5 @@
 //! What the definitions say of terms, walks and gates. The functions do nothing; their contracts are the laws.
-ghost use Rattle.std.specs.Prelude.{◌≡◌, ◌≢◌, ◌&&◌, ◌||◌, [], ◌∷◌, Bool, List, if◌then◌else◌, negsuc, not, pos, true, ℤ};
+ghost use Rattle.std.specs.Prelude.{◌≡◌, ◌≢◌, ◌↔◌, IsTrue, ℕ, length, ◌&&◌, ◌||◌, [], ◌∷◌, Bool, List, if◌then◌else◌, negsuc, not, pos, true, ℤ};
 ghost use Rattle.bv_terms.specs.TermTrees.{Term, binary, input};
 ghost use Rattle.bv_terms.specs.declared.node.TermOp.TheVariants.{And};
 ghost use Rattle.bit_blast.specs.Clauses.{clauses_of, same_term, vars_of, walk};
@@ -7,6 +7,14 @@ ghost use Rattle.bit_blast.specs.Seen.{Seen};
 ghost use Rattle.std.specs.Bool.{beq};
 ghost use Rattle.bit_blast.specs.Gates.{and_gate, carry_gate, choice_gate, or_gate, same_gate, xor_gate};
 ghost use Rattle.bit_blast.specs.Meanings.{IsValuation, all_hold};
+ghost use Rattle.bit_blast.specs.Blasting.{IsClauses};
+ghost use Rattle.bit_blast.specs.Goals.{IsGoal};
+ghost use Rattle.bit_blast.specs.Readings.{Extends, HasInput, InputsFit, ReadsAs, input_bits};
+ghost use Rattle.bv_terms.specs.TermValues.{Functions, Inputs, term_value};
+ghost use Rattle.cnf_core.specs.Satisfying.{Satisfies, makes_true};
+ghost use Rattle.cnf_core.specs.declared.clauses.Assignment.{Assignment};
+ghost use Rattle.cnf_core.specs.declared.clauses.Cnf.{Cnf};
+ghost use Rattle.cocoon_num.specs.Values.{number};
 
 /// Terms are told apart by how they are built, inputs by their numbers.
 pub fn equal_terms_are_the_same()
@@ -43,4 +51,30 @@ pub fn gates_mean_their_operations()
     ensures carry { (v : ℤ → Bool) → IsValuation v → (g a b c : ℤ)
         → g ≢ pos 0 → a ≢ pos 0 → b ≢ pos 0 → c ≢ pos 0
         → all_hold v (carry_gate g a b c) ≡ beq (v g) (v a && v b || v a && v c || v b && v c) }
+{}
+
+/// Both directions: values of the inputs extend to an assignment under which the clauses hold exactly where the goal is
+/// true of them, and from each such assignment values are read of which the goal is true.
+pub fn clauses_mean_the_goal()
+    ensures reads { (goal : Term) → IsGoal goal → (a : Assignment)
+        → IsTrue (all_hold (makes_true a) (clauses_of goal))
+        → (F : Functions) (ins : Inputs) → ReadsAs goal (makes_true a) ins
+        → term_value F ins goal ≡ number 1 1 }
+    ensures extends { (goal : Term) → IsGoal goal → (F : Functions) (ins : Inputs)
+        → InputsFit goal ins
+        → ((a : Assignment) × Extends goal ins a) ↔ (term_value F ins goal ≡ number 1 1) }
+{}
+
+/// To satisfy the clauses that are made is to make the clauses of the goal hold.
+pub fn satisfying_is_making_hold()
+    ensures { (cnf : Cnf) (goal : Term) → IsClauses cnf goal → (a : Assignment)
+        → Satisfies a cnf ↔ IsTrue (all_hold (makes_true a) (clauses_of goal)) }
+{}
+
+/// An input of a goal has a literal for each of its bits. Any other has none, so it is read as 0.
+pub fn inputs_have_their_bits()
+    ensures present { (goal : Term) → IsGoal goal → (i w : ℕ) → HasInput goal i w
+        → length (input_bits goal i w) ≡ w }
+    ensures absent { (goal : Term) → IsGoal goal → (i w : ℕ) → (HasInput goal i w → ⊥)
+        → input_bits goal i w ≡ [] }
 {}

@@ -2,11 +2,18 @@
 #![tactic(auto)]
 
 mod bit;
+pub mod blasting;
 mod counts;
 mod emit;
 mod gates;
+mod input_bits;
+pub mod inputs;
 mod joining;
 pub mod laws;
 mod made;
 mod parts;
 mod table;
+mod walk;
+
+pub use blasting::{BlastFault, blast};
+pub use inputs::InputMap;

@@ -1,5 +1,5 @@
 //! What was made of the terms so far.
-ghost use Rattle.std.specs.Prelude.{◌≤◌};
+ghost use Rattle.std.specs.Prelude.{◌≤◌, ◌^◌};
 
 use cnf_core::Clause;
 
@@ -9,4 +9,5 @@ pub(crate) struct Gates {
     pub(crate) clauses: Vec<Clause>,
     pub(crate) next: u32,
     ghost first: { 1 ≤ next },
+    ghost last: { next ≤ 2 ^ 31 },
 }

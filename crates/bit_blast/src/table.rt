@@ -1,7 +1,7 @@
 //! The bits of the terms so far.
 ghost use Rattle.std.specs.Prelude.{◌≡◌, IfOk, length};
 ghost use Rattle.bit_blast.specs.Emitted.{AreGates, numbers};
-ghost use Rattle.bit_blast.specs.Tables.{HasBits, HasRow, bits_at, part_of_node};
+ghost use Rattle.bit_blast.specs.Tables.{HasBits, HasRow, bits_at, index_at, circuit_of_node};
 
 use crate::bit::Bit;
 use crate::joining::{BitGate, flipped};
@@ -15,7 +15,7 @@ use std::alloc::Global;
 #[derive(Drop)]
 pub(crate) struct Table {
     pub(crate) rows: Vec<Vec<Bit>>,
-    pub(crate) indices: Vec<Option<u32>>,
+    pub(crate) indices: Vec<Option<usize>>,
 }
 
 impl Table {
@@ -24,8 +24,32 @@ impl Table {
         ensures { numbers result.now ≡ bits_at self.now term }
     {
         match self.indices[term as usize] {
-            Some(index) => &self.rows[index as usize],
+            Some(index) => &self.rows[index],
             None => unreachable!(),
+        }
+    }
+}
+
+impl Table {
+    fn index(&self, term: TermId) -> Option<usize>
+        ensures { result ≡ index_at self.now term }
+    {
+        match self.indices.get(term as usize) {
+            Some(index) => *index,
+            None => None,
+        }
+    }
+
+    /// The bits of a term, none if it has no place.
+    pub(crate) fn copy_bits(&self, alloc: Global, term: TermId) -> Result<Vec<Bit>, NoMemory>
+        ensures { IfOk result (λ bits. numbers bits.items ≡ bits_at self.now term) }
+    {
+        let Some(index) = self.index(term) else {
+            return Ok(Vec::new(alloc));
+        };
+        match self.rows.get(index) {
+            Some(bits) => Ok(Vec::from_slice(alloc, bits)?),
+            None => Ok(Vec::new(alloc)),
         }
     }
 }
@@ -40,7 +64,7 @@ impl Gates {
     ) -> Result<Vec<Bit>, NoMemory>
         requires { HasBits table.now node.now }
         ensures { IfOk result (λ bits. AreGates self.old self.new
-            (part_of_node (bits_at table.now) self.old.next node.now) (numbers bits.items)) }
+            (circuit_of_node (bits_at table.now) self.old.next node.now) (numbers bits.items)) }
     {
         match node {
             Node::Constant(value) => constant_bits(alloc, value.width, value.value),

@@ -11,10 +11,10 @@ use Rattle.bv_terms.specs.TermValues.{Functions, Inputs, number_in, as_number, o
 pub HasWidth : ℕ → Value → Type 0
 HasWidth w v = (n : ℕ) × (v ≡ number w n)
 
-computed : (f : ℕ → ℕ → ℕ → ℕ) (v w m n : ℕ) → v ≡ w → as_number (worked (computes f) (number v m) (number w n)) ≡ number v (f w m n)
+pub computed : (f : ℕ → ℕ → ℕ → ℕ) (v w m n : ℕ) → v ≡ w → as_number (worked (computes f) (number v m) (number w n)) ≡ number v (f w m n)
 computed f v w m n e = rw (eq-eqb v w e) (ap (λ k. number k (f w m n)) (sym e))
 
-compared : (f : ℕ → ℕ → Bool) (v w m n : ℕ) → v ≡ w → as_number (worked (compares f) (number v m) (number w n)) ≡ number 1 (number_in (truth (f m n)))
+pub compared : (f : ℕ → ℕ → Bool) (v w m n : ℕ) → v ≡ w → as_number (worked (compares f) (number v m) (number w n)) ≡ number 1 (number_in (truth (f m n)))
 compared f v w m n e = rw (eq-eqb v w e) refl
 
 operated-width : (op : TermOp) (v w m n : ℕ) → OperandsFit op v w → (k : ℕ) × (operated op (number v m) (number w n) ≡ number (joined_width op v w) k)
@@ -27,7 +27,7 @@ operated-width Concat v w m n e = (m * 2 ^ w + n, rw (le-leb (v + w) 128 e) refl
 operated-width Equal v w m n e = (_, compared (λ a b. a == b) v w m n e)
 operated-width Less v w m n e = (_, compared (λ a b. nat_lt a b) v w m n e)
 
-sliced-width : (w n high low : ℕ) → low ≤ high → high < w → as_number (apply_slice (number w n) high low) ≡ number (high - low + 1) (n / 2 ^ low % 2 ^ (high - low + 1))
+pub sliced-width : (w n high low : ℕ) → low ≤ high → high < w → as_number (apply_slice (number w n) high low) ≡ number (high - low + 1) (n / 2 ^ low % 2 ^ (high - low + 1))
 sliced-width w n high low h k = rw (and_from (nat_le low high) (nat_lt high w) (le-leb low high h) (lt-ltb high w k)) refl
 
 pub HasWidth-along : (v w : ℕ) (x : Value) → v ≡ w → (n : ℕ) × (x ≡ number v n) → (n : ℕ) × (x ≡ number w n)

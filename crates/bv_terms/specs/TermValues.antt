@@ -6,15 +6,15 @@ use Rattle.bv_terms.specs.declared.node.TermOp.{TermOp}
 use Rattle.bv_terms.specs.declared.node.TermOp.TheVariants.{Add, Sub, And, Or, Xor, Concat, Equal, Less}
 use Rattle.bv_terms.specs.TermTrees.{Term, Args, constant, input, apply, not_, binary, slice, pick, no_args, arg}
 
--- the number of each input
+-- the value of each input, as a number
 abbrev pub Inputs : Type 0
 Inputs = ℕ → ℕ
 
--- the number of each function at arguments
+-- the value of each function at arguments, as a number
 abbrev pub Functions : Type 0
 Functions = ℕ → List ℕ → ℕ
 
--- the number of a value: truth is 1
+-- a value as a number: truth is 1
 abbrev pub number_in : Value → ℕ
 number_in (number w n) = n
 number_in (truth b) = if b then 1 else 0

@@ -8,7 +8,7 @@ use cocoon_num::{Bits, List, NoMemory};
 use std::alloc::Global;
 use std::marker::Model;
 
-/// Terms, each under the number of its place. A term is put in once and stays.
+/// Terms, each under the number of its place. A term that was put in stays. Equal terms may stand under several numbers.
 #[derive(Drop)]
 pub struct Terms {
     nodes: Vec<Node>,
@@ -194,10 +194,10 @@ impl Terms {
     }
 
     /// How many inputs there are.
-    pub(crate) fn input_count(&self) -> usize
+    pub fn input_count(&self) -> u32
         ensures { result ≡ inputs_in self.now }
     {
-        self.inputs.len()
+        self.inputs.len() as u32
     }
 
     /// The term of an input.

@@ -70,7 +70,7 @@ impl Terms {
         ensures { IfOk result (λ table. IsTable self.now from.now to.now table.items) }
     {
         let mut table = Vec::new(alloc);
-        table.resize(self.input_count(), None)?;
+        table.resize(self.input_count() as usize, None)?;
         let mut at = from.len();
         while at > 0 {
             at -= 1;

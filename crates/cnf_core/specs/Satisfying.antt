@@ -19,7 +19,7 @@ satisfies_clause a c = list_any (makes_true a) (literals c)
 abbrev pub Satisfies : Assignment → Cnf → Type 0
 Satisfies a cnf = All (λ c. IsTrue (satisfies_clause a c)) cnf.clauses
 
--- the condition of every call on clauses: each literal names a variable from 1 to `vars`
+-- the condition of every call on clauses: each literal names a variable from 1 to `vars`, and `vars` is below 2^31
 abbrev pub WellNamed : Cnf → Type 0
 WellNamed cnf = (cnf.vars < 2 ^ 31) × All (λ c. All (Names cnf.vars) (literals c)) cnf.clauses
 

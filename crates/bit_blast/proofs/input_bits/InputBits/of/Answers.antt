@@ -1,0 +1,7 @@
+use Rattle.bit_blast.proofs.InputFacts.{input-row}
+use Rattle.bit_blast.proofs.input_bits.InputBits.of.Goals as goal
+
+pub returns : goal.returns
+returns c =
+    input-row c.args.terms.now c.args.table.now c.args.input c.input_term-term.result c.width.result c.in_ok-copy_bits.field-0.items c.requires.table.arena c.input_term-term.ensures
+    c.width.ensures c.in_ok-copy_bits.ensures
