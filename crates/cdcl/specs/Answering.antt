@@ -9,12 +9,12 @@ use Rattle.cdcl.specs.declared.answer.Answer.{Answer}
 use Rattle.cdcl.specs.declared.answer.Answer.TheVariants.{Satisfied, Spent, Unsat}
 
 -- it derives the empty clause, in so many steps at most, and each but the last brings a new clause
-pub record Refuted (cnf : Cnf) (conflicts : ℕ) (log : Log) : Type 0 where
+pub record Refutation (cnf : Cnf) (conflicts : ℕ) (log : Log) : Type 0 where
   pub within : length log.steps ≤ conflicts
   pub derives : Derives cnf log
   pub new : (k : ℕ) → k + 1 < length log.steps → BringsNew cnf log.steps k
 
 abbrev pub Answers : Cnf → (conflicts : ℕ) → Answer → Type 0
 Answers cnf conflicts (Satisfied assignment) = HasAllValues cnf assignment × Satisfies assignment cnf
-Answers cnf conflicts (Unsat log) = Refuted cnf conflicts log
+Answers cnf conflicts (Unsat log) = Refutation cnf conflicts log
 Answers cnf conflicts (Spent log) = Licensed cnf log conflicts

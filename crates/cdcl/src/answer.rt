@@ -18,7 +18,7 @@ pub enum Answer {
     Spent(Log),
 }
 
-/// Searches until there have been this many conflicts.
+/// Searches through at most so many conflicts.
 pub fn solve(alloc: Global, cnf: &Cnf, conflicts: u64) -> Result<Answer, NoMemory>
     requires named { WellNamed cnf.now }
     requires some { 1 ≤ conflicts }

@@ -151,11 +151,12 @@ impl Search {
         }
     }
 
-    /// The first variable that has no value.
+    /// The last variable that has no value. Clauses of goals number a gate after what it is made of, so it is one near the
+    /// goal.
     fn next_decision(&self) -> Option<Lit>
         ensures { Decides (room self.now.trail) (trues self.now.trail) result }
     {
-        for index in 0..self.trail.vars() {
+        for index in (0..self.trail.vars()).rev() {
             let lit = positive(index + 1);
             if !has_value(&self.trail, lit) {
                 return Some(lit);
