@@ -1,0 +1,12 @@
+use Rattle.lower_body.proofs.Numbers as numbers
+use Rattle.lower_body.specs.Lower.{callees}
+use Rattle.lower_body.proofs.all_numbered.Goals as goal
+
+pub returns-clause-placed : goal.returns-clause-placed
+returns-clause-placed c headers fs port b vars n = (numbers.block_grows (callees headers fs port) (numbers.calls_grow headers fs port) b vars n).0
+
+pub returns-clause-forks : goal.returns-clause-forks
+returns-clause-forks c headers fs port b vars n = (numbers.block_grows (callees headers fs port) (numbers.calls_grow headers fs port) b vars n).1
+
+pub returns-clause-fields : goal.returns-clause-fields
+returns-clause-fields c a j b ms p = numbers.fields_at a j b ms p

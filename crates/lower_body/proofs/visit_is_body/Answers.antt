@@ -1,0 +1,5 @@
+use Rattle.lower_body.proofs.Visits as visits
+use Rattle.lower_body.proofs.visit_is_body.Goals as goal
+
+pub returns : goal.returns
+returns c r fill s p rows h tag port bytes fits = visits.visit_shows r fill s p rows h tag port bytes fits

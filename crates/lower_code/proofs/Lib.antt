@@ -1,0 +1,10 @@
+pub mod Names
+pub mod Readings
+pub mod Sizes
+pub mod Steps
+pub mod Found
+pub mod Fronts
+pub mod Forms
+pub mod BlockSteps
+pub mod Scoped
+pub mod SiteSteps

@@ -1,0 +1,4 @@
+pub mod Blocks
+pub mod Growth
+pub mod Scopes
+pub mod Variables
