@@ -1,0 +1,241 @@
+#!/usr/bin/env python3
+"""How long searches and the checks of logs take, and whether a plain program in C says the same of logs.
+
+    bench/search.py           all of it
+    bench/search.py FOLDER    the same, with the crates and the built program kept in this folder, for a later run
+
+It copies the crates that it needs, with the program `search.rt.txt`, and has `rt run` prove and build what is not kept on this machine. `cc` compiles
+`check_log.c`. MiniSat and CaDiCaL are asked where they are there.
+"""
+
+import pathlib
+import random
+import re
+import shutil
+import subprocess
+import sys
+import tempfile
+import time
+
+TOP = pathlib.Path(__file__).resolve().parent.parent
+DATA = TOP / "crates" / "solver_tests" / "data"
+NEEDED = ["cocoon_num", "cnf_core", "proof_check", "cdcl", "case_files", "bv_terms", "bit_blast"]
+DEPENDENCIES = "bit_blast bv_terms case_files cdcl cnf_core cocoon_num proof_check"
+# Each kind with growing sizes, up to the first that takes too long.
+FORMULAS = [
+    ("exchanged", [2, 4, 6, 8, 10, 12, 14]),
+    ("sums", [1, 2, 3, 4, 5]),
+    ("comparisons", [4, 8, 16, 32, 64, 128]),
+    ("choices", [2, 4, 8, 16, 32]),
+]
+SOLVERS = [("minisat", ["minisat", "-verb=0"]), ("cadical", ["cadical", "-q", "-n"])]
+MOST_SECONDS = 30
+
+
+def run(words, text=""):
+    return subprocess.run(words, input=text, stdout=subprocess.PIPE, stderr=subprocess.STDOUT, text=True, timeout=MOST_SECONDS).stdout
+
+
+def built(folder):
+    """The program, over copies of the crates. It reads texts and makes terms as the tests do."""
+    program = folder / "crates" / "search_time"
+    path = program / "out" / "search_time"
+    if path.exists():
+        return path
+    for name in NEEDED:
+        for part in ("src", "specs", "proofs"):
+            if (TOP / "crates" / name / part).is_dir():
+                shutil.copytree(TOP / "crates" / name / part, folder / "crates" / name / part)
+    tests = TOP / "crates" / "solver_tests"
+    for part in ("specs", "proofs"):
+        shutil.copytree(tests / part, program / part)
+    (program / "src").mkdir()
+    for name in ("building.rt", "reading.rt"):
+        shutil.copy(tests / "src" / name, program / "src")
+    for source in [*program.rglob("*.antt"), *program.rglob("*.rt")]:
+        source.write_text(source.read_text().replace("Rattle.solver_tests.", "Rattle.search_time."))
+    shutil.copy(TOP / "bench" / "search.rt.txt", program / "src" / "main.rt")
+    lines = [line for line in (TOP / "crates.txt").read_text().splitlines() if line.split(":")[0] in NEEDED]
+    (folder / "crates.txt").write_text("\n".join([*lines, f"search_time: {DEPENDENCIES}"]) + "\n")
+    said = subprocess.run(["rt", "run", "--", "clauses"], cwd=program, input="sums 1", stdout=subprocess.PIPE, stderr=subprocess.STDOUT, text=True).stdout
+    if not path.exists():
+        sys.exit(said)
+    return path
+
+
+def solved(program, text):
+    """What the search says of clauses: its answer, its steps, its microseconds, and its log."""
+    said = run([program, "solve"], text)
+    head, _, log = said.partition("\n")
+    _, answer, steps, micros = head.split(" ")
+    return answer, int(steps), int(micros), log
+
+
+def outside(text):
+    """The times of other solvers, with the start of their processes, and their answers."""
+    found = {}
+    for name, words in SOLVERS:
+        if shutil.which(name):
+            with tempfile.NamedTemporaryFile("w", suffix=".cnf") as file:
+                file.write(text)
+                file.flush()
+                before = time.monotonic()
+                said = run([*words, file.name])
+                found[name] = ("unsat" if "UNSAT" in said else "sat", round((time.monotonic() - before) * 1000))
+    return found
+
+
+def compared(program, checker, text):
+    """The answers of the two programs to a log, which have to be the same, and their microseconds."""
+    ours, micros, _, _ = run([program, "check"], text).split()
+    theirs, others = run([checker], text).split()
+    if ours != theirs:
+        sys.exit(f"the answers differ, {ours} and {theirs}, of\n{text}")
+    return ours, int(micros), int(others)
+
+
+def mutated(step, luck):
+    """A step with one hint left out, one literal turned, or two hints exchanged."""
+    literals, _, hints = step[2:].partition(":")
+    literals, hints = literals.split(), hints.split()
+    kind = luck.randrange(3)
+    if kind == 0 and hints:
+        hints.pop(luck.randrange(len(hints)))
+    elif kind == 1 and literals:
+        at = luck.randrange(len(literals))
+        literals[at] = str(-int(literals[at]))
+    elif hints:
+        one, two = luck.randrange(len(hints)), luck.randrange(len(hints))
+        hints[one], hints[two] = hints[two], hints[one]
+    return f"s {' '.join(literals)} : {' '.join(hints)}"
+
+
+def judge_logs(program, checker):
+    """Logs of the tests, those of the searches of the tests, and such with a change."""
+    luck = random.Random(23)
+    count = {"true": 0, "false": 0}
+    cases = [case for name in ("logs", "searches", "random") for case in (DATA / f"{name}.dimacs").read_text().split("\n\n")]
+    for case in cases:
+        texts = [case]
+        if case.startswith("c unsat"):
+            log = solved(program, case)[3].splitlines()
+            texts = ["\n".join([case, *log])]
+            for _ in range(10):
+                at = luck.randrange(len(log))
+                texts.append("\n".join([case, *log[:at], mutated(log[at], luck), *log[at + 1:]]))
+        for text in texts:
+            count[compared(program, checker, text.strip() + "\n")[0]] += 1
+    print(f"logs with the same answer: {count['true']} that derive the empty clause, and {count['false']} that do not")
+
+
+def instructions(words, function, text):
+    """The instructions of a function in one run, by valgrind; none where it is not there."""
+    if not shutil.which("valgrind"):
+        return None
+    with tempfile.NamedTemporaryFile() as file:
+        run(["valgrind", "--tool=callgrind", f"--callgrind-out-file={file.name}", *words], text)
+        found = re.search(rf"^ *([\d,]+) .*{function}", run(["callgrind_annotate", file.name]), re.MULTILINE)
+    return int(found[1].replace(",", "")) if found else None
+
+
+def long_log(hints):
+    """A log of so many hints: chains of implications, each derived anew from its links, and at the end the empty clause."""
+    length = 100
+    lines = [f"p cnf {length + 1 + hints // length} {length + 2}"]
+    lines += [f"-{at} {at + 1} 0" for at in range(1, length + 1)]
+    lines += ["1 0", f"-{length + 1} 0"]
+    chain = " ".join(str(at) for at in range(length))
+    lines += [f"s -1 {length + 1} : {chain}"] * (hints // length - 1)
+    lines.append(f"s : {length} {chain} {length + 1}")
+    return "\n".join(lines) + "\n"
+
+
+def wide_log(hints):
+    """A log of so many hints to clauses of ten literals, of which all but one are false."""
+    width, length = 9, 100
+    first = length + 1
+    names = range(first + 1, first + 1 + width)
+    lines = [f"p cnf {first + width} {length + width + 2}"]
+    false = " ".join(str(name) for name in names)
+    lines += [f"{false} -{at} {at + 1} 0" for at in range(1, length + 1)]
+    lines += [f"-{name} 0" for name in names]
+    lines += ["1 0", f"-{first} 0"]
+    chain = " ".join(str(at) for at in range(length))
+    lines += [f"s {false} -1 {first} : {chain}"] * (hints // length - 1)
+    units = " ".join(str(length + at) for at in range(width))
+    lines.append(f"s : {units} {length + width} {chain} {length + width + 1}")
+    return "\n".join(lines) + "\n"
+
+
+def searched_log(program, hints):
+    """A log with so many hints at least: that of a search, whose steps but the last are there again and again."""
+    clauses = run([program, "clauses"], "exchanged 8")
+    steps = solved(program, clauses)[3].splitlines()
+    count = sum(len(step.partition(":")[2].split()) for step in steps)
+    return "\n".join([clauses.strip(), *steps[:-1] * -(-hints // count), steps[-1]]) + "\n"
+
+
+def time_checks(program, checker):
+    logs = [
+        ("clauses of two literals", long_log(1_000_000)),
+        ("clauses of eleven literals", wide_log(1_000_000)),
+        ("the clauses of a search", searched_log(program, 1_000_000)),
+    ]
+    for kind, text in logs:
+        runs = [compared(program, checker, text) for _ in range(30)]
+        assert all(answer == "true" for answer, _, _ in runs)
+        ours, theirs = min(micros for _, micros, _ in runs), min(micros for _, _, micros in runs)
+        print(f"1,000,000 hints to {kind}: {ours / 1000:.1f} ms, in C {theirs / 1000:.1f} ms, ratio {ours / theirs:.2f}")
+        # The program makes both checks, and each of them derives the steps.
+        ours, theirs = instructions([program, "check"], "each_derived", text), instructions([checker], "derives", text)
+        if ours and theirs:
+            print(f"    {ours // 2:,} instructions, in C {theirs:,}, ratio {ours / 2 / theirs:.2f}")
+
+
+def time_search(program, name, text):
+    try:
+        answer, steps, micros, _ = solved(program, text)
+    except subprocess.TimeoutExpired:
+        print(f"{name}: longer than {MOST_SECONDS} s", flush=True)
+        return False
+    head = re.search(r"^p cnf (\d+) (\d+)$", text, re.MULTILINE)
+    others = outside(text)
+    if any(other != answer for other, _ in others.values()):
+        sys.exit(f"{name}: {answer}, but {others}")
+    beside = "".join(f", {solver} {millis} ms" for solver, (_, millis) in others.items())
+    print(f"{name}: {int(head[1]):,} variables, {int(head[2]):,} clauses, {answer}, {steps:,} steps, {micros / 1000:.1f} ms{beside}", flush=True)
+    return True
+
+
+def time_searches(program):
+    for kind, sizes in FORMULAS:
+        for size in sizes:
+            if not time_search(program, f"{kind} {size}", run([program, "clauses"], f"{kind} {size}")):
+                break
+    for file in ("searches", "random"):
+        for case in (DATA / f"{file}.dimacs").read_text().split("\n\n"):
+            head = case.partition("\n")[0].split(" ", 2)
+            time_search(program, head[2], case.strip() + "\n")
+
+
+def measure(folder):
+    program = built(folder)
+    checker = folder / "check_log"
+    subprocess.run(["cc", "-O2", "-o", checker, TOP / "bench" / "check_log.c"], check=True)
+    judge_logs(program, checker)
+    time_checks(program, checker)
+    time_searches(program)
+
+
+def main():
+    if len(sys.argv) > 1:
+        folder = pathlib.Path(sys.argv[1]).resolve()
+        folder.mkdir(exist_ok=True)
+        measure(folder)
+    else:
+        with tempfile.TemporaryDirectory() as name:
+            measure(pathlib.Path(name))
+
+
+if __name__ == "__main__":
+    main()
