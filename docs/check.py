@@ -45,7 +45,7 @@ def said(page):
 
 # ---- what is believed
 
-IMPORT = re.compile(r"^use Rattle\.(\w+)\.specs\.([\w.]+?)(?:\.\{| as |$)", re.M)
+IMPORT = re.compile(r"^(?:pub )?use Rattle\.(\w+)\.specs\.([\w.]+?)(?:\.\{| as |$)", re.M)
 
 
 def file_of(crate, module):
