@@ -74,11 +74,13 @@ def copied(folder, runs):
         for part in ("src", "specs", "proofs"):
             if (TOP / "crates" / name / part).is_dir():
                 shutil.copytree(TOP / "crates" / name / part, folder / "crates" / name / part)
-    tests, program = TOP / "crates" / "solver_tests", folder / "crates" / "blast_time"
+    tests, program = TOP / "bench" / "solver_tests", folder / "crates" / "blast_time"
     for part in ("specs", "proofs"):
         shutil.copytree(tests / part, program / part)
     (program / "src").mkdir()
-    shutil.copy(tests / "src" / "building.rt", program / "src")
+    shutil.copy(tests / "src" / "building.rt.txt", program / "src")
+    for path in program.rglob("*.txt"):
+        path.rename(path.with_suffix(""))
     for path in [*program.rglob("*.antt"), *program.rglob("*.rt")]:
         path.write_text(path.read_text().replace("Rattle.solver_tests.", "Rattle.blast_time."))
     (program / "src" / "main.rt").write_text(PROGRAM.replace("RUNS", str(runs)))

@@ -18,7 +18,7 @@ import tempfile
 import time
 
 TOP = pathlib.Path(__file__).resolve().parent.parent
-DATA = TOP / "crates" / "solver_tests" / "data"
+DATA = TOP / "bench" / "solver_tests" / "data"
 NEEDED = ["cocoon_num", "cnf_core", "proof_check", "cdcl", "case_files", "bv_terms", "bit_blast"]
 DEPENDENCIES = "bit_blast bv_terms case_files cdcl cnf_core cocoon_num proof_check"
 # Each kind with growing sizes, up to the first that takes too long.
@@ -46,12 +46,14 @@ def built(folder):
         for part in ("src", "specs", "proofs"):
             if (TOP / "crates" / name / part).is_dir():
                 shutil.copytree(TOP / "crates" / name / part, folder / "crates" / name / part)
-    tests = TOP / "crates" / "solver_tests"
+    tests = TOP / "bench" / "solver_tests"
     for part in ("specs", "proofs"):
         shutil.copytree(tests / part, program / part)
     (program / "src").mkdir()
-    for name in ("building.rt", "reading.rt"):
+    for name in ("building.rt.txt", "reading.rt.txt"):
         shutil.copy(tests / "src" / name, program / "src")
+    for path in program.rglob("*.txt"):
+        path.rename(path.with_suffix(""))
     for source in [*program.rglob("*.antt"), *program.rglob("*.rt")]:
         source.write_text(source.read_text().replace("Rattle.solver_tests.", "Rattle.search_time."))
     shutil.copy(TOP / "bench" / "search.rt.txt", program / "src" / "main.rt")
