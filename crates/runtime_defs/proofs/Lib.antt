@@ -18,3 +18,4 @@ pub mod Shapes
 pub mod Defined
 pub mod SwitchWidth
 pub mod Masked
+pub mod Keyed

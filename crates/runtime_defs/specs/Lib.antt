@@ -7,3 +7,4 @@ pub mod Sets
 pub mod Stands
 pub mod Steps
 pub mod TrueRows
+pub mod RowKeys

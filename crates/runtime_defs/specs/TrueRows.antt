@@ -8,6 +8,8 @@ use Rattle.cocoon_num.specs.Values.{fits_width}
 use Rattle.cocoon_num.specs.declared.fun_table.FunRow.{FunRow}
 use Rattle.cocoon_num.specs.declared.fun_table.FunTable.{FunTable}
 use Rattle.runtime_defs.specs.Places.{MayHaveShape, Places, table_at}
+use Rattle.key_table.specs.declared.KeyTable.{KeyTable}
+use Rattle.runtime_defs.specs.RowKeys.{MayBeKeyed}
 use Rattle.runtime_defs.specs.declared.true_numbers.TrueNumbers.{TrueNumbers}
 
 -- the first value of a row
@@ -30,10 +32,11 @@ pub record IsListed (place : Option FunTable) (numbers : TrueNumbers) : Type 0 w
   pub are : (n : ℕ) → has_number n numbers.all.items ≡ true_by place n
   pub short_are : numbers.short.items ≡ filter (fits_width 16) numbers.all.items
 
--- the numbers that are kept beside tables, place by place
-pub record IsKept (places : Places) (numbers : List TrueNumbers) : Type 0 where
+-- the numbers and the keys that are kept beside tables, place by place
+pub record IsKept (places : Places) (numbers : List TrueNumbers) (keys : List (Option KeyTable)) : Type 0 where
   pub shapes : All MayHaveShape places
   pub listed : AllZip IsListed places numbers
+  pub keyed : AllZip MayBeKeyed places keys
 
 -- the numbers of the function of a number, if it has a table
 abbrev pub MayBeListed : Places → Option ℕ → Option TrueNumbers → Type 0

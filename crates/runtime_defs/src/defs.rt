@@ -17,11 +17,13 @@ ghost use Rattle.runtime_defs.specs.Guards.{host_table, ListsTrue, switch_table}
 ghost use Rattle.runtime_defs.specs.Places as places;
 ghost use Rattle.runtime_defs.specs.Places.{MayHaveShape, Places, TakesArgs};
 ghost use Rattle.runtime_defs.specs.Stands.{Stands};
+ghost use Rattle.runtime_defs.specs.RowKeys.{MayBeKeyed};
 ghost use Rattle.runtime_defs.specs.TrueRows.{IsListed, MayBeListed};
 
 use crate::fault::DefsFault;
 use crate::finding::first_fault;
 use crate::guards::{host_function, switch_function};
+use crate::row_keys::{all_keys, look};
 use crate::tables::{count_rows, tables_of};
 use crate::true_numbers::{TrueNumbers, all_numbers};
 use cocoon_num::{Bits, FunTable, NoMemory, Text};
@@ -30,6 +32,7 @@ use cocoon_syntax::DefsText;
 use declarations::FunId;
 use defs_text::laws::{definitions_fit, tables_come_back};
 use defs_text::print_defs;
+use key_table::KeyTable;
 use std::alloc::Global;
 use std::marker::Model;
 
@@ -42,6 +45,8 @@ pub struct Defs {
     tables: Vec<Option<FunTable>>,
     /// For each function, the numbers at which its table is true.
     numbers: Vec<TrueNumbers>,
+    /// For each function whose table's rows compare all bits, their values.
+    keys: Vec<Option<KeyTable>>,
 }
 
 impl Model for Defs {
@@ -53,7 +58,7 @@ impl Model for Defs {
 
     ghost view = { λ defs. defs.tables.items };
 
-    ghost invariant = { λ defs. IsKept defs.tables.items defs.numbers.items };
+    ghost invariant = { λ defs. IsKept defs.tables.items defs.numbers.items defs.keys.items };
 }
 
 impl Defs {
@@ -76,7 +81,12 @@ impl Defs {
         ensures { IfOk result (λ defs. defs ≡ tables.items) }
     {
         let numbers = all_numbers(alloc, &tables)?;
-        Ok(Defs { tables, numbers })
+        let keys = all_keys(alloc, &tables)?;
+        Ok(Defs {
+            tables,
+            numbers,
+            keys,
+        })
     }
 
     /// The table of each function, in the order of declaration; none for a function with a body.
@@ -111,9 +121,10 @@ impl Defs {
     /// the first row that matches, else the default. A truth value is a number of width 1.
     pub fn look(&self, function: FunId, args: &[u64]) -> Bits
         requires { TakesArgs self.now function (length args.now) }
-        ensures { (t : Table) → places.table_at self.now function ≡ Some t → result ≡ looked t args.now }
+        ensures { (t : Table) → places.table_at self.now function ≡ Some t
+            → result ≡ looked t args.now }
     {
-        look_at(&self.tables, function, args)
+        look_at(&self.tables, &self.keys, function, args)
     }
 
     /// The numbers of the hosts, ascending: those at which the function of the host roles' guard is true.
@@ -154,12 +165,20 @@ fn table_at(tables: &[Option<FunTable>], function: FunId) -> Option<&FunTable>
 }
 
 /// The value of a function's table at these arguments.
-fn look_at(tables: &[Option<FunTable>], function: FunId, args: &[u64]) -> Bits
+fn look_at(
+    tables: &[Option<FunTable>],
+    keys: &[Option<KeyTable>],
+    function: FunId,
+    args: &[u64],
+) -> Bits
     requires takes { TakesArgs tables.now function (length args.now) }
     requires shapes { All MayHaveShape tables.now }
-    ensures { (t : Table) → places.table_at tables.now function ≡ Some t → result ≡ looked t args.now }
+    requires keyed { AllZip MayBeKeyed tables.now keys.now }
+    ensures { (t : Table) → places.table_at tables.now function ≡ Some t
+        → result ≡ looked t args.now }
 {
-    table_at(tables, function).unwrap().look(args)
+    let table = table_at(tables, function).unwrap();
+    look(&keys[function as usize], table, args)
 }
 
 /// The numbers that are kept for a function.

@@ -10,6 +10,7 @@ mod function_set;
 mod guards;
 pub mod laws;
 mod literal_rows;
+mod row_keys;
 mod tables;
 mod true_numbers;
 
