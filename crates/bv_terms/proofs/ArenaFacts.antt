@@ -185,6 +185,10 @@ pub pushed-kept : {E : Type 0} (r : Result ℕ E) (old ns ns' : List Node) (n : 
 pushed-kept (Err e) old ns ns' n ws ws' v is refused = subst (λ os. KeepsTerms os ns') v (subst (KeepsTerms ns) (sym refused.0) (kept-none ns))
 pushed-kept (Ok id) old ns ns' n ws ws' v is refused = subst (λ os. KeepsTerms os ns') v (subst (KeepsTerms ns) (sym is) (kept-terms ns n))
 
+pub pushed-refused : {E : Type 0} (r : Result ℕ E) (old ns ns' : List Node) (ws ws' : List ℕ) → ns ≡ old → OnErr r ((ns' ≡ ns) × (ws' ≡ ws)) → OnErr r (ns' ≡ old)
+pushed-refused (Err e) old ns ns' ws ws' v refused = refused.0 ∙ v
+pushed-refused (Ok id) old ns ns' ws ws' v refused = tt
+
 pub pushed-whole : {E : Type 0} (r : Result ℕ E) (old ns ns' : List Node) (n : Node) (ws ws' is : List ℕ) (w : ℕ) → ns ≡ old → IsKept ns ws is → CanFollow old n
     → w ≡ node_width (width_at old) n → count_input 0 n ≡ 0 → OnOk r (ns' ≡ ns ++ n ∷ []) → OnOk r (ws' ≡ ws ++ w ∷ []) → OnOk r (length ns' < 2 ^ 32)
     → OnErr r ((ns' ≡ ns) × (ws' ≡ ws)) → IsKept ns' ws' is

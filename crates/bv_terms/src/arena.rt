@@ -84,6 +84,7 @@ impl Terms {
         requires no_input { count_input 0 node ≡ 0 }
         ensures added { IfOk result (λ id. IsAppended self.old self.new node id) }
         ensures kept { KeepsTerms self.old self.new }
+        ensures refused { OnErr result (self.new ≡ self.old) }
     {
         push(&mut self.nodes, &mut self.widths, node, width)
     }
@@ -92,6 +93,7 @@ impl Terms {
     pub fn constant(&mut self, value: Bits) -> Result<TermId, NoMemory>
         ensures added { IfOk result (λ id. IsAppended self.old self.new (Node.Constant value) id) }
         ensures kept { KeepsTerms self.old self.new }
+        ensures refused { OnErr result (self.new ≡ self.old) }
     {
         self.append(Node::Constant(value), value.width)
     }
@@ -102,6 +104,7 @@ impl Terms {
         ensures added { IfOk result (λ id.
             IsAppended self.old self.new (Node.Input (inputs_in self.old) width) id) }
         ensures kept { KeepsTerms self.old self.new }
+        ensures refused { OnErr result (self.new ≡ self.old) }
     {
         let input = self.inputs.len() as InputId;
         self.inputs.reserve(1)?;
@@ -119,6 +122,7 @@ impl Terms {
         ensures added { IfOk result (λ id.
             IsAppended self.old self.new (Node.Apply function args.now width) id) }
         ensures kept { KeepsTerms self.old self.new }
+        ensures refused { OnErr result (self.new ≡ self.old) }
     {
         let alloc = *self.nodes.allocator();
         let args = List::from(Vec::from_slice(alloc, args)?);
@@ -130,6 +134,7 @@ impl Terms {
         requires { a < length self.old }
         ensures added { IfOk result (λ id. IsAppended self.old self.new (Node.Not a) id) }
         ensures kept { KeepsTerms self.old self.new }
+        ensures refused { OnErr result (self.new ≡ self.old) }
     {
         self.append(Node::Not(a), self.width(a))
     }
@@ -140,6 +145,7 @@ impl Terms {
         requires widths { OperandsFit op (width_at self.old a) (width_at self.old b) }
         ensures added { IfOk result (λ id. IsAppended self.old self.new (Node.Binary op a b) id) }
         ensures kept { KeepsTerms self.old self.new }
+        ensures refused { OnErr result (self.new ≡ self.old) }
     {
         let width = joined(op, self.width(a), self.width(b));
         self.append(Node::Binary(op, a, b), width)
@@ -152,6 +158,7 @@ impl Terms {
         ensures added { IfOk result (λ id.
             IsAppended self.old self.new (Node.Slice a high low) id) }
         ensures kept { KeepsTerms self.old self.new }
+        ensures refused { OnErr result (self.new ≡ self.old) }
     {
         prove!(high < self.width(a));
         self.append(Node::Slice(a, high, low), high - low + 1)
@@ -164,6 +171,7 @@ impl Terms {
         requires widths { width_at self.old a ≡ width_at self.old b }
         ensures added { IfOk result (λ id. IsAppended self.old self.new (Node.Pick c a b) id) }
         ensures kept { KeepsTerms self.old self.new }
+        ensures refused { OnErr result (self.new ≡ self.old) }
     {
         self.append(Node::Pick(c, a, b), self.width(a))
     }

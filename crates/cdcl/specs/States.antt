@@ -57,9 +57,13 @@ abbrev pub RanAs : Cnf → Search → Option ℕ → Type 0
 RanAs cnf s (Some number) = IsConflictAt (clauses_of cnf s) (trues s.trail) number
 RanAs cnf s None = IsClosed (clauses_of cnf s) (trues s.trail) × IsTotal cnf.vars (trues s.trail)
 
+-- the literal names a variable that has no value
+abbrev pub CanDecide : (vars : ℕ) → (trues : List ℤ) → Lit → Type 0
+CanDecide vars trues lit = Names vars lit.number × IsTrue (has_no_value trues lit.number)
+
 -- a literal without a value, or each variable has one
 abbrev pub Decides : (vars : ℕ) → (trues : List ℤ) → Option Lit → Type 0
-Decides vars trues (Some lit) = Names vars lit.number × IsTrue (has_no_value trues lit.number)
+Decides vars trues (Some lit) = CanDecide vars trues lit
 Decides vars trues None = IsTotal vars trues
 
 -- the steps are one more, and the last is empty; each follows, and those before the last are new

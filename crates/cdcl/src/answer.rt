@@ -3,6 +3,7 @@ ghost use Rattle.std.specs.Prelude.{◌+◌, ◌<◌, ◌≤◌, ◌^◌, IfOk, 
 ghost use Rattle.cnf_core.specs.Satisfying.{WellNamed};
 ghost use Rattle.cdcl.specs.Answering.{Answers};
 
+use crate::order::Order;
 use crate::search::Search;
 use cnf_core::{Assignment, Cnf, Log};
 use cocoon_num::NoMemory;
@@ -26,8 +27,9 @@ pub fn solve(alloc: Global, cnf: &Cnf, conflicts: u64) -> Result<Answer, NoMemor
     ensures { IfOk result (λ answer. Answers cnf.now conflicts answer) }
 {
     let mut search = Search::new(alloc, cnf)?;
+    let mut order = Order::new(alloc, cnf.vars)?;
     while (search.steps.len() as u64) < conflicts {
-        let Some(conflict) = search.run(cnf)? else {
+        let Some(conflict) = search.run(cnf, &order)? else {
             return Ok(Answer::Satisfied(search.assignment(alloc, cnf)?));
         };
         if search.starts.is_empty() {
@@ -35,6 +37,7 @@ pub fn solve(alloc: Global, cnf: &Cnf, conflicts: u64) -> Result<Answer, NoMemor
             return Ok(Answer::Unsat(search.into_log()));
         }
         search.learn(alloc, cnf, conflict)?;
+        order.note(cnf, &search);
     }
     Ok(Answer::Spent(search.into_log()))
 }

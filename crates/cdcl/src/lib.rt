@@ -5,6 +5,7 @@
 mod analysis;
 mod answer;
 mod learning;
+mod order;
 mod propagation;
 mod search;
 

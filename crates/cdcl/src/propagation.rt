@@ -6,10 +6,11 @@ ghost use Rattle.cnf_core.specs.Literals.{has_literal, Names, variable};
 ghost use Rattle.cnf_core.specs.Satisfying.{HasAllValues, Satisfies, WellNamed};
 ghost use Rattle.cnf_core.specs.TrailViews.{not_true, room, trues};
 ghost use Rattle.cdcl.specs.Searching.{IsClosed, IsForcedBy, IsTotal};
-ghost use Rattle.cdcl.specs.States.{clauses_of, Decides, FoundSoFar, IsSound, PassedAs, RanAs, SameSteps, Settled, WeighsNumber};
+ghost use Rattle.cdcl.specs.States.{CanDecide, clauses_of, Decides, FoundSoFar, IsSound, PassedAs, RanAs, SameSteps, Settled, WeighsNumber};
 ghost use Rattle.cdcl.specs.Passes.{is_conflict};
 ghost use Rattle.cdcl.specs.declared.search.Search.{Search};
 
+use crate::order::Order;
 use crate::search::{Pass, Search};
 use cnf_core::{Assignment, Clause, Cnf, Lit, Trail, Weight};
 use cocoon_num::{List, NoMemory};
@@ -153,7 +154,7 @@ impl Search {
 
     /// The last variable that has no value. Clauses of goals number a gate after what it is made of, so it is one near the
     /// goal.
-    fn next_decision(&self) -> Option<Lit>
+    fn last_open(&self) -> Option<Lit>
         ensures { Decides (room self.now.trail) (trues self.now.trail) result }
     {
         for index in (0..self.trail.vars()).rev() {
@@ -163,6 +164,31 @@ impl Search {
             }
         }
         None
+    }
+
+    /// The variable without a value that comes first in the order; among equals the last one. `last` is the last one of all.
+    fn first_open(&self, order: &Order, last: Lit) -> Lit
+        requires { CanDecide (room self.now.trail) (trues self.now.trail) last }
+        ensures { CanDecide (room self.now.trail) (trues self.now.trail) result }
+    {
+        let mut first = last;
+        for index in (0..self.trail.vars()).rev() {
+            let lit = positive(index + 1);
+            if !has_value(&self.trail, lit) && order.is_before(lit, first) {
+                first = lit;
+            }
+        }
+        first
+    }
+
+    /// The variable that is decided next.
+    fn next_decision(&self, order: &Order) -> Option<Lit>
+        ensures { Decides (room self.now.trail) (trues self.now.trail) result }
+    {
+        match self.last_open() {
+            Some(last) => Some(self.first_open(order, last)),
+            None => None,
+        }
     }
 
     /// Begins a level.
@@ -182,7 +208,7 @@ impl Search {
     }
 
     /// Goes on until a clause is a conflict, whose number it gives then, or each variable has a value and none is.
-    pub fn run(&mut self, cnf: &Cnf) -> Result<Option<u32>, NoMemory>
+    pub fn run(&mut self, cnf: &Cnf, order: &Order) -> Result<Option<u32>, NoMemory>
         requires sound { IsSound cnf.now self.old }
         requires named { WellNamed cnf.now }
         requires numbered { length (clauses_of cnf.now self.old) < 2 ^ 32 }
@@ -194,7 +220,7 @@ impl Search {
             if let Some(conflict) = self.propagate(cnf)? {
                 return Ok(Some(conflict));
             }
-            match self.next_decision() {
+            match self.next_decision(order) {
                 Some(lit) => self.decide(cnf, lit)?,
                 None => return Ok(None),
             }

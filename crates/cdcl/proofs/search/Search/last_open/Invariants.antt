@@ -2,7 +2,7 @@ use Rattle.std.proofs.Common.{◌≡◌, ◌+◌, ◌<◌, ◌≤◌, ◌||◌, 
 use Rattle.cnf_core.specs.Deriving.{is_false}
 use Rattle.cnf_core.specs.Literals.{has_literal}
 use Rattle.cnf_core.specs.TrailViews.{room, trues}
-use Rattle.cdcl.proofs.search.Search.next_decision.Given as goal
+use Rattle.cdcl.proofs.search.Search.last_open.Given as goal
 
 abbrev pub invariant-loop-index : goal.invariant-loop-index
 invariant-loop-index l = (v : ℕ) → l.index ≤ v → v < room l.self.trail
