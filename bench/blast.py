@@ -9,12 +9,12 @@ and of the test that no term is an application. There it has `rt run` prove and 
 
 import pathlib
 import re
-import shutil
 import subprocess
 import sys
 import tempfile
 
-TOP = pathlib.Path(__file__).resolve().parent.parent
+from search import copied
+
 NEEDED = ["cocoon_num", "cnf_core", "bv_terms", "bit_blast"]
 PROGRAM = """//! Takes the time of `blast`.
 #![tactic(auto)]
@@ -23,41 +23,37 @@ mod building;
 
 use building::{binary, blasted, input, slice};
 use bv_terms::{TermId, TermOp, Terms};
-use std::process::Abort;
 use std::test::Fail;
 use std::time::Instant;
 
 /// Exclusive ors of numbers of one bit with one input.
-fn chain<R: Abort>(rt: &R, terms: &mut Terms, count: u32) -> Result<TermId, Fail> {
-    let x = input(rt, terms, 1)?;
-    let mut goal = input(rt, terms, 1)?;
+fn chain(terms: &mut Terms, count: u32) -> Option<TermId> {
+    let x = input(terms, 1)?;
+    let mut goal = input(terms, 1)?;
     for _ in 0..count {
-        goal = binary(rt, terms, TermOp::Xor, goal, x)?;
+        goal = binary(terms, TermOp::Xor, goal, x)?;
     }
-    Ok(goal)
+    Some(goal)
 }
 
 /// Exclusive ors of numbers of eight bits, each with an input of its own.
-fn inputs<R: Abort>(rt: &R, terms: &mut Terms, count: u32) -> Result<TermId, Fail> {
-    let mut sum = input(rt, terms, 8)?;
+fn inputs(terms: &mut Terms, count: u32) -> Option<TermId> {
+    let mut sum = input(terms, 8)?;
     for _ in 0..count {
-        let next = input(rt, terms, 8)?;
-        sum = binary(rt, terms, TermOp::Xor, sum, next)?;
+        let next = input(terms, 8)?;
+        sum = binary(terms, TermOp::Xor, sum, next)?;
     }
-    slice(rt, terms, sum, 0, 0)
+    slice(terms, sum, 0, 0)
 }
 
 fn main(rt: HostRuntime) -> Result<(), Fail> {
     for _ in 0..RUNS {
         for (is_chain, count) in [(true, 250_000), (true, 125_000), (false, 31_250), (false, 15_625)] {
             let mut terms = Terms::new(rt.alloc());
-            let goal = if is_chain {
-                chain(&rt, &mut terms, count)?
-            } else {
-                inputs(&rt, &mut terms, count)?
-            };
+            let made = if is_chain { chain(&mut terms, count) } else { inputs(&mut terms, count) };
+            let goal = made.ok_or("no goal")?;
             let start = Instant::now(&rt)?;
-            let (cnf, _) = blasted(&rt, rt.alloc(), &terms, goal)?;
+            let (cnf, _) = blasted(rt.alloc(), &terms, goal).ok_or("no list")?;
             let micros = start.elapsed(&rt)?.as_micros();
             let kind = if is_chain { "chain" } else { "inputs" };
             print!(rt; "{} {} {kind} {micros}\\n", cnf.clauses.items().len(), cnf.vars)?;
@@ -68,32 +64,12 @@ fn main(rt: HostRuntime) -> Result<(), Fail> {
 """
 
 
-def copied(folder, runs):
-    """The crates, and the program beside them, which makes its terms as the tests do."""
-    for name in NEEDED:
-        for part in ("src", "specs", "proofs"):
-            if (TOP / "crates" / name / part).is_dir():
-                shutil.copytree(TOP / "crates" / name / part, folder / "crates" / name / part)
-    tests, program = TOP / "bench" / "solver_tests", folder / "crates" / "blast_time"
-    for part in ("specs", "proofs"):
-        shutil.copytree(tests / part, program / part)
-    (program / "src").mkdir()
-    shutil.copy(tests / "src" / "building.rt.txt", program / "src")
-    for path in program.rglob("*.txt"):
-        path.rename(path.with_suffix(""))
-    for path in [*program.rglob("*.antt"), *program.rglob("*.rt")]:
-        path.write_text(path.read_text().replace("Rattle.solver_tests.", "Rattle.blast_time."))
-    (program / "src" / "main.rt").write_text(PROGRAM.replace("RUNS", str(runs)))
-    lines = [line for line in (TOP / "crates.txt").read_text().splitlines() if line.split(":")[0] in NEEDED]
-    (folder / "crates.txt").write_text("\n".join([*lines, "blast_time: bit_blast bv_terms cnf_core cocoon_num"]) + "\n")
-
-
 def main():
     runs = int(sys.argv[1]) if len(sys.argv) > 1 else 5
     with tempfile.TemporaryDirectory() as name:
-        folder = pathlib.Path(name)
-        copied(folder, runs)
-        said = subprocess.run(["rt", "run"], cwd=folder / "crates" / "blast_time", stdout=subprocess.PIPE, stderr=subprocess.STDOUT, text=True).stdout
+        program = copied(pathlib.Path(name), NEEDED, "blast_time", ["building"])
+        (program / "src" / "main.rt").write_text(PROGRAM.replace("RUNS", str(runs)))
+        said = subprocess.run(["rt", "run"], cwd=program, stdout=subprocess.PIPE, stderr=subprocess.STDOUT, text=True).stdout
     least = {}
     for clauses, variables, kind, micros in re.findall(r"^(\d+) (\d+) (\w+) (\d+)$", said, re.MULTILINE):
         key = (kind, int(clauses), int(variables))

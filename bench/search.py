@@ -18,9 +18,9 @@ import tempfile
 import time
 
 TOP = pathlib.Path(__file__).resolve().parent.parent
-DATA = TOP / "bench" / "solver_tests" / "data"
+TESTS = TOP / "crates" / "solver_tests"
+DATA = TESTS / "data"
 NEEDED = ["cocoon_num", "cnf_core", "proof_check", "cdcl", "case_files", "bv_terms", "bit_blast"]
-DEPENDENCIES = "bit_blast bv_terms case_files cdcl cnf_core cocoon_num proof_check"
 # Each kind with growing sizes, up to the first that takes too long.
 FORMULAS = [
     ("exchanged", [2, 4, 6, 8, 10, 12, 14]),
@@ -36,29 +36,35 @@ def run(words, text=""):
     return subprocess.run(words, input=text, stdout=subprocess.PIPE, stderr=subprocess.STDOUT, text=True, timeout=MOST_SECONDS).stdout
 
 
+def copied(folder, crates, name, modules):
+    """The folder of a program of this name, over copies of the crates, with modules of the tests and what is proved of them."""
+    for crate in crates:
+        for part in ("src", "specs", "proofs"):
+            if (TOP / "crates" / crate / part).is_dir():
+                shutil.copytree(TOP / "crates" / crate / part, folder / "crates" / crate / part)
+    program = folder / "crates" / name
+    shutil.copytree(TESTS / "specs", program / "specs")
+    for part in ("src", "proofs"):
+        (program / part).mkdir()
+    for path in (TESTS / "proofs").glob("*.antt"):
+        shutil.copy(path, program / "proofs")
+    for module in modules:
+        shutil.copy(TESTS / "src" / f"{module}.rt", program / "src")
+        shutil.copytree(TESTS / "proofs" / module, program / "proofs" / module)
+    for path in [*program.rglob("*.antt"), *program.rglob("*.rt")]:
+        path.write_text(path.read_text().replace("Rattle.solver_tests.", f"Rattle.{name}."))
+    lines = [line for line in (TOP / "crates.txt").read_text().splitlines() if line.split(":")[0] in crates]
+    (folder / "crates.txt").write_text("\n".join([*lines, f"{name}: {' '.join(crates)}"]) + "\n")
+    return program
+
+
 def built(folder):
-    """The program, over copies of the crates. It reads texts and makes terms as the tests do."""
-    program = folder / "crates" / "search_time"
-    path = program / "out" / "search_time"
+    """The program. It reads texts and makes terms as the tests do."""
+    path = folder / "crates" / "search_time" / "out" / "search_time"
     if path.exists():
         return path
-    for name in NEEDED:
-        for part in ("src", "specs", "proofs"):
-            if (TOP / "crates" / name / part).is_dir():
-                shutil.copytree(TOP / "crates" / name / part, folder / "crates" / name / part)
-    tests = TOP / "bench" / "solver_tests"
-    for part in ("specs", "proofs"):
-        shutil.copytree(tests / part, program / part)
-    (program / "src").mkdir()
-    for name in ("building.rt.txt", "reading.rt.txt"):
-        shutil.copy(tests / "src" / name, program / "src")
-    for path in program.rglob("*.txt"):
-        path.rename(path.with_suffix(""))
-    for source in [*program.rglob("*.antt"), *program.rglob("*.rt")]:
-        source.write_text(source.read_text().replace("Rattle.solver_tests.", "Rattle.search_time."))
+    program = copied(folder, NEEDED, "search_time", ["building", "reading"])
     shutil.copy(TOP / "bench" / "search.rt.txt", program / "src" / "main.rt")
-    lines = [line for line in (TOP / "crates.txt").read_text().splitlines() if line.split(":")[0] in NEEDED]
-    (folder / "crates.txt").write_text("\n".join([*lines, f"search_time: {DEPENDENCIES}"]) + "\n")
     said = subprocess.run(["rt", "run", "--", "clauses"], cwd=program, input="sums 1", stdout=subprocess.PIPE, stderr=subprocess.STDOUT, text=True).stdout
     if not path.exists():
         sys.exit(said)

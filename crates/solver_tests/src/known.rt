@@ -1,26 +1,22 @@
-//! Assignments that are extended from the inputs along the clauses.
-use crate::building::{binary, blasted, read};
-use bit_blast::InputMap;
-use bv_terms::{TermId, TermOp, Terms};
-use cnf_core::{Assignment, Clause, Cnf, Lit, satisfies};
+//! Values of variables that are found one after another.
+use cnf_core::{Assignment, Clause, Cnf, Lit};
 use cocoon_num::{Bits, List};
 use std::alloc::Global;
-use std::process::Abort;
-use std::test::Fail;
 
 /// What is known of each variable, at its number.
 #[derive(Drop)]
-struct Known {
+pub(crate) struct Known {
     values: Vec<Option<bool>>,
 }
 
 impl Known {
-    fn new(alloc: Global, vars: u32) -> Result<Known, Fail> {
+    /// Nothing is known of so many variables.
+    pub(crate) fn new(alloc: Global, vars: u32) -> Option<Known> {
         let mut values = Vec::new(alloc);
         for _ in 0..=u64::from(vars) {
-            values.push(None)?;
+            values.push(None).ok()?;
         }
-        Ok(Known { values })
+        Some(Known { values })
     }
 
     /// Whether a literal is true, if that is known.
@@ -49,6 +45,14 @@ impl Known {
         variable
     }
 
+    /// Sets the variables from 2 on to the bits of inputs, one after another.
+    pub(crate) fn set_inputs(&mut self, inputs: &[Bits]) {
+        let mut next = 2;
+        for input in inputs {
+            next = self.set_number(next, *input);
+        }
+    }
+
     /// The literal that is not known yet, where it is the only one and no other is true.
     fn forced(&self, clause: &Clause) -> Option<Lit> {
         let mut open = None;
@@ -63,7 +67,8 @@ impl Known {
         open
     }
 
-    fn extend(&mut self, cnf: &Cnf) {
+    /// Goes once along the clauses, and makes true what they force.
+    pub(crate) fn extend(&mut self, cnf: &Cnf) {
         for clause in cnf.clauses.items() {
             if let Some(lit) = self.forced(clause) {
                 self.set(lit.variable(), lit.number > 0);
@@ -72,42 +77,13 @@ impl Known {
     }
 
     /// The values of all variables. What is not known is false.
-    fn assignment(&self, alloc: Global) -> Result<Assignment, Fail> {
+    pub(crate) fn assignment(&self, alloc: Global) -> Option<Assignment> {
         let mut values = Vec::new(alloc);
         for value in self.values.iter().skip(1) {
-            values.push(*value == Some(true))?;
+            values.push(*value == Some(true)).ok()?;
         }
-        Ok(Assignment {
+        Some(Assignment {
             values: List::from(values),
         })
     }
-}
-
-/// Whether the clauses of "this term is this number" hold for these inputs, which the walk has to meet in their order.
-pub(crate) fn can_be<R: Abort>(
-    rt: &R,
-    alloc: Global,
-    terms: &mut Terms,
-    term: TermId,
-    inputs: &[Bits],
-    number: Bits,
-) -> Result<bool, Fail> {
-    let constant = terms.constant(number)?;
-    let goal = binary(rt, terms, TermOp::Equal, term, constant)?;
-    let (cnf, map) = blasted(rt, alloc, terms, goal)?;
-    let mut known = Known::new(alloc, cnf.vars)?;
-    let mut next = 2;
-    for input in inputs {
-        next = known.set_number(next, *input);
-    }
-    known.extend(&cnf);
-    let assignment = known.assignment(alloc)?;
-    assert_eq!(rt; assignment.values.items().len(), cnf.vars as usize);
-    let mut at: u32 = 0;
-    for input in inputs {
-        let found = read(rt, terms, &map, &assignment, at);
-        at = at.saturating_add(1);
-        assert_eq!(rt; (found.width, found.value), (input.width, input.value));
-    }
-    Ok(satisfies(&cnf, &assignment))
 }

@@ -9,7 +9,6 @@ use case_files::{first_word, number};
 use cnf_core::{Clause, Cnf, Lit, Log, Step};
 use cocoon_num::List;
 use std::alloc::Global;
-use std::test::Fail;
 
 /// A number of an `i32` that is not zero.
 fn literal(word: &str) -> Option<Lit> {
@@ -27,26 +26,26 @@ fn literal(word: &str) -> Option<Lit> {
 }
 
 /// Literals up to the word `0`, or to the end.
-fn clause(alloc: Global, words: &str) -> Result<Clause, Fail> {
+fn clause(alloc: Global, words: &str) -> Option<Clause> {
     let mut lits = Vec::new(alloc);
     for word in words.split_ascii_whitespace() {
         if word == "0" {
             break;
         }
-        lits.push(literal(word).ok_or("no literal")?)?;
+        lits.push(literal(word)?).ok()?;
     }
-    Ok(Clause {
+    Some(Clause {
         lits: List::from(lits),
     })
 }
 
-fn hints(alloc: Global, words: &str) -> Result<List<u32>, Fail> {
+fn hints(alloc: Global, words: &str) -> Option<List<u32>> {
     let mut hints = Vec::new(alloc);
     for word in words.split_ascii_whitespace() {
-        let hint = number(word).ok_or("no hint")?;
-        hints.push(u32::try_from(hint)?)?;
+        let hint = u32::try_from(number(word)?).ok()?;
+        hints.push(hint).ok()?;
     }
-    Ok(List::from(hints))
+    Some(List::from(hints))
 }
 
 /// What is read so far.
@@ -59,28 +58,28 @@ struct Reader {
 
 impl Reader {
     /// Reads a line: a comment, the head `p cnf VARIABLES CLAUSES`, a clause, or a step `s LITERALS : HINTS`.
-    fn read(&mut self, alloc: Global, line: &str) -> Result<(), Fail> {
+    fn read(&mut self, alloc: Global, line: &str) -> Option<()> {
         let (first, rest) = first_word(line);
         match first {
             "" | "c" => (),
             "p" => {
-                let vars = rest.split_ascii_whitespace().nth(1).ok_or("no head")?;
-                self.vars = u32::try_from(number(vars).ok_or("no number")?)?;
+                let vars = rest.split_ascii_whitespace().nth(1)?;
+                self.vars = u32::try_from(number(vars)?).ok()?;
             }
             "s" => {
-                let (lits, numbers) = rest.split_once(':').ok_or("no step")?;
+                let (lits, numbers) = rest.split_once(':')?;
                 let clause = clause(alloc, lits)?;
                 let hints = hints(alloc, numbers)?;
-                self.steps.push(Step { clause, hints })?;
+                self.steps.push(Step { clause, hints }).ok()?;
             }
-            _ => self.clauses.push(clause(alloc, line)?)?,
+            _ => self.clauses.push(clause(alloc, line)?).ok()?,
         }
-        Ok(())
+        Some(())
     }
 }
 
 /// Reads clauses as DIMACS writes them, each in a line of its own, and the steps of a log among them.
-pub(crate) fn read(alloc: Global, text: &str) -> Result<(Cnf, Log), Fail> {
+pub(crate) fn read(alloc: Global, text: &str) -> Option<(Cnf, Log)> {
     let mut reader = Reader {
         vars: 0,
         clauses: Vec::new(alloc),
@@ -96,7 +95,7 @@ pub(crate) fn read(alloc: Global, text: &str) -> Result<(Cnf, Log), Fail> {
     let log = Log {
         steps: List::from(reader.steps),
     };
-    Ok((cnf, log))
+    Some((cnf, log))
 }
 
 fn names(vars: u32, lit: Lit) -> bool

@@ -1,0 +1,3 @@
+pub mod Unapplied
+pub mod Covered
+pub mod Replacing

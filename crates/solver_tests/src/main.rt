@@ -1,0 +1,54 @@
+//! Tries cases of terms, clauses, searches and logs. Each word names a file of cases, whose form docs/CASES.md describes. The
+//! program prints what each case asks, below it what differs, and at the end how many cases there are.
+//!
+//! The clauses say what is made, found and accepted by definitions. Here lists that were written by hand, answers of other
+//! solvers, and plain trials of values show that the definitions mean what was meant.
+#![tactic(auto)]
+
+mod building;
+mod drafts;
+mod evaluating;
+mod extending;
+mod goals;
+mod known;
+mod lists;
+mod reading;
+mod searching;
+mod texts;
+mod values;
+
+use case_files::{Printer, Subject, first_word, try_words};
+use goals::{put_inputs, put_size, put_solutions};
+use std::process::ExitCode;
+use texts::{Kind, put_searches, put_texts};
+use values::put_values;
+
+/// The cases, with the machine that has their files of data.
+#[derive(Drop)]
+struct Cases<'r> {
+    rt: &'r HostRuntime,
+}
+
+impl<'r> Subject for Cases<'r> {
+    fn is_line(&self, line: &str) -> bool {
+        first_word(line).0 == "numbers"
+    }
+
+    fn answer(&self, above: &str, asked: &str, wanted: &str, given: &mut Printer) {
+        let (word, rest) = first_word(asked);
+        match word {
+            "values" => put_values(self.rt.alloc(), above, rest, wanted, given),
+            "solutions" => put_solutions(self.rt.alloc(), rest, given),
+            "size" => put_size(self.rt.alloc(), rest, given),
+            "inputs" => put_inputs(self.rt.alloc(), rest, given),
+            "lists" => put_texts(self.rt, Kind::List, rest, given),
+            "logs" => put_texts(self.rt, Kind::Log, rest, given),
+            "searches" => put_searches(self.rt, rest, given),
+            _ => given.put("no case"),
+        }
+    }
+}
+
+fn main(rt: HostRuntime) -> ExitCode {
+    try_words(&rt, &Cases { rt: &rt })
+}
