@@ -1,23 +1,19 @@
 -- The lowering of a call goes on to the function's value, by table or by the body over fields.
-use Rattle.std.specs.Prelude.{◌≡◌, ℕ, suc, ◌-◌, ◌^◌, ◌<◌, ◌≤◌, ◌==◌, Bool, true, false, cond, List, [], ◌∷◌, map, length, slice_get, bit_and, Option, Some, None, option_map, option_and_then, refl}
-use Rattle.std.proofs.Common.{◌∙◌, ap, subst, arith}
+use Rattle.std.specs.Prelude.{◌≡◌, ℕ, suc, ◌^◌, ◌<◌, ◌≤◌, Bool, true, false, cond, List, [], ◌∷◌, map, length, slice_get, Option, Some, None, option_and_then, refl}
+use Rattle.std.proofs.Common.{◌∙◌, ap, arith}
 use Rattle.std.proofs.lemmas.Option.{slice_get_within}
 use Rattle.std.proofs.lemmas.Bool.{lt-ltb}
-use Rattle.std.proofs.lemmas.Nat.{and_mask, and_assoc}
-use Rattle.std.specs.Int.Bits.{and_self, and_zero_r}
-use Rattle.std.proofs.Math.Nat.{mod-eq_of_lt}
 use Rattle.cocoon_num.specs.Values.{Value, number, truth, as_number}
-use Rattle.cocoon_num.specs.Tree.{Param, Expr, FunctionDecl, HeaderDecl, ResultKind, of_width, of_truth, Pattern, literal, masked, any}
-use Rattle.cocoon_num.specs.Names.{same_name, named}
+use Rattle.cocoon_num.specs.Tree.{Param, Expr, FunctionDecl, HeaderDecl, ResultKind, of_width, of_truth}
+use Rattle.cocoon_num.specs.Names.{same_name}
 use Rattle.cocoon_num.specs.Packets.{Packet}
 use Rattle.cocoon_types.specs.Design.{widths_of}
-use Rattle.cocoon_types.specs.Tables.{Defs, Table, Row, look, look_up, all_match}
+use Rattle.cocoon_types.specs.Tables.{Defs, look_up}
 use Rattle.cocoon_types.specs.Val.{Env, bound, bind, value, apply_in, Context}
 use Rattle.p4_ir.specs.P4Tree.{P4Expr, field_widths, program_layout, apply_table}
-use Rattle.p4_ir.specs.Switch.{State, p4_value, all_there, table_result, Running, proceeds}
-use Rattle.cocoon_num.specs.Rows.{all_fit}
+use Rattle.p4_ir.specs.Switch.{State, p4_value, all_there, Running, proceeds}
 use Rattle.lower_body.specs.Lower.{Counts, Lowered, FieldName, key_name, var_name, Callees, callees, lower_expr, lower_call, lower_group, by_group, front_params, sets, fields_from, numbers_from, past, variables_from, by_table, closed, after_args, kind_width, kept, read_back}
-use Rattle.lower_body.specs.Agrees.{run_list, Moves, Holds, ReadsAs, NumbersAt, Reaches, AllMade, Filling, Long, FitAll, GroupTakesIn, GroupsReach, EitherOf, TakesIn, Takes, IsOf, PatternsFit, RowsFit, BodyFits, FunctionsFit, inner_context, CallsReach, Agree, code_of, key_value, key_mask, key_row}
+use Rattle.lower_body.specs.Agrees.{run_list, Moves, Holds, ReadsAs, NumbersAt, Reaches, AllMade, Filling, Long, FitAll, GroupTakesIn, GroupsReach, EitherOf, TakesIn, Takes, IsOf, BodyFits, FunctionsFit, inner_context, CallsReach, Agree, code_of}
 use Rattle.lower_body.proofs.States.{put_here, run_both, made_first, made_second, moves_same, moves_both, long_moved, with_meta, set_moves}
 use Rattle.lower_body.proofs.Rises.{calls_rise}
 use Rattle.lower_body.proofs.Expressions.{expr_reaches, same_name_equal}
@@ -112,72 +108,22 @@ kept_is at t of_truth e (number u n) h g = absurd cc
 kept_is at t of_truth e (truth true) h g = rw g refl
 kept_is at t of_truth e (truth false) h g = rw g refl
 
--- ---- rows
-
-masked_low : (w x n : ℕ) → x < 2 ^ w → n < 2 ^ w → (bit_and x (2 ^ w - 1) == bit_and n (2 ^ w - 1)) ≡ (x == n)
-masked_low w x n h k = rw (and_mask x w, and_mask n w, mod-eq_of_lt h, mod-eq_of_lt k) refl
-
-masked_twice : (x n m : ℕ) → (bit_and x m == bit_and (bit_and n m) m) ≡ (bit_and x m == bit_and n m)
-masked_twice x n m = rw (and_assoc m n m, and_self m) refl
-
-zero_mask : (x : ℕ) → (bit_and x 0 == bit_and 0 0) ≡ true
-zero_mask x = rw (and_zero_r x) refl
-
-row_matches : (ps : List Param) (qs : List Pattern) (ns : List ℕ) → PatternsFit ps qs → FitAll ps ns → all_fit (map key_value qs) (map key_mask qs) ns ≡ all_match qs ns
-row_matches [] [] [] q fit = refl
-row_matches [] (p ∷ qs) ns q fit = absurd q
-row_matches [] [] (n ∷ ns) q fit = absurd fit
-row_matches (p ∷ ps) [] ns q fit = absurd q
-row_matches (p ∷ ps) (x ∷ qs) [] q fit = absurd fit
-row_matches (p ∷ ps) (literal w n ∷ qs) (x ∷ ns) q fit = rw (masked_low w x n (rw q.0 fit.0) q.1, row_matches ps qs ns q.2 fit.1) refl
-row_matches (p ∷ ps) (masked w n v m ∷ qs) (x ∷ ns) q fit = rw (masked_twice x n m, row_matches ps qs ns q fit.1) refl
-row_matches (p ∷ ps) (any ∷ qs) (x ∷ ns) q fit = rw (zero_mask x, row_matches ps qs ns q fit.1) refl
-
-either_row : (b : Bool) (v : Value) (n : ℕ) (o : Value) → n ≡ code_of o → cond b (code_of v) n ≡ code_of (cond b v o)
-either_row true v n o h = refl
-either_row false v n o h = h
-
-pub table_looks : (d : FunctionDecl) (rows : List Row) (otherwise : Value) (ns : List ℕ) → RowsFit d rows → FitAll d.params ns
-    → table_result (map key_row rows) (code_of otherwise) ns ≡ code_of (look rows otherwise ns)
-table_looks d [] otherwise ns h fit = refl
-table_looks d (r ∷ rows) otherwise ns h fit =
-    rw (row_matches d.params r.patterns ns h.0 fit) (either_row (all_match r.patterns ns) r.value _ (look rows otherwise ns) (table_looks d rows otherwise ns h.2 fit))
-
-either_is : (b : Bool) (k : ResultKind) (v o : Value) → IsOf k v → IsOf k o → IsOf k (cond b v o)
-either_is true k v o h g = h
-either_is false k v o h g = g
-
-look_is : (d : FunctionDecl) (rows : List Row) (otherwise : Value) (ns : List ℕ) → RowsFit d rows → IsOf d.result otherwise → IsOf d.result (look rows otherwise ns)
-look_is d [] otherwise ns h o = o
-look_is d (r ∷ rows) otherwise ns h o = either_is (all_match r.patterns ns) d.result r.value (look rows otherwise ns) h.1 (look_is d rows otherwise ns h.2 o)
-
 -- ---- by table
 
-abbrev unwrap : {A : Type 0} → A → Option A → A
-unwrap d None = d
-unwrap d (Some x) = x
-
-looked : (o : Option Table) (ns : List ℕ) (v : Value) → option_map (λ (t : Table). look t.rows t.otherwise ns) o ≡ Some v → (t : Table) × (o ≡ Some t) × (look t.rows t.otherwise ns ≡ v)
-looked None ns v h = absurd cc
-looked (Some t) ns v h = (t, refl, ap (unwrap v) h)
-
 pub by_table_reaches : (at : Running) (fill : Filling) (d : FunctionDecl) (es : List P4Expr) (ns : List ℕ) (v : Value) (n : Counts) (s : State)
-    → ((t : Table) → named (λ (t : Table). t.function) d.name.text fill.defs ≡ Some t → RowsFit d t.rows × IsOf d.result t.otherwise)
+    → ((ns : List ℕ) (v : Value) → FitAll d.params ns → look_up fill.defs d.name.text ns ≡ Some v → IsOf d.result v)
     → 0 < n.field → FitAll d.params ns → look_up fill.defs d.name.text ns ≡ Some v → ((t : State) → Moves n.field s t → NumbersAt at t es ns)
     → AllMade at fill (by_table d es n).made → Long at s
     → Reaches at n.field (by_table d es n).next.field (by_table d es n).code s (by_table d es n).expr v
 by_table_reaches at fill d es ns v n s fits low fit e gives made long =
     let r : ℕ = past n.field d.params in
-    let w : (t : Table) × (named (λ (t : Table). t.function) d.name.text fill.defs ≡ Some t) × (look t.rows t.otherwise ns ≡ v) = looked (named (λ (t : Table). t.function) d.name.text fill.defs) ns v e in
     let own = made_second at fill (fields_from (key_name n.app) 0 n.field d.params) _ made in
     let a : SetsTo at n.field d.params es ns s = sets_reach at fill (key_name n.app) 0 n.field n.field d.params es ns s low fit (omega arith) gives (made_first at fill _ _ made) long in
-    let f : RowsFit d w.0.rows × IsOf d.result w.0.otherwise = fits w.0 w.1 in
-    let is : IsOf d.result v = subst (IsOf d.result) w.2 (look_is d w.0.rows w.0.otherwise ns f.0 f.1) in
-    let got : table_result (map key_row w.0.rows) (code_of w.0.otherwise) ns ≡ code_of v = table_looks d w.0.rows w.0.otherwise ns f.0 fit ∙ ap code_of w.2 in
+    let is : IsOf d.result v = fits ns v fit e in
     let inside : r < length a.after.meta = inside_meta at a.after r (kind_width d.result) (long_moved at n.field s a.after a.moves long) own.0 in
     record {
       after = with_meta a.after (past n.field d.params) (code_of v);
-      runs = run_both at (sets n.field es) (apply_table n.app ∷ []) s a.after a.runs ∙ rw (own.1.0.0, own.1.0.1, w.1, keys_there n.field d.params ns a.after fit a.filled, got) refl;
+      runs = run_both at (sets n.field es) (apply_table n.app ∷ []) s a.after a.runs ∙ rw (own.1.0.0, own.1.0.2, keys_there n.field d.params ns a.after fit a.filled, own.1.0.3 ns v fit e) refl;
       moves = moves_both n.field r s a.after _ a.rises a.moves (set_moves a.after r r (code_of v) (omega arith));
       verdict_same = a.verdict_same;
       rises = omega (arith, a.rises);

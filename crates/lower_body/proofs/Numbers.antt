@@ -4,15 +4,16 @@ use Rattle.std.proofs.Common.{sym, ◌∙◌, ap, subst}
 use Rattle.std.proofs.lemmas.List.{append_assoc}
 use Rattle.cocoon_num.specs.Tree.{Param, Expr, name, Exprs, FunctionDecl, HeaderDecl, Stmt, Block, field, lit, true_or_false, call, unary, binary, slice, pick, no_exprs, expr, let_, set_field, if_, filter, havoc_var, havoc_field, assume, fork, send, no_stmts, stmt}
 use Rattle.cocoon_num.specs.Names.{same_name}
-use Rattle.p4_ir.specs.P4Tree.{P4Expr}
+use Rattle.p4_ir.specs.P4Tree.{P4Expr, p_meta}
 use Rattle.lower_body.specs.Lower.{Counts, FieldName, Made, a_field, a_table, a_group, Variable, Lowered, Callees, callees, lower_expr, lower_exprs, lower_call, lower_group, by_table, by_group, closed, fields_from, past, front_params, key_name, var_name, variables_from, after_args, kind_width, then_called}
 use Rattle.lower_body.specs.LowerBlock.{Site, forked, in_block, fork_args, fork_function, lower_stmt, lower_block}
+use Rattle.lower_body.specs.LowerSites.{LoweredSites, lower_site, lower_sites}
 use Rattle.lower_body.specs.Log.{Placed, NumberedTo, Grown, CallsGrow, FieldsAt, widths_in}
 
 placed_both : (i a j b k c : ℕ) (xs ys : List Made) → Placed i a xs j b → Placed j b ys k c → Placed i a (xs ++ ys) k c
 placed_both i a j b k c [] ys h g = rw (h.0, h.1) g
 placed_both i a j b k c (a_field x m w ∷ xs) ys h g = (h.0, placed_both (suc i) a j b k c xs ys h.1 g)
-placed_both i a j b k c (a_table t f ∷ xs) ys h g = (h.0, placed_both i (suc a) j b k c xs ys h.1 g)
+placed_both i a j b k c (a_table t f ps ∷ xs) ys h g = (h.0, placed_both i (suc a) j b k c xs ys h.1 g)
 placed_both i a j b k c (a_group t f ps ∷ xs) ys h g = (h.0, placed_both i (suc a) j b k c xs ys h.1 g)
 
 grown_both : (n k m : Counts) (xs ys : List Made) → Grown n xs k → Grown k ys m → Grown n (xs ++ ys) m
@@ -131,6 +132,16 @@ mutual
   block_grows c g (stmt s rest) vars n =
       all_both n (lower_stmt c vars n s).next (lower_block c (lower_stmt c vars n s).vars (lower_stmt c vars n s).next rest).next (lower_stmt c vars n s).made _ (lower_stmt c vars n s).sites _ (stmt_grows c g s vars n) (block_grows c g rest (lower_stmt c vars n s).vars (lower_stmt c vars n s).next)
 
+-- ---- the blocks of forks
+
+pub sites_grow : (c : Callees) → CallsGrow c → (sites : List Site) (n : Counts) → Placed n.field n.app (lower_sites c n sites).made (lower_sites c n sites).next.field (lower_sites c n sites).next.app
+sites_grow c g [] n = (refl, refl)
+sites_grow c g (x ∷ xs) n =
+    let first : LoweredSites = lower_site c n x in
+    placed_both n.field n.app first.next.field first.next.app (lower_sites c first.next xs).next.field (lower_sites c first.next xs).next.app first.made (lower_sites c first.next xs).made
+    (refl, (block_grows c g x.body (record { name = x.x; expr = p_meta n.field } ∷ x.vars) (record { app = n.app; var = suc n.var; field = suc n.field; site = n.site })).0)
+    (sites_grow c g xs first.next)
+
 -- ---- the program of a log
 
 at_end : (pre : List ℕ) (w : ℕ) (ws : List ℕ) → slice_get (pre ++ (w ∷ ws)) (length pre) ≡ Some w
@@ -147,7 +158,7 @@ fields_from_here pre i a j b (a_field x k w ∷ ms) h p = (
   rw (p.0, ← h) (at_end pre w (widths_in ms)),
   subst (λ ws. FieldsAt ws ms) (append_assoc pre (w ∷ []) (widths_in ms)) (fields_from_here (pre ++ (w ∷ [])) (suc i) a j b ms (longer pre w ∙ ap suc h) p.1),
 )
-fields_from_here pre i a j b (a_table t f ∷ ms) h p = fields_from_here pre i (suc a) j b ms h p.1
+fields_from_here pre i a j b (a_table t f ps ∷ ms) h p = fields_from_here pre i (suc a) j b ms h p.1
 fields_from_here pre i a j b (a_group t f ps ∷ ms) h p = fields_from_here pre i (suc a) j b ms h p.1
 
 pub fields_at : (a j b : ℕ) (ms : List Made) → Placed 1 a ms j b → FieldsAt (8 ∷ widths_in ms) ms

@@ -11,13 +11,10 @@ use Rattle.lower_body.specs.Lower.{Variable, callees}
 use Rattle.lower_body.specs.LowerBlock.{Site}
 use Rattle.lower_body.specs.Visit.{Visit, on, leaves, copies, nothing, visit_all}
 use Rattle.lower_body.specs.Ends.{Ends}
-use Rattle.lower_body.specs.Whole.{SwitchRole, role_env, role_vars, role_lowered, ingress_place, IsIngress, shown, RoleFits}
+use Rattle.lower_body.specs.Whole.{SwitchRole, role_env, role_vars, role_lowered, ingress_place, IsIngress, shown, RoleFits, start_state}
 use Rattle.lower_body.proofs.States.{block_runs}
 use Rattle.lower_body.proofs.Calls.{functions_agree}
 use Rattle.lower_body.proofs.Blocks.{block_ends}
-
-abbrev start_state : Program → Packet → State
-start_state p packet = record { packet = packet; meta = replicate (length p.meta) 0; verdict = 0; egress_port = 0; group = 0 }
 
 same_lengths : (fs : List P4Field) → length {A = ℕ} (replicate (length fs) 0) ≡ length (field_widths fs)
 same_lengths [] = refl

@@ -1,14 +1,14 @@
 -- Cited by `expression_reaches`, `body_ends`, `copy_ends` and `visit_is_body`. How a state of the program agrees with
 -- a state of the design, and what is asked of definitions and functions.
-use Rattle.std.specs.Prelude.{◌≡◌, ℕ, ◌-◌, ◌^◌, ◌<◌, ◌≤◌, Bool, true, false, List, [], ◌∷◌, map, length, slice_get, bit_and, Option, Some, None, option_map, option_and_then}
+use Rattle.std.specs.Prelude.{◌≡◌, ℕ, ◌^◌, ◌<◌, ◌≤◌, Bool, true, false, List, [], ◌∷◌, map, length, slice_get, Option, Some, None, option_and_then}
 use Rattle.cocoon_num.specs.Values.{Value, number, truth, as_number}
-use Rattle.cocoon_num.specs.Tree.{Param, Expr, name, Exprs, FunctionDecl, HeaderDecl, ResultKind, of_width, of_truth, Pattern, literal, masked, any, field, lit, true_or_false, call, unary, binary, slice, pick, no_exprs, expr}
-use Rattle.cocoon_num.specs.Names.{same_name, named}
+use Rattle.cocoon_num.specs.Tree.{Param, Expr, name, Exprs, FunctionDecl, HeaderDecl, ResultKind, of_width, of_truth, field, lit, true_or_false, call, unary, binary, slice, pick, no_exprs, expr}
+use Rattle.cocoon_num.specs.Names.{same_name}
 use Rattle.cocoon_num.specs.Packets.{Packet}
 use Rattle.cocoon_types.specs.Design.{read_field, widths_of}
-use Rattle.cocoon_types.specs.Tables.{Defs, Table, Row}
+use Rattle.cocoon_types.specs.Tables.{Defs, look_up}
 use Rattle.cocoon_types.specs.Val.{Env, bind, value, numbers, apply_in, Context}
-use Rattle.p4_ir.specs.P4Tree.{P4Expr, P4Stmt, KeyRow, TableRows, field_widths, program_layout}
+use Rattle.p4_ir.specs.P4Tree.{P4Expr, P4Stmt, TableRows, field_widths, program_layout}
 use Rattle.p4_ir.specs.Switch.{State, p4_value, p4_run, then_run, table_numbered, rows_numbered, table_result, Running, Outcome, proceeds}
 use Rattle.lower_body.specs.Lower.{Counts, Made, a_field, a_table, a_group, front_params, Variable, Callees}
 
@@ -18,31 +18,11 @@ abbrev pub run_list : Running → List P4Stmt → State → Option Outcome
 run_list at [] s = Some (proceeds s)
 run_list at (x ∷ xs) s = then_run (p4_run at x s) (run_list at xs)
 
--- ---- rows
-
+-- a value as a table's result: a truth value is 1 or 0
 abbrev pub code_of : Value → ℕ
 code_of (number w n) = n
 code_of (truth true) = 1
 code_of (truth false) = 0
-
-abbrev pub key_value : Pattern → ℕ
-key_value (literal w n) = n
-key_value (masked w n v m) = bit_and n m
-key_value any = 0
-
-abbrev pub key_mask : Pattern → ℕ
-key_mask (literal w n) = 2 ^ w - 1
-key_mask (masked w n v m) = m
-key_mask any = 0
-
-abbrev pub key_row : Row → KeyRow
-key_row r = record { values = map key_value r.patterns; masks = map key_mask r.patterns; result = code_of r.value }
-
-abbrev pub table_rows : ℕ → Table → TableRows
-table_rows app t = record { number = app; otherwise = code_of t.otherwise; rows = map key_row t.rows }
-
-abbrev pub rows_of : Defs → List ℕ → ℕ → Option TableRows
-rows_of defs f app = option_map (table_rows app) (named (λ (t : Table). t.function) f defs)
 
 -- ---- what was made is there
 
@@ -60,7 +40,9 @@ FitAll (p ∷ ps) [] = ⊥
 
 abbrev pub IsMade : Running → Filling → Made → Type 0
 IsMade at fill (a_field called i width) = slice_get (field_widths at.program.meta) i ≡ Some width
-IsMade at fill (a_table t f) = (table_numbered at.tables t.number ≡ Some t) × (rows_numbered at.rows t.number ≡ rows_of fill.defs f t.number)
+IsMade at fill (a_table t f ps) = (table_numbered at.tables t.number ≡ Some t)
+    × (r : TableRows) × (rows_numbered at.rows t.number ≡ Some r)
+    × ((ns : List ℕ) (v : Value) → FitAll ps ns → look_up fill.defs f ns ≡ Some v → table_result r.rows r.otherwise ns ≡ code_of v)
 IsMade at fill (a_group t f ps) = (table_numbered at.tables t.number ≡ Some t)
     × (r : TableRows) × (rows_numbered at.rows t.number ≡ Some r) × ((ns : List ℕ) → FitAll ps ns → table_result r.rows r.otherwise ns ≡ fill.group f ns)
 
@@ -152,30 +134,18 @@ abbrev pub IsOf : ResultKind → Value → Type 0
 IsOf (of_width w) v = (n : ℕ) × (v ≡ number w n)
 IsOf of_truth v = (b : Bool) × (v ≡ truth b)
 
-abbrev pub PatternsFit : List Param → List Pattern → Type 0
-PatternsFit [] [] = Unit {0}
-PatternsFit (p ∷ ps) (literal w n ∷ qs) = (w ≡ p.width) × (n < 2 ^ w) × PatternsFit ps qs
-PatternsFit (p ∷ ps) (masked w n v m ∷ qs) = PatternsFit ps qs
-PatternsFit (p ∷ ps) (any ∷ qs) = PatternsFit ps qs
-PatternsFit [] (q ∷ qs) = ⊥
-PatternsFit (p ∷ ps) [] = ⊥
-
-abbrev pub RowsFit : FunctionDecl → List Row → Type 0
-RowsFit d [] = Unit {0}
-RowsFit d (r ∷ rows) = PatternsFit d.params r.patterns × IsOf d.result r.value × RowsFit d rows
-
 abbrev pub inner_context : List HeaderDecl → Defs → List FunctionDecl → Context
 inner_context headers defs functions = record { headers = headers; apply = apply_in headers defs functions }
 
 abbrev pub BodyFits : List HeaderDecl → Defs → FunctionDecl → List FunctionDecl → Option Expr → Type 0
 BodyFits headers defs d earlier None =
-    (t : Table) → named (λ (t : Table). t.function) d.name.text defs ≡ Some t → RowsFit d t.rows × IsOf d.result t.otherwise
+    (ns : List ℕ) (v : Value) → FitAll d.params ns → look_up defs d.name.text ns ≡ Some v → IsOf d.result v
 BodyFits headers defs d earlier (Some e) =
     (ns : List ℕ) (env : Env) → FitAll d.params ns → bind d.params ns ≡ Some env
     → Takes (TakesIn earlier) (λ x. Unit {0}) (inner_context headers defs earlier) env [] e
     × ((v : Value) → value (inner_context headers defs earlier) env [] e ≡ Some v → IsOf d.result v)
 
--- rows fit their function, and bodies give what their function declares
+-- tables and bodies give what their function declares
 abbrev pub FunctionsFit : List HeaderDecl → Defs → List FunctionDecl → Type 0
 FunctionsFit headers defs [] = Unit {0}
 FunctionsFit headers defs (d ∷ earlier) = BodyFits headers defs d earlier d.body × FunctionsFit headers defs earlier

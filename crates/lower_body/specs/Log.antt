@@ -8,20 +8,20 @@ use Rattle.lower_body.specs.LowerBlock.{Site}
 abbrev pub widths_in : List Made → List ℕ
 widths_in [] = []
 widths_in (a_field x i w ∷ ms) = w ∷ widths_in ms
-widths_in (a_table t f ∷ ms) = widths_in ms
+widths_in (a_table t f ps ∷ ms) = widths_in ms
 widths_in (a_group t f ps ∷ ms) = widths_in ms
 
 abbrev pub tables_in : List Made → List P4Table
 tables_in [] = []
 tables_in (a_field x i w ∷ ms) = tables_in ms
-tables_in (a_table t f ∷ ms) = t ∷ tables_in ms
+tables_in (a_table t f ps ∷ ms) = t ∷ tables_in ms
 tables_in (a_group t f ps ∷ ms) = t ∷ tables_in ms
 
 -- fields from i and tables from a, up to j and b
 abbrev pub Placed : ℕ → ℕ → List Made → ℕ → ℕ → Type 0
 Placed i a [] j b = (i ≡ j) × (a ≡ b)
 Placed i a (a_field x k w ∷ ms) j b = (k ≡ i) × Placed (suc i) a ms j b
-Placed i a (a_table t f ∷ ms) j b = (t.number ≡ a) × Placed i (suc a) ms j b
+Placed i a (a_table t f ps ∷ ms) j b = (t.number ≡ a) × Placed i (suc a) ms j b
 Placed i a (a_group t f ps ∷ ms) j b = (t.number ≡ a) × Placed i (suc a) ms j b
 
 -- forks from k up to j
@@ -41,5 +41,5 @@ CallsGrow c = ((f : List ℕ) (es : List P4Expr) (n : Counts) → Grown n (c.cal
 abbrev pub FieldsAt : List ℕ → List Made → Type 0
 FieldsAt widths [] = Unit {0}
 FieldsAt widths (a_field x i w ∷ ms) = (slice_get widths i ≡ Some w) × FieldsAt widths ms
-FieldsAt widths (a_table t f ∷ ms) = FieldsAt widths ms
+FieldsAt widths (a_table t f ps ∷ ms) = FieldsAt widths ms
 FieldsAt widths (a_group t f ps ∷ ms) = FieldsAt widths ms

@@ -19,10 +19,10 @@ pub data FieldName : Type 0 where
   result_name : (app : ℕ) → FieldName
   var_name : (j : ℕ) → FieldName
 
--- a meta field at number i; a table that holds the function f
+-- a meta field at number i; a table that holds the function f, by arguments for these parameters
 pub data Made : Type 0 where
   a_field : (name : FieldName) (i width : ℕ) → Made
-  a_table : (t : P4Table) (f : List ℕ) → Made
+  a_table : (t : P4Table) (f : List ℕ) (ps : List Param) → Made
   -- a table that holds the numbers of f's groups, by the arguments for these parameters
   a_group : (t : P4Table) (f : List ℕ) (ps : List Param) → Made
 
@@ -166,7 +166,7 @@ abbrev pub by_table : FunctionDecl → List P4Expr → Counts → Lowered
 by_table d es n = record {
   code = sets n.field es ++ (apply_table n.app ∷ []);
   made = fields_from (key_name n.app) 0 n.field d.params ++ (a_field (result_name n.app) (past n.field d.params) (kind_width d.result)
-      ∷ a_table (record { number = n.app; exact = false; keys = numbers_from n.field d.params; result = past n.field d.params }) d.name.text ∷ []);
+      ∷ a_table (record { number = n.app; exact = false; keys = numbers_from n.field d.params; result = past n.field d.params }) d.name.text d.params ∷ []);
   expr = read_back d.result (past n.field d.params);
   next = record { app = suc n.app; var = n.var; field = suc (past n.field d.params); site = n.site };
 }

@@ -1,12 +1,12 @@
--- Cited by `visit_is_body`. A whole visit of a switch without choices.
-use Rattle.std.specs.Prelude.{◌≡◌, ℕ, List, [], ◌∷◌, map, slice_get, Some, None, option_map}
+-- Cited by `ingress_ends` and `visit_is_body`. A whole visit of a switch without choices.
+use Rattle.std.specs.Prelude.{◌≡◌, ℕ, List, [], ◌∷◌, length, map, replicate, slice_get, Some, None, option_map}
 use Rattle.cocoon_types.specs.Design.{widths_of}
 use Rattle.cocoon_num.specs.Values.{number}
 use Rattle.cocoon_num.specs.Tree.{Block, FunctionDecl, HeaderDecl}
 use Rattle.cocoon_num.specs.Packets.{Packet, Layout, leave}
 use Rattle.cocoon_types.specs.Val.{Env, bound}
 use Rattle.p4_ir.specs.P4Tree.{Program, RowsFile, p_lit, p_port, field_widths, program_layout}
-use Rattle.p4_ir.specs.Switch.{Running, Departure}
+use Rattle.p4_ir.specs.Switch.{Departure, Running, State}
 use Rattle.lower_body.specs.Lower.{Variable, callees}
 use Rattle.lower_body.specs.LowerBlock.{LoweredBlock, lower_block}
 use Rattle.p4_ir.specs.Program.{block_of}
@@ -33,6 +33,10 @@ role_lowered r s = lower_block (callees r.headers r.functions r.port) (role_vars
 
 abbrev pub ingress_place : Program → RowsFile → ℕ → Running
 ingress_place p rows port = record { program = p; tables = p.ingress.tables; rows = rows.tables; port = Some port; rid = None }
+
+-- the state in which ingress begins
+abbrev pub start_state : Program → Packet → State
+start_state p packet = record { packet = packet; meta = replicate (length p.meta) 0; verdict = 0; egress_port = 0; group = 0 }
 
 -- the program of switch s, with its rows: what ingress asks of it
 pub record IsIngress (r : SwitchRole) (fill : Filling) (s : ℕ) (p : Program) (rows : RowsFile) : Type 0 where

@@ -4,11 +4,12 @@
 
 ghost use Rattle.std.specs.Prelude.{◌∷◌, ◌≡◌, ◌<◌, ◌≤◌, ◌^◌, ℕ, Bool, true, List, [], map, option_and_then, slice_get, Option, Some};
 ghost use Rattle.cocoon_types.specs.Design.{widths_of};
-ghost use Rattle.p4_ir.specs.P4Tree.{Program, RowsFile, field_widths, program_layout};
+ghost use Rattle.p4_ir.specs.P4Tree.{P4Stmt, Program, RowsFile, field_widths, program_layout};
+ghost use Rattle.p4_ir.specs.Program.{block_of};
 ghost use Rattle.cocoon_num.specs.Packets.{Packet, enter};
 ghost use Rattle.cocoon_types.specs.Runs.{World};
 ghost use Rattle.cocoon_types.specs.Taken.{run_all};
-ghost use Rattle.p4_ir.specs.Switch.{Running, Outcome, State, switch_go};
+ghost use Rattle.p4_ir.specs.Switch.{Running, Outcome, State, p4_run_all, switch_go};
 ghost use Rattle.cocoon_num.specs.Tree.{Block, Expr, FunctionDecl, HeaderDecl};
 ghost use Rattle.cocoon_types.specs.Val.{Env, bound, value};
 ghost use Rattle.cocoon_num.specs.Values.{Value, number};
@@ -16,9 +17,9 @@ ghost use Rattle.lower_body.specs.Agrees.{AllMade, Filling, FunctionsFit, GroupT
 ghost use Rattle.lower_body.specs.Ends.{Copies, Ends, FitsAll, Numbered, Sent, begun, ended};
 ghost use Rattle.lower_body.specs.Log.{FieldsAt, NumberedTo, Placed, tables_in, widths_in};
 ghost use Rattle.lower_body.specs.Lower.{Callees, Counts, Made, Variable, callees, lower_expr};
-ghost use Rattle.lower_body.specs.LowerBlock.{Site, lower_block};
+ghost use Rattle.lower_body.specs.LowerBlock.{Site, in_block, lower_block};
 ghost use Rattle.lower_body.specs.LowerSites.{AllSettled, InSite, PortOnly, lower_sites};
-ghost use Rattle.lower_body.specs.Whole.{IsIngress, RoleFits, SwitchRole, role_env, shown};
+ghost use Rattle.lower_body.specs.Whole.{IsIngress, RoleFits, SwitchRole, ingress_place, role_env, role_lowered, shown, start_state};
 ghost use Rattle.lower_body.specs.Visit.{Forked, visit_all};
 
 /// The code of an expression goes on to a state in which it has the expression's value.
@@ -55,10 +56,15 @@ pub fn sites_settle()
     ensures { (c : Callees) (b : Block) (vars : List Variable) (n : Counts) → PortOnly c.port vars → AllSettled (lower_block c vars n b).sites }
 {}
 
-/// A body's run that takes its choices from a list ends as its visit says.
+/// The run of a role's body, and of a fork's block, that takes its choices from a list ends as its
+/// visit says.
 pub fn runs_are_visits()
-    ensures { (T G : List ℕ → List ℕ → Bool) (w : World) (b : Block) (env : Env) (packet : Packet) (cs : List ℕ)
-        → FitsAll (λ f ns. T f ns ≡ true) (λ f ns. G f ns ≡ true) (λ x. Unit {0}) w.context b env packet
+    ensures bodies { (fs : List FunctionDecl) (w : World) (b : Block) (env : Env) (packet : Packet)
+        (cs : List ℕ) → FitsAll (TakesIn fs) (GroupTakesIn fs) (λ x. Unit {0}) w.context b env packet
+        → run_all w b env packet cs ≡ ended w (visit_all w.context b env packet) cs }
+    ensures copies { (fs : List FunctionDecl) (w : World) (b : Block) (env : Env) (packet : Packet)
+        (cs : List ℕ)
+        → FitsAll (TakesIn fs) (λ g ns. ⊥) (λ y. in_block y b ≡ true) w.context b env packet
         → run_all w b env packet cs ≡ ended w (visit_all w.context b env packet) cs }
 {}
 
@@ -68,7 +74,30 @@ pub fn all_numbered()
         → Placed n.field n.app (lower_block (callees headers fs port) vars n b).made (lower_block (callees headers fs port) vars n b).next.field (lower_block (callees headers fs port) vars n b).next.app }
     ensures forks { (headers : List HeaderDecl) (fs : List FunctionDecl) (port : List ℕ) (b : Block) (vars : List Variable) (n : Counts)
         → NumberedTo n.site (lower_block (callees headers fs port) vars n b).sites (lower_block (callees headers fs port) vars n b).next.site }
+    ensures copies { (headers : List HeaderDecl) (fs : List FunctionDecl) (port : List ℕ)
+        (sites : List Site) (n : Counts)
+        → Placed n.field n.app (lower_sites (callees headers fs port) n sites).made
+        (lower_sites (callees headers fs port) n sites).next.field
+        (lower_sites (callees headers fs port) n sites).next.app }
     ensures fields { (a j b : ℕ) (ms : List Made) → Placed 1 a ms j b → FieldsAt (8 ∷ widths_in ms) ms }
+{}
+
+/// A block runs as the list of its statements.
+pub fn lists_run()
+    ensures { (at : Running) (xs : List P4Stmt) (s : State)
+        → p4_run_all at (block_of xs) s ≡ run_list at xs s }
+{}
+
+/// Ingress ends as the visit of the role's body.
+pub fn ingress_ends()
+    ensures { (r : SwitchRole) (fill : Filling) (s : ℕ) (p : Program) (rows : RowsFile)
+        → IsIngress r fill s p rows
+        → (port : ℕ) (packet : Packet) → RoleFits r fill s port packet
+        → Ends fill (inner_context r.headers fill.defs r.functions) (λ x. Unit {0})
+        (ingress_place p rows port) 1 (role_lowered r s).next.field
+        (role_lowered r s).vars (role_lowered r s).sites (start_state p packet)
+        (visit_all (inner_context r.headers fill.defs r.functions) r.body (role_env r s port) packet)
+        (p4_run_all (ingress_place p rows port) p.ingress.body (start_state p packet)) }
 {}
 
 /// A visit without choices gives what the body of the switch's role does.
