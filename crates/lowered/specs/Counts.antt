@@ -1,0 +1,51 @@
+-- Cited by the clauses of `lower`: the limits of lowering, each with its counts, in order, and the first that is exceeded. It
+-- follows the section "Limits" of docs/LANGUAGE.md. Where there is no switch there is no program, so those on programs hold.
+use Rattle.std.specs.Prelude.{◌≡◌, ℕ, nat_lt, List, [], ◌∷◌, ◌++◌, map, length, if◌then◌else◌, Option, Some, None}
+use Rattle.cocoon_num.specs.Tree.{Design}
+use Rattle.cocoon_num.specs.declared.limit_name.LimitName.{LimitName}
+use Rattle.cocoon_num.specs.declared.limit_name.LimitName.TheVariants as limit
+use Rattle.runtime_defs.specs.Places.{Places}
+use Rattle.lower_body.specs.Log.{tables_in}
+use Rattle.lower_body.specs.Whole.{SwitchRole, role_lowered}
+use Rattle.lowered.specs.Groups.{ForkGroup, fork_groups}
+use Rattle.lowered.specs.Network.{HasNumbers}
+use Rattle.lowered.specs.Roles.{NetParts, net_parts}
+use Rattle.lowered.specs.SwitchProgram.{switch_made}
+
+-- a count and the most that it may be
+pub record Counted : Type 0 where
+  pub limit : LimitName
+  pub count : ℕ
+  pub most : ℕ
+
+-- the tables and the forks of a program, which are as many for each switch, and the members of each group
+abbrev pub program_counts : Design → Places → SwitchRole → (switch : ℕ) → List Counted
+program_counts d places r s =
+    record { limit = limit.Tables; count = length (tables_in (switch_made r s)); most = 256 }
+    ∷ record { limit = limit.Sites; count = length (role_lowered r s).sites; most = 255 }
+    ∷ map (λ (g : ForkGroup). record { limit = limit.Members; count = length g.grouped.members; most = 256 }) (fork_groups d places)
+
+-- those of the first switch
+abbrev pub first_program : Design → Places → SwitchRole → List ℕ → List Counted
+first_program d places r [] = []
+first_program d places r (s ∷ switches) = program_counts d places r s
+
+abbrev pub counts : Design → Places → SwitchRole → (switches hosts : List ℕ) → List Counted
+counts d places r switches hosts =
+    record { limit = limit.Switches; count = length switches; most = 64 }
+    ∷ record { limit = limit.Hosts; count = length hosts; most = 1024 }
+    ∷ first_program d places r switches
+
+-- the first count that is over its limit
+abbrev pub first_over : List Counted → Option (LimitName × ℕ)
+first_over [] = None
+first_over (c ∷ cs) = if nat_lt c.most c.count then Some (c.limit, c.count) else first_over cs
+
+-- what the first limit is that the network of a design exceeds, with the count, if there is one
+pub record FirstOver (d : Design) (places : Places) (over : Option (LimitName × ℕ)) : Type 0 where
+  pub parts : NetParts
+  pub parts_are : net_parts d ≡ Some parts
+  pub switches : List ℕ
+  pub hosts : List ℕ
+  pub numbers : HasNumbers d places switches hosts
+  pub over_is : over ≡ first_over (counts d places parts.role switches hosts)
