@@ -1,0 +1,15 @@
+mod Found
+mod Looks
+mod Ordered
+mod Exact
+mod GroupNumbers
+mod Serves
+mod Chosen
+mod Members
+mod Widths
+mod Right
+mod Loads
+mod Fits
+mod Lowerings
+mod Made
+mod Few

@@ -1,0 +1,8 @@
+pub mod Taking
+pub mod FunctionsFit
+pub mod ForkCalls
+pub mod Formed
+pub mod Fitting
+pub mod Parts
+pub mod RolesFit
+pub mod NamedForks

@@ -1,0 +1,9 @@
+pub mod Names
+pub mod Conditions
+pub mod Reaching
+pub mod Made
+pub mod Laws
+pub mod Copies
+pub mod Visits
+pub mod Served
+pub mod Runs
