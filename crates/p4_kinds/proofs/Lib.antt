@@ -4,3 +4,4 @@ pub mod NumberFacts
 pub mod ByteFacts
 pub mod StmtFacts
 pub mod TestFacts
+pub mod FlatPrograms

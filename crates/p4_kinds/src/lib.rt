@@ -5,6 +5,7 @@ pub(crate) mod bytes;
 pub(crate) mod depth;
 pub(crate) mod exprs;
 pub mod kinds;
+pub mod laws;
 pub(crate) mod names;
 pub(crate) mod numbers;
 pub(crate) mod sort;

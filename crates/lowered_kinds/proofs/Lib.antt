@@ -1,0 +1,11 @@
+pub mod Logged
+pub mod ExprKinds
+pub mod CallKinds
+pub mod BlockKinds
+pub mod MetaNames
+pub mod SiteKinds
+pub mod Headers
+pub mod Tables
+pub mod Programs
+pub mod WideTokens
+pub mod Readings

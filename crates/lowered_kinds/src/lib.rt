@@ -1,0 +1,4 @@
+//! The programs that lowering makes keep the kind rules.
+#![tactic(auto)]
+
+pub mod laws;
