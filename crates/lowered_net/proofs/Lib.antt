@@ -1,0 +1,16 @@
+pub mod Options
+pub mod Members
+pub mod Levels
+pub mod Functions
+pub mod Calls
+pub mod Guards
+pub mod Sent
+pub mod WireRuns
+pub mod WireGoes
+pub mod Facts
+pub mod Lookups
+pub mod Steps
+pub mod Ingress
+pub mod Network
+pub mod Wiring
+pub mod Delivered

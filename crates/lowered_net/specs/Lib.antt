@@ -1,0 +1,3 @@
+pub mod WiresLead
+pub mod Followed
+pub mod Ingress
