@@ -15,7 +15,7 @@ before_more d n g h =
     ap reverse (take_more (functions d) n g l ∙ ap (λ x. take n (functions d) ++ x ∷ []) (get_or_from_slice_get (functions d) n g g h))
     ∙ reverse-append (take n (functions d)) (g ∷ [])
 
-before_count : (d : Design) (n : ℕ) (g : FunctionDecl) → slice_get (functions d) n ≡ Some g → length (functions_before d n) ≡ n
+pub before_count : (d : Design) (n : ℕ) (g : FunctionDecl) → slice_get (functions d) n ≡ Some g → length (functions_before d n) ≡ n
 before_count d n g h =
     let l : n < length (functions d) = slice_get_within (functions d) n g h in
     length-reverse (take n (functions d)) ∙ length-take-le n (functions d) (omega arith)
@@ -81,7 +81,7 @@ one_more d before f k g false h e is inner =
           ∙ r.group es n;
     }
 
-plus_one : (n : ℕ) → n + 1 ≡ suc n
+pub plus_one : (n : ℕ) → n + 1 ≡ suc n
 plus_one n = omega arith
 
 pub calls_at : (d : Design) (before : ℕ) (f : List ℕ) (k : ℕ) → before ≤ length (functions d) → number_in (functions_before d before) f ≡ Some k → CallsAt d before f k

@@ -8,3 +8,6 @@ pub mod Forms
 pub mod BlockSteps
 pub mod Scoped
 pub mod SiteSteps
+pub mod Counted
+pub mod FoundTables
+pub mod Measures

@@ -34,7 +34,7 @@ params_at d f = elim (slice_get (functions d) f) [ Some g ↦ g.params | None �
 -- what was made
 abbrev pub made_of : Design → Made → lower.Made
 made_of d (parts.Field f) = a_field (field_name_of f.name) f.number f.width
-made_of d (parts.Table t f) = a_table (table_of t) (text_at d f)
+made_of d (parts.Table t f) = a_table (table_of t) (text_at d f) (params_at d f)
 made_of d (parts.Group t f) = a_group (table_of t) (text_at d f) (front_params (params_at d f))
 
 abbrev pub made_in : Design → List Made → List lower.Made

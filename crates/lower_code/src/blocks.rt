@@ -13,7 +13,7 @@ ghost use Rattle.lower_code.specs.Variables.{variables_of};
 
 use crate::exprs::{lower_expr, lower_exprs, lower_group};
 use crate::functions::Scope;
-use crate::made::Lowering;
+use crate::made::{Lowering, after};
 use crate::places::{field_place, header_place};
 use crate::statements::{
     push_copies, push_filter, push_if, push_send, push_set, push_set_field, second_of,
@@ -135,7 +135,7 @@ fn lower_send<'d>(
 }
 
 /// The function that a fork calls, and its arguments but for the choice.
-fn choice_parts<'d>(choice: &'d Expr) -> (&'d [u8], &'d [Expr])
+pub(crate) fn choice_parts<'d>(choice: &'d Expr) -> (&'d [u8], &'d [Expr])
     ensures name { result.0.now ≡ block.fork_function (tree.expr_of choice.now) }
     ensures args { tree.exprs_of (map tree.expr_of result.1.now)
         ≡ block.fork_args (tree.expr_of choice.now) }
@@ -230,9 +230,10 @@ fn lower_fork<'d>(
 {
     let members = lower_choice(alloc, scope, to, code, &frame.variables, choice)?;
     let variables = site_variables(alloc, scope, to, code, &frame.variables, body)?;
-    let number = to.counts.site;
+    let count = to.counts.site;
+    let number = u8::try_from(count).map_err(|_| NoMemory)?;
     push_copies(code, number, members)?;
-    to.counts.site = number.checked_add(1).ok_or(NoMemory)?;
+    to.counts.site = after(count)?;
     let name = name.text.bytes();
     frame.sites.push(Site {
         number,
@@ -245,7 +246,7 @@ fn lower_fork<'d>(
 }
 
 /// Lowers statements one after another: their code is put at the end, and each fork is kept in the frame. There is no
-/// memory where a count would pass the largest number of its type, either.
+/// memory where a count would pass the largest `u32`, and after the fork of number 255, either.
 #[cycle(lower)]
 pub fn lower_block<'d>(
     alloc: Global,

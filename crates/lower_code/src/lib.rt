@@ -3,7 +3,9 @@
 #![tactic(auto)]
 
 pub mod blocks;
+pub mod bulk;
 mod calls;
+pub mod counting;
 mod exprs;
 mod functions;
 pub mod made;
@@ -15,6 +17,8 @@ mod uses;
 pub mod variables;
 
 pub use blocks::{Frame, Site, lower_block};
+pub use bulk::code_size;
+pub use counting::{count_forks, count_tables};
 pub use exprs::{lower_expr, lower_exprs};
 pub use functions::Scope;
 pub use made::{Counts, FieldName, Lowering, Made, MetaField};

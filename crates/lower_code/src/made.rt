@@ -51,8 +51,8 @@ pub struct Counts {
     pub variable: u32,
     /// Of a meta field.
     pub field: u32,
-    /// Of a fork.
-    pub site: u8,
+    /// Of a fork, from 1.
+    pub site: u32,
 }
 
 /// What was made so far, in order, and the numbers that come next.

@@ -97,6 +97,12 @@ pub fn go(
         → Stands (design_of checked.now) defs.now defined
         → Leads (design_of checked.now) (world level (design_of checked.now) defined)
         at.now packet.now choices.now to) }
+
+    // and, by the tables alone
+    ensures tables { IfOk result (λ to. option_map (spec.went_of (design_of checked.now)) to
+        ≡ spec.all_taken (taken.go (world_by defs.now level (design_of checked.now))
+        (loc_of (design_of checked.now) at.now) (sent_of (design_of checked.now) packet.now)
+        choices.now)) }
     ensures fits { IfOk result (λ to. IfSome to (λ r.
         FieldsFit (field_widths (design_of checked.now)) r.1.fields)) }
     ensures at { IfOk result (λ to. IfSome to (λ r.

@@ -21,7 +21,7 @@ returns c = λ d h.
     let state : z ≡ grown s (applied_code es n) (applied_fields g.params (kind_width g.result) n) (applied_counts g.params n) =
     c.in_ok-table.ensures.state d ∙ (λ i. grown s (applied_code es n) (applied_fields (map param_of (c.deref.ensures.value i)) (c.kind_width-width.ensures i) n) (applied_counts (map param_of (c.deref.ensures.value i)) n)) in
     let table : table_of c.in_ok-table.table ≡ table_for false g.params n = c.in_ok-table.ensures.table ∙ ap (λ (ps : List _). table_for false (map param_of ps) n) c.deref.ensures.value in
-    let part : made_of d (parts.Table c.in_ok-table.table c.args.number) ≡ a_table (table_for false g.params n) g.name.text =
-    (λ i. a_table (table i) (elim (h i) [ Some x ↦ x.name.text | None ↦ [] ])) in
-    let put = table_put s z es g.params (kind_width g.result) (made_of d (parts.Table c.in_ok-table.table c.args.number)) (a_table (table_for false g.params n) g.name.text) state part in
+    let part : made_of d (parts.Table c.in_ok-table.table c.args.number) ≡ a_table (table_for false g.params n) g.name.text g.params =
+    (λ i. a_table (table i) (elim (h i) [ Some x ↦ x.name.text | None ↦ [] ]) (elim (h i) [ Some x ↦ x.params | None ↦ [] ])) in
+    let put = table_put s z es g.params (kind_width g.result) (made_of d (parts.Table c.in_ok-table.table c.args.number)) (a_table (table_for false g.params n) g.name.text g.params) state part in
     (λ i. (((λ k. record { code = z.code; made = made k; next = z.next }) ∙ put) i, (c.in_ok-value.ensures ∙ ap (λ (t : P4Table). read_back g.result t.result) table) i))

@@ -45,3 +45,22 @@ returns-clause-goes c =
     (λ to h F stands. leads c.go_laws.ensures.taken d (world level d F) c.args.at.now c.args.packet.now cs to
     (h ∙ ap all_taken (ap (λ ts. fitting_go (world_by ts level d) at packet cs) c.tables.ensures.are ∙ same F stands)))
     c.go_by_tables.ensures.leads
+
+pub returns-clause-tables : goal.returns-clause-tables
+returns-clause-tables c =
+    let d = design_of c.args.checked.now in
+    let level = c.args.level in
+    let tables = c.args.defs.now in
+    let at = loc_of d c.args.at.now in
+    let packet = sent_of d c.args.packet.now in
+    let cs = c.args.choices.now in
+    let r = c.requires.role.latest in
+    let w = world_by tables level d in
+    let here : role_at level d at.role ≡ Some r = ap (role_at level d) (role_name_of d c.requires.role.name c.args.at.now.role c.requires.role.number) ∙ c.requires.role.declared in
+    let has : HasTables d tables = record { rules = c.go_laws.ensures.rules.rules; literals = c.go_laws.ensures.literals c.args.checked.now; fits = c.requires.defs } in
+    let fits : PacketFits (layout d) packet = packet_fits d.headers c.args.packet.now.fields c.requires.fits in
+    let same : fitting_go w at packet cs ≡ go w at packet cs =
+    where_fits w w at packet cs r here here (λ values. c.go_laws.ensures.fitting d tables has level at packet cs (r, here, values) fits) in
+    IfOk-weaker c.go_by_tables.result _ _
+    (λ to h. h ∙ ap all_taken (ap (λ ts. fitting_go (world_by ts level d) at packet cs) c.tables.ensures.are ∙ same))
+    c.go_by_tables.ensures.leads

@@ -1,0 +1,16 @@
+-- Cited by private clauses of `limits`: the counts of a network, in three parts.
+use Rattle.std.specs.Prelude.{ℕ, List, [], ◌∷◌, map, length}
+use Rattle.cocoon_num.specs.declared.limit_name.LimitName.TheVariants as limit
+use Rattle.lowered.specs.Counts.{Counted}
+use Rattle.lowered.specs.Groups.{ForkGroup}
+
+abbrev pub of_network : (switches hosts : ℕ) → List Counted
+of_network switches hosts =
+    record { limit = limit.Switches; count = switches; most = 64 } ∷ record { limit = limit.Hosts; count = hosts; most = 1024 } ∷ []
+
+abbrev pub of_program : (tables forks : ℕ) → List Counted
+of_program tables forks =
+    record { limit = limit.Tables; count = tables; most = 256 } ∷ record { limit = limit.Sites; count = forks; most = 255 } ∷ []
+
+abbrev pub of_groups : List ForkGroup → List Counted
+of_groups gs = map (λ (g : ForkGroup). record { limit = limit.Members; count = length g.grouped.members; most = 256 }) gs

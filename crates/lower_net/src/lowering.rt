@@ -1,0 +1,182 @@
+//! The network of a design under its definitions.
+ghost use Rattle.std.specs.Prelude.{◌≡◌, ℕ, IfErr, IfOk, None, Some, length, map};
+ghost use Rattle.cocoon_syntax.specs.TreeOf.{design_of};
+ghost use Rattle.cocoon_types.specs.Design as design;
+ghost use Rattle.lower_net.specs.Refused.{IsRefused, Lowers};
+ghost use Rattle.lowered.specs.Roles.{net_parts};
+ghost use Rattle.lower_rows.specs.AllGroups.{fork_group_of};
+ghost use Rattle.lower_switch.specs.Parts.{parts_of, switch_role};
+ghost use Rattle.lowered.specs.Counts.{FirstOver, counts, first_over, program_counts};
+ghost use Rattle.lowered.specs.Groups as spec;
+ghost use Rattle.lowered.specs.Network.{IsNetwork, network};
+ghost use Rattle.p4_ir.specs.NetOf.{net_of};
+ghost use Rattle.runtime_defs.specs.Fitting.{FitsDesign};
+ghost use Rattle.runtime_defs.specs.Places.{Places};
+
+use crate::limits::{groups_over, network_over, program_over};
+use crate::switches::switches;
+use cocoon_num::{LimitName, List, NoMemory};
+use cocoon_resolve::Checked;
+use lower_rows::{ForkGroup, fork_groups};
+use lower_switch::{Parts, find_parts, program_counts, program_size};
+use lower_wires::{host_ports, port_links};
+use p4_ir::NetData;
+use runtime_defs::Defs;
+use std::alloc::Global;
+
+/// The most bytes that the text of a program may have for certain, four times as many as its file: of one that has more no
+/// network is made, since there may be no memory for it.
+const MOST_TEXT: u64 = 16 * 1024 * 1024;
+
+/// Why no network is made.
+#[derive(Clone, Copy, Debug, Drop, PartialEq, Eq)]
+pub enum LowerFault {
+    /// The definitions give more than a limit allows, by this count.
+    Limit(LimitName, u64),
+    NoMemory,
+}
+
+/// The network of these switches and hosts.
+fn make(
+    alloc: Global,
+    checked: &Checked,
+    defs: &Defs,
+    parts: &Parts<'_>,
+    groups: &[ForkGroup<'_>],
+    numbers: &[u16],
+    hosts: &[u64],
+) -> Result<NetData, NoMemory>
+    requires fits { FitsDesign (design_of checked.now) defs.now }
+    requires groups { map fork_group_of groups.now ≡ spec.fork_groups (design_of checked.now) defs.now }
+    ensures { IfOk result (λ net. net_of net ≡ network (design_of checked.now) defs.now
+        (parts_of (design_of checked.now) parts.now) numbers.now hosts.now) }
+{
+    let ports = u16::try_from(parts.switches.ports).map_err(|_| NoMemory)?;
+    let functions = count_functions(checked, defs)?;
+    let made = switches(alloc, checked, defs, functions, parts, groups, numbers)?;
+    let links = port_links(alloc, checked, defs, parts.switches, parts.hosts, numbers)?;
+    let hosts = host_ports(alloc, checked, defs, parts.switches, parts.hosts, hosts)?;
+    Ok(NetData {
+        ports,
+        switches: List::from(made),
+        links: List::from(links),
+        hosts: List::from(hosts),
+    })
+}
+
+/// How many functions the design has.
+fn count_functions(checked: &Checked, defs: &Defs) -> Result<u32, NoMemory>
+    requires { FitsDesign (design_of checked.now) defs.now }
+    ensures { IfOk result (λ n. n ≡ length (design.functions (design_of checked.now))) }
+{
+    u32::try_from(defs.tables().len()).map_err(|_| NoMemory)
+}
+
+/// The first limit that is exceeded where there is a switch, with the count.
+fn switch_over(
+    alloc: Global,
+    checked: &Checked,
+    functions: u32,
+    parts: &Parts<'_>,
+    groups: &[ForkGroup<'_>],
+) -> Result<Option<(LimitName, u64)>, NoMemory>
+    requires { functions ≡ length (design.functions (design_of checked.now)) }
+    ensures { (places : Places) → map fork_group_of groups.now ≡ spec.fork_groups (design_of checked.now) places
+        → (s : ℕ) → IfOk result (λ over. over ≡ first_over (program_counts (design_of checked.now) places
+        (switch_role (design_of checked.now) parts.now.ingress) s)) }
+{
+    let counts = program_counts(alloc, checked, functions, &parts.ingress)?;
+    match program_over(counts) {
+        Some(over) => Ok(Some(over)),
+        None => Ok(groups_over(groups)),
+    }
+}
+
+/// The first limit that is exceeded, with the count.
+fn find_over(
+    alloc: Global,
+    checked: &Checked,
+    functions: u32,
+    parts: &Parts<'_>,
+    groups: &[ForkGroup<'_>],
+    numbers: &[u16],
+    hosts: &[u64],
+) -> Result<Option<(LimitName, u64)>, NoMemory>
+    requires { functions ≡ length (design.functions (design_of checked.now)) }
+    ensures { (places : Places) → map fork_group_of groups.now ≡ spec.fork_groups (design_of checked.now) places
+        → IfOk result (λ over. over ≡ first_over (counts (design_of checked.now) places
+        (switch_role (design_of checked.now) parts.now.ingress) numbers.now hosts.now)) }
+{
+    match network_over(numbers.len() as u64, hosts.len() as u64) {
+        Some(over) => Ok(Some(over)),
+        None => {
+            if numbers.is_empty() {
+                Ok(None)
+            } else {
+                switch_over(alloc, checked, functions, parts, groups)
+            }
+        }
+    }
+}
+
+/// Whether there is a switch, and its program's text is so long for certain that none is made.
+fn is_too_large(
+    alloc: Global,
+    checked: &Checked,
+    functions: u32,
+    parts: &Parts<'_>,
+    numbers: &[u16],
+) -> Result<bool, NoMemory>
+    requires { functions ≡ length (design.functions (design_of checked.now)) }
+{
+    if numbers.is_empty() {
+        return Ok(false);
+    }
+    let size = program_size(alloc, checked, functions, &parts.ingress)?;
+    Ok(size > MOST_TEXT)
+}
+
+/// The network of these parts, or the first limit that is exceeded, with the count.
+fn lower_parts(
+    alloc: Global,
+    checked: &Checked,
+    defs: &Defs,
+    parts: &Parts<'_>,
+) -> Result<Result<NetData, (LimitName, u64)>, NoMemory>
+    requires fits { FitsDesign (design_of checked.now) defs.now }
+    requires parts { net_parts (design_of checked.now)
+        ≡ Some (parts_of (design_of checked.now) parts.now) }
+    ensures { IfOk result (λ lowered. Lowers (design_of checked.now) defs.now lowered) }
+{
+    let functions = count_functions(checked, defs)?;
+    let numbers = defs.switches(checked);
+    let hosts = defs.hosts(checked);
+    let groups = fork_groups(alloc, checked, defs)?;
+    match find_over(alloc, checked, functions, parts, &groups, numbers, hosts)? {
+        Some(over) => Ok(Err(over)),
+        None => {
+            if is_too_large(alloc, checked, functions, parts, numbers)? {
+                return Err(NoMemory);
+            }
+            let net = make(alloc, checked, defs, parts, &groups, numbers, hosts)?;
+            Ok(Ok(net))
+        }
+    }
+}
+
+/// The network of a design under its definitions, if they are within the limits: at its last level, whatever levels it has.
+pub fn lower(alloc: Global, checked: &Checked, defs: &Defs) -> Result<NetData, LowerFault>
+    requires { FitsDesign (design_of checked.now) defs.now }
+    ensures network { IfOk result (λ net. IsNetwork (design_of checked.now) defs.now (net_of net)) }
+    ensures within { IfOk result (λ net. FirstOver (design_of checked.now) defs.now None) }
+    ensures refused { IfErr result (λ fault. IsRefused (design_of checked.now) defs.now fault) }
+{
+    let Some(parts) = find_parts(checked) else {
+        return Err(LowerFault::NoMemory);
+    };
+    match lower_parts(alloc, checked, defs, &parts) {
+        Ok(Ok(net)) => Ok(net),
+        Ok(Err((limit, count))) => Err(LowerFault::Limit(limit, count)),
+        Err(NoMemory) => Err(LowerFault::NoMemory),
+    }
+}

@@ -1,0 +1,10 @@
+pub mod Ends
+pub mod Numbering
+pub mod Saying
+pub mod Distinct
+pub mod Filling
+pub mod Deciding
+pub mod Gathered
+pub mod Walks
+pub mod Forking
+pub mod Placing

@@ -1,0 +1,5 @@
+pub mod AllGroups
+pub mod FirstRows
+pub mod Grouping
+pub mod Numbered
+pub mod Sets

@@ -1,0 +1,14 @@
+//! The rows of a switch's tables, and the groups of copies, as `lowered` says them.
+#![tactic(auto)]
+
+mod args_table;
+mod first_rows;
+mod forked;
+mod fronts;
+pub mod groups;
+mod keys;
+pub mod rows;
+mod table_groups;
+
+pub use groups::{ForkGroup, fork_groups};
+pub use rows::switch_rows;

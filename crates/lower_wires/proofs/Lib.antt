@@ -1,0 +1,3 @@
+pub mod Still
+pub mod Leading
+pub mod Ranging
