@@ -14,7 +14,7 @@ use Rattle.cocoon_types.specs.DefsRules.{DefsFit}
 use Rattle.p4_ir.specs.NetTree.{NetData}
 use Rattle.net_bundle.specs.BundleNames.{digest_of}
 use Rattle.net_bundle.specs.Network.{Network, InBundle}
-use Rattle.lower_p4.specs.Delivers.{DeliversExactly, DeliversWithin}
+use Rattle.lowered.specs.Delivers.{DeliversExactly, DeliversWithin}
 use Rattle.command_line.specs.Command.{Command, compile, step}
 use Rattle.command_line.specs.Words.{command}
 

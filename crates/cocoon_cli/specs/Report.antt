@@ -11,7 +11,7 @@ use Rattle.cocoon_num.specs.declared.limit_name.LimitName.TheVariants as limit
 use Rattle.cocoon_resolve.specs.RuleTexts.{rule_text}
 use Rattle.cocoon_text.specs.TextFaults.{kind_name}
 use Rattle.cocoon_types.specs.Limits.{most}
-use Rattle.lower_p4.specs.LowerLimits.{most_hosts, most_switches}
+use Rattle.lower_p4.specs.LowerLimits.{most_hosts, most_members, most_sites, most_switches, most_tables}
 use Rattle.runtime_defs.specs.Bound.{most_rows}
 use Rattle.cocoon_cli.specs.declared.files.CommandFile.TheVariants.{Design, Definitions}
 use Rattle.cocoon_cli.specs.declared.status.Status.{Status}
@@ -117,6 +117,9 @@ abbrev pub most_allowed : LimitName → ℕ
 most_allowed limit.Rows = most_rows
 most_allowed limit.Switches = most_switches
 most_allowed limit.Hosts = most_hosts
+most_allowed limit.Tables = most_tables
+most_allowed limit.Sites = most_sites
+most_allowed limit.Members = most_members
 most_allowed name = most name
 
 -- that of a design or definitions that are over a limit

@@ -24,7 +24,8 @@ const USAGE: &[u8] = b"usage cocoon check compile update forward step live gen\n
 /// Gives the bytes to the sink; where that fails, the status says so.
 fn put<S: Sink>(alloc: Global, out: &mut S, bytes: &[u8], status: Status) -> Status
     ensures { Puts (Rose S.last_fault (S.faults out.old) (S.faults out.new))
-        (record { status = status; report = bytes.now }) (S.output out.old) (S.output out.new) result }
+        (record { status = status; report = bytes.now })
+        (S.output out.old) (S.output out.new) result }
 {
     match out.put(alloc, bytes) {
         Ok(()) => status,
@@ -49,7 +50,8 @@ fn print<S: Sink>(
     outcome: &Result<Report, Refusal>,
 ) -> Status
     ensures { Prints (Rose S.last_fault (S.faults out.old) (S.faults out.new))
-        (ending_of (stands_for command.now) outcome.now) (S.output out.old) (S.output out.new) result }
+        (ending_of (stands_for command.now) outcome.now)
+        (S.output out.old) (S.output out.new) result }
 {
     match whole_report(alloc, command, outcome) {
         Ok(line) => put(alloc, out, &line, status(outcome)),

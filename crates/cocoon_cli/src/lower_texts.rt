@@ -10,6 +10,7 @@ ghost use Rattle.cocoon_text.specs.Positions.{token_position};
 ghost use Rattle.cocoon_types.specs.Design.{functions};
 ghost use Rattle.cocoon_types.specs.FirstFault.{FirstFault};
 ghost use Rattle.cocoon_types.specs.RuleNames.{fault_at};
+ghost use Rattle.lower_p4.specs.Grounds.{WasRead};
 ghost use Rattle.p4_ir.specs.NetOf.{net_of};
 ghost use Rattle.runtime_defs.specs.Bound as defs;
 ghost use Rattle.runtime_defs.specs.Fitting.{FitsDesign};
@@ -22,10 +23,11 @@ use cocoon_syntax::{DefsText, Design};
 use cocoon_text::{Unread, position_of, read_defs, read_design};
 use cocoon_types::TypeRule;
 use declarations::FunId;
-use lower_p4::lowering::one_lowering;
+use lower_p4::laws::one_lowering;
 use lower_p4::{LowerFault, lower};
 use p4_ir::NetData;
 use runtime_defs::{Defs, DefsFault, bind};
+use sound_types::laws::code_literals_fit;
 use std::alloc::Global;
 
 /// The tree of a design.
@@ -116,7 +118,8 @@ fn first_entry(alloc: Global, text: &[u8], rule: EntryRule, token: u32) -> Refus
 
 /// The refusal of definitions in which the function of this number has no default.
 fn first_missing(alloc: Global, checked: &Checked, function: FunId) -> Refusal
-    ensures { (f : tree.FunctionDecl) → slice_get (functions (design_of checked.now)) function ≡ Some f
+    ensures { (f : tree.FunctionDecl)
+        → slice_get (functions (design_of checked.now)) function ≡ Some f
         → (result ≡ Refusal.NoMemory)
         ⊎ (result ≡ Refusal.Definitions (DefinitionsFault.NoDefault f.name.text)) }
 {
@@ -158,6 +161,7 @@ fn bind_text(alloc: Global, checked: &Checked, text: &[u8]) -> Result<Defs, Refu
         → ReadsChecked design (design_of checked.now)
         → NotReadAfter design text.now refusal ⊎ NotBound design text.now refusal) }
 {
+    code_literals_fit();
     let entries = read_entries(alloc, text)?;
     match bind(alloc, checked, entries) {
         Ok(defs) => Ok(defs),
@@ -182,6 +186,7 @@ pub fn bound_texts(alloc: Global, design: &[u8], defs: &[u8]) -> Result<Bound, R
 /// The network of a design and its definitions.
 fn lower_bound(alloc: Global, bound: &Bound) -> Result<NetData, Refusal>
     requires words { IsTrue (is_spelled (design_of bound.now.checked)) }
+    requires read { WasRead (design_of bound.now.checked) }
     requires fit { FitsDesign (design_of bound.now.checked) bound.now.defs }
     ensures lowers { IfOk result (λ net. (design defs : List ℕ)
         → BindsTables design defs (design_of bound.now.checked) bound.now.defs

@@ -12,7 +12,7 @@ use cocoon_num::{LimitName, NoMemory};
 use cocoon_text::Position;
 use command_line::Command;
 use design_limits::most_of;
-use lower_p4::limits::{MOST_HOSTS, MOST_SWITCHES};
+use lower_net::limits::{MOST_HOSTS, MOST_MEMBERS, MOST_SITES, MOST_SWITCHES, MOST_TABLES};
 use std::alloc::Global;
 
 /// The most `define` rows of a definitions text.
@@ -70,6 +70,9 @@ fn most_allowed(limit: LimitName) -> u64
         LimitName::Rows => MOST_ROWS,
         LimitName::Switches => MOST_SWITCHES,
         LimitName::Hosts => MOST_HOSTS,
+        LimitName::Tables => MOST_TABLES,
+        LimitName::Sites => MOST_SITES,
+        LimitName::Members => MOST_MEMBERS,
         _ => most_of(limit),
     }
 }
@@ -107,8 +110,8 @@ fn entry_line(
     kind: &str,
 ) -> Result<String, NoMemory>
     ensures { IfOk result (λ line. string_bytes line
-        ≡ fault_line (codes "definitions") (name_in (stands_for command.now) CommandFile.Definitions)
-        position.line position.column kind.now) }
+        ≡ fault_line (codes "definitions")
+        (name_in (stands_for command.now) CommandFile.Definitions) position.line position.column kind.now) }
 {
     let name = CommandFile::Definitions.name(alloc, command)?;
     let Position { line, column } = position;

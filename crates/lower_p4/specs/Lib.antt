@@ -1,10 +1,5 @@
-pub mod Delivers
-pub mod Lowering
+pub mod OfText
 pub mod Accepts
 pub mod LowerLimits
-pub mod ThinMade
-pub mod ThinLowered
-pub mod ThinNet
-pub mod ThinSwitches
-pub mod Wires
-pub mod ThinNumbers
+pub mod Lowering
+pub mod Grounds

@@ -1,27 +1,20 @@
 -- The clauses of `lower` cite it.
--- Of which definitions a network is made, what it is to be a lowering of a design under them, and why there is none. It
--- follows "Lowering and the P4 text" in docs/FORMATS.md.
+-- What it is to be a lowering of a design under definitions, and why there is none. It follows "Lowering and the P4 text" in
+-- docs/FORMATS.md.
 use Rattle.std.specs.Prelude.{ℕ, List, [], ◌∷◌, IsTrue}
 use Rattle.cocoon_num.specs.Tree.{Design, DefsText}
 use Rattle.cocoon_types.specs.Tables.{defs_of}
 use Rattle.cocoon_types.specs.Rules.{WellFormed}
 use Rattle.cocoon_types.specs.DefsRules.{DefsFit}
+use Rattle.lowered.specs.Delivers.{DeliversExactly, DeliversWithin}
 use Rattle.p4_ir.specs.P4Tree.{Program}
 use Rattle.p4_ir.specs.NetTree.{SwitchFiles, NetData}
 use Rattle.p4_ir.specs.NetFits.{net_fits}
-use Rattle.lower_p4.specs.Delivers.{DeliversExactly, DeliversWithin}
-use Rattle.runtime_defs.specs.Bound.{IsBound}
-use Rattle.runtime_defs.specs.Places.{Places}
-use Rattle.runtime_defs.specs.Stands.{Stands}
 use Rattle.lower_p4.specs.Accepts.{Accepts, RunsProgram}
 use Rattle.lower_p4.specs.LowerLimits.{IsOver}
+pub use Rattle.lower_p4.specs.OfText.{AreOfText}
 use Rattle.lower_p4.specs.declared.lowering.LowerFault.{LowerFault}
 use Rattle.lower_p4.specs.declared.lowering.LowerFault.TheVariants.{NotYet, Limit, NoMemory}
-
--- the tables are those of the definitions of this text
-pub record AreOfText (design : Design) (defs : DefsText) (tables : Places) : Type 0 where
-  pub bound : IsBound design defs tables
-  pub stand : Stands design tables (defs_of design defs)
 
 -- each switch runs the program of its number
 abbrev pub RunPrograms : (ℕ → Program → Type 0) → List SwitchFiles → Type 0

@@ -10,7 +10,6 @@ mod builders;
 mod bundles;
 mod declarations;
 mod draft;
-mod example;
 mod expressions;
 mod first_switch;
 mod limits;
@@ -51,7 +50,7 @@ impl<'r> Subject for Cases<'r> {
         match word {
             "kinds" => put_kinds(self.rt.alloc(), above, rest, given),
             "text" => put_same(self.rt, above, rest, given),
-            "enter" | "visit" | "go" => ask(self.rt.alloc(), above, (word, rest), given),
+            "enter" | "visit" => ask(self.rt.alloc(), above, (word, rest), given),
             "limit" => write_long(self.rt, rest, given),
             _ => write_case(self.rt, above, (word, rest), given),
         }

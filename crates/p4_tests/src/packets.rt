@@ -1,13 +1,12 @@
-//! Packets, visits and runs, by the reference programs.
+//! Packets and visits, by the reference programs.
 ghost use Rattle.std.specs.Prelude.{IsTrue};
 ghost use Rattle.reference_programs.specs.Widths as spec;
 
-use crate::example::example;
 use crate::programs::{bits, program};
 use case_files::{Printer, first_word, last_line, number};
 use cocoon_num::{List, NoMemory};
 use p4_ir::Program;
-use reference_programs::{Entered, enter, go, is_layout, is_plain, leave, visit};
+use reference_programs::{Entered, enter, is_layout, is_plain, leave, visit};
 use std::alloc::Global;
 
 /// The value of a hexadecimal digit.
@@ -107,31 +106,6 @@ fn put_enter(alloc: Global, layout: &[List<u8>], bytes: &[u8], given: &mut Print
     }
 }
 
-/// Puts to which port of a switch the ingress role of the example leads of this packet.
-fn put_way(alloc: Global, (switch, port): (u16, u16), entered: &Entered, given: &mut Printer) {
-    match example(alloc) {
-        Ok(thin) => put_port(go(&thin, switch, port, &entered.packet, &[]), given),
-        Err(NoMemory) => given.lose(),
-    }
-}
-
-/// The same of bytes that enter at a port of the switch.
-fn put_go(
-    alloc: Global,
-    layout: &[List<u8>],
-    bytes: &[u8],
-    location: (u16, u16),
-    given: &mut Printer,
-)
-    requires { IsTrue (spec.is_layout layout.now) }
-{
-    match enter(alloc, layout, bytes) {
-        Ok(Some(entered)) => put_way(alloc, location, &entered, given),
-        Ok(None) => given.put("none"),
-        Err(NoMemory) => given.lose(),
-    }
-}
-
 /// Puts to which port the bytes leave that enter at port 0. They have to leave as they came.
 fn put_visit(alloc: Global, program: &Program, bytes: &[u8], choices: &[u64], given: &mut Printer) {
     match is_plain(alloc, program) {
@@ -182,10 +156,6 @@ fn ask_layout(
     }
     match (word, numbers) {
         ("enter", []) => put_enter(alloc, &layout, bytes, given),
-        ("go", [switch, port]) => match (u16::try_from(*switch), u16::try_from(*port)) {
-            (Ok(switch), Ok(port)) => put_go(alloc, &layout, bytes, (switch, port), given),
-            _ => given.put("no location"),
-        },
         _ => given.put("no case"),
     }
 }

@@ -1,5 +1,4 @@
 pub mod Ingress
 pub mod Plain
-pub mod Role
 pub mod Seen
 pub mod Widths

@@ -6,8 +6,6 @@ use Rattle.serde_json.proofs.OnLiterals.{serde_json_on_literals}
 use Rattle.serde_json.specs.Written.{compact_text}
 use Rattle.sha2.specs.Sha256.{sha256, first_words, schedule, rounds, compress, hash_after, digest_bytes}
 use Rattle.hex.specs.Hex.{encode_with}
-use Rattle.cocoon_thin.specs.ExampleThin.{example_design, example_thin}
-use Rattle.lower_p4.specs.ThinNet.{thin_net}
 use Rattle.p4_ir.specs.NoRows.{no_rows}
 use Rattle.p4_emit.specs.Printed.{fixed, header_field_text, header_text, member_text, meta_member_text, extract_text, deparse_text, heads_text, ingress_text, egress_text, printed, verdict_text, egress_port_text, if_text, else_text, end_text}
 use Rattle.uniqueness_laws.specs.ExampleP4.{c_p4, c_program}
@@ -15,11 +13,9 @@ use Rattle.net_bundle.specs.declared.file.BundleFile.TheVariants.{Program, Rows,
 use Rattle.net_bundle.specs.BundleNames.{digest_of}
 use Rattle.net_bundle.specs.NetJson.{KeptDigest, NetFile, net_data}
 use Rattle.net_bundle.specs.Bundle.{MadeFile, rows_text, all_switch_files, kept_digest, net_file, net_text, bundle}
+use Rattle.uniqueness_laws.specs.ExampleDesign.{c_design}
 use Rattle.uniqueness_laws.specs.ExampleNet.{c_net_text, c_rows_text, c_bundle, c_hosts, c_links, c_net}
 use Rattle.uniqueness_laws.proofs.ExampleNetwork.{p4_digested, rows_digested, c_file}
-
-pub c_lowered : thin_net example_thin ≡ c_net
-c_lowered = refl
 
 program_printed : printed c_program ≡ c_p4
 unfolding digits fixed header_field_text header_text member_text meta_member_text extract_text deparse_text heads_text ingress_text egress_text verdict_text egress_port_text if_text else_text end_text
@@ -40,7 +36,7 @@ kept_written : map kept_digest (files_with c_p4 c_rows_text) ≡ c_file.files
 unfolding digits
 kept_written = rw (p4_digested, rows_digested) refl
 
-design_digested : digest_of example_design ≡ c_file.design
+design_digested : digest_of c_design ≡ c_file.design
 unfolding sha256 first_words schedule rounds compress hash_after digest_bytes encode_with
 design_digested = refl
 
@@ -55,19 +51,19 @@ net_with design files = record {
   switches = 1 ∷ [];
 }
 
-net_written : net_file example_design c_net ≡ c_file
+net_written : net_file c_design c_net ≡ c_file
 net_written = ap₂ net_with design_digested (ap (map kept_digest) files_written ∙ kept_written)
 
 file_written : compact_text (net_data c_file) ≡ c_net_text
 unfolding serde_json_on_literals digits
 file_written = refl
 
-text_written : net_text example_design c_net ≡ c_net_text
+text_written : net_text c_design c_net ≡ c_net_text
 text_written = ap (λ f. compact_text (net_data f)) net_written ∙ file_written
 
 -- the bundle with these files of its switch and this text of its network
 abbrev bundle_with : List MadeFile → List ℕ → List MadeFile
 bundle_with files text = files ++ record { file = Network; bytes = text } ∷ []
 
-pub c_written : bundle example_design c_net None ≡ c_bundle
+pub c_written : bundle c_design c_net None ≡ c_bundle
 c_written = ap₂ bundle_with files_written text_written

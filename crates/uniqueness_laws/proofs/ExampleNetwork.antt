@@ -1,5 +1,6 @@
 -- The files of the worked example are a network, which delivers what the design does.
-use Rattle.std.specs.Prelude.{◌≡◌, ℕ, List, [], ◌∷◌, Some, codes, IsUtf8, refl}
+use Rattle.std.specs.Prelude.{◌≡◌, ℕ, zero, suc, ◌==◌, Bool, true, false, List, [], ◌∷◌, if◌then◌else◌, Some, None, codes, IsUtf8, refl}
+use Rattle.std.proofs.Common.{subst}
 use Rattle.std.proofs.lemmas.Str.{IsUtf8-from_is_utf8}
 use Rattle.std.specs.FinMap.{get, get-from_entries, find}
 use Rattle.std.specs.Ordering.{nat_cmp}
@@ -14,6 +15,7 @@ use Rattle.sha2.specs.Sha256.{sha256, first_words, schedule, rounds, compress, h
 use Rattle.hex.specs.Hex.{encode_with}
 use Rattle.p4_ir.specs.NetRuns.{NetGo}
 use Rattle.p4_ir.specs.NetTree.{SwitchFiles}
+use Rattle.p4_ir.specs.Switch.{switch_go}
 use Rattle.p4_ir.specs.P4Reads.{P4Reads}
 use Rattle.p4_ir.specs.NoRows.{no_rows}
 use Rattle.uniqueness_laws.specs.ExampleP4.{c_p4, c_program}
@@ -65,6 +67,20 @@ c_goes = (1, 0, refl, (c_switch, 1, 1 ∷ 255 ∷ [], [], [], refl, refl, refl, 
 
 pub c_goes_otherwise : NetGo c_net 3 (2 ∷ []) [] 1 2 (2 ∷ [])
 c_goes_otherwise = (1, 3, refl, (c_switch, 2, 2 ∷ [], [], [], refl, refl, refl, (refl, refl, refl)))
+
+-- no bytes have no header
+no_visit : (port : ℕ) (rids : List ℕ) (x : ℕ × List ℕ) → switch_go c_program no_rows 0 port [] rids ≡ Some x → ⊥
+no_visit port rids x h = cc h
+
+-- a switch that is found is the one
+one_found : (b : Bool) (f : SwitchFiles) → (if b then Some c_switch else None) ≡ Some f → f ≡ c_switch
+one_found true f h = cc h
+one_found false f h = cc h
+
+pub c_stops : (a : ℕ) (choices : List ℕ) (visits b : ℕ) (out : List ℕ) → NetGo c_net a [] choices visits b out → ⊥
+c_stops a choices zero b out (s, p, at, h) = absurd h
+c_stops a choices (suc n) b out (s, p, at, (f, port, left, first, more, is, goes, joined, onward)) =
+    no_visit p first (port, left) (subst (λ (g : SwitchFiles). switch_go g.program g.rows 0 p [] first ≡ Some (port, left)) (one_found (1 == s) f is) goes)
 
 rows_utf8 : IsUtf8 c_rows_text
 unfolding is_utf8 chars encode

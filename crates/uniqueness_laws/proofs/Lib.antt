@@ -13,3 +13,6 @@ pub mod NetworkRows
 pub mod NetworkReads
 pub mod ExampleNetwork
 pub mod ExampleBundle
+pub mod ExampleReads
+pub mod ExampleTables
+pub mod ExampleRuns

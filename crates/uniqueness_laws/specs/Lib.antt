@@ -1,2 +1,3 @@
+pub mod ExampleDesign
 pub mod ExampleP4
 pub mod ExampleNet

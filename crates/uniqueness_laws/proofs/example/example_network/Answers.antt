@@ -1,12 +1,11 @@
--- The design of the example delivers nothing of no bytes, so its network does not.
-use Rattle.std.proofs.Common.{arith}
-use Rattle.cocoon_thin.specs.ExampleThin.{example_thin}
-use Rattle.uniqueness_laws.proofs.ExampleNetwork.{c_network, c_goes, c_goes_otherwise}
-use Rattle.uniqueness_laws.proofs.ExampleBundle.{c_lowered, c_written}
+-- All of it is computed.
+use Rattle.uniqueness_laws.proofs.ExampleBundle.{c_written}
+use Rattle.uniqueness_laws.proofs.ExampleNetwork.{c_network, c_goes, c_goes_otherwise, c_stops}
+use Rattle.uniqueness_laws.proofs.ExampleTables.{c_bound, c_is_network, c_places}
 use Rattle.uniqueness_laws.proofs.example.example_network.Goals as goal
 
 pub returns-clause-lowered : goal.returns-clause-lowered
-returns-clause-lowered c = c_lowered
+returns-clause-lowered c = (c_places, c_bound, c_is_network)
 
 pub returns-clause-written : goal.returns-clause-written
 returns-clause-written c = c_written
@@ -21,6 +20,4 @@ pub returns-clause-untagged : goal.returns-clause-untagged
 returns-clause-untagged c = c_goes_otherwise
 
 pub returns-clause-too_short : goal.returns-clause-too_short
-returns-clause-too_short c a choices visits b out h =
-    c.thin_example.ensures.too_short _ _ _ _ _
-    ((c.thin_networks_deliver.ensures example_thin (omega arith) (omega arith) a _ choices visits b out).0 h)
+returns-clause-too_short c = c_stops

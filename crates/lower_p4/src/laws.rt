@@ -1,0 +1,74 @@
+//! What the network of a design is. The functions do nothing; their contracts are the laws.
+ghost use Rattle.std.specs.Prelude.{◌<◌, ◌≡◌, ◌^◌, All, None, true, ℕ};
+ghost use Rattle.cocoon_num.specs.Tree.{DefsText, Design};
+ghost use Rattle.cocoon_num.specs.declared.limit_name.LimitName.{LimitName};
+ghost use Rattle.cocoon_types.specs.Tables.{defs_of};
+ghost use Rattle.lower_p4.specs.Accepts.{Accepts, Lowers, RunsProgram};
+ghost use Rattle.lower_p4.specs.Grounds.{Grounds, HoldsFields};
+ghost use Rattle.lower_p4.specs.LowerLimits.{IsOver, IsWithin};
+ghost use Rattle.lower_p4.specs.Lowering.{IsLowering, RunPrograms};
+ghost use Rattle.lowered.specs.Counts.{FirstOver};
+ghost use Rattle.lowered.specs.Delivers.{DeliversExactly, DeliversWithin};
+ghost use Rattle.lowered.specs.Network.{IsNetwork};
+ghost use Rattle.p4_ir.specs.NetFits.{net_fits};
+ghost use Rattle.p4_ir.specs.NetTree.{NetData};
+ghost use Rattle.p4_ir.specs.P4Tree.{Program};
+ghost use Rattle.runtime_defs.specs.Places.{Places};
+
+use lower_switch::laws::programs_count_alike;
+use lowered_depth::programs_are_shallow;
+use lowered_kinds::laws::{programs_are_kinded, readings_are_plain};
+use lowered_net::laws::deliveries_stay_within;
+use lowered_rows::{groups_are_few, rows_are_few};
+use lowered_whole::laws::{networks_are_exact, networks_fit};
+use tree_depth::readings_are_shallow;
+
+/// The network of a design under definitions delivers exactly what the last level delivers, and, where that is the only
+/// level, nothing that the topmost specification may not make.
+pub fn networks_deliver()
+    ensures exactly { (d : Design) (es : DefsText) (places : Places) (net : NetData)
+        → Grounds d es places → IsNetwork d places net → DeliversExactly net d (defs_of d es) }
+    ensures within { (d : Design) (es : DefsText) (places : Places) (net : NetData)
+        → Grounds d es places → IsNetwork d places net → Accepts d
+        → DeliversWithin net d (defs_of d es) }
+{
+    networks_are_exact();
+    deliveries_stay_within();
+}
+
+/// Each switch of a network runs the program of its number.
+pub fn switches_run_programs()
+    ensures { (d : Design) (places : Places) (net : NetData) → IsNetwork d places net
+        → RunPrograms (RunsProgram d) net.switches }
+{}
+
+/// The network can be written as a bundle, where it is within the limits.
+pub fn networks_are_writable()
+    ensures { (d : Design) (es : DefsText) (places : Places) (net : NetData)
+        → Grounds d es places → IsNetwork d places net → FirstOver d places None
+        → net.ports < 2 ^ 16 → All HoldsFields net.switches → net_fits net ≡ true }
+{
+    networks_fit();
+    groups_are_few();
+    rows_are_few();
+    programs_are_kinded();
+    programs_count_alike();
+    readings_are_plain();
+    readings_are_shallow();
+    programs_are_shallow();
+}
+
+/// The compiler makes one network of a design and definitions. It makes it only of a design that it takes, and the program
+/// of a switch depends on the design and the number of the switch alone. Definitions exceed one limit first, or none.
+pub fn one_lowering()
+    ensures one { (design : Design) (defs : DefsText) (m n : NetData)
+        → Lowers design defs m → Lowers design defs n → m ≡ n }
+    ensures accepted { (design : Design) (defs : DefsText) (n : NetData)
+        → Lowers design defs n → Accepts design }
+    ensures programs { (design : Design) (switch : ℕ) (p q : Program)
+        → RunsProgram design switch p → RunsProgram design switch q → p ≡ q }
+    ensures one_limit { (design : Design) (defs : DefsText) (x y : LimitName) (m n : ℕ)
+        → IsOver design defs x m → IsOver design defs y n → (x ≡ y) × (m ≡ n) }
+    ensures no_limit { (design : Design) (defs : DefsText) (x : LimitName) (n : ℕ)
+        → IsWithin design defs → IsOver design defs x n → ⊥ }
+{}
