@@ -116,7 +116,7 @@ fn wanted_of<'a>(case: Case<'a>, name: &str) -> Option<&'a [u8]> {
         let line = line_of(cut);
         if line.name == name {
             match line.word {
-                "after" | "after-edit" => found = case.files.after.file(name),
+                "after" | "after-edit" | "after-repeat" => found = case.files.after.file(name),
                 "absent" => found = None,
                 _ => {}
             }

@@ -94,21 +94,24 @@ pub fn number_in(field: &str, out: &mut Printer) -> u64 {
     }
 }
 
-/// Puts a text so many times, with a number for its `#`, which goes up from the first.
-fn put_repeated(text: &str, count: u64, first: u64, all: &mut Printer) {
-    for index in 0..count {
-        match text.split_once('#') {
-            Some((before, behind)) => {
-                all.put(before);
-                all.put_number(first.saturating_add(index));
-                all.put(behind);
-            }
-            None => all.put(text),
-        }
+/// Puts a text with a number for each `#` in it.
+fn put_numbered(text: &str, number: u64, all: &mut Printer) {
+    let mut pieces = text.split('#');
+    all.put(pieces.next().unwrap_or_default());
+    for piece in pieces {
+        all.put_number(number);
+        all.put(piece);
     }
 }
 
-/// Does what a line `repeat` says.
+/// Puts a text so many times, with a number for each `#` in it, which goes up from the first.
+fn put_repeated(text: &str, count: u64, first: u64, all: &mut Printer) {
+    for index in 0..count {
+        put_numbered(text, first.saturating_add(index), all);
+    }
+}
+
+/// Does what a line `repeat` says, or a line `after-repeat`.
 fn repeat(alloc: Global, folder: &mut HonestFolder, line: Line<'_>, out: &mut Printer) {
     let mut all = Printer::new(alloc);
     let count = number_in(line.count, out);
@@ -133,6 +136,7 @@ fn follow(data: Data<'_>, files: &mut CaseFiles, cut: &str, out: &mut Printer) {
         ("repeat", 5 | 6) => repeat(alloc, &mut files.before, line, out),
         ("after", 3) => place_data(data, &mut files.after, (name, old), out),
         ("after-edit", 4) => edit(alloc, &mut files.after, (name, old, new), out),
+        ("after-repeat", 5 | 6) => repeat(alloc, &mut files.after, line, out),
         _ if is_line(line.word, count) => {}
         _ => report(out, "no line of a case: ", line.word),
     }
