@@ -80,7 +80,8 @@ pub fn run_case(
 ) -> Result<Option<Sent>, NoMemory>
     requires defs { FitsDesign (design_of checked.now) defs.now }
     requires case { CanRun level (design_of checked.now) case }
-    ensures { IfOk result (λ sent. (defined : tables.Defs) → Stands (design_of checked.now) defs.now defined
+    ensures { IfOk result (λ sent. (defined : tables.Defs)
+        → Stands (design_of checked.now) defs.now defined
         → (of : cases.Case) → StandsFor (design_of checked.now) case of
         → Steps level (design_of checked.now) defined of sent) }
 {
