@@ -1,0 +1,15 @@
+pub mod ByteSteps
+pub mod FaultSteps
+pub mod FieldFacts
+pub mod GroupSteps
+pub mod HeaderParts
+pub mod LoadLaws
+pub mod OrderFacts
+pub mod Sizes
+pub mod StmtSteps
+pub mod TableFacts
+pub mod TestSteps
+pub mod ValueSorts
+pub mod VisitLaws
+pub mod VisitSteps
+pub mod WidthFacts

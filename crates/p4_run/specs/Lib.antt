@@ -1,0 +1,14 @@
+pub mod Applying
+pub mod Bits
+pub mod FaultOf
+pub mod Faults
+pub mod Frames
+pub mod Keyed
+pub mod Meant
+pub mod Orders
+pub mod Outcomes
+pub mod Places
+pub mod Running
+pub mod Spans
+pub mod States
+pub mod Visits

@@ -1,0 +1,26 @@
+//! Visits of a switch: a program of the P4-16 subset with its rows, loaded once and run for packet after packet.
+//! A run takes no memory.
+#![tactic(auto)]
+
+pub mod cutting;
+pub mod faults;
+pub mod frame;
+pub mod joining;
+pub mod laws;
+pub mod loaded;
+pub mod loading;
+pub mod look;
+pub mod operators;
+pub mod orders;
+pub mod places;
+pub mod registers;
+pub mod running;
+pub mod statements;
+pub mod value;
+pub mod values;
+pub mod visits;
+
+pub use faults::LoadFault;
+pub use frame::Frame;
+pub use loaded::Loaded;
+pub use visits::Next;
