@@ -1,0 +1,3 @@
+mod LoadingSteps
+mod Searching
+mod Wired

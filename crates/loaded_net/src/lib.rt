@@ -1,0 +1,10 @@
+//! Whole networks with the rows of their switches loaded: what is attached and linked where is found by halving.
+#![tactic(auto)]
+
+pub mod finding;
+pub mod loading;
+pub mod lookups;
+pub mod net;
+
+pub use loading::NetFault;
+pub use net::Net;

@@ -1,0 +1,5 @@
+mod Among
+mod Departing
+mod Leading
+mod Rising
+mod MemberSteps
