@@ -1,0 +1,6 @@
+mod Seen
+mod Exact
+mod RowsExact
+mod NetSeen
+mod Sought
+mod NetExact

@@ -1,0 +1,4 @@
+pub mod Forms
+pub mod RowsForm
+pub mod NetForm
+pub mod Reading
