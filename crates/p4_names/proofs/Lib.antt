@@ -1,0 +1,12 @@
+mod Lists
+mod Words
+mod Kept
+mod Fits
+mod Said
+mod SaidWhole
+mod Decimal
+mod Back
+mod BackKept
+mod BackWhole
+mod Standing
+mod Within

@@ -1,0 +1,4 @@
+pub mod Meant
+pub mod KindFaults
+pub mod TextOf
+pub mod ReadText

@@ -1,0 +1,4 @@
+pub mod Fields
+pub mod Phrases
+pub mod Tails
+pub mod TreeOf
