@@ -66,10 +66,10 @@ pub fn lower_expr(
             let a = lower_expr(alloc, scope, variables, to, code, a)?;
             slice(alloc, a, *high, *low)
         }
-        ExprKind::Pick(condition, a, b) => {
+        ExprKind::Pick(condition, first, second) => {
             let condition = lower_expr(alloc, scope, variables, to, code, condition)?;
-            let a = lower_expr(alloc, scope, variables, to, code, a)?;
-            let b = lower_expr(alloc, scope, variables, to, code, b)?;
+            let a = lower_expr(alloc, scope, variables, to, code, first)?;
+            let b = lower_expr(alloc, scope, variables, to, code, second)?;
             pick(alloc, condition, a, b)
         }
     }

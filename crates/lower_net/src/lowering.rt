@@ -47,7 +47,8 @@ fn make(
     hosts: &[u64],
 ) -> Result<NetData, NoMemory>
     requires fits { FitsDesign (design_of checked.now) defs.now }
-    requires groups { map fork_group_of groups.now ≡ spec.fork_groups (design_of checked.now) defs.now }
+    requires groups { map fork_group_of groups.now
+        ≡ spec.fork_groups (design_of checked.now) defs.now }
     ensures { IfOk result (λ net. net_of net ≡ network (design_of checked.now) defs.now
         (parts_of (design_of checked.now) parts.now) numbers.now hosts.now) }
 {
@@ -81,8 +82,10 @@ fn switch_over(
     groups: &[ForkGroup<'_>],
 ) -> Result<Option<(LimitName, u64)>, NoMemory>
     requires { functions ≡ length (design.functions (design_of checked.now)) }
-    ensures { (places : Places) → map fork_group_of groups.now ≡ spec.fork_groups (design_of checked.now) places
-        → (s : ℕ) → IfOk result (λ over. over ≡ first_over (program_counts (design_of checked.now) places
+    ensures { (places : Places)
+        → map fork_group_of groups.now ≡ spec.fork_groups (design_of checked.now) places
+        → (s : ℕ) → IfOk result (λ over. over
+        ≡ first_over (program_counts (design_of checked.now) places
         (switch_role (design_of checked.now) parts.now.ingress) s)) }
 {
     let counts = program_counts(alloc, checked, functions, &parts.ingress)?;
@@ -103,7 +106,8 @@ fn find_over(
     hosts: &[u64],
 ) -> Result<Option<(LimitName, u64)>, NoMemory>
     requires { functions ≡ length (design.functions (design_of checked.now)) }
-    ensures { (places : Places) → map fork_group_of groups.now ≡ spec.fork_groups (design_of checked.now) places
+    ensures { (places : Places)
+        → map fork_group_of groups.now ≡ spec.fork_groups (design_of checked.now) places
         → IfOk result (λ over. over ≡ first_over (counts (design_of checked.now) places
         (switch_role (design_of checked.now) parts.now.ingress) numbers.now hosts.now)) }
 {

@@ -27,9 +27,11 @@ fn switch(
     number: u16,
 ) -> Result<SwitchFiles, NoMemory>
     requires functions { functions ≡ length (design.functions (design_of checked.now)) }
-    requires groups { map fork_group_of groups.now ≡ spec.fork_groups (design_of checked.now) defs.now }
+    requires groups { map fork_group_of groups.now
+        ≡ spec.fork_groups (design_of checked.now) defs.now }
     ensures { IfOk result (λ s. switch_of s
-        ≡ switch_files (design_of checked.now) defs.now (parts_of (design_of checked.now) parts.now) number) }
+        ≡ switch_files (design_of checked.now) defs.now
+        (parts_of (design_of checked.now) parts.now) number) }
 {
     let code = switch_code(alloc, checked, functions, &parts.ingress, number)?;
     let rows = switch_rows(alloc, checked, defs, groups, &code.ingress, &code.egress)?;
@@ -52,9 +54,11 @@ pub(crate) fn switches(
     numbers: &[u16],
 ) -> Result<Vec<SwitchFiles>, NoMemory>
     requires functions { functions ≡ length (design.functions (design_of checked.now)) }
-    requires groups { map fork_group_of groups.now ≡ spec.fork_groups (design_of checked.now) defs.now }
+    requires groups { map fork_group_of groups.now
+        ≡ spec.fork_groups (design_of checked.now) defs.now }
     ensures { IfOk result (λ ss. map switch_of ss.items
-        ≡ map (switch_files (design_of checked.now) defs.now (parts_of (design_of checked.now) parts.now))
+        ≡ map (switch_files (design_of checked.now) defs.now
+        (parts_of (design_of checked.now) parts.now))
         numbers.now) }
 {
     let mut made = Vec::new(alloc);

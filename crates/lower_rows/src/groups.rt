@@ -68,7 +68,8 @@ fn push_place<'d>(
     place: &Option<FunTable>,
     groups: &mut Vec<ForkGroup<'d>>,
 ) -> Result<(), NoMemory>
-    requires { (f : Function) (t : Table) → slice_get (functions (design_of checked.now)) number ≡ Some f
+    requires { (f : Function) (t : Table)
+        → slice_get (functions (design_of checked.now)) number ≡ Some f
         → place.now ≡ Some t → IsDecidedAt (design_of checked.now) f t }
     ensures { OnOk result (map fork_group_of groups.new.items ≡ map fork_group_of groups.old.items
         ++ place_groups (design_of checked.now) number place.now) }

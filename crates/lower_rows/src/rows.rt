@@ -96,7 +96,8 @@ fn ones(width: u32) -> Result<u64, NoMemory>
 
 /// Masks that compare all bits.
 fn all_ones(alloc: Global, params: &[Param]) -> Result<Vec<u64>, NoMemory>
-    ensures { IfOk result (λ masks. masks.items ≡ fitting.all_ones (widths_of (map param_of params.now))) }
+    ensures { IfOk result (λ masks. masks.items
+        ≡ fitting.all_ones (widths_of (map param_of params.now))) }
 {
     let mut masks = Vec::new(alloc);
     for param in params {
@@ -196,7 +197,8 @@ fn made_rows(
 ) -> Result<(), NoMemory>
     requires { map fork_group_of groups.now ≡ fork_groups (design_of checked.now) defs.now }
     ensures { OnOk result (map table_rows_of tables.new.items ≡ map table_rows_of tables.old.items
-        ++ spec.made_rows (design_of checked.now) defs.now (made_of (design_of checked.now) part.now)) }
+        ++ spec.made_rows (design_of checked.now) defs.now
+        (made_of (design_of checked.now) part.now)) }
 {
     match part {
         Made::Field(_) => {}

@@ -62,7 +62,10 @@ fn field_text(alloc: Global, name: FieldName) -> Result<Vec<u8>, NoMemory>
 /// A meta field. There is no memory where its width does not fit a byte, which no width of a checked design does.
 fn p4_field(alloc: Global, field: &MetaField) -> Result<P4Field, NoMemory>
     ensures { IfOk result (λ f. field_of f
-        ≡ record { name = spec.field_text (field_name_of field.now.name); width = field.now.width }) }
+        ≡ record {
+          name = spec.field_text (field_name_of field.now.name);
+          width = field.now.width;
+        }) }
 {
     let text = field_text(alloc, field.name)?;
     let width = u8::try_from(field.width).map_err(|_| NoMemory)?;

@@ -129,7 +129,10 @@ fn meta(alloc: Global, ingress: &[Made], egress: &[Made]) -> Result<Vec<P4Field>
 
 fn control(alloc: Global, code: Vec<P4Stmt>, made: &[Made]) -> Result<Control, NoMemory>
     ensures { (d : Design) → IfOk result (λ c. control_of c
-        ≡ record { tables = tables_in (made_in d made.now); body = block_of (map stmt_of code.items) }) }
+        ≡ record {
+          tables = tables_in (made_in d made.now);
+          body = block_of (map stmt_of code.items);
+        }) }
 {
     let tables = List::from(tables(alloc, made)?);
     let body = List::from(code);
@@ -144,7 +147,8 @@ fn whole(
     egress: Half<'_>,
 ) -> Result<SwitchCode, NoMemory>
     ensures program { IfOk result (λ c. program_of c.program
-        ≡ program_with (design_of checked.now).headers (half_of (design_of checked.now) ingress.entry)
+        ≡ program_with (design_of checked.now).headers
+        (half_of (design_of checked.now) ingress.entry)
         (half_of (design_of checked.now) egress.entry)) }
     ensures ingress { IfOk result (λ c. c.ingress ≡ ingress.entry.to.made) }
     ensures egress { IfOk result (λ c. c.egress ≡ egress.entry.to.made) }
@@ -178,7 +182,8 @@ pub fn switch_code(
     requires { functions ≡ length (design.functions (design_of checked.now)) }
     ensures program { IfOk result (λ c. program_of c.program
         ≡ spec.switch_program (switch_role (design_of checked.now) ingress.now) number) }
-    ensures made { IfOk result (λ c. made_in (design_of checked.now) (c.ingress.items ++ c.egress.items)
+    ensures made { IfOk result (λ c.
+        made_in (design_of checked.now) (c.ingress.items ++ c.egress.items)
         ≡ spec.switch_made (switch_role (design_of checked.now) ingress.now) number) }
 {
     let scope = Scope {

@@ -20,7 +20,8 @@ use std::alloc::Global;
 /// The number of a role that is declared.
 fn declared_role(checked: &Checked, role: &[u8]) -> Option<RoleId>
     ensures there { IfSome result (λ n. IsDeclared (design_of checked.now) role.now n) }
-    ensures none { result ≡ None → role_at (last_level (design_of checked.now)) (design_of checked.now) role.now ≡ None }
+    ensures none { result ≡ None
+        → role_at (last_level (design_of checked.now)) (design_of checked.now) role.now ≡ None }
 {
     let last = checked.levels() - 1;
     checked.names().role_at(checked.design(), role, last)?;
@@ -35,7 +36,8 @@ fn led_from(
     at: &Loc,
 ) -> Result<Option<Loc>, NoMemory>
     requires defs { FitsDesign (design_of checked.now) defs.now }
-    requires role { HasRole (design_of checked.now) at.now.role (last_level (design_of checked.now)) }
+    requires role { HasRole (design_of checked.now) at.now.role
+        (last_level (design_of checked.now)) }
     ensures leads { IfOk result (λ to. option_map (loc_of (design_of checked.now)) to
         ≡ spec.led (design_of checked.now) defs.now (loc_of (design_of checked.now) at.now)) }
     ensures at { IfOk result (λ to. IfSome to (λ l.

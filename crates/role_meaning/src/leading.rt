@@ -16,7 +16,6 @@ ghost use Rattle.cocoon_types.specs.Taken.{RunsAreTaken};
 ghost use Rattle.role_meaning.specs.Goings as spec;
 ghost use Rattle.role_meaning.specs.Leading.{Leads};
 ghost use Rattle.role_meaning.specs.Located.{loc_of, sent_of};
-ghost use Rattle.role_values.specs.ByTables.{MayHaveShape};
 ghost use Rattle.role_values.specs.DeclaredWidths.{AllDeclared};
 ghost use Rattle.role_values.specs.FittingRuns.{fitting_go};
 ghost use Rattle.role_values.specs.Stands as values;
@@ -30,7 +29,7 @@ ghost use Rattle.sound_types.specs.Literals.{DesignLiteralsFit};
 use crate::going::run_role;
 use crate::level::Level;
 use crate::place::{Loc, Packet};
-use cocoon_num::{FunTable, NoMemory};
+use cocoon_num::NoMemory;
 use cocoon_resolve::Checked;
 use cocoon_types::runs::runs_are_taken;
 use role_values::Scene;
@@ -39,18 +38,17 @@ use runtime_defs::Defs;
 use sound_types::laws::{code_literals_fit, fitting_runs_are_runs, runs_by_tables};
 use std::alloc::Global;
 
-/// Where the body of a role leads, by tables.
+/// Where the body of a role leads, where functions are looked up in tables.
 fn go_by_tables(
     alloc: Global,
     checked: &Checked,
-    tables: &[Option<FunTable>],
+    defs: &Defs,
     level: u32,
     at: &Loc,
     packet: &Packet,
     choices: &[u64],
 ) -> Result<Option<(Loc, Packet)>, NoMemory>
-    requires count { length tables.now ≡ length (functions (design_of checked.now)) }
-    requires shapes { All MayHaveShape tables.now }
+    requires count { length defs.now ≡ length (functions (design_of checked.now)) }
     requires role { HasRole (design_of checked.now) at.now.role level }
     requires fits { FieldsFit (field_widths (design_of checked.now)) packet.now.fields }
     ensures fits { IfOk result (λ to. IfSome to (λ r.
@@ -58,7 +56,7 @@ fn go_by_tables(
     ensures at { IfOk result (λ to. IfSome to (λ r.
         HasRole (design_of checked.now) r.0.role level)) }
     ensures leads { IfOk result (λ to. option_map (spec.went_of (design_of checked.now)) to
-        ≡ spec.all_taken (fitting_go (world_by tables.now level (design_of checked.now))
+        ≡ spec.all_taken (fitting_go (world_by defs.now level (design_of checked.now))
         (loc_of (design_of checked.now) at.now) (sent_of (design_of checked.now) packet.now)
         choices.now)) }
 {
@@ -66,8 +64,8 @@ fn go_by_tables(
     let design = checked.design();
     let scene = Scene {
         checked,
-        tables,
-        before: tables.len() as u32,
+        defs,
+        before: defs.tables().len() as u32,
         headers: &design.headers,
     };
     let number = level;
@@ -79,8 +77,9 @@ fn go_by_tables(
 /// not fit or a guard is not true, where a path ends without a `send`, where a choice does not fit, is
 /// missing or is left over, and at the sink. The meaning is that of docs/LANGUAGE.md, "A body's run".
 ///
-/// The time is in proportion to the statements that are run, with their expressions, and to the rows
-/// that are looked at; a variable is looked up among all that are in scope.
+/// The time is in proportion to the statements that are run, with their expressions, and for each
+/// look-up to the rows that are looked at, of a table whose rows compare all bits to the logarithm of
+/// its rows; a variable is looked up among all that are in scope.
 pub fn go(
     alloc: Global,
     checked: &Checked,
@@ -109,7 +108,7 @@ pub fn go(
         HasRole (design_of checked.now) r.0.role level)) }
 {
     go_laws(checked);
-    go_by_tables(alloc, checked, defs.tables(), level, at, packet, choices)
+    go_by_tables(alloc, checked, defs, level, at, packet, choices)
 }
 
 /// The laws by which a run by tables is the run.

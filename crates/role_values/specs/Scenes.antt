@@ -20,11 +20,11 @@ headers_of s = map header_of s.headers.now
 
 -- what its expressions are evaluated in
 abbrev pub context_of : Scene → Context
-context_of s = context_by (headers_of s) s.tables.now (design_of s.checked.now) s.before
+context_of s = context_by (headers_of s) s.defs.now (design_of s.checked.now) s.before
 
 -- its functions can be evaluated
 abbrev pub SeesFunctions : Scene → Type 0
-SeesFunctions s = CanEvaluate (design_of s.checked.now) s.tables.now s.before
+SeesFunctions s = CanEvaluate (design_of s.checked.now) s.defs.now s.before
 
 -- the numbers of the fields fit its headers, whose widths are those of declarations
 pub record HasPacket (s : Scene) (state : State) : Type 0 where
@@ -42,12 +42,12 @@ all_values s state es =
 
 -- the value of a function by its name, at some numbers
 abbrev pub applied : Scene → List ℕ → List ℕ → Option Value
-applied s f ns = apply_by s.tables.now (earlier (design_of s.checked.now) s.before) f ns
+applied s f ns = apply_by s.defs.now (earlier (design_of s.checked.now) s.before) f ns
 
 -- that of the function of a number
 abbrev pub called_by : Scene → ℕ → FunctionDecl → List ℕ → Option Value
-called_by s n g ns = called (apply_by s.tables.now (earlier (design_of s.checked.now) n)) (table_at s.tables.now n) g ns
+called_by s n g ns = called (apply_by s.defs.now (earlier (design_of s.checked.now) n)) (table_at s.defs.now n) g ns
 
 -- that of its body, with these variables
 abbrev pub body_value : Scene → ℕ → List Binding → Expr → Option Value
-body_value s n bs e = value (context_by [] s.tables.now (design_of s.checked.now) n) (env_of bs) [] e
+body_value s n bs e = value (context_by [] s.defs.now (design_of s.checked.now) n) (env_of bs) [] e

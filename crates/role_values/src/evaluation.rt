@@ -13,19 +13,19 @@ use crate::fields::read_field;
 use crate::functions::{find, table_at, table_value};
 use crate::operators::{binary, pick, slice, unary};
 use crate::value::Value;
-use cocoon_num::{FunTable, NoMemory, both, three};
+use cocoon_num::{NoMemory, both, three};
 use cocoon_resolve::Checked;
 use cocoon_syntax::{BinaryOp, Expr, ExprKind, HeaderDecl, UnaryOp};
 use declarations::FunId;
+use runtime_defs::Defs;
 use std::alloc::Global;
 
 /// What expressions see beside variables and fields: the headers, which are none in a function, and the
-/// first functions of the design, so many, with their tables.
+/// first functions of the design, so many, with the definitions of those that have no body.
 #[derive(Clone, Copy, Drop)]
 pub struct Scene<'d> {
     pub checked: &'d Checked,
-    /// One place for each function, by its number; none where the function has a body.
-    pub tables: &'d [Option<FunTable>],
+    pub defs: &'d Defs,
     /// How many functions are seen.
     pub before: u32,
     pub headers: &'d [HeaderDecl],
@@ -80,7 +80,8 @@ fn number_of_value(value: Option<Value>) -> Option<u128>
 
 /// The value of an expression; none where it has none, or where it calls a table with numbers that do
 /// not fit it. The time is in proportion to the nodes that are evaluated, the bodies of functions
-/// included, and to the rows that are looked at; a name is looked up among all that are in scope.
+/// included, and for each look-up to the rows that are looked at, of a table whose rows compare all
+/// bits to the logarithm of its rows; a name is looked up among all that are in scope.
 #[cycle(evaluate)]
 pub fn evaluate(
     alloc: Global,
@@ -161,7 +162,7 @@ fn apply(
     requires { SeesFunctions scene.now }
     ensures { IfOk result (λ v. option_map meant v ≡ applied scene.now name.now args.now) }
 {
-    match find(scene.checked, scene.tables, scene.before, name) {
+    match find(scene.checked, scene.defs, scene.before, name) {
         Some(number) => call(alloc, scene, number, args),
         None => Ok(None),
     }
@@ -187,8 +188,8 @@ fn call(
             Some(variables) => call_body(alloc, scene, number, variables, body),
             None => Ok(None),
         },
-        None => match table_at(scene.tables, number) {
-            Some(table) => table_value(alloc, function.result, table, args),
+        None => match table_at(scene.defs, number) {
+            Some(table) => table_value(alloc, function.result, scene.defs, number, table, args),
             None => Ok(None),
         },
     }

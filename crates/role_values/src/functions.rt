@@ -13,17 +13,13 @@ use cocoon_num::{Bits, FunTable, NoMemory};
 use cocoon_resolve::Checked;
 use cocoon_syntax::ResultKind;
 use declarations::FunId;
+use runtime_defs::Defs;
 use std::alloc::Global;
 
 /// The number of the last function of a name among the first functions, so many.
-pub(crate) fn find(
-    checked: &Checked,
-    tables: &[Option<FunTable>],
-    before: u32,
-    name: &[u8],
-) -> Option<FunId>
-    requires { CanEvaluate (design_of checked.now) tables.now before }
-    ensures { Finds (design_of checked.now) tables.now before name.now result }
+pub(crate) fn find(checked: &Checked, defs: &Defs, before: u32, name: &[u8]) -> Option<FunId>
+    requires { CanEvaluate (design_of checked.now) defs.now before }
+    ensures { Finds (design_of checked.now) defs.now before name.now result }
 {
     let mut at = before;
     while at > 0 {
@@ -36,10 +32,10 @@ pub(crate) fn find(
 }
 
 /// The table of a function, if it has one.
-pub(crate) fn table_at<'d>(tables: &'d [Option<FunTable>], function: FunId) -> Option<&'d FunTable>
-    ensures { option_map (λ t. t.now) result ≡ by.table_at tables.now function }
+pub(crate) fn table_at(defs: &Defs, function: FunId) -> Option<&FunTable>
+    ensures { option_map (λ t. t.now) result ≡ by.table_at defs.now function }
 {
-    tables.get(function as usize)?.as_ref()
+    defs.tables().get(function as usize)?.as_ref()
 }
 
 /// The arguments, where they fit the widths of a table.
@@ -71,19 +67,22 @@ fn result_value(kind: ResultKind, result_bits: Bits) -> Value
     }
 }
 
-/// The value of a table at arguments that fit it.
+/// The value of the table of a function at arguments that fit it.
 pub(crate) fn table_value(
     alloc: Global,
     kind: ResultKind,
+    defs: &Defs,
+    function: FunId,
     table: &FunTable,
     args: &[u128],
 ) -> Result<Option<Value>, NoMemory>
-    requires { HasShape table.now }
+    requires shape { HasShape table.now }
+    requires is_there { by.table_at defs.now function ≡ Some table.now }
     ensures { IfOk result (λ v. option_map meant v
         ≡ by.table_value (result_of kind) (Some table.now) args.now) }
 {
     match narrow(alloc, table.widths.items(), args)? {
-        Some(args) => Ok(Some(result_value(kind, table.look(&args)))),
+        Some(args) => Ok(Some(result_value(kind, defs.look(function, &args)))),
         None => Ok(None),
     }
 }

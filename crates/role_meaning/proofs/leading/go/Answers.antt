@@ -23,7 +23,7 @@ use Rattle.role_meaning.proofs.leading.go.Goals as goal
 pub go_by_tables-requires-clause-count : goal.go_by_tables-requires-clause-count
 go_by_tables-requires-clause-count c =
     let d = design_of c.args.checked.now in
-    zip_count FitsPlace (functions d) c.tables.result.now (subst (λ ts. AllZip FitsPlace (functions d) ts) (sym c.tables.ensures.are) c.requires.defs.places)
+    zip_count FitsPlace (functions d) c.args.defs.now c.requires.defs.places
 
 pub returns-clause-goes : goal.returns-clause-goes
 returns-clause-goes c =
@@ -43,7 +43,7 @@ returns-clause-goes c =
     c.go_laws.ensures.fitting d tables has level at packet cs in_place fits ∙ c.go_laws.ensures.runs d tables F has (stands_same d tables F stands) level at packet cs in_place fits) in
     IfOk-weaker c.go_by_tables.result _ _
     (λ to h F stands. leads c.go_laws.ensures.taken d (world level d F) c.args.at.now c.args.packet.now cs to
-    (h ∙ ap all_taken (ap (λ ts. fitting_go (world_by ts level d) at packet cs) c.tables.ensures.are ∙ same F stands)))
+    (h ∙ ap all_taken (same F stands)))
     c.go_by_tables.ensures.leads
 
 pub returns-clause-tables : goal.returns-clause-tables
@@ -62,5 +62,5 @@ returns-clause-tables c =
     let same : fitting_go w at packet cs ≡ go w at packet cs =
     where_fits w w at packet cs r here here (λ values. c.go_laws.ensures.fitting d tables has level at packet cs (r, here, values) fits) in
     IfOk-weaker c.go_by_tables.result _ _
-    (λ to h. h ∙ ap all_taken (ap (λ ts. fitting_go (world_by ts level d) at packet cs) c.tables.ensures.are ∙ same))
+    (λ to h. h ∙ ap all_taken same)
     c.go_by_tables.ensures.leads

@@ -20,8 +20,8 @@ run_role-requires-clause-ready c =
     record {
       functions = record {
         params = c.declared_widths.ensures.functions d resolves;
-        before = (let same : length c.args.tables.now ≡ length (functions d) = c.requires.count in omega (arith, same));
-        shapes = c.requires.shapes;
+        before = (let same : length c.tables.result.now ≡ length (functions d) = ap length c.tables.ensures.are ∙ c.requires.count in omega (arith, same));
+        shapes = c.tables.ensures.shapes;
       };
       widths = subst (λ hs. AllDeclared (all_widths hs)) (sym headers) (c.declared_widths.ensures.fields d resolves);
       params = c.declared_widths.ensures.roles d resolves c.args.level;
@@ -30,8 +30,8 @@ run_role-requires-clause-ready c =
 pub returns-clause-leads : goal.returns-clause-leads
 returns-clause-leads c =
     let d = design_of c.args.checked.now in
-    let tables = c.args.tables.now in
+    let tables = c.args.defs.now in
     let headers : map header_of c.deref.result.now ≡ d.headers = ap (map header_of) (c.deref.ensures.value ∙ ap (λ (n : Node). n.headers.items) c.design-design.ensures.is) in
     let P : List HeaderDecl → ℕ → Type 0 = λ hs n. IfOk c.run_role.result (λ to. option_map (λ r. (loc_of d r.0, packet_of hs r.1.fields)) to
     ≡ all_taken (fitting_go (record { context = context_by hs tables d n; role = role_at c.args.level d }) (loc_of d c.args.at.now) (packet_of hs c.args.packet.now.fields) c.args.choices.now)) in
-    subst (λ hs. P hs (length (functions d))) headers (subst (P (map header_of c.deref.result.now)) c.requires.count c.run_role.ensures.leads)
+    subst (λ hs. P hs (length (functions d))) headers (subst (P (map header_of c.deref.result.now)) (ap length c.tables.ensures.are ∙ c.requires.count) c.run_role.ensures.leads)

@@ -100,7 +100,10 @@ call-call_body-requires t c =
     let small : weight (take c.args.number fs) + nodes (expr_of c.in-Some.body) ≤ weight (take s.before fs) = omega arith in
     search rules
 
-pub call-table_value-requires : goal.call-table_value-requires
-call-table_value-requires t c =
-    let is : table_at c.args.scene.now.tables.now c.args.number ≡ Some c.in-Some-table_at.table.now = sym c.in-Some-table_at.ensures in
-    shape_at c.args.scene.now.tables.now c.args.number c.in-Some-table_at.table.now c.requires.functions.shapes is
+pub call-table_value-requires-clause-shape : goal.call-table_value-requires-clause-shape
+call-table_value-requires-clause-shape t c =
+    let is : table_at c.args.scene.now.defs.now c.args.number ≡ Some c.in-Some-table_at.table.now = sym c.in-Some-table_at.ensures in
+    shape_at c.args.scene.now.defs.now c.args.number c.in-Some-table_at.table.now c.requires.functions.shapes is
+
+pub call-table_value-requires-clause-is_there : goal.call-table_value-requires-clause-is_there
+call-table_value-requires-clause-is_there t c = sym c.in-Some-table_at.ensures

@@ -14,7 +14,7 @@ returns-then-is_same c =
       gives = λ g ns h.
           let same : r ≡ g = cc in
           c.loop-at.invariant.same ns
-          ∙ find_here (design_of c.args.checked.now) c.args.tables.now (c.loop-at.at - 1) c.loop-at.at g c.args.name.now ns (omega arith) h
+          ∙ find_here (design_of c.args.checked.now) c.args.defs.now (c.loop-at.at - 1) c.loop-at.at g c.args.name.now ns (omega arith) h
           (subst (λ (z : FunctionDecl). same_name c.args.name.now z.name.text ≡ true) same yes);
     }
 
@@ -25,5 +25,5 @@ loop-at-preserved c =
       within = omega arith;
       same = λ ns.
           c.loop-at.invariant.same ns
-          ∙ find_past (design_of c.args.checked.now) c.args.tables.now (c.loop-at.at - 1) c.loop-at.at (function_of c.function.result.now) c.args.name.now ns (omega arith) c.function.ensures no;
+          ∙ find_past (design_of c.args.checked.now) c.args.defs.now (c.loop-at.at - 1) c.loop-at.at (function_of c.function.result.now) c.args.name.now ns (omega arith) c.function.ensures no;
     }

@@ -6,7 +6,7 @@ use Rattle.role_values.proofs.functions.find.Given as goal
 abbrev pub invariant-loop-at : goal.invariant-loop-at
 invariant-loop-at l = record {
   within : l.at ≤ l.before;
-  same : (ns : List ℕ) → apply_by l.tables (earlier (design_of l.checked) l.before) l.name ns ≡ apply_by l.tables (earlier (design_of l.checked) l.at) l.name ns;
+  same : (ns : List ℕ) → apply_by l.defs (earlier (design_of l.checked) l.before) l.name ns ≡ apply_by l.defs (earlier (design_of l.checked) l.at) l.name ns;
 }
 
 abbrev pub decreases-loop-at : goal.decreases-loop-at

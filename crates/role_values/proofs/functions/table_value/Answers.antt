@@ -3,9 +3,10 @@ use Rattle.role_values.specs.ByTables.{all_fit_widths}
 use Rattle.role_values.proofs.FunctionSteps.{narrowed_count}
 use Rattle.role_values.proofs.functions.table_value.Goals as goal
 
-pub look-requires-clause-args : goal.look-requires-clause-args
-look-requires-clause-args c =
+pub look-requires : goal.look-requires
+look-requires c =
     let ns = c.args.args.now in
-    ap length c.deref.ensures.value
+    let count = ap length c.deref.ensures.value
     ∙ narrowed_count c.args.table.now.widths ns c.in-Some.args.items
-    (ap (option_map (λ (v : Vec ℕ Global). v.items)) (sym c.in-Some.is) ∙ c.in_ok-args.ensures ∙ ap (λ ws. if all_fit_widths ws ns then Some ns else None) c.items.ensures)
+    (ap (option_map (λ (v : Vec ℕ Global). v.items)) (sym c.in-Some.is) ∙ c.in_ok-args.ensures ∙ ap (λ ws. if all_fit_widths ws ns then Some ns else None) c.items.ensures) in
+    record { table = c.args.table.now; is_there = c.requires.is_there; widths = sym count }
