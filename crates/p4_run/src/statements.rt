@@ -3,9 +3,10 @@ ghost use Rattle.std.specs.Prelude.{◌≡◌, ◌<◌, ◌^◌, IfSome, IsTrue,
 ghost use Rattle.cocoon_num.specs.PacketForms.{FieldsFit};
 ghost use Rattle.cocoon_num.specs.Sorts.{bits_sort};
 ghost use Rattle.p4_ir.specs.NetOf.{key_row_of, table_rows_of};
+ghost use Rattle.p4_ir.specs.P4Tree as tree;
 ghost use Rattle.p4_ir.specs.P4Tree.{field_widths};
 ghost use Rattle.p4_ir.specs.P4Kinds.{block_fits, field_sort, meta_sort, stmt_fits};
-ghost use Rattle.p4_ir.specs.Program.{block_of, stmt_of, table_of};
+ghost use Rattle.p4_ir.specs.Program.{block_of, expr_of, stmt_of, table_of};
 ghost use Rattle.p4_ir.specs.Switch.{applied, p4_run, p4_run_all, proceeds, rows_numbered, set_in_header, table_numbered, table_result};
 ghost use Rattle.p4_run.specs.Keyed.{keyed};
 ghost use Rattle.p4_run.specs.Orders.{IsOrder};
@@ -22,7 +23,7 @@ use crate::registers::Registers;
 use crate::running::{Side, places, tables};
 use crate::values::{number_in, truth_in};
 use cocoon_num::Bits;
-use p4_ir::{P4Stmt, Table, TableRows};
+use p4_ir::{P4Expr, P4Stmt, Table, TableRows};
 
 /// How statements end.
 #[derive(Clone, Copy, Drop)]
@@ -140,6 +141,39 @@ fn apply(loaded: &Loaded, side: Side, registers: &mut Registers, number: u32) ->
     }
 }
 
+/// Sets the egress port to the number that an expression gives.
+fn set_egress_port(
+    loaded: &Loaded,
+    side: Side,
+    registers: &mut Registers,
+    value: &P4Expr,
+) -> Option<Way>
+    requires fit { Fit (program_in loaded.now) registers.old }
+    requires kinds { IsTrue (stmt_fits (within_at (program_in loaded.now) side)
+        (tree.egress_port (expr_of value.now))) }
+    ensures fit { Fit (program_in loaded.now) registers.new }
+    ensures outcome { outcome_of (layout_in loaded.now) result registers.new
+        ≡ p4_run (running_at (program_in loaded.now) (rows_in loaded.now) side)
+        (tree.egress_port (expr_of value.now)) (state_in (layout_in loaded.now) registers.old) }
+{
+    registers.egress_port = number_in(loaded, side, registers, value)?.value as u16;
+    Some(Way::Proceeds)
+}
+
+/// Sets the group to the number that an expression gives.
+fn set_group(loaded: &Loaded, side: Side, registers: &mut Registers, value: &P4Expr) -> Option<Way>
+    requires fit { Fit (program_in loaded.now) registers.old }
+    requires kinds { IsTrue (stmt_fits (within_at (program_in loaded.now) side)
+        (tree.group (expr_of value.now))) }
+    ensures fit { Fit (program_in loaded.now) registers.new }
+    ensures outcome { outcome_of (layout_in loaded.now) result registers.new
+        ≡ p4_run (running_at (program_in loaded.now) (rows_in loaded.now) side)
+        (tree.group (expr_of value.now)) (state_in (layout_in loaded.now) registers.old) }
+{
+    registers.group = number_in(loaded, side, registers, value)?.value as u16;
+    Some(Way::Proceeds)
+}
+
 /// Runs a statement; none where it wants a value that is not there.
 #[cycle(run)]
 fn run(loaded: &Loaded, side: Side, registers: &mut Registers, stmt: &P4Stmt) -> Option<Way>
@@ -181,14 +215,8 @@ fn run(loaded: &Loaded, side: Side, registers: &mut Registers, stmt: &P4Stmt) ->
             registers.verdict = *verdict;
             Some(Way::Proceeds)
         }
-        P4Stmt::EgressPort(value) => {
-            registers.egress_port = number_in(loaded, side, registers, value)?.value as u16;
-            Some(Way::Proceeds)
-        }
-        P4Stmt::Group(value) => {
-            registers.group = number_in(loaded, side, registers, value)?.value as u16;
-            Some(Way::Proceeds)
-        }
+        P4Stmt::EgressPort(value) => set_egress_port(loaded, side, registers, value),
+        P4Stmt::Group(value) => set_group(loaded, side, registers, value),
         P4Stmt::Return => Some(Way::Returned),
     }
 }

@@ -10,6 +10,10 @@ pub fn index(digits: &str) -> Option<u32> {
     u32::try_from(number(digits)?).ok()
 }
 
+pub fn port(digits: &str) -> Option<u16> {
+    u16::try_from(number(digits)?).ok()
+}
+
 pub fn byte(digits: &str) -> Option<u8> {
     u8::try_from(number(digits)?).ok()
 }
@@ -32,6 +36,18 @@ fn keys(alloc: Global, word: &str) -> Option<Vec<u32>> {
         keys.push(index(digits)?).ok()?;
     }
     Some(keys)
+}
+
+/// The numbers `NUMBER,NUMBER`; none where the word is empty.
+pub fn numbers(alloc: Global, word: &str) -> Option<Vec<u64>> {
+    let mut numbers = Vec::new(alloc);
+    if word.is_empty() {
+        return Some(numbers);
+    }
+    for digits in word.split(',') {
+        numbers.push(number(digits)?).ok()?;
+    }
+    Some(numbers)
 }
 
 /// The table `NUMBER:RESULT:KEYS`.

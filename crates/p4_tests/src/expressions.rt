@@ -1,7 +1,7 @@
 //! Words for expressions, each behind those of its operands.
 use crate::declarations::{byte, index};
 use crate::draft::Draft;
-use crate::programs::bits;
+use crate::literals::bits;
 use p4_ir::{P4Binary, P4Expr, P4Unary};
 
 /// The pair `HEADER.FIELD`.

@@ -12,23 +12,30 @@ mod declarations;
 mod draft;
 mod expressions;
 mod first_switch;
+mod hexadecimal;
 mod limits;
+mod literals;
 mod networks;
 mod packets;
 mod printed;
-mod programs;
+mod row_words;
 mod second_switch;
 mod shorthand;
 mod statements;
+mod timed;
+mod visits;
 mod words;
 
 use bundles::write_case;
 use case_files::{Printer, Subject, first_word, input, print, sole_word, try_words};
 use limits::write_long;
-use packets::ask;
+use packets::ask_packet;
 use printed::{put_kinds, put_same, put_whole};
+use std::alloc::Global;
 use std::process::ExitCode;
 use std::str;
+use timed::put_many;
+use visits::{ask_visits, put_loaded};
 
 /// The cases, with the machine that has their files of data.
 #[derive(Drop)]
@@ -40,7 +47,7 @@ impl<'r> Subject for Cases<'r> {
     fn is_line(&self, line: &str) -> bool {
         let (word, _) = first_word(line);
         match word {
-            "older" | "others" | "header" | "test" | "program" => true,
+            "older" | "others" | "header" | "program" | "rows" => true,
             _ => false,
         }
     }
@@ -50,39 +57,57 @@ impl<'r> Subject for Cases<'r> {
         match word {
             "kinds" => put_kinds(self.rt.alloc(), above, rest, given),
             "text" => put_same(self.rt, above, rest, given),
-            "enter" | "visit" => ask(self.rt.alloc(), above, (word, rest), given),
+            "enter" => ask_packet(self.rt.alloc(), above, rest, given),
+            "load" => put_loaded(self.rt.alloc(), above, rest, given),
+            "visit" => ask_visits(self.rt.alloc(), above, rest, given),
             "limit" => write_long(self.rt, rest, given),
             _ => write_case(self.rt, above, (word, rest), given),
         }
     }
 }
 
-/// Whether the one word asks for the text of the program that the standard input says.
-fn is_asked_to_print(rt: &HostRuntime) -> bool {
-    match sole_word(rt) {
-        Some(word) => word.as_str() == "print",
-        None => false,
+/// What the one word asks for.
+#[derive(Clone, Copy, Drop)]
+enum Asked {
+    /// The cases that words name.
+    Cases,
+    /// The text of the program that the standard input says.
+    Text,
+    /// What comes of many packets, each or all together.
+    Visits(bool),
+}
+
+fn read_asked(rt: &HostRuntime) -> Asked {
+    let word = sole_word(rt);
+    match word.as_ref().map(|word| word.as_str()) {
+        Some("print") => Asked::Text,
+        Some("visits") => Asked::Visits(false),
+        Some("each") => Asked::Visits(true),
+        _ => Asked::Cases,
     }
 }
 
-/// Prints the text of the program that the standard input says.
-fn print_input(rt: &HostRuntime) -> ExitCode {
+fn put_answer(alloc: Global, input: &[u8], asked: Asked, text: &mut Printer) {
+    let words = str::from_utf8(input).unwrap_or_default();
+    match asked {
+        Asked::Visits(each) => put_many(alloc, words, each, text),
+        _ => put_whole(alloc, words, text),
+    }
+}
+
+/// Prints what is made of the standard input.
+fn print_input(rt: &HostRuntime, asked: Asked) -> ExitCode {
     let mut text = Printer::new(rt.alloc());
     match input(rt) {
-        Some(words) => put_whole(
-            rt.alloc(),
-            str::from_utf8(&words).unwrap_or_default(),
-            &mut text,
-        ),
+        Some(input) => put_answer(rt.alloc(), &input, asked, &mut text),
         None => text.lose(),
     }
     print(rt, &text, 0)
 }
 
 fn main(rt: HostRuntime) -> ExitCode {
-    if is_asked_to_print(&rt) {
-        print_input(&rt)
-    } else {
-        try_words(&rt, &Cases { rt: &rt })
+    match read_asked(&rt) {
+        Asked::Cases => try_words(&rt, &Cases { rt: &rt }),
+        asked => print_input(&rt, asked),
     }
 }

@@ -10,7 +10,7 @@ use std::alloc::Global;
 use std::str;
 
 /// The program of a case: its words in the place of `...` in the last line `program`.
-fn program(alloc: Global, above: &str, asked: &str) -> Option<Program> {
+pub fn program(alloc: Global, above: &str, asked: &str) -> Option<Program> {
     let frame = last_line(above, "program").unwrap_or("...");
     let (before, behind) = frame.split_once("...").unwrap_or((frame, ""));
     let mut words = Printer::new(alloc);

@@ -1,4 +1,2 @@
 pub mod Packing
 pub mod Entering
-pub mod Narrow
-pub mod Visits

@@ -1,4 +1,2 @@
-pub mod Ingress
-pub mod Plain
 pub mod Seen
 pub mod Widths

@@ -1,14 +1,10 @@
-//! The plain and slow program beside the definitions: packets bit by bit, and one visit of a switch. Each call computes
-//! what its definition says on small inputs, so that cases (those of `p4_tests`) speak of the definitions themselves.
+//! The plain and slow program beside the definitions: packets bit by bit. Each call computes what its definition says on
+//! small inputs, so that cases (those of `p4_tests`) speak of the definitions themselves.
 #![tactic(auto)]
 
 mod bits;
 pub mod layouts;
 pub mod packet;
-pub mod plain;
-pub mod switch;
 
 pub use layouts::is_layout;
 pub use packet::{Entered, Packet, enter, leave};
-pub use plain::is_plain;
-pub use switch::visit;

@@ -1,17 +1,16 @@
-use Rattle.std.proofs.Common.{◌≡◌, suc, ◌+◌, ◌*◌, ◌<◌, ◌≤◌, ◌^◌, ◌&&◌, not, true, false, IsTrue, map, Some, None, option_and_then, rules, sym, subst, ap, ◌∙◌, arith}
+use Rattle.std.proofs.Common.{◌≡◌, suc, ◌+◌, ◌*◌, ◌<◌, ◌≤◌, ◌&&◌, not, true, false, IsTrue, map, Some, None, option_and_then, rules, sym, subst, ap, ◌∙◌, arith}
 use Rattle.std.proofs.lemmas.Bool.{and_parts}
-use Rattle.cocoon_num.specs.Sorts.{bits_sort, has_sort, truth_sort}
+use Rattle.cocoon_num.specs.Sorts.{has_sort, truth_sort}
 use Rattle.p4_ir.specs.P4Kinds.{block_fits, field_sort, is_empty, meta_sort, p4_sort, stmt_fits}
-use Rattle.p4_ir.specs.P4Tree.{egress_port, group, p_if, p_if_else, set_header, set_meta}
+use Rattle.p4_ir.specs.P4Tree.{p_if, p_if_else, set_header, set_meta}
 use Rattle.p4_ir.specs.Program.{block_of, expr_of, stmt_of}
 use Rattle.p4_ir.specs.Switch.{p4_run, p4_run_all, p4_value, proceeds}
 use Rattle.p4_ir.specs.declared.program.P4Stmt as stmts
 use Rattle.p4_run.specs.Outcomes.{as_truth, outcome_of}
-use Rattle.p4_run.specs.Running.{is_ingress, layout_in, program_in, rows_in, running_at, within_at}
+use Rattle.p4_run.specs.Running.{layout_in, program_in, rows_in, running_at, within_at}
 use Rattle.p4_run.specs.States.{state_in}
 use Rattle.p4_run.proofs.Sizes.{block_size, one_of, stmt_size}
-use Rattle.p4_run.proofs.StmtSteps.{are_same_some, choose_is, choose_none, first_fits, has_sort_some}
-use Rattle.p4_run.proofs.WidthFacts.{bits_widths}
+use Rattle.p4_run.proofs.StmtSteps.{are_same_some, choose_is, choose_none, first_fits}
 use Rattle.p4_run.proofs.statements.+run.Goals as goal
 
 pub run-set_meta-requires-clause-sort : goal.run-set_meta-requires-clause-sort
@@ -192,35 +191,6 @@ run-returns-else-branch-2-clause-outcome t c =
     let no_ : option_and_then as_truth v ≡ Some false = sym c.truth_in-in-IfElse.ensures ∙ c.in_ok-truth_in-in-IfElse.was ∙ ap Some c.if-branch-2.false in
     c.run_all-else-branch-2.ensures.outcome ∙ ap (λ ss. p4_run_all at (block_of (map stmt_of ss)) st) c.deref-else-branch-2.ensures.value
     ∙ sym (choose_is v (p4_run_all at first st) (p4_run_all at second st) false no_) ∙ ap (λ s. p4_run at s st) (sym is)
-
-pub run-overflow_cast-registers : goal.run-overflow_cast-registers
-run-overflow_cast-registers t c =
-    let l = c.args.loaded.now in
-    let p = program_in l in
-    let at = running_at p (rows_in l) c.args.side in
-    let st = state_in (layout_in l) c.args.registers.now in
-    let w = within_at p c.args.side in
-    let is : stmt_of c.args.stmt.now ≡ egress_port (expr_of c.in-EgressPort.value) = search (rules, stmts.the_lemmas, c.in-EgressPort.is) in
-    let fits : IsTrue (stmt_fits w (egress_port (expr_of c.in-EgressPort.value))) = subst (λ s. IsTrue (stmt_fits w s)) is c.requires.kinds in
-    let b = c.in_ok-registers-in-EgressPort.field-0 in
-    let width : 16 ≡ b.width = bits_widths 16 b.width (c.in_ok-registers-in-EgressPort.ensures.sort (bits_sort 16) (has_sort_some (bits_sort 16) (p4_sort w (expr_of c.in-EgressPort.value)) fits)) in
-    let small : b.value < 2 ^ 16 = subst (λ n. b.value < 2 ^ n) (sym width) b.fits in
-    search rules
-
-pub run-overflow_cast-registers-in-Group : goal.run-overflow_cast-registers-in-Group
-run-overflow_cast-registers-in-Group t c =
-    let l = c.args.loaded.now in
-    let p = program_in l in
-    let at = running_at p (rows_in l) c.args.side in
-    let st = state_in (layout_in l) c.args.registers.now in
-    let w = within_at p c.args.side in
-    let is : stmt_of c.args.stmt.now ≡ group (expr_of c.in-Group.value) = search (rules, stmts.the_lemmas, c.in-Group.is) in
-    let fits : IsTrue (stmt_fits w (group (expr_of c.in-Group.value))) = subst (λ s. IsTrue (stmt_fits w s)) is c.requires.kinds in
-    let b = c.in_ok-registers-in-Group.field-0 in
-    let own = (and_parts (is_ingress c.args.side) (has_sort (bits_sort 16) (p4_sort w (expr_of c.in-Group.value))) fits).1 in
-    let width : 16 ≡ b.width = bits_widths 16 b.width (c.in_ok-registers-in-Group.ensures.sort (bits_sort 16) (has_sort_some (bits_sort 16) (p4_sort w (expr_of c.in-Group.value)) own)) in
-    let small : b.value < 2 ^ 16 = subst (λ n. b.value < 2 ^ n) (sym width) b.fits in
-    search rules
 
 pub run_all-run-requires : goal.run_all-run-requires
 run_all-run-requires t c =

@@ -1,7 +1,0 @@
-use Rattle.std.proofs.Common.{◌≡◌, map, take}
-use Rattle.p4_ir.specs.P4Tree.{field_widths}
-use Rattle.p4_ir.specs.Program.{field_of}
-use Rattle.reference_programs.proofs.layouts.widths.Given as goal
-
-abbrev pub invariant-loop-field : goal.invariant-loop-field
-invariant-loop-field l = l.widths.items ≡ field_widths (map field_of (take l.field-index l.fields))
