@@ -1,6 +1,15 @@
 pub mod Compose
+pub mod Depths
 pub mod ExprPhrases
 pub mod FieldPhrases
+pub mod LinePhrases
+pub mod PiecePhrases
+pub mod ProgramPhrases
+pub mod Sequences
 pub mod StmtPhrases
+pub mod Stopping
+pub mod TablePhrases
 pub mod Tokens
 pub mod TreeForms
+pub mod WholePhrases
+pub mod WholeTexts

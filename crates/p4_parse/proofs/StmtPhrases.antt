@@ -9,11 +9,11 @@ use Rattle.p4_texts.specs.Machine.{Goal, Goals, any_name, after_else, after_firs
 use Rattle.p4_texts.specs.Written.{StmtText, BlockText, w_done, w_if, w_if_else, stmt_then, block_then}
 use Rattle.std.specs.Prelude.{Vec}
 use Rattle.std.specs.Global.{Global}
-use Rattle.p4_parse.specs.TreeOf.{block_of, body_of, expr_of, stmt_of}
-use Rattle.p4_parse.specs.declared.tree.WrittenExpr.{WrittenExpr}
+use Rattle.p4_written.specs.TreeOf.{block_of, body_of, expr_of, stmt_of}
+use Rattle.p4_written.specs.declared.WrittenExpr.{WrittenExpr}
 use Rattle.p4_parse.specs.Phrases.{NoName, Read, Refused, Phrase, Fixed, else_at, is_mark, is_word, name_in}
 use Rattle.p4_parse.specs.Tails.{ReadTail, TailAt, SoFar, after_if, braced_goals, braced_then, guarded_then, call_goals, setting_goals, assignment_goals, verdict_goals, if_goals, guarded_goals}
-use Rattle.p4_parse.specs.declared.tree.WrittenStmt.{WrittenStmt}
+use Rattle.p4_written.specs.declared.WrittenStmt.{WrittenStmt}
 use Rattle.p4_parse.specs.declared.fault.Stop.{Stop}
 use Rattle.p4_parse.specs.declared.fault.Stop.TheVariants.{Unexpected, NoMemory}
 use Rattle.p4_parse.proofs.Tokens.{drop_some, drop_none, left, refused_at, mark_is, word_is, same_text}
@@ -355,7 +355,7 @@ pub else_refused : {A : Type 0} (f : A → List Kind → List Kind) (ts : List K
 else_refused f ts pos x end i r h b = record { within = b.within; there = λ hs. r.goes (stmts_or_else ∷ hs) ∙ else_goes ts end h hs ∙ b.there (stmts ∷ hs) }
 
 pub if_else_read : (ts : List Kind) (pos : ℕ) (e : WrittenExpr) (a b : Vec WrittenStmt Global) (end last : ℕ) (d : StmtText) → Read guarded_goals guarded_then ts pos (e, a) end → else_at (slice_get ts end) (slice_get ts (end + 1)) ≡ true
-    → Read braced_goals braced_then ts (end + 1) b last → d ≡ w_if_else (expr_of e) (body_of a) (body_of b) → ReadTail if_goals after_if ts pos d last
+    → Read braced_goals braced_then ts (end + 1) b last → d ≡ w_if_else (expr_of e) (body_of a.items) (body_of b.items) → ReadTail if_goals after_if ts pos d last
 if_else_read ts pos e a b end last d r h s f =
     let y = r.after in
     let z = s.after in
@@ -367,7 +367,7 @@ if_else_read ts pos e a b end last d r h s f =
     })
 
 pub if_read : (ts : List Kind) (pos : ℕ) (e : WrittenExpr) (a : Vec WrittenStmt Global) (end : ℕ) (d : StmtText) → Read guarded_goals guarded_then ts pos (e, a) end → else_at (slice_get ts end) (slice_get ts (end + 1)) ≡ false
-    → d ≡ w_if (expr_of e) (body_of a) → ReadTail if_goals after_if ts pos d end
+    → d ≡ w_if (expr_of e) (body_of a.items) → ReadTail if_goals after_if ts pos d end
 if_read ts pos e a end d r h f = subst (λ z. ReadTail if_goals after_if ts pos z end) (sym f) (record {
   after = r.after;
   within = r.within;

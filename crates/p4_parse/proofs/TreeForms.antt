@@ -4,13 +4,13 @@ use Rattle.std.specs.Global.{Global}
 use Rattle.std.proofs.Common.{rules}
 use Rattle.cocoon_num.specs.declared.bits.Bits.{Bits}
 use Rattle.p4_texts.specs.Written as written
-use Rattle.p4_parse.specs.TreeOf.{body_of, expr_of, stmt_of}
-use Rattle.p4_parse.specs.declared.tree.WrittenExpr.{WrittenExpr}
-use Rattle.p4_parse.specs.declared.tree.WrittenExpr as exprs
-use Rattle.p4_parse.specs.declared.tree.WrittenExpr.TheVariants as e
-use Rattle.p4_parse.specs.declared.tree.WrittenStmt.{WrittenStmt}
-use Rattle.p4_parse.specs.declared.tree.WrittenStmt as statements
-use Rattle.p4_parse.specs.declared.tree.WrittenStmt.TheVariants as s
+use Rattle.p4_written.specs.TreeOf.{body_of, expr_of, stmt_of}
+use Rattle.p4_written.specs.declared.WrittenExpr.{WrittenExpr}
+use Rattle.p4_written.specs.declared.WrittenExpr as exprs
+use Rattle.p4_written.specs.declared.WrittenExpr.TheVariants as e
+use Rattle.p4_written.specs.declared.WrittenStmt.{WrittenStmt}
+use Rattle.p4_written.specs.declared.WrittenStmt as statements
+use Rattle.p4_written.specs.declared.WrittenStmt.TheVariants as s
 
 pub lit_is : (b : Bits) → expr_of (e.Lit b) ≡ written.w_lit b.width b.value
 lit_is b = search (rules, exprs.the_lemmas)
@@ -39,10 +39,10 @@ set_field_is x y v = search (rules, statements.the_lemmas)
 pub apply_is : (x : List ℕ) → stmt_of (s.Apply x) ≡ written.w_apply x
 apply_is x = search (rules, statements.the_lemmas)
 
-pub if_is : (v : WrittenExpr) (a : Vec WrittenStmt Global) → stmt_of (s.If v a) ≡ written.w_if (expr_of v) (body_of a)
+pub if_is : (v : WrittenExpr) (a : Vec WrittenStmt Global) → stmt_of (s.If v a) ≡ written.w_if (expr_of v) (body_of a.items)
 if_is v a = search (rules, statements.the_lemmas)
 
-pub if_else_is : (v : WrittenExpr) (a b : Vec WrittenStmt Global) → stmt_of (s.IfElse v a b) ≡ written.w_if_else (expr_of v) (body_of a) (body_of b)
+pub if_else_is : (v : WrittenExpr) (a b : Vec WrittenStmt Global) → stmt_of (s.IfElse v a b) ≡ written.w_if_else (expr_of v) (body_of a.items) (body_of b.items)
 if_else_is v a b = search (rules, statements.the_lemmas)
 
 pub verdict_is : (b : Bits) → stmt_of (s.Verdict b) ≡ written.w_verdict b.width b.value

@@ -3,15 +3,13 @@ use Rattle.std.specs.Prelude.{ℕ, List, [], ◌∷◌, map, Vec, codes}
 use Rattle.std.specs.Global.{Global}
 use Rattle.cocoon_num.specs.Tokens.{Kind, a_name, mark, plain}
 use Rattle.p4_texts.specs.Machine.{Goals, any_literal, any_name, any_plain, fields, the_mark, the_word}
-use Rattle.p4_texts.specs.Written.{FieldText, HeaderText, MemberText, each_then, field_then, header_then, member_then}
+use Rattle.p4_texts.specs.Written.{each_then, field_then, header_then, member_then}
 use Rattle.cocoon_num.specs.Tokens.{literal}
 use Rattle.cocoon_num.specs.declared.bits.Bits.{Bits}
-use Rattle.p4_parse.specs.declared.tree.WrittenField.{WrittenField}
-use Rattle.p4_parse.specs.declared.tree.WrittenHeader.{WrittenHeader}
-use Rattle.p4_parse.specs.declared.tree.WrittenMember.{WrittenMember}
-
-abbrev pub field_of : WrittenField → FieldText
-field_of f = record { width = f.width; name = f.name }
+use Rattle.p4_written.specs.TreeOf.{field_of, header_of, member_of}
+use Rattle.p4_written.specs.declared.WrittenField.{WrittenField}
+use Rattle.p4_written.specs.declared.WrittenHeader.{WrittenHeader}
+use Rattle.p4_written.specs.declared.WrittenMember.{WrittenMember}
 
 -- bit<W>
 abbrev pub width_goals : Goals
@@ -31,12 +29,6 @@ abbrev pub fields_tokens : Vec WrittenField Global → List Kind → List Kind
 fields_tokens v ks = each_then field_then (map field_of v.items) (mark (codes "}") ∷ ks)
 
 -- ---- headers
-
-abbrev pub header_of : WrittenHeader → HeaderText
-header_of h = record { name = h.name; fields = map field_of h.fields }
-
-abbrev pub member_of : WrittenMember → MemberText
-member_of m = record { header = m.header; name = m.name }
 
 -- header NAME { .. }
 abbrev pub header_goals : Goals

@@ -1,4 +1,10 @@
+pub mod Depth
+pub mod Faults
 pub mod Fields
+pub mod Lines
+pub mod Onward
 pub mod Phrases
+pub mod Pieces
+pub mod Program
+pub mod Tables
 pub mod Tails
-pub mod TreeOf

@@ -10,8 +10,8 @@ use Rattle.p4_lex.specs.Kinds.{kind_of}
 use Rattle.p4_lex.specs.declared.token.Token.{Token}
 use Rattle.p4_texts.specs.Machine.{Follow, Goals, an_expr, any_name, any_plain, opened, stuck, the_mark, to_close, to_colon}
 use Rattle.p4_texts.specs.Written.{ExprText, expr_then}
-use Rattle.p4_parse.specs.TreeOf.{expr_of}
-use Rattle.p4_parse.specs.declared.tree.WrittenExpr.{WrittenExpr}
+use Rattle.p4_written.specs.TreeOf.{expr_of}
+use Rattle.p4_written.specs.declared.WrittenExpr.{WrittenExpr}
 use Rattle.p4_parse.specs.declared.fault.Stop.{Stop}
 use Rattle.p4_parse.specs.declared.fault.Stop.TheVariants.{Unexpected, NoMemory}
 

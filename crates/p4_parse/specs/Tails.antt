@@ -5,10 +5,10 @@ use Rattle.cocoon_num.specs.Tokens.{Kind, a_name, literal, mark}
 use Rattle.cocoon_num.specs.declared.bits.Bits.{Bits}
 use Rattle.p4_texts.specs.Machine.{Goals, an_expr, any_literal, any_name, stmts, stmts_or_else, stuck, the_mark, to_close, to_semicolon}
 use Rattle.p4_texts.specs.Written.{StmtText, BlockText, block_then, expr_then, stmt_then}
-use Rattle.p4_parse.specs.TreeOf.{body_of, expr_of, stmt_of}
+use Rattle.p4_written.specs.TreeOf.{body_of, expr_of, stmt_of}
 use Rattle.p4_parse.specs.Phrases.{Refused}
-use Rattle.p4_parse.specs.declared.tree.WrittenExpr.{WrittenExpr}
-use Rattle.p4_parse.specs.declared.tree.WrittenStmt.{WrittenStmt}
+use Rattle.p4_written.specs.declared.WrittenExpr.{WrittenExpr}
+use Rattle.p4_written.specs.declared.WrittenStmt.{WrittenStmt}
 use Rattle.p4_parse.specs.declared.fault.Stop.{Stop}
 use Rattle.p4_parse.specs.declared.fault.Stop.TheVariants.{Unexpected, NoMemory}
 
@@ -47,17 +47,17 @@ abbrev pub guarded_goals : Goals
 guarded_goals = an_expr to_close ∷ the_mark (codes "{") ∷ stmts ∷ []
 
 abbrev pub guarded_then : WrittenExpr × Vec WrittenStmt Global → List Kind → List Kind
-guarded_then p ks = expr_then (expr_of p.0) (mark (codes ")") ∷ mark (codes "{") ∷ block_then (body_of p.1) (mark (codes "}") ∷ ks))
+guarded_then p ks = expr_then (expr_of p.0) (mark (codes ")") ∷ mark (codes "{") ∷ block_then (body_of p.1.items) (mark (codes "}") ∷ ks))
 
 -- { .. }
 abbrev pub braced_goals : Goals
 braced_goals = the_mark (codes "{") ∷ stmts ∷ []
 
 abbrev pub braced_then : Vec WrittenStmt Global → List Kind → List Kind
-braced_then b ks = mark (codes "{") ∷ block_then (body_of b) (mark (codes "}") ∷ ks)
+braced_then b ks = mark (codes "{") ∷ block_then (body_of b.items) (mark (codes "}") ∷ ks)
 
 abbrev pub block_ended : Vec WrittenStmt Global → List Kind → List Kind
-block_ended b ks = block_then (body_of b) (mark (codes "}") ∷ ks)
+block_ended b ks = block_then (body_of b.items) (mark (codes "}") ∷ ks)
 
 -- E;
 abbrev pub value_then : WrittenExpr → List Kind → List Kind

@@ -7,9 +7,9 @@ ghost use Rattle.p4_parse.specs.Fields.{action_goals, action_tokens, actions_goa
 use crate::exprs::dotted;
 use crate::fault::Stop;
 use crate::source::Source;
-use crate::tree::{WrittenField, WrittenHeader, WrittenMember};
 use cocoon_num::{Bits, List, Text};
 use p4_lex::Mark;
+use p4_written::{WrittenField, WrittenHeader, WrittenMember};
 use std::alloc::Global;
 
 /// `bit<W>`

@@ -2,9 +2,17 @@
 #![tactic(auto)]
 
 mod decls;
+mod deep;
 mod exprs;
 pub mod fault;
 mod joins;
+mod lines;
+mod pieces;
+mod program;
 mod source;
 mod stmts;
-pub mod tree;
+mod tables;
+pub mod whole_text;
+
+pub use fault::ParseFault;
+pub use whole_text::parse;

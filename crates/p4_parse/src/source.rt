@@ -1,11 +1,13 @@
 //! Tokens of a text, by their indices.
-ghost use Rattle.std.specs.Prelude.{◌≡◌, ◌<◌, ◌≤◌, ◌+◌, ◌^◌, ℕ, List, [], ◌∷◌, IfOk, IsSome, Some, option_map, length, slice_get, slice_range, true};
-ghost use Rattle.cocoon_num.specs.Tokens.{a_name, literal, mark as the_kind, plain};
+ghost use Rattle.std.specs.Prelude.{◌≡◌, ◌<◌, ◌≤◌, ◌+◌, ◌^◌, ℕ, List, [], ◌∷◌, IfOk, IsSome, Some, false, option_map, length, slice_get, slice_range, true};
+ghost use Rattle.cocoon_num.specs.Tokens.{a_name, finish, literal, mark as the_kind, plain};
 ghost use Rattle.cocoon_num.specs.Names.{same_name};
 ghost use Rattle.cocoon_num.specs.declared.bits.Bits.{Bits as CodeBits};
 ghost use Rattle.p4_lex.specs.Kinds.{kind_of, mark_text};
-ghost use Rattle.p4_texts.specs.Machine.{any_literal, any_name, any_plain, the_mark, the_word};
+ghost use Rattle.p4_texts.specs.Machine.{any_literal, any_name, any_plain, exactly, same_token, the_mark, the_word};
+ghost use Rattle.p4_texts.specs.Reading.{is_end as is_the_end};
 ghost use Rattle.p4_parse.specs.Phrases.{Fixed, NoName, Phrase, is_mark, is_word, kind_at, kinds_at, literal_in, literal_of, among, mark_in, name_in, plain_in, signs};
+ghost use Rattle.p4_parse.specs.Pieces.{ends_at, has_end, is_some_literal, is_some_name, is_some_number, same_at};
 
 use crate::fault::Stop;
 use cocoon_num::{Bits, Text};
@@ -108,6 +110,39 @@ impl<'a> Source<'a> {
         }
     }
 
+    /// Whether a token is the one at an index of another source.
+    pub fn is_same(&self, pos: usize, other: &Source, index: usize) -> bool
+        ensures is { result ≡ same_at (slice_get other.now index) (slice_get self.now pos) }
+        ensures within { result ≡ true → (pos < length self.now) × (length self.now ≤ 2 ^ 32) }
+    {
+        match self.tokens.get(pos) {
+            Some(token) => other.has(index, self.text, token),
+            None => false,
+        }
+    }
+
+    /// Whether the token at an index is this one of a text.
+    fn has(&self, index: usize, text: &[u8], token: &Token) -> bool
+        ensures { result ≡
+            same_at (slice_get self.now index) (Some (kind_at text.now token.now)) }
+    {
+        match self.tokens.get(index) {
+            Some(wanted) => is_token(self.text, wanted, text, token),
+            None => false,
+        }
+    }
+
+    /// Whether the tokens end at an index: with the end of a text, or with the last of them.
+    pub fn is_end(&self, pos: usize) -> bool
+        ensures is { result ≡ ends_at (slice_get self.now pos) }
+        ensures within { result ≡ false → (pos < length self.now) × (length self.now ≤ 2 ^ 32) }
+    {
+        match self.tokens.get(pos) {
+            Some(token) => is_end(token.kind),
+            None => true,
+        }
+    }
+
     /// Demands this mark at a token index, and gives the next index.
     pub fn expect(&self, pos: usize, mark: Mark) -> Result<usize, Stop>
         requires { pos ≤ length self.now }
@@ -126,6 +161,29 @@ impl<'a> Source<'a> {
         ensures { Fixed (the_word word.now ∷ []) (a_name word.now ∷ []) self.now pos result }
     {
         if self.is_word(pos, word) {
+            Ok(pos + 1)
+        } else {
+            Err(Stop::Unexpected(pos))
+        }
+    }
+
+    /// Whether the end of a text stands at a token index.
+    fn has_end(&self, pos: usize) -> bool
+        ensures is { result ≡ has_end (slice_get self.now pos) }
+        ensures within { result ≡ true → (pos < length self.now) × (length self.now ≤ 2 ^ 32) }
+    {
+        match self.tokens.get(pos) {
+            Some(token) => is_end(token.kind),
+            None => false,
+        }
+    }
+
+    /// Demands the end of a text at a token index, and gives the next index.
+    pub fn expect_end(&self, pos: usize) -> Result<usize, Stop>
+        requires { pos ≤ length self.now }
+        ensures { Fixed (exactly finish ∷ []) (finish ∷ []) self.now pos result }
+    {
+        if self.has_end(pos) {
             Ok(pos + 1)
         } else {
             Err(Stop::Unexpected(pos))
@@ -172,6 +230,56 @@ pub fn same_bytes(one: &[u8], other: &[u8]) -> bool
     ensures { result ≡ same_name one.now other.now }
 {
     one == other
+}
+
+/// Whether a token of one text is that of another.
+fn is_token(wanted_text: &[u8], wanted: &Token, text: &[u8], token: &Token) -> bool
+    ensures { result ≡
+        same_token (kind_at wanted_text.now wanted.now) (kind_at text.now token.now) }
+{
+    match wanted.kind {
+        TokenKind::Name => is_name(bytes_of(wanted_text, wanted), name_of(text, token)),
+        TokenKind::Plain(number) => is_number(number, plain_of(token.kind)),
+        TokenKind::Literal(bits) => is_literal(bits, bits_of(token.kind)),
+        TokenKind::Mark(mark) => has_mark(token.kind, mark),
+        TokenKind::End => is_end(token.kind),
+    }
+}
+
+fn is_name(wanted: &[u8], found: Option<&[u8]>) -> bool
+    ensures { result ≡ is_some_name wanted.now (option_map (λ bytes. bytes.now) found.entry) }
+{
+    match found {
+        Some(bytes) => same_bytes(wanted, bytes),
+        None => false,
+    }
+}
+
+fn is_number(wanted: u32, found: Option<u32>) -> bool
+    ensures { result ≡ is_some_number wanted found }
+{
+    match found {
+        Some(number) => wanted == number,
+        None => false,
+    }
+}
+
+fn is_literal(wanted: Bits, found: Option<Bits>) -> bool
+    ensures { result ≡ is_some_literal (literal_of wanted) (option_map literal_of found) }
+{
+    match found {
+        Some(bits) => wanted.width == bits.width && wanted.value == bits.value,
+        None => false,
+    }
+}
+
+fn is_end(kind: TokenKind) -> bool
+    ensures { (bytes : List ℕ) → result ≡ is_the_end (kind_of kind bytes) }
+{
+    match kind {
+        TokenKind::End => true,
+        _ => false,
+    }
 }
 
 fn has_mark(kind: TokenKind, wanted: Mark) -> bool

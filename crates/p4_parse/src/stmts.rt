@@ -11,9 +11,9 @@ use crate::exprs::{expr, operand};
 use crate::fault::Stop;
 use crate::joins::{both, then};
 use crate::source::{Source, same_bytes};
-use crate::tree::{WrittenExpr, WrittenStmt};
 use cocoon_num::{Bits, Text};
 use p4_lex::Mark;
+use p4_written::{WrittenExpr, WrittenStmt};
 use std::alloc::Global;
 
 /// Statements up to and with `}`.

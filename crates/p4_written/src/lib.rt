@@ -1,4 +1,7 @@
-//! P4 texts as they are written: no name is looked up, and any name stands where the grammar has one.
+//! P4 texts as they are written: no name is looked up, and any name stands where the grammar has one. What reads tokens makes
+//! these trees, and what looks names up takes them.
+#![tactic(auto)]
+
 use cocoon_num::{Bits, List, Text};
 use p4_ir::{P4Binary, P4Unary};
 
@@ -52,4 +55,36 @@ pub struct WrittenHeader {
 pub struct WrittenMember {
     pub header: Text,
     pub name: Text,
+}
+
+/// An action and its table. Where there are no keys, `exact` is false.
+#[derive(Drop)]
+pub struct WrittenTable {
+    pub action: Text,
+    pub width: u32,
+    pub result: Text,
+    pub table: Text,
+    pub exact: bool,
+    pub keys: List<Text>,
+    pub actions: Text,
+    pub default_action: Text,
+    pub default: Bits,
+}
+
+#[derive(Drop)]
+pub struct WrittenControl {
+    pub tables: List<WrittenTable>,
+    pub body: List<WrittenStmt>,
+}
+
+/// A whole text. The lines of the struct, the parser and the deparser are in their order.
+#[derive(Drop)]
+pub struct WrittenProgram {
+    pub headers: List<WrittenHeader>,
+    pub members: List<WrittenMember>,
+    pub meta: List<WrittenField>,
+    pub extracts: List<Text>,
+    pub ingress: WrittenControl,
+    pub egress: WrittenControl,
+    pub emits: List<Text>,
 }
