@@ -6,7 +6,7 @@ ghost use Rattle.cocoon_num.specs.Tokens as tokens;
 ghost use Rattle.p4_ir.specs.P4Kinds as rules;
 ghost use Rattle.p4_kinds.specs.Parts as parts;
 
-fn is_digit(byte: u8) -> bool
+pub fn is_digit(byte: u8) -> bool
     ensures { result ≡ tokens.is_digit byte }
 {
     byte >= b'0' && byte <= b'9'
@@ -38,13 +38,13 @@ fn are_run_bytes(bytes: &[u8]) -> bool
 }
 
 /// One or more letters, digits and `_`.
-pub(crate) fn is_run(bytes: &[u8]) -> bool
+pub fn is_run(bytes: &[u8]) -> bool
     ensures { result ≡ tokens.is_run bytes.now }
 {
     !bytes.is_empty() && are_run_bytes(bytes)
 }
 
-fn is_same(name: &[u8], other: &[u8]) -> bool
+pub fn is_same(name: &[u8], other: &[u8]) -> bool
     ensures { result ≡ same_name name.now other.now }
 {
     name == other
@@ -75,7 +75,7 @@ fn is_numbered(name: &[u8]) -> bool
 
 /// The name of a meta field: `site`, or one with a number.
 #[tactic(auto, using(crate::proofs::ByteFacts::meta_named))]
-pub(crate) fn is_meta_name(name: &[u8]) -> bool
+pub fn is_meta_name(name: &[u8]) -> bool
     ensures { result ≡ rules.is_meta_name name.now }
 {
     is_same(name, b"site") || is_numbered(name)

@@ -17,14 +17,14 @@ fn width_at(fields: &[P4Field], index: u32) -> Option<u8>
 }
 
 /// The type of a meta field, if there is one.
-pub(crate) fn meta_sort(program: &Program, index: u32) -> Option<Sort>
+pub fn meta_sort(program: &Program, index: u32) -> Option<Sort>
     ensures { sort_of result ≡ rules.meta_sort (program_of program.now) index }
 {
     bits(width_at(program.meta.items(), index))
 }
 
 /// The type of a field of a header, if there is one.
-pub(crate) fn field_sort(program: &Program, header: u32, field: u32) -> Option<Sort>
+pub fn field_sort(program: &Program, header: u32, field: u32) -> Option<Sort>
     ensures { sort_of result ≡ rules.field_sort (program_of program.now) header field }
 {
     match program.headers.items().get(header as usize) {

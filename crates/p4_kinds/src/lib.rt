@@ -1,14 +1,14 @@
 //! The kind rules of P4 programs. docs/FORMATS.md has them under "Kind rules".
 #![tactic(auto)]
 
-pub(crate) mod bytes;
+pub mod bytes;
 pub(crate) mod depth;
-pub(crate) mod exprs;
+pub mod exprs;
 pub mod kinds;
 pub mod laws;
-pub(crate) mod names;
-pub(crate) mod numbers;
-pub(crate) mod sort;
+pub mod names;
+pub mod numbers;
+pub mod sort;
 pub(crate) mod stmts;
 pub(crate) mod widths;
 

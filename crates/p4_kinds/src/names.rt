@@ -14,7 +14,7 @@ use std::alloc::Global;
 use std::collections::BTreeSet;
 
 /// Adds a name; says whether it was not there.
-fn is_new(alloc: Global, names: &mut BTreeSet<Vec<u8>>, name: &[u8]) -> Result<bool, NoMemory>
+pub fn is_new(alloc: Global, names: &mut BTreeSet<Vec<u8>>, name: &[u8]) -> Result<bool, NoMemory>
     ensures { IfOk result (λ is_new. Joins name.now names.old.keys names.new.keys is_new) }
 {
     let key = name.to_vec(alloc)?;

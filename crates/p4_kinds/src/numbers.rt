@@ -23,7 +23,8 @@ fn are_below(keys: &[u32], count: usize) -> bool
     true
 }
 
-fn is_fitting(program: &Program, table: &Table) -> bool
+/// A table keeps the rules of tables by itself, in this program.
+pub fn is_fitting(program: &Program, table: &Table) -> bool
     ensures { result ≡ rules.table_fits (program_of program.now) (table_of table.now) }
 {
     let count = program.meta.items().len();
@@ -88,7 +89,7 @@ pub(crate) fn tables_fit(program: &Program) -> bool
 }
 
 /// The numbers of these tables.
-pub(crate) fn numbers_of(alloc: Global, tables: &[Table]) -> Result<BTreeSet<u32>, NoMemory>
+pub fn numbers_of(alloc: Global, tables: &[Table]) -> Result<BTreeSet<u32>, NoMemory>
     ensures { IfOk result (λ set.
         HasNumbers set.keys (rules.numbers_of (map table_of tables.now))) }
 {

@@ -10,7 +10,7 @@ use p4_ir::{P4Binary, P4Unary};
 
 /// A number of a width in bits, or a truth value.
 #[derive(Clone, Copy, Drop)]
-pub(crate) enum Sort {
+pub enum Sort {
     Bits(u8),
     Truth,
 }
@@ -26,7 +26,7 @@ fn is_same(sort: Sort, other: Sort) -> bool
     }
 }
 
-pub(crate) fn is_truth(found: Option<Sort>) -> bool
+pub fn is_truth(found: Option<Sort>) -> bool
     ensures { result ≡ sorts.has_sort sorts.truth_sort (sort_of found) }
 {
     match found {
@@ -36,7 +36,7 @@ pub(crate) fn is_truth(found: Option<Sort>) -> bool
 }
 
 /// It is a number of this width.
-pub(crate) fn is_wide(found: Option<Sort>, width: u8) -> bool
+pub fn is_wide(found: Option<Sort>, width: u8) -> bool
     ensures { result ≡ sorts.has_sort (sorts.bits_sort width) (sort_of found) }
 {
     match found {
@@ -46,7 +46,7 @@ pub(crate) fn is_wide(found: Option<Sort>, width: u8) -> bool
 }
 
 /// Both have one type.
-pub(crate) fn are_same(first: Option<Sort>, second: Option<Sort>) -> bool
+pub fn are_same(first: Option<Sort>, second: Option<Sort>) -> bool
     ensures { result ≡ sorts.are_same (sort_of first) (sort_of second) }
 {
     match (first, second) {
@@ -56,7 +56,7 @@ pub(crate) fn are_same(first: Option<Sort>, second: Option<Sort>) -> bool
 }
 
 /// The type of a number of this width, if it has one.
-pub(crate) fn bits(width: Option<u8>) -> Option<Sort>
+pub fn bits(width: Option<u8>) -> Option<Sort>
     ensures { sort_of result ≡ option_map sorts.bits_sort width }
 {
     match width {
@@ -66,7 +66,7 @@ pub(crate) fn bits(width: Option<u8>) -> Option<Sort>
 }
 
 /// The type, where it may stand.
-pub(crate) fn where_allowed(allowed: bool, width: u8) -> Option<Sort>
+pub fn where_allowed(allowed: bool, width: u8) -> Option<Sort>
     ensures { sort_of result ≡ kept_if allowed (sorts.bits_sort width) }
 {
     if allowed {
@@ -77,7 +77,7 @@ pub(crate) fn where_allowed(allowed: bool, width: u8) -> Option<Sort>
 }
 
 /// The type of an expression with one operand of this type.
-pub(crate) fn unary_sort(op: P4Unary, a: Option<Sort>) -> Option<Sort>
+pub fn unary_sort(op: P4Unary, a: Option<Sort>) -> Option<Sort>
     ensures { sort_of result ≡ option_and_then (sorts.unary_sort (unary_of op)) (sort_of a) }
 {
     match (op, a) {
@@ -115,7 +115,7 @@ fn are_like(first: Option<Sort>, second: Option<Sort>) -> bool
 }
 
 /// The type of an expression with two operands of these types.
-pub(crate) fn binary_sort(op: P4Binary, first: Option<Sort>, second: Option<Sort>) -> Option<Sort>
+pub fn binary_sort(op: P4Binary, first: Option<Sort>, second: Option<Sort>) -> Option<Sort>
     ensures { sort_of result
         ≡ with_both (sorts.binary_sort (binary_of op)) (sort_of first) (sort_of second) }
 {
@@ -142,7 +142,7 @@ pub(crate) fn binary_sort(op: P4Binary, first: Option<Sort>, second: Option<Sort
 }
 
 /// The type of a slice of a number of this type.
-pub(crate) fn slice_sort(a: Option<Sort>, high: u8, low: u8) -> Option<Sort>
+pub fn slice_sort(a: Option<Sort>, high: u8, low: u8) -> Option<Sort>
     ensures { sort_of result ≡ option_and_then (λ t. sorts.slice_sort t high low) (sort_of a) }
 {
     match a {
@@ -158,11 +158,7 @@ pub(crate) fn slice_sort(a: Option<Sort>, high: u8, low: u8) -> Option<Sort>
 }
 
 /// The type of a choice between two values of these types.
-pub(crate) fn pick_sort(
-    condition: Option<Sort>,
-    first: Option<Sort>,
-    second: Option<Sort>,
-) -> Option<Sort>
+pub fn pick_sort(condition: Option<Sort>, first: Option<Sort>, second: Option<Sort>) -> Option<Sort>
     ensures { sort_of result
         ≡ with_all sorts.pick_sort (sort_of condition) (sort_of first) (sort_of second) }
 {

@@ -1,0 +1,14 @@
+pub mod PieceFacts
+pub mod NameFacts
+pub mod DeclarationFacts
+pub mod FieldForms
+pub mod KeepFacts
+pub mod LineFacts
+pub mod ScopeFacts
+pub mod TypedFacts
+pub mod TreeFacts
+pub mod StmtFacts
+pub mod NumberFacts
+pub mod ControlFacts
+pub mod PartFacts
+pub mod TableFacts

@@ -1,0 +1,60 @@
+-- The names of a scope.
+use Rattle.std.proofs.Common.{◌≡◌, ℕ, zero, suc, ◌+◌, ◌<◌, Bool, true, false, List, [], ◌∷◌, ◌++◌, length, map, take, get_or, slice_get, Option, Some, None, if◌then◌else◌, refl, sym, ap, subst, ◌∙◌}
+use Rattle.std.specs.Prelude.{option_map, unwrap_or}
+use Rattle.cocoon_num.specs.Names.{same_name}
+use Rattle.declarations.specs.NameNumbers.{index_of}
+use Rattle.declarations.proofs.NameFacts.{same-symm}
+use Rattle.declarations.proofs.TableFacts.{taken}
+use Rattle.p4_names.specs.Meant.{field_at, names_of, place_in}
+use Rattle.p4_texts.specs.Written.{HeaderText, ProgramText}
+use Rattle.p4_written.specs.TreeOf.{header_of}
+use Rattle.p4_written.specs.declared.WrittenHeader.{WrittenHeader}
+use Rattle.p4_resolve.specs.Scopes.{EachHolds, Holds}
+use Rattle.p4_resolve.specs.declared.scope.Names.{Names}
+
+pub place_is : (names : List (List ℕ)) (x : List ℕ) → unwrap_or (index_of x names) (length names) ≡ place_in names x
+place_is [] x = refl
+place_is (y ∷ names) x = by (same_name x y) (same_name y x) (same-symm x y) (place_is names x)
+  where
+    later : (o : Option ℕ) (k : ℕ) → unwrap_or (option_map suc o) (suc k) ≡ suc (unwrap_or o k)
+    later None k = refl
+    later (Some n) k = refl
+
+    by : (a b : Bool) → a ≡ b → unwrap_or (index_of x names) (length names) ≡ place_in names x → unwrap_or (if a then Some 0 else option_map suc (index_of x names)) (suc (length names)) ≡ (if b then 0 else suc (place_in names x))
+    by true true h e = refl
+    by false false h e = later (index_of x names) (length names) ∙ ap suc e
+    by true false h e = absurd cc
+    by false true h e = absurd cc
+
+-- ---- the names of the fields of each header
+
+pub each_push : (ns : List Names) (hs : List HeaderText) (n : Names) (h : HeaderText) → EachHolds ns hs → Holds n (names_of h.fields) → EachHolds (ns ++ n ∷ []) (hs ++ h ∷ [])
+each_push [] [] n h e k = (k, tt)
+each_push [] (x ∷ hs) n h e k = absurd e
+each_push (x ∷ ns) [] n h e k = absurd e
+each_push (x ∷ ns) (y ∷ hs) n h e k = (e.0, each_push ns hs n h e.1 k)
+
+pub each_taken : (ns new : List Names) (hs : List WrittenHeader) (i : ℕ) (h : WrittenHeader) (n : Names) → i < length hs → h ≡ get_or hs i h → new ≡ ns ++ n ∷ [] → EachHolds ns (map header_of (take i hs)) → Holds n (names_of (header_of h).fields)
+    → EachHolds new (map header_of (take (i + 1) hs))
+each_taken ns new hs i h n l e m k x =
+    subst (λ ms. EachHolds ms (map header_of (take (i + 1) hs))) (sym m)
+    (subst (EachHolds (ns ++ n ∷ [])) (sym (taken header_of hs i h l e)) (each_push ns (map header_of (take i hs)) n (header_of h) k x))
+
+pub some_field : (ns : List Names) (t : ProgramText) (i : ℕ) (n : Names) (x : List ℕ) (r : ℕ) → EachHolds ns t.headers → Some n ≡ slice_get ns i → ((names : List (List ℕ)) → Holds n names → r ≡ place_in names x) → r ≡ field_at t i x
+some_field ns t i n x r e g p = by ns t.headers i e g
+  where
+    by : (ns : List Names) (hs : List HeaderText) (i : ℕ) → EachHolds ns hs → Some n ≡ slice_get ns i → r ≡ (elim (slice_get hs i) [ Some h ↦ place_in (names_of h.fields) x | None ↦ 0 ])
+    by [] hs i e g = absurd cc
+    by (m ∷ ns) [] i e g = absurd e
+    by (m ∷ ns) (h ∷ hs) zero e g = p (names_of h.fields) (subst (λ m. Holds m (names_of h.fields)) (let s : m ≡ n = cc in s) e.0)
+    by (m ∷ ns) (h ∷ hs) (suc i) e g = by ns hs i e.1 g
+
+pub no_field : (ns : List Names) (t : ProgramText) (i : ℕ) (x : List ℕ) → EachHolds ns t.headers → None ≡ slice_get ns i → (let n : ℕ = 0 in n) ≡ field_at t i x
+no_field ns t i x e g = by ns t.headers i e g
+  where
+    by : (ns : List Names) (hs : List HeaderText) (i : ℕ) → EachHolds ns hs → None ≡ slice_get ns i → (let n : ℕ = 0 in n) ≡ (elim (slice_get hs i) [ Some h ↦ place_in (names_of h.fields) x | None ↦ 0 ])
+    by [] [] i e g = refl
+    by [] (h ∷ hs) i e g = absurd e
+    by (m ∷ ns) [] i e g = refl
+    by (m ∷ ns) (h ∷ hs) zero e g = absurd cc
+    by (m ∷ ns) (h ∷ hs) (suc i) e g = by ns hs i e.1 g

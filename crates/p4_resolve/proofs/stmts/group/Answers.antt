@@ -1,0 +1,34 @@
+use Rattle.std.proofs.Common.{◌≡◌, [], ◌∙◌, ap, rules, Err, Some}
+use Rattle.cocoon_num.specs.Sorts.{bits_sort}
+use Rattle.p4_ir.specs.P4Tree as tree
+use Rattle.p4_ir.specs.Program as ir
+use Rattle.p4_names.specs.KindFaults.{Piece, stmt_keeps, stmt_pieces}
+use Rattle.p4_names.specs.Meant.{expr_meant}
+use Rattle.p4_texts.specs.Written as text
+use Rattle.p4_written.specs.TreeOf.{expr_of}
+use Rattle.p4_resolve.specs.Judged.{StopsBy}
+use Rattle.p4_resolve.specs.StmtForms.{value_fits}
+use Rattle.p4_resolve.proofs.PieceFacts.{handed_on}
+use Rattle.p4_resolve.proofs.StmtFacts as facts
+use Rattle.p4_resolve.proofs.TreeFacts as forms
+use Rattle.p4_resolve.proofs.stmts.group.Goals as goal
+
+pub returns-clause-keeps : goal.returns-clause-keeps
+returns-clause-keeps c = λ t d k.
+    let e = expr_of c.args.expr.now in
+    let s = text.w_group e in
+    let x : Piece = record { tokens = text.stmt_then s []; keeps = stmt_keeps t d s } in
+    let v = c.in_ok-made.ensures.keeps t d k in
+    record {
+      is = forms.group_code c.in_ok-made.made ∙ ap tree.group v.is;
+      passes = facts.value_passes t d (Some (bits_sort 16)) c.args.scope.now.in_ingress e x c.args.at c.in_ok-begin.begin (ir.expr_of c.in_ok-made.made) c.in_ok-made.end c.in_ok-next.next 2 1 v c.in_ok-begin.ensures c.in_ok-next.ensures (facts.group_count e) (facts.group_fits t d e c.args.scope.now.in_ingress k.in_ingress);
+    }
+
+pub returns-in_err-made-clause-stops : goal.returns-in_err-made-clause-stops
+returns-in_err-made-clause-stops c = λ t d k.
+    let e = expr_of c.args.expr.now in
+    let s = text.w_group e in
+    let x : Piece = record { tokens = text.stmt_then s []; keeps = stmt_keeps t d s } in
+    let same : c.from_residual-in_err-made.result ≡ Err c.in_err-made.field-0.0 = search rules in
+    handed_on c.from_residual-in_err-made.result c.in_err-made.field-0.0 (StopsBy c.args.at (stmt_pieces t d s)) same
+    (facts.value_stops x c.args.at (value_fits d (Some (bits_sort 16)) c.args.scope.now.in_ingress (expr_meant t e)) c.in_err-made.field-0.0 (facts.group_fits t d e c.args.scope.now.in_ingress k.in_ingress) (c.in_err-made.ensures.breaks t d k))

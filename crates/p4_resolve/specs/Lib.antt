@@ -1,0 +1,11 @@
+pub mod FirstKind
+pub mod Judged
+pub mod FieldForms
+pub mod Lines
+pub mod Scopes
+pub mod Typed
+pub mod StmtForms
+pub mod Numbered
+pub mod Controls
+pub mod TableForms
+pub mod Parts
