@@ -6,5 +6,5 @@ pub mod loading;
 pub mod lookups;
 pub mod net;
 
-pub use loading::NetFault;
+pub use loading::{NetFault, load};
 pub use net::Net;

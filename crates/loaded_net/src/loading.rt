@@ -55,8 +55,8 @@ fn fault_at(number: u16, fault: LoadFault) -> NetFault
     }
 }
 
-/// One switch, loaded.
-fn load(alloc: Global, files: &SwitchFiles) -> Result<Loaded, NetFault>
+/// Loads the rows of one switch into its program. A fault is that of this switch.
+pub fn load(alloc: Global, files: &SwitchFiles) -> Result<Loaded, NetFault>
     requires { WellKinded (program_of files.now.program) }
     ensures runs { IfOk result (λ loaded. runs_in loaded ≡ runs_of (switch_of files.now)) }
     ensures loads { IfOk result (λ loaded.
@@ -76,7 +76,8 @@ fn load(alloc: Global, files: &SwitchFiles) -> Result<Loaded, NetFault>
 pub(crate) fn load_all(alloc: Global, switches: &[SwitchFiles]) -> Result<Vec<Loaded>, NetFault>
     requires kinds { IsTrue (each (λ (f : tree.SwitchFiles). is_well_kinded f.program)
         (map switch_of switches.now)) }
-    ensures runs { IfOk result (λ v. map runs_in v.items ≡ map runs_of (map switch_of switches.now)) }
+    ensures runs { IfOk result (λ v.
+        map runs_in v.items ≡ map runs_of (map switch_of switches.now)) }
     ensures loads { IfOk result (λ v. first_load_fault (map switch_of switches.now) ≡ None) }
     ensures fault { IfErr result (λ fault.
         TellsFirst fault (first_load_fault (map switch_of switches.now))) }

@@ -1,5 +1,5 @@
 //! Networks are made, and their switches, hosts and links are looked up by halving.
-ghost use Rattle.std.specs.Prelude.{◌≡◌, IfErr, IfOk, IsTrue, None, option_map};
+ghost use Rattle.std.specs.Prelude.{◌≡◌, IfErr, IfOk, IsTrue, None, map, option_map};
 ghost use Rattle.cocoon_num.specs.Lists.{each, has_number};
 ghost use Rattle.loaded_net.specs.LoadFaults.{first_load_fault, TellsFirst};
 ghost use Rattle.loaded_net.specs.Nets.{net_in};
@@ -31,6 +31,15 @@ impl Net {
     {
         let loaded = load_all(alloc, parts.switches.items())?;
         Ok(Net { parts, loaded })
+    }
+
+    /// A network of which each switch was loaded, in the order of the switches.
+    pub fn from_loaded(parts: NetData, loaded: Vec<Loaded>) -> Net
+        requires wired { IsTrue (wiring_fits (wiring_of (net_of parts))) }
+        requires loads { map runs_in loaded.items ≡ map runs_of (net_of parts).switches }
+        ensures { net_in result ≡ net_of parts }
+    {
+        Net { parts, loaded }
     }
 
     /// The network.

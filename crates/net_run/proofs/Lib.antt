@@ -3,3 +3,6 @@ mod Departing
 mod Leading
 mod Rising
 mod MemberSteps
+mod Loaded
+mod UnderWay
+mod CopySteps

@@ -5,3 +5,7 @@ pub mod Ascending
 pub mod Travels
 pub mod DepartedOf
 pub mod RunCounts
+pub mod Delivering
+pub mod Stations
+pub mod UnderWay
+pub mod Following

@@ -7,3 +7,12 @@ pub struct Departed {
     pub port: u16,
     pub bytes: Vec<u8>,
 }
+
+/// What came of a visit.
+#[derive(Drop)]
+pub struct Visited {
+    /// In ascending order of the members.
+    pub departed: Vec<Departed>,
+    /// How many runs of ingress and of egress it made.
+    pub runs: usize,
+}

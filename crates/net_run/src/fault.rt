@@ -1,6 +1,7 @@
 //! Why a packet is not followed to its ends.
 
 use cocoon_num::NoMemory;
+use std::alloc::AllocFailed;
 
 /// Why a packet is not followed to its ends.
 #[derive(Debug, Drop)]
@@ -19,6 +20,17 @@ impl From<NoMemory> for RunFault {
     ghost from_gives = { λ _ r. r ≡ NoMemory };
 
     fn from(_: NoMemory) -> RunFault {
+        RunFault::NoMemory
+    }
+}
+
+impl<T: Drop> From<AllocFailed<T>> for RunFault {
+    ghost use Rattle.std.specs.Prelude.{◌≡◌};
+    ghost use Rattle.net_run.specs.declared.fault.RunFault.TheVariants.{NoMemory};
+
+    ghost from_gives = { λ _ r. r ≡ NoMemory };
+
+    fn from(_: AllocFailed<T>) -> RunFault {
         RunFault::NoMemory
     }
 }

@@ -7,7 +7,7 @@ ghost use Rattle.p4_run.specs.Frames.{Fits};
 ghost use Rattle.p4_run.specs.Running.{program_in, rows_in};
 ghost use Rattle.p4_run.specs.Visits.{after_ingress, departs, ingress_left};
 
-use crate::departed::Departed;
+use crate::departed::{Departed, Visited};
 use crate::fault::RunFault;
 use cocoon_num::NoMemory;
 use p4_run::{Frame, Loaded, Next};
@@ -69,11 +69,13 @@ pub fn visit(
     port: u16,
     bytes: &[u8],
     most: usize,
-) -> Result<Vec<Departed>, RunFault>
+) -> Result<Visited, RunFault>
     requires fits { Fits (program_in loaded.now) frame.old }
     ensures fits { Fits (program_in loaded.now) frame.new }
-    ensures departed { IfOk result (λ v. map departed_of v.items
+    ensures departed { IfOk result (λ v. map departed_of v.departed.items
         ≡ departures (program_in loaded.now) (rows_in loaded.now) port bytes.now) }
+    ensures runs { IfOk result (λ v. v.runs ≡ runs_after (rows_in loaded.now)
+        (after_ingress (ingress_left (program_in loaded.now) (rows_in loaded.now) port bytes.now))) }
     ensures within { IfOk result (λ v. runs_after (rows_in loaded.now)
         (after_ingress (ingress_left (program_in loaded.now) (rows_in loaded.now) port bytes.now))
         ≤ most) }
@@ -91,5 +93,8 @@ pub fn visit(
         let next = loaded.egress(frame, *member);
         push_departed(alloc, &mut all, Some(*member), next, frame.headers(), bytes)?;
     }
-    Ok(all)
+    Ok(Visited {
+        departed: all,
+        runs: members.len() + 1,
+    })
 }

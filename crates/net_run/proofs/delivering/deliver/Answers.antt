@@ -1,0 +1,15 @@
+use Rattle.loaded_net.specs.Nets.{net_in}
+use Rattle.net_run.specs.Delivering.{RunStops}
+use Rattle.net_run.proofs.CopySteps.{follow_stops, next_under_way, told_on}
+use Rattle.net_run.proofs.delivering.deliver.Goals as goal
+
+pub loop-copy-preserved : goal.loop-copy-preserved
+loop-copy-preserved c =
+    next_under_way c.args.net.now c.args.host c.args.bytes.now c.args.hops c.loop-copy.walk c.in-Some.copy c.pop.new.self c.follow.new.self c.loop-copy.invariant c.in-Some.ensures.items
+    c.in_ok-follow.ensures.followed
+
+pub returns-in_err-follow-clause-stops : goal.returns-in_err-follow-clause-stops
+returns-in_err-follow-clause-stops c =
+    told_on (RunStops (net_in c.args.net.now) c.args.host c.args.bytes.now c.args.hops) c.from_residual-in_err-follow.result c.in_err-follow.field-0.0 c.from_residual-in_err-follow.ensures.1
+    (follow_stops c.args.net.now c.args.host c.args.bytes.now c.args.hops c.loop-copy.walk c.in-Some.copy c.pop.new.self c.in_err-follow.field-0.0 c.loop-copy.invariant c.in-Some.ensures.items
+    c.in_err-follow.ensures.stops)
