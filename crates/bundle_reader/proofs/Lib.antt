@@ -1,0 +1,9 @@
+mod Steps
+mod Prefix
+mod Whole
+mod Put
+mod OldNew
+mod Digests
+mod OneFile
+mod OneSwitch
+mod OneReading

@@ -1,0 +1,25 @@
+use Rattle.std.proofs.Common.{◌∙◌, refl}
+use Rattle.p4_ir.specs.Program.{program_of}
+use Rattle.p4_ir.specs.NetOf.{rows_of}
+use Rattle.bundle_reader.specs.Parts.{OfFiles, SwitchFault}
+use Rattle.bundle_reader.proofs.Steps.{load_told, load_rose, load_refused, passed}
+use Rattle.bundle_reader.proofs.switches.read_switch.Goals as goal
+
+pub returns-in_err-rows-clause-refused : goal.returns-in_err-rows-clause-refused
+returns-in_err-rows-clause-refused g c =
+    let refused : OfFiles (g.F.Folder.content c.args.folder.now) (SwitchFault c.args.out.now c.args.switch c.args.program.now c.args.rows.now c.in_err-rows.field-0.0) =
+    λ files e up. c.in_err-rows.ensures.refused files (c.read_program.ensures.same ∙ e)
+    (c.args.program.now, c.args.rows.now, refl, up, program_of c.in_ok-program.program, c.in_ok-program.ensures.program files e) in
+    passed _ c.in_err-rows.field-0.0 _ c.from_residual-in_err-rows.ensures.1 refused
+
+pub returns-in-Err-clause-refused : goal.returns-in-Err-clause-refused
+returns-in-Err-clause-refused g c files e up =
+    load_refused files c.args.out.now c.args.switch c.args.program.now c.args.rows.now (program_of c.in_ok-program.program) (rows_of c.in_ok-rows.rows) c.in-Err.fault _ up
+    (c.in_ok-program.ensures.program files e) (c.in_ok-rows.ensures.rows files (c.read_program.ensures.same ∙ e)) c.in-Err.ensures.fault c.load_fault.ensures
+
+pub returns-in-Err-clause-told : goal.returns-in-Err-clause-told
+returns-in-Err-clause-told g c = load_told c.in-Err.fault _ _ c.in-Err.ensures.fault c.load_fault.ensures
+
+pub returns-in-Err-clause-failed : goal.returns-in-Err-clause-failed
+returns-in-Err-clause-failed g c =
+    load_rose _ _ _ c.in-Err.fault _ (c.in_ok-rows.ensures.counted ∙ c.in_ok-program.ensures.counted) c.load_fault.ensures

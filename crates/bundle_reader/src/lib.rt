@@ -1,0 +1,12 @@
+//! Bundles read back: the network that the files of a bundle give, loaded, or the first fault of the files in the bundle's
+//! order.
+#![tactic(auto)]
+
+pub mod fault;
+mod files;
+pub mod laws;
+pub mod reading;
+mod switches;
+
+pub use fault::ReadFault;
+pub use reading::read_bundle;

@@ -1,0 +1,73 @@
+//! The reading of a bundle.
+ghost use Rattle.std.specs.Prelude.{◌≡◌, ◌≤◌, IfErr, IfOk, IsTrue};
+ghost use Rattle.bundle_forms.specs.NetForm.{file_fits};
+ghost use Rattle.bundle_reader.specs.FolderCounts.{NamesFailure, ReadFaultRose};
+ghost use Rattle.bundle_reader.specs.Parts.{OfFiles};
+ghost use Rattle.bundle_reader.specs.Readings.{ContentFault, ContentReads, IsFirstFault, NetReads};
+ghost use Rattle.bundle_reader.specs.Told.{IsTold};
+ghost use Rattle.loaded_net.specs.Nets.{net_in};
+ghost use Rattle.net_bundle.specs.NetFileOf.{net_file_of};
+
+use crate::fault::ReadFault;
+use crate::files::{form_fault, read_file};
+use crate::switches::read_switches;
+use bundle_forms::laws::net_form_is_exact;
+use bundle_forms::read_net;
+use cocoon_io::Folder;
+use cocoon_num::List;
+use loaded_net::Net;
+use net_bundle::BundleFile;
+use net_bundle::net_json::NetFile;
+use p4_ir::NetData;
+use std::alloc::Global;
+
+/// The file of the network.
+fn read_network<F: Folder>(alloc: Global, folder: &mut F, out: &str) -> Result<NetFile, ReadFault>
+    ensures fits { IfOk result (λ file. IsTrue (file_fits (net_file_of file))) }
+    ensures file { IfOk result (λ file. OfFiles (F.content folder.old)
+        (λ files. NetReads files out.now (net_file_of file))) }
+    ensures refused { IfErr result (λ fault. OfFiles (F.content folder.old)
+        (λ files. IsFirstFault files out.now fault)) }
+    ensures told { IfErr result IsTold }
+    ensures same { F.content folder.new ≡ F.content folder.old }
+    ensures failed { IfErr result (ReadFaultRose F.last_read_fault
+        (F.read_faults folder.old) (F.read_faults folder.new)) }
+    ensures counted { IfOk result (λ _. F.read_faults folder.new ≡ F.read_faults folder.old) }
+    ensures named { IfErr result (NamesFailure (F.last_failure folder.new) out.now) }
+    ensures reads { F.read_faults folder.old ≤ F.read_faults folder.new }
+    ensures writes { F.write_faults folder.new ≡ F.write_faults folder.old }
+{
+    net_form_is_exact();
+    let text = read_file(alloc, folder, out, BundleFile::Network)?;
+    match read_net(alloc, &text) {
+        Ok(file) => Ok(file),
+        Err(fault) => Err(form_fault(BundleFile::Network, fault)),
+    }
+}
+
+/// Reads the bundle `out` of a folder: the file of the network, then for each switch its program and its rows. The first fault
+/// is answered.
+pub fn read_bundle<F: Folder>(alloc: Global, folder: &mut F, out: &str) -> Result<Net, ReadFault>
+    ensures network { IfOk result (λ net.
+        ContentReads (F.content folder.old) out.now (net_in net)) }
+    ensures refused { IfErr result (ContentFault (F.content folder.old) out.now) }
+    ensures told { IfErr result IsTold }
+    ensures same { F.content folder.new ≡ F.content folder.old }
+    ensures failed { IfErr result (ReadFaultRose F.last_read_fault
+        (F.read_faults folder.old) (F.read_faults folder.new)) }
+    ensures counted { IfOk result (λ net. F.read_faults folder.new ≡ F.read_faults folder.old) }
+    ensures named { IfErr result (NamesFailure (F.last_failure folder.new) out.now) }
+    ensures reads { F.read_faults folder.old ≤ F.read_faults folder.new }
+    ensures writes { F.write_faults folder.new ≡ F.write_faults folder.old }
+{
+    net_form_is_exact();
+    let file = read_network(alloc, folder, out)?;
+    let read = read_switches(alloc, folder, out, &file)?;
+    let parts = NetData {
+        ports: file.ports,
+        switches: List::from(read.switches),
+        links: List::from(file.links),
+        hosts: List::from(file.hosts),
+    };
+    Ok(Net::from_loaded(parts, read.loaded))
+}
