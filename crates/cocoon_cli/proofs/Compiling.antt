@@ -15,7 +15,7 @@ use Rattle.net_bundle.specs.Writing.{AllFit, ContentHolds, NamesFailure as Bundl
 use Rattle.net_bundle.specs.declared.fault.BundleFault.{BundleFault}
 use Rattle.net_bundle.specs.declared.fault.BundleFault.TheVariants as fault
 use Rattle.cocoon_cli.specs.declared.files.CommandFile.{CommandFile}
-use Rattle.cocoon_cli.specs.declared.files.CommandFile.TheVariants.{Design, Definitions, Bundle, Case}
+use Rattle.cocoon_cli.specs.declared.files.CommandFile.TheVariants.{Design, Definitions, Bundle, Case, Packets}
 use Rattle.cocoon_cli.specs.declared.refusal.InputFault.TheVariants.{NoTree, Rule, NotYet}
 use Rattle.cocoon_cli.specs.declared.refusal.DefinitionsFault.{DefinitionsFault}
 use Rattle.cocoon_cli.specs.declared.refusal.DefinitionsFault.TheVariants as definitions
@@ -24,14 +24,14 @@ use Rattle.cocoon_cli.specs.declared.refusal.Refusal.TheVariants as refusal
 use Rattle.case_runs.specs.declared.sent.Sent.{Sent}
 use Rattle.cocoon_cli.specs.declared.report.Totals.{Totals}
 use Rattle.cocoon_cli.specs.declared.report.Report.{Report}
-use Rattle.cocoon_cli.specs.declared.report.Report.TheVariants.{Compiled, Stepped}
+use Rattle.cocoon_cli.specs.declared.report.Report.TheVariants.{Compiled, Stepped, Forwarded}
 use Rattle.command_line.specs.Command.{Command, compile}
 use Rattle.cocoon_cli.specs.FileNames.{name_in}
 use Rattle.cocoon_cli.specs.Leaves.{LeavesRefused, MayWriteFiles}
 use Rattle.cocoon_cli.specs.Reading.{HasFile, LacksFile, HasLongFile, FileNotRead, NamesReadFailure, bundle_refusal}
 use Rattle.cocoon_cli.specs.Run.{inputs_of, InputsAre, NamesFailure, Performs}
 use Rattle.cocoon_cli.specs.Steps.{Inputs, Step, is_there, is_within, design_reads, design_well_formed, design_within, definitions_read, definitions_fit, definitions_within, design_accepted, lowering_within, bundle_within, bundle_written, design_most, definitions_most, DesignIs, DefinitionsAre, Makes, MakesFiles, totals_of, AnswersFrom, Answers}
-use Rattle.cocoon_cli.specs.LowerTexts.{ReadsChecked, Binds, BindsTables, LowersTexts, told, NotChecked, NotRead, NotReadAfter, NotBound, NotLowered, NotMade}
+use Rattle.cocoon_cli.specs.LowerTexts.{ReadsChecked, Binds, BindsTables, LowersTexts, told, NotChecked, NotRead, NotBound, NotLowered, NotMade}
 
 -- ---- what is read
 
@@ -41,28 +41,29 @@ by_file x y Design = x
 by_file x y Definitions = y
 by_file x y (Bundle file) = None
 by_file x y Case = None
+by_file x y Packets = None
 
 abbrev pick : Command → Option Files → (x y : Option (List ℕ)) → Inputs
-pick c None x y = by_file x y
+pick c None x y = record { file = by_file x y; content = None }
 pick c (Some files) x y = inputs_of c files
 
 picked : (c : Command) (content : Option Files) (x y : Option (List ℕ)) → InputsAre c content (pick c content x y)
 picked c None x y = tt
 picked c (Some files) x y = refl
 
-design_there : (d e o : List ℕ) (content : Option Files) (x : List ℕ) (y : Option (List ℕ)) → HasFile content d design_most x → pick (compile d e o) content (Some x) y Design ≡ Some x
+design_there : (d e o : List ℕ) (content : Option Files) (x : List ℕ) (y : Option (List ℕ)) → HasFile content d design_most x → (pick (compile d e o) content (Some x) y).file Design ≡ Some x
 design_there d e o None x y g = refl
 design_there d e o (Some files) x y g = g.0
 
-defs_there : (d e o : List ℕ) (content : Option Files) (x : Option (List ℕ)) (y : List ℕ) → HasFile content e definitions_most y → pick (compile d e o) content x (Some y) Definitions ≡ Some y
+defs_there : (d e o : List ℕ) (content : Option Files) (x : Option (List ℕ)) (y : List ℕ) → HasFile content e definitions_most y → (pick (compile d e o) content x (Some y)).file Definitions ≡ Some y
 defs_there d e o None x y g = refl
 defs_there d e o (Some files) x y g = g.0
 
-design_lacking : (d e o : List ℕ) (content : Option Files) (y : Option (List ℕ)) → LacksFile content d → pick (compile d e o) content None y Design ≡ None
+design_lacking : (d e o : List ℕ) (content : Option Files) (y : Option (List ℕ)) → LacksFile content d → (pick (compile d e o) content None y).file Design ≡ None
 design_lacking d e o None y h = refl
 design_lacking d e o (Some files) y h = h
 
-defs_lacking : (d e o : List ℕ) (content : Option Files) (x : Option (List ℕ)) → LacksFile content e → pick (compile d e o) content x None Definitions ≡ None
+defs_lacking : (d e o : List ℕ) (content : Option Files) (x : Option (List ℕ)) → LacksFile content e → (pick (compile d e o) content x None).file Definitions ≡ None
 defs_lacking d e o None x h = refl
 defs_lacking d e o (Some files) x h = h
 
@@ -83,11 +84,11 @@ record Long (o : Option (List ℕ)) (most : ℕ) : Type 0 where
   are : o ≡ Some bytes
   long : most < length bytes
 
-design_long : (d e o : List ℕ) (content : Option Files) (y : Option (List ℕ)) → HasLongFile content d design_most → Long (pick (compile d e o) content (Some (more design_most)) y Design) design_most
+design_long : (d e o : List ℕ) (content : Option Files) (y : Option (List ℕ)) → HasLongFile content d design_most → Long ((pick (compile d e o) content (Some (more design_most)) y).file Design) design_most
 design_long d e o None y h = record { bytes = more design_most; are = refl; long = more_long design_most }
 design_long d e o (Some files) y h = record { bytes = h.0; are = h.1; long = h.2 }
 
-defs_long : (d e o : List ℕ) (content : Option Files) (x : Option (List ℕ)) → HasLongFile content e definitions_most → Long (pick (compile d e o) content x (Some (more definitions_most)) Definitions) definitions_most
+defs_long : (d e o : List ℕ) (content : Option Files) (x : Option (List ℕ)) → HasLongFile content e definitions_most → Long ((pick (compile d e o) content x (Some (more definitions_most))).file Definitions) definitions_most
 defs_long d e o None x h = record { bytes = more definitions_most; are = refl; long = more_long definitions_most }
 defs_long d e o (Some files) x h = record { bytes = h.0; are = h.1; long = h.2 }
 
@@ -106,11 +107,11 @@ later = design_reads ∷ design_well_formed ∷ design_within ∷ checked
 abbrev second : List Step
 second = is_there Definitions ∷ is_within Definitions definitions_most ∷ later
 
-after_design : (d e o : List ℕ) (i : Inputs) (x : List ℕ) (outcome : Result Report Refusal) → i Design ≡ Some x → length x ≤ design_most
+after_design : (d e o : List ℕ) (i : Inputs) (x : List ℕ) (outcome : Result Report Refusal) → i.file Design ≡ Some x → length x ≤ design_most
     → AnswersFrom (compile d e o) i second outcome → Answers (compile d e o) i outcome
 after_design d e o i x outcome p l rest = inr (inr ((x, p), inr ((x, p, l), rest)))
 
-after_both : (d e o : List ℕ) (i : Inputs) (x y : List ℕ) (outcome : Result Report Refusal) → i Design ≡ Some x → length x ≤ design_most → i Definitions ≡ Some y → length y ≤ definitions_most
+after_both : (d e o : List ℕ) (i : Inputs) (x y : List ℕ) (outcome : Result Report Refusal) → i.file Design ≡ Some x → length x ≤ design_most → i.file Definitions ≡ Some y → length y ≤ definitions_most
     → AnswersFrom (compile d e o) i later outcome → Answers (compile d e o) i outcome
 after_both d e o i x y outcome p l q m rest = after_design d e o i x outcome p l (inr ((y, q), inr ((y, q, m), rest)))
 
@@ -225,10 +226,10 @@ both d e o before x y = pick (compile d e o) before (Some x) (Some y)
 both_are : (d e o : List ℕ) (before : Option Files) (x y : List ℕ) → InputsAre (compile d e o) before (both d e o before x y)
 both_are d e o before x y = picked (compile d e o) before (Some x) (Some y)
 
-both_design : (d e o : List ℕ) (before : Option Files) (x y : List ℕ) → HasBoth before d e x y → both d e o before x y Design ≡ Some x
+both_design : (d e o : List ℕ) (before : Option Files) (x y : List ℕ) → HasBoth before d e x y → (both d e o before x y).file Design ≡ Some x
 both_design d e o before x y g = design_there d e o before x (Some y) g.design
 
-both_defs : (d e o : List ℕ) (before : Option Files) (x y : List ℕ) → HasBoth before d e x y → both d e o before x y Definitions ≡ Some y
+both_defs : (d e o : List ℕ) (before : Option Files) (x y : List ℕ) → HasBoth before d e x y → (both d e o before x y).file Definitions ≡ Some y
 both_defs d e o before x y g = defs_there d e o before (Some x) y g.defs
 
 answers_both : (d e o : List ℕ) (before : Option Files) (x y : List ℕ) (outcome : Result Report Refusal) → HasBoth before d e x y
@@ -358,6 +359,8 @@ texts_refused d e o before after x y r same g h = record {
     leaves (refusal.OverLimit l n) h = same
     leaves (refusal.NoLevel l n) h = same
     leaves (refusal.Line f n) h = same
+    leaves (refusal.NoHost f n) h = same
+    leaves (refusal.Unread f n) h = same
     leaves refusal.NoMemory h = inl same
     leaves (refusal.NoFile f) h = same
 
@@ -461,10 +464,14 @@ write_refused d e o before mid after x y net fault.NoMemory same g h (inr n) = r
 never_stepped : (s : Option Sent) (t : Totals) → ◌≡◌ {A = Report} (Stepped s) (Compiled t) → ⊥
 never_stepped s t e = cc
 
+never_forwarded : (text : List ℕ) (t : Totals) → ◌≡◌ {A = Report} (Forwarded text) (Compiled t) → ⊥
+never_forwarded text t e = cc
+
 -- the bundle was written
 pub done : (d e o : List ℕ) (before mid after : Option Files) (x y : List ℕ) (net : NetData) (report : Report) → mid ≡ before → HasBoth before d e x y → LowersTexts x y net
     → after ≡ with_files o (bundle x net None) mid → AllFit (bundle x net None) → report ≡ Compiled (totals_of net) → Performs (compile d e o) before after (Ok report)
 done d e o before mid after x y net (Stepped s) same g h w fit r = absurd (never_stepped s (totals_of net) r)
+done d e o before mid after x y net (Forwarded text) same g h w fit r = absurd (never_forwarded text (totals_of net) r)
 done d e o before mid after x y net (Compiled totals) same g h w fit r =
     let fs = makes_files d e o before x y net g h in record {
       inputs = both d e o before x y;

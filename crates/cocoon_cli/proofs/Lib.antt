@@ -5,3 +5,4 @@ pub mod Headlines
 pub mod RuleValues
 pub mod Running
 pub mod OneOutcome
+pub mod Forwarded

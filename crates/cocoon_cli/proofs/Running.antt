@@ -7,20 +7,20 @@ use Rattle.net_bundle.specs.Bundle.{MadeFile}
 use Rattle.net_bundle.specs.declared.file.BundleFile.{BundleFile}
 use Rattle.net_bundle.specs.Writing.{SomeWritten, StopsAt, with_files}
 use Rattle.cocoon_cli.specs.declared.files.CommandFile.{CommandFile}
-use Rattle.cocoon_cli.specs.declared.files.CommandFile.TheVariants.{Design, Definitions, Bundle as BundleOf, Case as CaseFile}
+use Rattle.cocoon_cli.specs.declared.files.CommandFile.TheVariants.{Design, Definitions, Bundle as BundleOf, Case as CaseFile, Packets as PacketsFile}
 use Rattle.cocoon_cli.specs.declared.refusal.Refusal.{Refusal}
 use Rattle.cocoon_cli.specs.declared.refusal.Refusal.TheVariants as refusal
 use Rattle.cocoon_cli.specs.declared.report.Report.{Report}
 use Rattle.cocoon_cli.specs.declared.status.Status.{Status}
-use Rattle.cocoon_cli.specs.declared.status.Status.TheVariants.{Done, Usage, Language, Broken, ReadFault, WriteFault, Limit, Lines, NoMemory, NoFile}
-use Rattle.command_line.specs.Command.{Command, compile, step}
+use Rattle.cocoon_cli.specs.declared.status.Status.TheVariants.{Done, Usage, Language, Broken, Bundle, ReadFault, WriteFault, Limit, Lines, NoMemory, NoFile}
+use Rattle.command_line.specs.Command.{Command, compile, step, forward}
 use Rattle.command_line.specs.Words.{command}
 use Rattle.cocoon_cli.specs.Headline.{CompiledOf}
 use Rattle.cocoon_cli.specs.Leaves.{Leaves, LeavesSome}
 use Rattle.cocoon_cli.specs.Report.{Ending, Puts, all, a_prefix, nothing, Prints, ending_of, no_memory, usage}
-use Rattle.cocoon_cli.specs.Run.{Call, Counted, Count, inputs_of, InputsAre, Performs, HasFault, Cause, CauseOf, LineNames, NamesFailure, EndsWith, Yields, to_read_fault, to_write_fault, to_no_memory, TheOutcome, OutcomeOf, DoneOf, LeavesOf, MayWrite, done, failed, UsageOf, Keeps}
+use Rattle.cocoon_cli.specs.Run.{Call, Counted, Count, inputs_of, InputsAre, Performs, HasFault, IsOnly, Cause, CauseOf, LineNames, NamesFailure, EndsWith, Yields, to_read_fault, to_write_fault, to_no_memory, TheOutcome, OutcomeOf, DoneOf, LeavesOf, MayWrite, done, failed, UsageOf, Keeps}
 use Rattle.cocoon_cli.specs.Run as run
-use Rattle.cocoon_cli.specs.Steps.{Inputs, Step, is_there, is_within, design_reads, design_well_formed, design_within, definitions_read, definitions_fit, definitions_within, design_accepted, lowering_within, level_there, lines_formed, bundle_within, bundle_written, Reports, HasOutcomeFrom, HasOutcome, Stops, AnswersFrom, steps}
+use Rattle.cocoon_cli.specs.Steps.{Inputs, Step, is_there, is_within, design_reads, design_well_formed, design_within, definitions_read, definitions_fit, definitions_within, design_accepted, lowering_within, level_there, lines_formed, bundle_reads, packets_judged, copies_within, bundle_within, bundle_written, Reports, HasOutcomeFrom, HasOutcome, Stops, AnswersFrom, steps}
 
 -- ---- what is printed
 
@@ -52,6 +52,9 @@ stopped i design_accepted r outcome h e = absurd h
 stopped i lowering_within r outcome h e = absurd h
 stopped i (level_there l) r outcome h e = absurd h
 stopped i (lines_formed l) r outcome h e = absurd h
+stopped i (bundle_reads o) r outcome h e = inl (BundleOf h.0, e ∙ ap Err h.1)
+stopped i (packets_judged o) r outcome h e = absurd h
+stopped i (copies_within o n) r outcome h e = absurd h
 stopped i bundle_within r outcome h e = absurd h
 stopped i bundle_written r outcome h e = inr (BundleOf h.0, e ∙ ap Err h.1)
 
@@ -73,7 +76,7 @@ fault_yields c call outcome (inr (file, e)) h f =
 
 -- a command has one outcome
 abbrev pub OneOutcome : Type 0
-OneOutcome = (c : Command) (i : Inputs) (outcome other : Result Report Refusal) → HasOutcome c i outcome → HasOutcome c i other → other ≡ outcome
+OneOutcome = (c : Command) (i : Inputs) (outcome : Result Report Refusal) → HasOutcome c i outcome → IsOnly c i outcome
 
 outcome_known : OneOutcome → (c : Command) (files : Files) (call : Call) (outcome : Result Report Refusal) → Performs c (Some files) call.content_after outcome → HasFault call.reads call.writes outcome
     → Prints (Counted call.puts) (ending_of c outcome) call.output_before call.output_after call.status → ((f : TheOutcome c files) × EndsWith call (ending_of c f.outcome)) ⊎ Yields call
@@ -84,7 +87,7 @@ outcome_known one c files call outcome performs faults prints = elim (printed ca
     | inr answers ↦ elim (outcome_or_stops c performs.inputs (steps c) outcome answers) [
       | inl holds ↦
           let here : HasOutcome c (inputs_of c files) outcome = subst (λ (i : Inputs). HasOutcome c i outcome) performs.inputs_are holds in
-          inl (record { outcome = outcome; holds = here; one = λ other h. one c (inputs_of c files) outcome other here h }, f)
+          inl (record { outcome = outcome; holds = here; one = one c (inputs_of c files) outcome here }, f)
       | inr fault ↦ inr (fault_yields c call outcome fault faults f)
     ]
   ]
@@ -122,6 +125,8 @@ never_usage c (Err (refusal.TooLong f n)) e = cc
 never_usage c (Err (refusal.OverLimit l m)) e = cc
 never_usage c (Err (refusal.NoLevel l m)) e = cc
 never_usage c (Err (refusal.Line f n)) e = cc
+never_usage c (Err (refusal.NoHost f n)) e = cc
+never_usage c (Err (refusal.Unread f n)) e = cc
 never_usage c (Err refusal.NoMemory) e = cc
 never_usage c (Err (refusal.NoFile f)) e = cc
 
@@ -144,6 +149,8 @@ is_read_fault c reads writes (Err (refusal.TooLong f n)) h e = cc
 is_read_fault c reads writes (Err (refusal.OverLimit l m)) h e = cc
 is_read_fault c reads writes (Err (refusal.NoLevel l m)) h e = cc
 is_read_fault c reads writes (Err (refusal.Line f n)) h e = cc
+is_read_fault c reads writes (Err (refusal.NoHost f n)) h e = cc
+is_read_fault c reads writes (Err (refusal.Unread f n)) h e = cc
 is_read_fault c reads writes (Err refusal.NoMemory) h e = cc
 is_read_fault c reads writes (Err (refusal.NoFile f)) h e = cc
 
@@ -157,6 +164,8 @@ is_write_fault c reads writes (Err (refusal.TooLong f n)) h e = cc
 is_write_fault c reads writes (Err (refusal.OverLimit l m)) h e = cc
 is_write_fault c reads writes (Err (refusal.NoLevel l m)) h e = cc
 is_write_fault c reads writes (Err (refusal.Line f n)) h e = cc
+is_write_fault c reads writes (Err (refusal.NoHost f n)) h e = cc
+is_write_fault c reads writes (Err (refusal.Unread f n)) h e = cc
 is_write_fault c reads writes (Err refusal.NoMemory) h e = cc
 is_write_fault c reads writes (Err (refusal.NoFile f)) h e = cc
 
@@ -226,6 +235,8 @@ read_line last c call (Err (refusal.TooLong f m)) h e n = cc
 read_line last c call (Err (refusal.OverLimit l m)) h e n = cc
 read_line last c call (Err (refusal.NoLevel l m)) h e n = cc
 read_line last c call (Err (refusal.Line f m)) h e n = cc
+read_line last c call (Err (refusal.NoHost f m)) h e n = cc
+read_line last c call (Err (refusal.Unread f m)) h e n = cc
 read_line last c call (Err refusal.NoMemory) h e n = cc
 read_line last c call (Err (refusal.NoFile f)) h e n = cc
 
@@ -239,6 +250,8 @@ write_line last c call (Err (refusal.TooLong f m)) h e n = cc
 write_line last c call (Err (refusal.OverLimit l m)) h e n = cc
 write_line last c call (Err (refusal.NoLevel l m)) h e n = cc
 write_line last c call (Err (refusal.Line f m)) h e n = cc
+write_line last c call (Err (refusal.NoHost f m)) h e n = cc
+write_line last c call (Err (refusal.Unread f m)) h e n = cc
 write_line last c call (Err refusal.NoMemory) h e n = cc
 write_line last c call (Err (refusal.NoFile f)) h e n = cc
 
@@ -278,6 +291,8 @@ done_ok c call (Err (refusal.TooLong f m)) performs d n = cc
 done_ok c call (Err (refusal.OverLimit l m)) performs d n = cc
 done_ok c call (Err (refusal.NoLevel l m)) performs d n = cc
 done_ok c call (Err (refusal.Line f m)) performs d n = cc
+done_ok c call (Err (refusal.NoHost f m)) performs d n = cc
+done_ok c call (Err (refusal.Unread f m)) performs d n = cc
 done_ok c call (Err refusal.NoMemory) performs d n = cc
 done_ok c call (Err (refusal.NoFile f)) performs d n = cc
 
@@ -306,12 +321,35 @@ step_same d e l f i before after (Err (refusal.WriteFault Design)) h = h
 step_same d e l f i before after (Err (refusal.WriteFault Definitions)) h = h
 step_same d e l f i before after (Err (refusal.WriteFault (BundleOf file))) h = h
 step_same d e l f i before after (Err (refusal.WriteFault CaseFile)) h = h
+step_same d e l f i before after (Err (refusal.WriteFault PacketsFile)) h = h
 step_same d e l f i before after (Err (refusal.TooLong x n)) h = h
 step_same d e l f i before after (Err (refusal.OverLimit x n)) h = h
 step_same d e l f i before after (Err (refusal.NoLevel x n)) h = h
 step_same d e l f i before after (Err (refusal.Line x n)) h = h
+step_same d e l f i before after (Err (refusal.NoHost x n)) h = h
+step_same d e l f i before after (Err (refusal.Unread x n)) h = h
 step_same d e l f i before after (Err refusal.NoMemory) h = h
 step_same d e l f i before after (Err (refusal.NoFile x)) h = h
+
+-- `forward` leaves the folder as it was
+forward_same : (o p : List ℕ) (n : ℕ) (i : Inputs) (before after : Option Files) (outcome : Result Report Refusal) → Leaves (forward o p n) i before after outcome → after ≡ before
+forward_same o p n i before after (Ok report) h = h
+forward_same o p n i before after (Err (refusal.Language x)) h = h
+forward_same o p n i before after (Err (refusal.Definitions x)) h = h
+forward_same o p n i before after (Err (refusal.ReadFault x)) h = h
+forward_same o p n i before after (Err (refusal.WriteFault Design)) h = h
+forward_same o p n i before after (Err (refusal.WriteFault Definitions)) h = h
+forward_same o p n i before after (Err (refusal.WriteFault (BundleOf file))) h = h
+forward_same o p n i before after (Err (refusal.WriteFault CaseFile)) h = h
+forward_same o p n i before after (Err (refusal.WriteFault PacketsFile)) h = h
+forward_same o p n i before after (Err (refusal.TooLong x m)) h = h
+forward_same o p n i before after (Err (refusal.OverLimit x m)) h = h
+forward_same o p n i before after (Err (refusal.NoLevel x m)) h = h
+forward_same o p n i before after (Err (refusal.Line x m)) h = h
+forward_same o p n i before after (Err (refusal.NoHost x m)) h = h
+forward_same o p n i before after (Err (refusal.Unread x m)) h = h
+forward_same o p n i before after (Err refusal.NoMemory) h = h
+forward_same o p n i before after (Err (refusal.NoFile x)) h = h
 
 -- a refusal that wrote nothing, or a status that may have
 same_or_writes : (c : Command) (i : Inputs) (before after : Option Files) (outcome : Result Report Refusal) → Leaves c i before after outcome → MayWrite (ending_of c outcome).status ⊎ (after ≡ before)
@@ -324,9 +362,12 @@ same_or_writes (compile d e o) i before after (Err (refusal.TooLong f n)) h = in
 same_or_writes (compile d e o) i before after (Err (refusal.OverLimit l m)) h = inr h
 same_or_writes (compile d e o) i before after (Err (refusal.NoLevel l m)) h = inr h
 same_or_writes (compile d e o) i before after (Err (refusal.Line f n)) h = inr h
+same_or_writes (compile d e o) i before after (Err (refusal.NoHost f n)) h = inr h
+same_or_writes (compile d e o) i before after (Err (refusal.Unread f n)) h = inr h
 same_or_writes (compile d e o) i before after (Err refusal.NoMemory) h = inl (run.no_memory refl)
 same_or_writes (compile d e o) i before after (Err (refusal.NoFile f)) h = inr h
 same_or_writes (step d e l f) i before after outcome h = inr (step_same d e l f i before after outcome h)
+same_or_writes (forward o p n) i before after outcome h = inr (forward_same o p n i before after outcome h)
 
 ending_writes : (s : Status) → IsEnding s → MayWrite s
 ending_writes s (inl e) = failed e
@@ -360,14 +401,18 @@ leaves_some (compile d e o) i before after (Err (refusal.ReadFault f)) h = inl h
 leaves_some (compile d e o) i before after (Err (refusal.WriteFault Design)) h = inl h
 leaves_some (compile d e o) i before after (Err (refusal.WriteFault Definitions)) h = inl h
 leaves_some (compile d e o) i before after (Err (refusal.WriteFault CaseFile)) h = inl h
+leaves_some (compile d e o) i before after (Err (refusal.WriteFault PacketsFile)) h = inl h
 leaves_some (compile d e o) i before after (Err (refusal.WriteFault (BundleOf file))) (fs, m, s) = inr (fs, m, stopped_some o fs file before after s)
 leaves_some (compile d e o) i before after (Err (refusal.TooLong f n)) h = inl h
 leaves_some (compile d e o) i before after (Err (refusal.OverLimit l m)) h = inl h
 leaves_some (compile d e o) i before after (Err (refusal.NoLevel l m)) h = inl h
 leaves_some (compile d e o) i before after (Err (refusal.Line f n)) h = inl h
+leaves_some (compile d e o) i before after (Err (refusal.NoHost f n)) h = inl h
+leaves_some (compile d e o) i before after (Err (refusal.Unread f n)) h = inl h
 leaves_some (compile d e o) i before after (Err refusal.NoMemory) h = h
 leaves_some (compile d e o) i before after (Err (refusal.NoFile f)) h = inl h
 leaves_some (step d e l f) i before after outcome h = step_same d e l f i before after outcome h
+leaves_some (forward o p n) i before after outcome h = forward_same o p n i before after outcome h
 
 leaves_of : (c : Option Command) (call : Call) → CauseOf c call → LeavesOf c call
 leaves_of None call h = h.0
@@ -376,7 +421,7 @@ leaves_of (Some c) call h = (h.performs.inputs, h.performs.inputs_are, leaves_so
 -- ---- out of memory while the words are read
 
 abbrev any_inputs : Command → Option Files → Inputs
-any_inputs c None = λ file. None
+any_inputs c None = record { file = λ file. None; content = None }
 any_inputs c (Some files) = inputs_of c files
 
 any_are : (c : Command) (content : Option Files) → InputsAre c content (any_inputs c content)
@@ -386,6 +431,7 @@ any_are c (Some files) = refl
 leaves_same : (c : Command) (i : Inputs) (before after : Option Files) → after ≡ before → Leaves c i before after (Err refusal.NoMemory)
 leaves_same (compile d e o) i before after same = inl same
 leaves_same (step d e l f) i before after same = same
+leaves_same (forward o p n) i before after same = same
 
 memory_cause : (last : List ℕ → Type 0) (c : Option Command) (call : Call) → call.content_after ≡ call.content_before → Puts (Counted call.puts) no_memory call.output_before call.output_after call.status → (h : CauseOf c call) × NamedOf last c call h
 memory_cause last None call same p = ((same, inr p), tt)
@@ -417,6 +463,8 @@ headline_of c call (Err (refusal.TooLong f n)) prints h d = let e : ◌≡◌ {A
 headline_of c call (Err (refusal.OverLimit l m)) prints h d = let e : ◌≡◌ {A = Status} Limit Done = (done_printed call _ prints d).0 in cc
 headline_of c call (Err (refusal.NoLevel l m)) prints h d = let e : ◌≡◌ {A = Status} Limit Done = (done_printed call _ prints d).0 in cc
 headline_of c call (Err (refusal.Line f n)) prints h d = let e : ◌≡◌ {A = Status} Lines Done = (done_printed call _ prints d).0 in cc
+headline_of c call (Err (refusal.NoHost f n)) prints h d = let e : ◌≡◌ {A = Status} Lines Done = (done_printed call _ prints d).0 in cc
+headline_of c call (Err (refusal.Unread f n)) prints h d = let e : ◌≡◌ {A = Status} Bundle Done = (done_printed call _ prints d).0 in cc
 headline_of c call (Err refusal.NoMemory) prints h d = let e : ◌≡◌ {A = Status} NoMemory Done = (done_printed call _ prints d).0 in cc
 headline_of c call (Err (refusal.NoFile f)) prints h d = let e : ◌≡◌ {A = Status} NoFile Done = (done_printed call _ prints d).0 in cc
 

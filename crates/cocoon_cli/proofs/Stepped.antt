@@ -10,8 +10,8 @@ use Rattle.cocoon_text.specs.declared.position.Position.{Position}
 use Rattle.runtime_defs.specs.Bound.{most_rows, row_count}
 use Rattle.runtime_defs.specs.Places.{Places}
 use Rattle.cocoon_cli.specs.declared.files.CommandFile.{CommandFile}
-use Rattle.cocoon_cli.specs.declared.files.CommandFile.TheVariants.{Design, Definitions, Bundle, Case}
-use Rattle.cocoon_cli.specs.declared.refusal.InputFault.TheVariants.{NoTree, Rule, NotYet}
+use Rattle.cocoon_cli.specs.declared.files.CommandFile.TheVariants.{Design, Definitions, Bundle, Case, Packets}
+use Rattle.cocoon_cli.specs.declared.refusal.InputFault.TheVariants.{NoTree, Rule}
 use Rattle.cocoon_cli.specs.declared.refusal.DefinitionsFault.{DefinitionsFault}
 use Rattle.cocoon_cli.specs.declared.refusal.DefinitionsFault.TheVariants as definitions
 use Rattle.cocoon_cli.specs.declared.refusal.Refusal.{Refusal}
@@ -24,36 +24,40 @@ use Rattle.cocoon_cli.specs.Leaves.{LeavesRefused}
 use Rattle.cocoon_cli.specs.LowerTexts.{Binds, BindsTables, NotBound, NotChecked, NotMatched, NotRead, ReadsChecked, told}
 use Rattle.cocoon_cli.specs.Reading.{HasFile, LacksFile, HasLongFile, FileNotRead, NamesReadFailure}
 use Rattle.cocoon_cli.specs.Run.{Count, HasFault, inputs_of, InputsAre, NamesFailure, Performs}
-use Rattle.cocoon_cli.specs.Stepping.{NoCase, NotCase, NotStepped, StepsTexts}
+use Rattle.cocoon_cli.specs.Stepping.{NotCase, NotStepped, StepsTexts}
 use Rattle.cocoon_cli.specs.Steps.{Inputs, Step, is_there, is_within, design_reads, design_well_formed, design_within, definitions_read, definitions_fit, definitions_within, level_there, lines_formed, design_most, definitions_most, case_most, steps, CaseIs, DesignIs, DefinitionsAre, AnswersFrom, Answers}
 
 -- ---- what is read
 
 -- of a folder whose content is not known, what it answered
-abbrev by_file : (x y z : Option (List ℕ)) → CommandFile → Option (List ℕ)
-by_file x y z Design = x
-by_file x y z Definitions = y
-by_file x y z (Bundle file) = None
-by_file x y z Case = z
+abbrev by_kind : (x y z : Option (List ℕ)) → CommandFile → Option (List ℕ)
+by_kind x y z Design = x
+by_kind x y z Definitions = y
+by_kind x y z (Bundle file) = None
+by_kind x y z Case = z
+by_kind x y z Packets = None
 
-abbrev pick : Command → Option Files → Inputs → Inputs
+abbrev by_file : (x y z : Option (List ℕ)) → Inputs
+by_file x y z = record { file = by_kind x y z; content = None }
+
+abbrev pub pick : Command → Option Files → Inputs → Inputs
 pick c None answered = answered
 pick c (Some files) answered = inputs_of c files
 
-picked : (c : Command) (content : Option Files) (a : Inputs) → InputsAre c content (pick c content a)
+pub picked : (c : Command) (content : Option Files) (a : Inputs) → InputsAre c content (pick c content a)
 picked c None a = tt
 picked c (Some files) a = refl
 
-there : (c : Command) (content : Option Files) (a : Inputs) (file : CommandFile) (most : ℕ) (bytes : List ℕ) → a file ≡ Some bytes → HasFile content (name_in c file) most bytes → pick c content a file ≡ Some bytes
+pub there : (c : Command) (content : Option Files) (a : Inputs) (file : CommandFile) (most : ℕ) (bytes : List ℕ) → a.file file ≡ Some bytes → HasFile content (name_in c file) most bytes → (pick c content a).file file ≡ Some bytes
 there c None a file most bytes e h = e
 there c (Some files) a file most bytes e h = h.0
 
-lacking : (c : Command) (content : Option Files) (a : Inputs) (file : CommandFile) → a file ≡ None → LacksFile content (name_in c file) → pick c content a file ≡ None
+lacking : (c : Command) (content : Option Files) (a : Inputs) (file : CommandFile) → a.file file ≡ None → LacksFile content (name_in c file) → (pick c content a).file file ≡ None
 lacking c None a file e h = e
 lacking c (Some files) a file e h = h
 
 -- bytes that are one more than so many
-abbrev more : ℕ → List ℕ
+abbrev pub more : ℕ → List ℕ
 more most = replicate (suc most) 0
 
 length_more : (n : ℕ) → length (replicate {A = ℕ} n 0) ≡ n
@@ -69,25 +73,25 @@ record Long (o : Option (List ℕ)) (most : ℕ) : Type 0 where
   are : o ≡ Some bytes
   long : most < length bytes
 
-is_long : (c : Command) (content : Option Files) (a : Inputs) (file : CommandFile) (most : ℕ) → a file ≡ Some (more most) → HasLongFile content (name_in c file) most → Long (pick c content a file) most
+is_long : (c : Command) (content : Option Files) (a : Inputs) (file : CommandFile) (most : ℕ) → a.file file ≡ Some (more most) → HasLongFile content (name_in c file) most → Long ((pick c content a).file file) most
 is_long c None a file most e h = record { bytes = more most; are = e; long = more_long most }
 is_long c (Some files) a file most e h = record { bytes = h.0; are = h.1; long = h.2 }
 
 -- a file that was read, with the steps that it is there and is within its limit
-read_good : (c : Command) (i : Inputs) (file : CommandFile) (most : ℕ) (bytes : List ℕ) (rest : List Step) (outcome : Result Report Refusal) → i file ≡ Some bytes → length bytes ≤ most
+pub read_good : (c : Command) (i : Inputs) (file : CommandFile) (most : ℕ) (bytes : List ℕ) (rest : List Step) (outcome : Result Report Refusal) → i.file file ≡ Some bytes → length bytes ≤ most
     → AnswersFrom c i rest outcome → AnswersFrom c i (is_there file ∷ is_within file most ∷ rest) outcome
 read_good c i file most bytes rest outcome e l h = inr ((bytes, e), inr ((bytes, e, l), h))
 
 -- of a file that was not read, what a folder whose content is not known may have answered
-abbrev shown : Refusal → ℕ → Option (List ℕ)
+abbrev pub shown : Refusal → ℕ → Option (List ℕ)
 shown (refusal.TooLong file n) most = Some (more most)
 shown r most = None
 
 -- out of memory, or what a command answers from these steps on
-abbrev Ends : Command → Inputs → List Step → Refusal → Type 0
+abbrev pub Ends : Command → Inputs → List Step → Refusal → Type 0
 Ends c i ss r = (r ≡ refusal.NoMemory) ⊎ AnswersFrom c i ss (Err r)
 
-unread : (c : Command) (content : Option Files) (a : Inputs) (file : CommandFile) (most : ℕ) (rest : List Step) (r : Refusal) → a file ≡ shown r most → FileNotRead content (name_in c file) file most r
+pub unread : (c : Command) (content : Option Files) (a : Inputs) (file : CommandFile) (most : ℕ) (rest : List Step) (r : Refusal) → a.file file ≡ shown r most → FileNotRead content (name_in c file) file most r
     → Ends c (pick c content a) (is_there file ∷ is_within file most ∷ rest) r
 unread c content a file most rest (refusal.NoFile f) e h = inr (inl (refusal.NoFile file, inl (lacking c content a file e h.1, refl), ap (λ f. Err (refusal.NoFile f)) h.0))
 unread c content a file most rest (refusal.TooLong f n) e h =
@@ -104,8 +108,8 @@ abbrev text_steps : List Step → List Step
 text_steps rest = design_reads ∷ design_well_formed ∷ design_within ∷ definitions_read ∷ definitions_fit ∷ definitions_within ∷ rest
 
 record Texts (i : Inputs) (x y : List ℕ) : Type 0 where
-  design : i Design ≡ Some x
-  defs : i Definitions ≡ Some y
+  design : i.file Design ≡ Some x
+  defs : i.file Definitions ≡ Some y
 
 abbrev is_design : (i : Inputs) (x y : List ℕ) (t : tree.Design) → Texts i x y → Reads x t → DesignIs i t
 is_design i x y t g h = record { text = x; is = g.design; reads = h }
@@ -180,7 +184,7 @@ not_matched c i x y rest r g (inr (inr h)) = not_bound c i x y rest r g h
 abbrev level_steps : ℕ → List Step
 level_steps level = level_there level ∷ lines_formed level ∷ []
 
-not_case : (c : Command) (i : Inputs) (level : ℕ) (t : tree.Design) (z : List ℕ) (r : Refusal) → DesignIs i t → i Case ≡ Some z → NotCase level t z r → Ends c i (level_steps level) r
+not_case : (c : Command) (i : Inputs) (level : ℕ) (t : tree.Design) (z : List ℕ) (r : Refusal) → DesignIs i t → i.file Case ≡ Some z → NotCase level t z r → Ends c i (level_steps level) r
 not_case c i level t z (refusal.NoLevel n last) is e h =
     inr (inl (_, inl (t, is, h.2, refl), ap₂ (λ (a b : ℕ). Err (refusal.NoLevel a b)) h.0 h.1))
 not_case c i level t z (refusal.Line f line) is e h =
@@ -221,10 +225,13 @@ leaves d e l f i before after (refusal.WriteFault Design) same = same
 leaves d e l f i before after (refusal.WriteFault Definitions) same = same
 leaves d e l f i before after (refusal.WriteFault (Bundle file)) same = same
 leaves d e l f i before after (refusal.WriteFault Case) same = same
+leaves d e l f i before after (refusal.WriteFault Packets) same = same
 leaves d e l f i before after (refusal.TooLong x n) same = same
 leaves d e l f i before after (refusal.OverLimit x n) same = same
 leaves d e l f i before after (refusal.NoLevel n m) same = same
 leaves d e l f i before after (refusal.Line x n) same = same
+leaves d e l f i before after (refusal.NoHost x n) same = same
+leaves d e l f i before after (refusal.Unread x n) same = same
 leaves d e l f i before after refusal.NoMemory same = same
 leaves d e l f i before after (refusal.NoFile x) same = same
 
@@ -241,7 +248,7 @@ ended d e l f before after a r same h = record {
     answers (inr k) = inr k
 
 -- after the steps on some files
-kept : (c : Command) (i : Inputs) (ss more : List Step) (r : Refusal) → (AnswersFrom c i ss (Err r) → AnswersFrom c i more (Err r)) → Ends c i ss r → Ends c i more r
+pub kept : (c : Command) (i : Inputs) (ss more : List Step) (r : Refusal) → (AnswersFrom c i ss (Err r) → AnswersFrom c i more (Err r)) → Ends c i ss r → Ends c i more r
 kept c i ss more r f (inl m) = inl m
 kept c i ss more r f (inr h) = inr (f h)
 
@@ -289,7 +296,7 @@ texts_of d e l f before x y z g =
     let a = by_file (Some x) (Some y) (Some z) in
     record { design = there c before a Design design_most x refl g.design; defs = there c before a Definitions definitions_most y refl g.defs }
 
-case_there : (d e : List ℕ) (l : ℕ) (f : List ℕ) (before : Option Files) (x y z : List ℕ) → HasThree before d e f x y z → three d e l f before x y z Case ≡ Some z
+case_there : (d e : List ℕ) (l : ℕ) (f : List ℕ) (before : Option Files) (x y z : List ℕ) → HasThree before d e f x y z → (three d e l f before x y z).file Case ≡ Some z
 case_there d e l f before x y z g = there (step d e l f) before (by_file (Some x) (Some y) (Some z)) Case case_most z refl g.case
 
 not_stepped : (d e : List ℕ) (l : ℕ) (f : List ℕ) (before : Option Files) (x y z : List ℕ) (r : Refusal) → HasThree before d e f x y z → NotStepped l x y z r

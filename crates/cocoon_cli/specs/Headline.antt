@@ -15,7 +15,7 @@ use Rattle.p4_ir.specs.NetTree.{NetData}
 use Rattle.net_bundle.specs.BundleNames.{digest_of}
 use Rattle.net_bundle.specs.Network.{Network, InBundle}
 use Rattle.lowered.specs.Delivers.{DeliversExactly, DeliversWithin}
-use Rattle.command_line.specs.Command.{Command, compile, step}
+use Rattle.command_line.specs.Command.{Command, compile, step, forward}
 use Rattle.command_line.specs.Words.{command}
 
 -- what the files hold `after` a `compile` of the design and the definitions that stood in the files
@@ -50,6 +50,7 @@ CompiledOf (Some (compile design defs out)) (Some before) None = ⊥
 CompiledOf (Some (compile design defs out)) (Some before) (Some after) =
     Compiled before after design defs out
 CompiledOf (Some (step design defs level file)) before after = Unit {0}
+CompiledOf (Some (forward out packets hops)) before after = Unit {0}
 
 -- The words are a command, and where they are a `compile` and the folder's content is known the files
 -- are those of its design and definitions.

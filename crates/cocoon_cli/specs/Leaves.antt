@@ -8,7 +8,7 @@ use Rattle.cocoon_cli.specs.declared.files.CommandFile.TheVariants.{Bundle}
 use Rattle.cocoon_cli.specs.declared.refusal.Refusal.{Refusal}
 use Rattle.cocoon_cli.specs.declared.refusal.Refusal.TheVariants.{WriteFault, NoMemory}
 use Rattle.cocoon_cli.specs.declared.report.Report.{Report}
-use Rattle.command_line.specs.Command.{Command, compile, step}
+use Rattle.command_line.specs.Command.{Command, compile, step, forward}
 use Rattle.cocoon_cli.specs.Steps.{Inputs, MakesFiles, AllGood, steps}
 
 -- all steps are good, and these are the files of the bundle
@@ -23,6 +23,7 @@ LeavesBundle (compile design defs out) inputs before after =
     (files : List MadeFile) × MayWriteFiles (compile design defs out) inputs files
     × (after ≡ with_files out files before)
 LeavesBundle (step design defs level file) inputs before after = after ≡ before
+LeavesBundle (forward out packets hops) inputs before after = after ≡ before
 
 -- the folder is as it was, or the first files of the bundle's order are new
 abbrev pub LeavesSome : Command → Inputs → (before after : Option Files) → Type 0
@@ -31,6 +32,7 @@ LeavesSome (compile design defs out) inputs before after =
     ⊎ ((files : List MadeFile) × MayWriteFiles (compile design defs out) inputs files
     × SomeWritten out files before after)
 LeavesSome (step design defs level file) inputs before after = after ≡ before
+LeavesSome (forward out packets hops) inputs before after = after ≡ before
 
 -- where there is a refusal; a write fault is about a file of the bundle at which the writes stopped
 abbrev pub LeavesRefused : Command → Inputs → (before after : Option Files) → Refusal → Type 0

@@ -7,3 +7,4 @@ pub mod Reading
 pub mod Leaves
 pub mod Headline
 pub mod Run
+pub mod Forwarding

@@ -13,7 +13,15 @@ use Rattle.cocoon_text.specs.TextFaults.{kind_name}
 use Rattle.cocoon_types.specs.Limits.{most}
 use Rattle.lower_p4.specs.LowerLimits.{most_hosts, most_members, most_sites, most_switches, most_tables}
 use Rattle.runtime_defs.specs.Bound.{most_rows}
-use Rattle.cocoon_cli.specs.declared.files.CommandFile.TheVariants.{Design, Definitions}
+use Rattle.net_run.specs.RunCounts.{most_runs}
+use Rattle.packet_file.specs.Packets.{most_bytes}
+use Rattle.p4_read.specs.declared.fault.P4Fault.{P4Fault}
+use Rattle.p4_read.specs.declared.fault.P4Fault.TheVariants as p4
+use Rattle.p4_run.specs.declared.faults.LoadFault.{LoadFault}
+use Rattle.p4_run.specs.declared.faults.LoadFault.TheVariants as load
+use Rattle.cocoon_cli.specs.declared.refusal.BundleCause.{BundleCause}
+use Rattle.cocoon_cli.specs.declared.refusal.BundleCause.TheVariants as cause
+use Rattle.cocoon_cli.specs.declared.files.CommandFile.TheVariants.{Design, Definitions, Bundle}
 use Rattle.cocoon_cli.specs.declared.status.Status.{Status}
 use Rattle.cocoon_cli.specs.declared.status.Status.TheVariants as status
 use Rattle.cocoon_cli.specs.declared.refusal.InputFault.{InputFault}
@@ -26,7 +34,7 @@ use Rattle.cocoon_cli.specs.declared.refusal.Refusal.{Refusal}
 use Rattle.cocoon_cli.specs.declared.refusal.Refusal.TheVariants as refusal
 use Rattle.cocoon_cli.specs.declared.report.Totals.{Totals}
 use Rattle.cocoon_cli.specs.declared.report.Report.{Report}
-use Rattle.cocoon_cli.specs.declared.report.Report.TheVariants.{Compiled, Stepped}
+use Rattle.cocoon_cli.specs.declared.report.Report.TheVariants.{Compiled, Stepped, Forwarded}
 use Rattle.case_runs.specs.declared.sent.Sent.{Sent}
 use Rattle.command_line.specs.Command.{Command}
 use Rattle.cocoon_cli.specs.FileNames.{name_in}
@@ -97,6 +105,8 @@ refusal_status (refusal.TooLong file most) = status.Limit
 refusal_status (refusal.OverLimit limit count) = status.Limit
 refusal_status (refusal.NoLevel level last) = status.Limit
 refusal_status (refusal.Line file number) = status.Lines
+refusal_status (refusal.NoHost file number) = status.Lines
+refusal_status (refusal.Unread file cause) = status.Bundle
 refusal_status refusal.NoMemory = status.NoMemory
 refusal_status (refusal.NoFile file) = status.NoFile
 
@@ -120,6 +130,8 @@ most_allowed limit.Hosts = most_hosts
 most_allowed limit.Tables = most_tables
 most_allowed limit.Sites = most_sites
 most_allowed limit.Members = most_members
+most_allowed limit.Copies = most_runs
+most_allowed limit.Packet = most_bytes
 most_allowed name = most name
 
 -- that of a design or definitions that are over a limit
@@ -138,6 +150,50 @@ abbrev pub form_line : (file : List ℕ) → (number : ℕ) → List ℕ
 form_line file number =
     codes "line " ++ (file ++ (codes " " ++ (decimal number ++ codes " Form\n")))
 
+-- that of a file of which this line names a host that is not there
+abbrev pub host_line : (file : List ℕ) → (number : ℕ) → List ℕ
+host_line file number =
+    codes "line " ++ (file ++ (codes " " ++ (decimal number ++ codes " NoSuchHost\n")))
+
+-- KIND AT
+abbrev pub p4_text : P4Fault → List ℕ
+p4_text (p4.Lex at) = codes "Lex " ++ decimal at
+p4_text (p4.Unexpected at) = codes "Unexpected " ++ decimal at
+p4_text (p4.TooDeep at) = codes "TooDeep " ++ decimal at
+p4_text (p4.Kind at) = codes "Kind " ++ decimal at
+p4_text p4.NoMemory = codes "NoMemory"
+
+-- KIND NUMBERS
+abbrev pub load_text : LoadFault → List ℕ
+load_text (load.MissingTable table) = codes "MissingTable " ++ decimal table
+load_text (load.UnknownTable table) = codes "UnknownTable " ++ decimal table
+load_text (load.RowShape table row) =
+    codes "RowShape " ++ (decimal table ++ (codes " " ++ decimal row))
+load_text (load.GroupShape index) = codes "GroupShape " ++ decimal index
+load_text load.NoMemory = codes "NoMemory"
+
+-- the pointer of a member; `-` where there is none
+abbrev pub pointer_text : List ℕ → List ℕ
+pointer_text [] = codes "-"
+pointer_text (byte ∷ bytes) = byte ∷ bytes
+
+-- a digest that was found, and the one that is kept
+abbrev pub stale_text : (found kept : List ℕ) → List ℕ
+stale_text found kept = codes "stale " ++ (found ++ (codes " " ++ kept))
+
+-- what is wrong with a file of a bundle
+abbrev pub cause_text : BundleCause → List ℕ
+cause_text cause.Missing = codes "missing"
+cause_text (cause.Stale found kept) = stale_text found kept
+cause_text cause.NotJson = codes "notjson"
+cause_text (cause.P4 fault) = codes "p4 " ++ p4_text fault
+cause_text (cause.Shape pointer) = codes "shape " ++ pointer_text pointer
+cause_text (cause.Load fault) = codes "load " ++ load_text fault
+
+-- bundle FILE CAUSE
+abbrev pub bundle_line : (file : List ℕ) → BundleCause → List ℕ
+bundle_line file c = codes "bundle " ++ (file ++ (codes " " ++ (cause_text c ++ codes "\n")))
+
 abbrev pub refusal_line : Command → Refusal → List ℕ
 refusal_line c (refusal.Language fault) = language_line (name_in c Design) fault
 refusal_line c (refusal.Definitions fault) = definitions_line (name_in c Definitions) fault
@@ -147,6 +203,8 @@ refusal_line c (refusal.TooLong file most) = limit_line (name_in c file) most
 refusal_line c (refusal.OverLimit limit count) = over_line limit count
 refusal_line c (refusal.NoLevel level last) = level_line level last
 refusal_line c (refusal.Line file number) = form_line (name_in c file) number
+refusal_line c (refusal.NoHost file number) = host_line (name_in c file) number
+refusal_line c (refusal.Unread file cause) = bundle_line (name_in c (Bundle file)) cause
 refusal_line c refusal.NoMemory = no_memory_line
 refusal_line c (refusal.NoFile file) = line_with (codes "no file ") (name_in c file)
 
@@ -175,6 +233,7 @@ abbrev pub report_line : Report → List ℕ
 report_line (Compiled totals) = totals_line totals
 report_line (Stepped None) = codes "nothing\n"
 report_line (Stepped (Some sent)) = sent_line sent
+report_line (Forwarded text) = text
 
 -- the second has the bytes of the first, where both were made; it is made only of one that was
 abbrev pub HasBytes : Result (String Global) NoMemory → Result (Vec ℕ Global) NoMemory → Type 0

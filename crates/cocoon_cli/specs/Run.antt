@@ -10,7 +10,7 @@ use Rattle.cocoon_cli.specs.declared.refusal.Refusal.TheVariants as refusal
 use Rattle.cocoon_cli.specs.declared.report.Report.{Report}
 use Rattle.cocoon_cli.specs.declared.status.Status.{Status}
 use Rattle.cocoon_cli.specs.declared.status.Status.TheVariants.{Done, Refuted, Usage, Language, Broken, HopBound, Budget, Bundle, ReadFault, WriteFault, Limit, Lines, NoMemory, NoFile}
-use Rattle.command_line.specs.Command.{Command}
+use Rattle.command_line.specs.Command.{Command, compile, step, forward}
 use Rattle.command_line.specs.Words.{command}
 use Rattle.cocoon_cli.specs.FileNames.{name_in}
 use Rattle.cocoon_cli.specs.Leaves.{Leaves, LeavesBundle, LeavesSome}
@@ -66,7 +66,7 @@ pub record Call : Type 0 where
 
 -- what the files have under the names of a command's files
 abbrev pub inputs_of : Command → Files → Inputs
-inputs_of c files = λ file. get files (name_in c file)
+inputs_of c files = record { file = λ file. get files (name_in c file); content = Some files }
 
 -- this is read of the files; of a folder whose content is not known it may be anything
 abbrev pub InputsAre : Command → Option Files → Inputs → Type 0
@@ -128,12 +128,24 @@ pub data Yields (call : Call) : Type 0 where
   to_write_fault : call.status ≡ WriteFault → Counted call.writes ⊎ Counted call.puts → Yields call
   to_no_memory : call.status ≡ NoMemory → Yields call
 
--- the outcome of a command over known files, which has one at most
+-- A command has no other outcome. Of `forward` it is said where the content of the folder is known.
+abbrev pub IsOnly : Command → Inputs → Result Report Refusal → Type 0
+IsOnly (compile design defs out) inputs outcome =
+    (other : Result Report Refusal) → HasOutcome (compile design defs out) inputs other
+    → other ≡ outcome
+IsOnly (step design defs level file) inputs outcome =
+    (other : Result Report Refusal) → HasOutcome (step design defs level file) inputs other
+    → other ≡ outcome
+IsOnly (forward out packets hops) inputs outcome =
+    (files : Files) → inputs.content ≡ Some files
+    → (other : Result Report Refusal) → HasOutcome (forward out packets hops) inputs other
+    → other ≡ outcome
+
+-- the outcome of a command over known files
 pub record TheOutcome (c : Command) (files : Files) : Type 0 where
   pub outcome : Result Report Refusal
   pub holds : HasOutcome c (inputs_of c files) outcome
-  pub one : (other : Result Report Refusal)
-      → HasOutcome c (inputs_of c files) other → other ≡ outcome
+  pub one : IsOnly c (inputs_of c files) outcome
 
 abbrev pub OutcomeOf : Option Command → Option Files → Call → Type 0
 OutcomeOf None content call = EndsWith call usage ⊎ Yields call

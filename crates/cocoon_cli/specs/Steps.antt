@@ -2,11 +2,11 @@
 -- first of its steps that refuses, or else its report. A step looks at what is read of the
 -- command's files; each is a case of its own, and a new rule, limit or command adds cases. It
 -- follows "Statuses" in docs/FORMATS.md.
-use Rattle.std.specs.Prelude.{◌≡◌, ◌⊎◌, ◌≤◌, ◌<◌, ℕ, List, [], ◌∷◌, length, Option, Some, None, Result, Ok, Err}
+use Rattle.std.specs.Prelude.{◌≡◌, ◌⊎◌, ◌≤◌, ◌<◌, ℕ, suc, List, [], ◌∷◌, length, Option, Some, None, Result, Ok, Err}
 use Rattle.cocoon_num.specs.Lists.{first_of}
 use Rattle.cocoon_num.specs.Tree as tree
 use Rattle.cocoon_num.specs.declared.limit_name.LimitName.{LimitName}
-use Rattle.cocoon_num.specs.declared.limit_name.LimitName.TheVariants.{Rows}
+use Rattle.cocoon_num.specs.declared.limit_name.LimitName.TheVariants.{Rows, Packet as PacketLimit, Copies}
 use Rattle.cocoon_num.specs.Reads.{Reads, ReadsDefs}
 use Rattle.cocoon_num.specs.FirstFaults.{BeginsDesign, BeginsDefs}
 use Rattle.cocoon_text.specs.Positions.{token_position}
@@ -19,7 +19,17 @@ use Rattle.cocoon_types.specs.RuleNames.{fault_at}
 use Rattle.cocoon_types.specs.Rules.{WellFormed}
 use Rattle.cocoon_types.specs.declared.fault.TypeRule.{TypeRule}
 use Rattle.design_limits.specs.First.{IsFirstOver}
+use Rattle.cocoon_io.specs.Files.{Files}
 use Rattle.p4_ir.specs.NetTree.{NetData}
+use Rattle.p4_ir.specs.Wiring.{host_numbers}
+use Rattle.bundle_reader.specs.Readings.{ContentFault, ContentReads}
+use Rattle.bundle_reader.specs.declared.fault.ReadFault.{ReadFault}
+use Rattle.net_run.specs.RunCounts.{most_runs}
+use Rattle.packet_file.specs.Packets.{Packet, packets_in}
+use Rattle.packet_file.specs.declared.packet.PacketFault.{PacketFault}
+use Rattle.packet_file.specs.declared.packet.PacketFault.TheVariants as packets
+use Rattle.packet_runs.specs.Reports.{report_of}
+use Rattle.packet_runs.specs.Stopping.{AllWithin, SomeOver}
 use Rattle.net_bundle.specs.Bundle.{MadeFile, bundle}
 use Rattle.net_bundle.specs.Writing.{AllFit, FirstOver, most_of}
 use Rattle.net_bundle.specs.declared.file.BundleFile.{BundleFile}
@@ -27,25 +37,28 @@ use Rattle.runtime_defs.specs.Bound.{most_rows, row_count}
 use Rattle.lower_p4.specs.Accepts.{Accepts, Lowers}
 use Rattle.lower_p4.specs.LowerLimits.{IsOver, IsWithin}
 use Rattle.cocoon_cli.specs.declared.files.CommandFile.{CommandFile}
-use Rattle.cocoon_cli.specs.declared.files.CommandFile.TheVariants.{Design, Definitions, Bundle, Case}
+use Rattle.cocoon_cli.specs.declared.files.CommandFile.TheVariants.{Design, Definitions, Bundle, Case, Packets}
 use Rattle.cocoon_cli.specs.declared.refusal.InputFault.TheVariants.{NoTree, Rule, NotYet}
 use Rattle.cocoon_cli.specs.declared.refusal.DefinitionsFault.TheVariants as definitions
 use Rattle.cocoon_cli.specs.declared.refusal.Refusal.{Refusal}
 use Rattle.cocoon_cli.specs.declared.refusal.Refusal.TheVariants as refusal
 use Rattle.cocoon_cli.specs.declared.report.Totals.{Totals}
 use Rattle.cocoon_cli.specs.declared.report.Report.{Report}
-use Rattle.cocoon_cli.specs.declared.report.Report.TheVariants.{Compiled, Stepped}
+use Rattle.cocoon_cli.specs.declared.report.Report.TheVariants.{Compiled, Stepped, Forwarded}
 use Rattle.case_file.specs.Cases as cases
 use Rattle.case_file.specs.Cases.{case_of}
 use Rattle.cocoon_types.specs.Design.{last_level}
 use Rattle.cocoon_types.specs.Tables.{defs_of}
-use Rattle.command_line.specs.Command.{Command, compile, step}
+use Rattle.command_line.specs.Command.{Command, compile, step, forward}
 use Rattle.cocoon_cli.specs.LowerTexts.{told}
+use Rattle.cocoon_cli.specs.Reading.{IsOfFiles, unread_as}
 use Rattle.case_runs.specs.Stepping.{Steps}
 
--- what is read of each file of a command; nothing where it is not there
-abbrev pub Inputs : Type 0
-Inputs = CommandFile → Option (List ℕ)
+-- What is read of each file of a command, nothing where it is not there; and the content in which the files of a bundle
+-- that is read stand, where it is known.
+pub record Inputs : Type 0 where
+  pub file : CommandFile → Option (List ℕ)
+  pub content : Option Files
 
 pub data Step : Type 0 where
   -- the file is there
@@ -62,6 +75,12 @@ pub data Step : Type 0 where
   level_there : (level : ℕ) → Step
   -- the lines of the case are of their forms, at this level
   lines_formed : (level : ℕ) → Step
+  -- the files of the bundle OUT give a network
+  bundle_reads : (out : List ℕ) → Step
+  -- each line of the packets file is of its form, has no more bytes than it may, and a host of the network
+  packets_judged : (out : List ℕ) → Step
+  -- the copies of each packet make no more runs than they may, within so many visits
+  copies_within : (out : List ℕ) (hops : ℕ) → Step
   -- each file of the bundle has at most the bytes that it may have
   bundle_within : Step
   -- the files of the bundle are written
@@ -75,6 +94,9 @@ definitions_most = 4194304
 
 abbrev pub case_most : ℕ
 case_most = 65536
+
+abbrev pub packets_most : ℕ
+packets_most = 16777216
 
 -- the steps of a command, in their order
 abbrev pub steps : Command → List Step
@@ -92,27 +114,40 @@ steps (step design defs level file) =
     ∷ design_reads ∷ design_well_formed ∷ design_within
     ∷ definitions_read ∷ definitions_fit ∷ definitions_within
     ∷ level_there level ∷ lines_formed level ∷ []
+steps (forward out packets hops) =
+    is_there Packets ∷ is_within Packets packets_most
+    ∷ bundle_reads out ∷ packets_judged out ∷ copies_within out hops ∷ []
 
 -- ---- what the files say
 
 -- the design reads as this tree
 pub record DesignIs (inputs : Inputs) (design : tree.Design) : Type 0 where
   pub text : List ℕ
-  pub is : inputs Design ≡ Some text
+  pub is : inputs.file Design ≡ Some text
   pub reads : Reads text design
 
 -- the definitions read as this one
 pub record DefinitionsAre (inputs : Inputs) (defs : tree.DefsText) : Type 0 where
   pub text : List ℕ
-  pub are : inputs Definitions ≡ Some text
+  pub are : inputs.file Definitions ≡ Some text
   pub read : ReadsDefs text defs
 
 -- the lines of the case say this of a design, at a level
 pub record CaseIs (inputs : Inputs) (design : tree.Design) (level : ℕ) (case : cases.Case)
     : Type 0 where
   pub text : List ℕ
-  pub is : inputs Case ≡ Some text
+  pub is : inputs.file Case ≡ Some text
   pub says : case_of level design text ≡ Ok case
+
+-- the files of a bundle give this network
+abbrev pub BundleIs : Inputs → (out : List ℕ) → NetData → Type 0
+BundleIs inputs out net = ContentReads inputs.content out net
+
+-- the packets file says this, for the hosts of a network
+pub record PacketsAre (inputs : Inputs) (net : NetData) (packets : List Packet) : Type 0 where
+  pub text : List ℕ
+  pub are : inputs.file Packets ≡ Some text
+  pub say : packets_in (host_numbers net.hosts) text ≡ Ok packets
 
 -- the network that the compiler makes of both
 pub record Makes (inputs : Inputs) (net : NetData) : Type 0 where
@@ -132,9 +167,9 @@ pub record MakesFiles (inputs : Inputs) (files : List MadeFile) : Type 0 where
 
 -- there is nothing to refuse
 abbrev pub IsGood : Inputs → Step → Type 0
-IsGood inputs (is_there file) = (bytes : List ℕ) × (inputs file ≡ Some bytes)
+IsGood inputs (is_there file) = (bytes : List ℕ) × (inputs.file file ≡ Some bytes)
 IsGood inputs (is_within file most) =
-    (bytes : List ℕ) × (inputs file ≡ Some bytes) × (length bytes ≤ most)
+    (bytes : List ℕ) × (inputs.file file ≡ Some bytes) × (length bytes ≤ most)
 IsGood inputs design_reads = (design : tree.Design) × DesignIs inputs design
 IsGood inputs design_well_formed =
     (design : tree.Design) × DesignIs inputs design × WellFormed design
@@ -153,17 +188,31 @@ IsGood inputs (level_there level) =
 IsGood inputs (lines_formed level) =
     (design : tree.Design) × (case : cases.Case) × DesignIs inputs design
     × CaseIs inputs design level case
+IsGood inputs (bundle_reads out) = (net : NetData) × BundleIs inputs out net
+IsGood inputs (packets_judged out) =
+    (net : NetData) × (packets : List Packet) × BundleIs inputs out net
+    × PacketsAre inputs net packets
+IsGood inputs (copies_within out hops) =
+    (net : NetData) × (packets : List Packet) × BundleIs inputs out net
+    × PacketsAre inputs net packets × AllWithin net hops packets
 IsGood inputs bundle_within = (files : List MadeFile) × MakesFiles inputs files × AllFit files
 IsGood inputs bundle_written = Unit {0}
 
+-- what is refused of packets that are not all well
+abbrev pub packets_refusal : PacketFault → Option Refusal
+packets_refusal (packets.Form line) = Some (refusal.Line Packets line)
+packets_refusal (packets.TooLong count) = Some (refusal.OverLimit PacketLimit count)
+packets_refusal (packets.NoSuchHost line) = Some (refusal.NoHost Packets line)
+packets_refusal packets.NoMemory = None
+
 -- the step refuses, with this
 abbrev pub Refuses : Inputs → Step → Refusal → Type 0
-Refuses inputs (is_there file) r = (inputs file ≡ None) × (r ≡ refusal.NoFile file)
+Refuses inputs (is_there file) r = (inputs.file file ≡ None) × (r ≡ refusal.NoFile file)
 Refuses inputs (is_within file most) r =
-    (bytes : List ℕ) × (inputs file ≡ Some bytes) × (most < length bytes)
+    (bytes : List ℕ) × (inputs.file file ≡ Some bytes) × (most < length bytes)
     × (r ≡ refusal.TooLong file most)
 Refuses inputs design_reads r =
-    (text : List ℕ) × (fault : TextFault) × (inputs Design ≡ Some text)
+    (text : List ℕ) × (fault : TextFault) × (inputs.file Design ≡ Some text)
     × FirstFault BeginsDesign text fault × (r ≡ refusal.Language (NoTree fault))
 Refuses inputs design_well_formed r =
     (design : tree.Design) × (rule : TypeRule) × (token : ℕ) × (given : DesignIs inputs design)
@@ -173,7 +222,7 @@ Refuses inputs design_within r =
     (design : tree.Design) × (limit : LimitName) × (count : ℕ) × DesignIs inputs design
     × IsFirstOver design (Some (limit, count)) × (r ≡ refusal.OverLimit limit count)
 Refuses inputs definitions_read r =
-    (text : List ℕ) × (fault : TextFault) × (inputs Definitions ≡ Some text)
+    (text : List ℕ) × (fault : TextFault) × (inputs.file Definitions ≡ Some text)
     × FirstFault BeginsDefs text fault × (r ≡ refusal.Definitions (definitions.NoTree fault))
 Refuses inputs definitions_fit r =
     (design : tree.Design) × (defs : tree.DefsText) × (fault : DefsFault)
@@ -195,8 +244,19 @@ Refuses inputs (level_there level) r =
     × (r ≡ refusal.NoLevel level (last_level design))
 Refuses inputs (lines_formed level) r =
     (design : tree.Design) × (text : List ℕ) × (line : ℕ) × DesignIs inputs design
-    × (inputs Case ≡ Some text) × (case_of level design text ≡ Err line)
+    × (inputs.file Case ≡ Some text) × (case_of level design text ≡ Err line)
     × (r ≡ refusal.Line Case line)
+Refuses inputs (bundle_reads out) r =
+    (fault : ReadFault) × ContentFault inputs.content out fault × (r ≡ unread_as fault)
+    × IsOfFiles r
+Refuses inputs (packets_judged out) r =
+    (net : NetData) × (text : List ℕ) × (fault : PacketFault) × BundleIs inputs out net
+    × (inputs.file Packets ≡ Some text) × (packets_in (host_numbers net.hosts) text ≡ Err fault)
+    × (packets_refusal fault ≡ Some r)
+Refuses inputs (copies_within out hops) r =
+    (net : NetData) × (packets : List Packet) × BundleIs inputs out net
+    × PacketsAre inputs net packets × SomeOver net hops packets
+    × (r ≡ refusal.OverLimit Copies (suc most_runs))
 Refuses inputs bundle_within r =
     (files : List MadeFile) × (file : BundleFile) × MakesFiles inputs files × FirstOver files file
     × (r ≡ refusal.TooLong (Bundle file) (most_of file))
@@ -224,10 +284,17 @@ abbrev pub Reports : Command → Inputs → Report → Type 0
 Reports (compile design defs out) inputs (Compiled totals) =
     (net : NetData) × Makes inputs net × (totals ≡ totals_of net)
 Reports (compile design defs out) inputs (Stepped sent) = ⊥
+Reports (compile design defs out) inputs (Forwarded text) = ⊥
 Reports (step design defs level file) inputs (Stepped sent) =
     (d : tree.Design) × (entries : tree.DefsText) × (case : cases.Case)
     × StepIs inputs level d entries case × Steps level d (defs_of d entries) case sent
 Reports (step design defs level file) inputs (Compiled totals) = ⊥
+Reports (step design defs level file) inputs (Forwarded text) = ⊥
+Reports (forward out file hops) inputs (Forwarded text) =
+    (net : NetData) × (packets : List Packet) × BundleIs inputs out net
+    × PacketsAre inputs net packets × (text ≡ report_of net hops packets)
+Reports (forward out file hops) inputs (Compiled totals) = ⊥
+Reports (forward out file hops) inputs (Stepped sent) = ⊥
 
 abbrev pub AllGood : Inputs → List Step → Type 0
 AllGood inputs [] = Unit {0}
@@ -250,6 +317,7 @@ HasOutcome c inputs outcome = HasOutcomeFrom c inputs (steps c) outcome
 -- a fault of the folder stops this step
 abbrev pub Stops : Inputs → Step → Refusal → Type 0
 Stops inputs (is_there file) r = r ≡ refusal.ReadFault file
+Stops inputs (bundle_reads out) r = (file : BundleFile) × (r ≡ refusal.ReadFault (Bundle file))
 Stops inputs bundle_written r = (file : BundleFile) × (r ≡ refusal.WriteFault (Bundle file))
 Stops inputs s r = ⊥
 

@@ -8,6 +8,7 @@ ghost use Rattle.command_line.specs.Stands.{stands_for};
 ghost use Rattle.cocoon_io.specs.Calls.{Rose};
 
 use crate::compile::compile;
+use crate::forward::forward;
 use crate::laws::one_outcome;
 use crate::refusal::Refusal;
 use crate::report::{Report, status, whole_report};
@@ -78,6 +79,7 @@ fn perform<F: Folder>(
     match command {
         Command::Compile(names) => compile(alloc, names, folder),
         Command::Step(asked) => step(alloc, asked, folder),
+        Command::Forward(asked) => forward(alloc, asked, folder),
     }
 }
 

@@ -5,7 +5,7 @@ ghost use Rattle.command_line.specs.Stands.{stands_for};
 ghost use Rattle.cocoon_cli.specs.FileNames.{name_in};
 
 use cocoon_num::NoMemory;
-use command_line::{Command, Compile, Step};
+use command_line::{Command, Compile, Forward, Step};
 use net_bundle::BundleFile;
 use std::alloc::Global;
 
@@ -18,6 +18,8 @@ pub enum CommandFile {
     Bundle(BundleFile),
     /// The case of a step.
     Case,
+    /// The packets that are forwarded.
+    Packets,
 }
 
 impl CommandFile {
@@ -28,6 +30,7 @@ impl CommandFile {
         match command {
             Command::Compile(names) => self.compile_name(alloc, names),
             Command::Step(asked) => self.step_name(alloc, asked),
+            Command::Forward(asked) => self.forward_name(alloc, asked),
         }
     }
 
@@ -39,7 +42,7 @@ impl CommandFile {
             CommandFile::Design => Ok(String::from_str(alloc, names.design)?),
             CommandFile::Definitions => Ok(String::from_str(alloc, names.defs)?),
             CommandFile::Bundle(file) => file.whole_name(alloc, names.out),
-            CommandFile::Case => Ok(String::new(alloc)),
+            CommandFile::Case | CommandFile::Packets => Ok(String::new(alloc)),
         }
     }
 
@@ -51,8 +54,19 @@ impl CommandFile {
         match self {
             CommandFile::Design => Ok(String::from_str(alloc, asked.design)?),
             CommandFile::Definitions => Ok(String::from_str(alloc, asked.defs)?),
-            CommandFile::Bundle(_) => Ok(String::new(alloc)),
+            CommandFile::Bundle(_) | CommandFile::Packets => Ok(String::new(alloc)),
             CommandFile::Case => Ok(String::from_str(alloc, asked.file)?),
+        }
+    }
+
+    fn forward_name(self, alloc: Global, asked: &Forward<'_>) -> Result<String, NoMemory>
+        ensures { IfOk result (λ name. string_bytes name ≡ name_in
+            (spec.forward asked.now.out.now asked.now.packets.now asked.now.hops) self) }
+    {
+        match self {
+            CommandFile::Bundle(file) => file.whole_name(alloc, asked.out),
+            CommandFile::Packets => Ok(String::from_str(alloc, asked.packets)?),
+            _ => Ok(String::new(alloc)),
         }
     }
 }

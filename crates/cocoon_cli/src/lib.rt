@@ -6,6 +6,7 @@
 pub mod compile;
 pub mod driver;
 pub mod files;
+pub mod forward;
 pub mod laws;
 pub mod lower_texts;
 pub mod reading;

@@ -1,10 +1,12 @@
 //! The files that a command reads, each within its limit.
 ghost use Rattle.std.specs.Prelude.{◌≡◌, ◌≤◌, ◌<◌, IfErr, IfOk, length};
-ghost use Rattle.cocoon_cli.specs.Reading.{FileNotRead, HasFile, NamesReadFailure, ReadFaultRose};
+ghost use Rattle.cocoon_cli.specs.Reading.{FileNotRead, HasFile, IsRead, IsUnread, NamesBundleFailure, NamesReadFailure, ReadFaultRose};
 
 use crate::files::CommandFile;
-use crate::refusal::Refusal;
+use crate::refusal::{Refusal, unread};
+use bundle_reader::read_bundle;
 use cocoon_io::{Folder, FolderFault};
+use loaded_net::Net;
 use std::alloc::Global;
 
 /// The numbers of bytes that a design, definitions and a case may have.
@@ -13,6 +15,9 @@ pub const DESIGN_MOST: u64 = 1_048_576;
 pub const DEFINITIONS_MOST: u64 = 4_194_304;
 
 pub const CASE_MOST: u64 = 65_536;
+
+/// The number of bytes that a file of packets may have.
+pub const PACKETS_MOST: u64 = 16_777_216;
 
 /// The bytes of a file that was read, if they are not too many. A folder whose content is not known
 /// may give more than it was asked for.
@@ -52,5 +57,22 @@ pub fn read_file<F: Folder>(
         Err(FolderFault::Failed) => Err(Refusal::ReadFault(file)),
         Err(FolderFault::TooLong(_)) => Err(Refusal::TooLong(file, most)),
         Err(FolderFault::NoMemory) => Err(Refusal::NoMemory),
+    }
+}
+
+/// The network of the bundle `out`.
+pub fn read_network<F: Folder>(alloc: Global, folder: &mut F, out: &str) -> Result<Net, Refusal>
+    ensures ok { IfOk result (IsRead (F.content folder.old) out.now) }
+    ensures err { IfErr result (IsUnread (F.content folder.old) out.now) }
+    ensures failed { IfErr result (ReadFaultRose F.last_read_fault
+        (F.read_faults folder.old) (F.read_faults folder.new)) }
+    ensures named { IfErr result (NamesBundleFailure (F.last_failure folder.new) out.now) }
+    ensures same { F.content folder.new ≡ F.content folder.old }
+    ensures reads { F.read_faults folder.old ≤ F.read_faults folder.new }
+    ensures writes { F.write_faults folder.new ≡ F.write_faults folder.old }
+{
+    match read_bundle(alloc, folder, out) {
+        Ok(net) => Ok(net),
+        Err(fault) => Err(unread(fault)),
     }
 }

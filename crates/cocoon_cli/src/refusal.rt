@@ -1,14 +1,20 @@
 //! Why a command stopped.
 ghost use Rattle.std.specs.Prelude.{◌≡◌};
+ghost use Rattle.bundle_reader.specs.declared.fault.ReadFault.TheVariants.{Folder};
+ghost use Rattle.cocoon_cli.specs.Reading.{unread_as};
 ghost use Rattle.cocoon_cli.specs.Report.{column_number, entry_rule_name, fault_name, line_number, refusal_status};
 
 use crate::files::CommandFile;
 use crate::status::Status;
+use bundle_reader::ReadFault;
+use cocoon_io::FolderFault;
 use cocoon_num::{LimitName, NoMemory, Text};
 use cocoon_resolve::rule_name;
 use cocoon_text::{Position, TextFault};
 use cocoon_types::TypeRule;
-use net_bundle::BundleFault;
+use net_bundle::{BundleFault, BundleFile};
+use p4_read::P4Fault;
+use p4_run::LoadFault;
 use std::alloc::AllocError;
 
 /// What is wrong with a design.
@@ -99,6 +105,19 @@ pub enum DefinitionsFault {
     NoDefault(Text),
 }
 
+/// What is wrong with a file of a bundle that is read. A fault that is held here is never its own `NoMemory`.
+#[derive(Drop)]
+pub enum BundleCause {
+    Missing,
+    /// The digest of its bytes, and the one that is kept of it in the file of the network.
+    Stale(Text, Text),
+    NotJson,
+    P4(P4Fault),
+    /// The pointer of the member that is not of its form, or no text.
+    Shape(Text),
+    Load(LoadFault),
+}
+
 /// Why a command stopped, with the file that it is about.
 #[derive(Drop)]
 pub enum Refusal {
@@ -116,6 +135,10 @@ pub enum Refusal {
     NoLevel(u64, u64),
     /// The line of this number is the first of the file that is not of its form.
     Line(CommandFile, u64),
+    /// The line of this number names a host that the network has not.
+    NoHost(CommandFile, u64),
+    /// This file of the bundle is not as it should be.
+    Unread(BundleFile, BundleCause),
     NoMemory,
     NoFile(CommandFile),
 }
@@ -157,6 +180,35 @@ impl From<BundleFault> for Refusal {
     }
 }
 
+/// What is told of a bundle that is not read.
+pub(crate) fn unread(fault: ReadFault) -> Refusal
+    ensures { result ≡ unread_as fault }
+{
+    match fault {
+        ReadFault::Missing(file) => Refusal::Unread(file, BundleCause::Missing),
+        ReadFault::Folder(file, fault) => unread_file(file, fault),
+        ReadFault::Stale(file, found, kept) => {
+            Refusal::Unread(file, BundleCause::Stale(found, kept))
+        }
+        ReadFault::NotJson(file) => Refusal::Unread(file, BundleCause::NotJson),
+        ReadFault::P4(file, fault) => Refusal::Unread(file, BundleCause::P4(fault)),
+        ReadFault::Shape(file, pointer) => Refusal::Unread(file, BundleCause::Shape(pointer)),
+        ReadFault::Load(file, fault) => Refusal::Unread(file, BundleCause::Load(fault)),
+        ReadFault::NoMemory => Refusal::NoMemory,
+    }
+}
+
+/// The same of a file of it that the folder does not give.
+fn unread_file(file: BundleFile, fault: FolderFault) -> Refusal
+    ensures { result ≡ unread_as (Folder file fault) }
+{
+    match fault {
+        FolderFault::Failed => Refusal::ReadFault(CommandFile::Bundle(file)),
+        FolderFault::TooLong(_) => Refusal::TooLong(CommandFile::Bundle(file), file.most()),
+        FolderFault::NoMemory => Refusal::NoMemory,
+    }
+}
+
 impl Refusal {
     /// The status with which a command ends that stops so.
     pub fn status(&self) -> Status
@@ -171,6 +223,8 @@ impl Refusal {
             Refusal::OverLimit(_, _) => Status::Limit,
             Refusal::NoLevel(_, _) => Status::Limit,
             Refusal::Line(_, _) => Status::Lines,
+            Refusal::NoHost(_, _) => Status::Lines,
+            Refusal::Unread(_, _) => Status::Bundle,
             Refusal::NoMemory => Status::NoMemory,
             Refusal::NoFile(_) => Status::NoFile,
         }

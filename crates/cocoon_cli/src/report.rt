@@ -1,22 +1,32 @@
 //! What a command reports, and the lines that are printed.
 ghost use Rattle.std.specs.Prelude.{◌≡◌, ◌++◌, codes, IfOk, OnOk, string_bytes};
 ghost use Rattle.cocoon_cli.specs.FileNames.{name_in};
-ghost use Rattle.cocoon_cli.specs.Report.{HasBytes, definitions_line, fault_line, form_line, language_line, level_line, limit_line, line_of, line_with, list_text, most_allowed, no_default_line, over_line, refusal_line, report_line, sent_line, spaced, status_of, totals_line};
+ghost use Rattle.cocoon_cli.specs.declared.files.CommandFile.TheVariants.{Bundle};
+ghost use Rattle.cocoon_cli.specs.Report.{HasBytes, bundle_line, cause_text, definitions_line, fault_line, form_line, host_line, language_line, level_line, limit_line, line_of, line_with, list_text, load_text, most_allowed, no_default_line, over_line, p4_text, pointer_text, refusal_line, report_line, sent_line, spaced, stale_text, status_of, totals_line};
 ghost use Rattle.command_line.specs.Stands.{stands_for};
 
 use crate::files::CommandFile;
-use crate::refusal::{DefinitionsFault, InputFault, Refusal};
+use crate::refusal::{BundleCause, DefinitionsFault, InputFault, Refusal};
 use crate::status::Status;
 use case_runs::Sent;
-use cocoon_num::{LimitName, NoMemory};
+use cocoon_num::{LimitName, List, NoMemory};
 use cocoon_text::Position;
 use command_line::Command;
 use design_limits::most_of;
 use lower_net::limits::{MOST_HOSTS, MOST_MEMBERS, MOST_SITES, MOST_SWITCHES, MOST_TABLES};
+use net_bundle::BundleFile;
+use p4_read::P4Fault;
+use p4_run::LoadFault;
 use std::alloc::Global;
 
 /// The most `define` rows of a definitions text.
 const MOST_ROWS: u64 = 8192;
+
+/// The most runs of ingress and of egress that the copies of a packet make.
+const MOST_RUNS: u64 = 65_536;
+
+/// The most bytes of a packet.
+const MOST_PACKET_BYTES: u64 = 65_535;
 
 /// How many of each thing a compiled network has. Hosts at no port count, too.
 #[derive(Clone, Copy, Debug, Drop)]
@@ -32,6 +42,8 @@ pub enum Report {
     Compiled(Totals),
     /// What a body does with a packet: it sends it, or nothing is sent.
     Stepped(Option<Sent>),
+    /// The lines of what becomes of some packets.
+    Forwarded(List<u8>),
 }
 
 /// A line that ends with the name of a file of the command.
@@ -73,6 +85,8 @@ fn most_allowed(limit: LimitName) -> u64
         LimitName::Tables => MOST_TABLES,
         LimitName::Sites => MOST_SITES,
         LimitName::Members => MOST_MEMBERS,
+        LimitName::Copies => MOST_RUNS,
+        LimitName::Packet => MOST_PACKET_BYTES,
         _ => most_of(limit),
     }
 }
@@ -111,7 +125,8 @@ fn entry_line(
 ) -> Result<String, NoMemory>
     ensures { IfOk result (λ line. string_bytes line
         ≡ fault_line (codes "definitions")
-        (name_in (stands_for command.now) CommandFile.Definitions) position.line position.column kind.now) }
+        (name_in (stands_for command.now) CommandFile.Definitions)
+        position.line position.column kind.now) }
 {
     let name = CommandFile::Definitions.name(alloc, command)?;
     let Position { line, column } = position;
@@ -175,6 +190,105 @@ fn form_line(
     Ok(format!(in alloc; "line {name} {number} Form\n")?)
 }
 
+/// The line of a file of which this line names a host that is not there.
+fn host_line(
+    alloc: Global,
+    command: &Command<'_>,
+    file: CommandFile,
+    number: u64,
+) -> Result<String, NoMemory>
+    ensures { IfOk result (λ line. string_bytes line
+        ≡ host_line (name_in (stands_for command.now) file) number) }
+{
+    let name = file.name(alloc, command)?;
+    Ok(format!(in alloc; "line {name} {number} NoSuchHost\n")?)
+}
+
+/// A fault of a program, by its kind and where it stands.
+fn p4_text(alloc: Global, fault: P4Fault) -> Result<String, NoMemory>
+    ensures { IfOk result (λ text. string_bytes text ≡ p4_text fault) }
+{
+    match fault {
+        P4Fault::Lex(at) => Ok(format!(in alloc; "Lex {at}")?),
+        P4Fault::Unexpected(at) => Ok(format!(in alloc; "Unexpected {at}")?),
+        P4Fault::TooDeep(at) => Ok(format!(in alloc; "TooDeep {at}")?),
+        P4Fault::Kind(at) => Ok(format!(in alloc; "Kind {at}")?),
+        P4Fault::NoMemory => Ok(String::from_str(alloc, "NoMemory")?),
+    }
+}
+
+/// A fault of rows, by its kind and its numbers.
+fn load_text(alloc: Global, fault: &LoadFault) -> Result<String, NoMemory>
+    ensures { IfOk result (λ text. string_bytes text ≡ load_text fault.now) }
+{
+    match fault {
+        LoadFault::MissingTable(table) => Ok(format!(in alloc; "MissingTable {table}")?),
+        LoadFault::UnknownTable(table) => Ok(format!(in alloc; "UnknownTable {table}")?),
+        LoadFault::RowShape(table, row) => Ok(format!(in alloc; "RowShape {table} {row}")?),
+        LoadFault::GroupShape(index) => Ok(format!(in alloc; "GroupShape {index}")?),
+        LoadFault::NoMemory => Ok(String::from_str(alloc, "NoMemory")?),
+    }
+}
+
+/// The pointer of a member, or `-` where there is none.
+fn pointer_text(pointer: &[u8]) -> &[u8]
+    ensures { result.now ≡ pointer_text pointer.now }
+{
+    if pointer.is_empty() { b"-" } else { pointer }
+}
+
+/// A digest that was found, and the one that is kept.
+fn stale_text(alloc: Global, found: &[u8], kept: &[u8]) -> Result<Vec<u8>, NoMemory>
+    ensures { IfOk result (λ text. text.items ≡ stale_text found.now kept.now) }
+{
+    let mut text = b"stale ".to_vec(alloc)?;
+    text.extend_from_slice(found)?;
+    text.push(b' ')?;
+    text.extend_from_slice(kept)?;
+    Ok(text)
+}
+
+/// Two texts, one behind the other.
+fn joined(alloc: Global, first: &[u8], second: &[u8]) -> Result<Vec<u8>, NoMemory>
+    ensures { IfOk result (λ text. text.items ≡ first.now ++ second.now) }
+{
+    let mut text = first.to_vec(alloc)?;
+    text.extend_from_slice(second)?;
+    Ok(text)
+}
+
+/// What is wrong with a file of a bundle.
+fn cause_text(alloc: Global, cause: &BundleCause) -> Result<Vec<u8>, NoMemory>
+    ensures { IfOk result (λ text. text.items ≡ cause_text cause.now) }
+{
+    match cause {
+        BundleCause::Missing => Ok(b"missing".to_vec(alloc)?),
+        BundleCause::Stale(found, kept) => stale_text(alloc, found.bytes(), kept.bytes()),
+        BundleCause::NotJson => Ok(b"notjson".to_vec(alloc)?),
+        BundleCause::P4(fault) => joined(alloc, b"p4 ", p4_text(alloc, *fault)?.as_bytes()),
+        BundleCause::Shape(pointer) => joined(alloc, b"shape ", pointer_text(pointer.bytes())),
+        BundleCause::Load(fault) => joined(alloc, b"load ", load_text(alloc, fault)?.as_bytes()),
+    }
+}
+
+/// The line of a file of a bundle that is not as it should be.
+fn bundle_line(
+    alloc: Global,
+    command: &Command<'_>,
+    file: BundleFile,
+    cause: &BundleCause,
+) -> Result<Vec<u8>, NoMemory>
+    ensures { IfOk result (λ line. line.items
+        ≡ bundle_line (name_in (stands_for command.now) (Bundle file)) cause.now) }
+{
+    let name = CommandFile::Bundle(file).name(alloc, command)?;
+    let cause = cause_text(alloc, cause)?;
+    let mut line = format!(in alloc; "bundle {name} ")?.into_bytes();
+    line.extend_from_slice(&cause)?;
+    line.push(b'\n')?;
+    Ok(line)
+}
+
 /// The bytes of a line that was made.
 fn bytes_of(line: Result<String, NoMemory>) -> Result<Vec<u8>, NoMemory>
     ensures { HasBytes line result }
@@ -200,6 +314,8 @@ fn refusal_line(
         Refusal::OverLimit(limit, count) => bytes_of(over_line(alloc, *limit, *count)),
         Refusal::NoLevel(level, last) => bytes_of(level_line(alloc, *level, *last)),
         Refusal::Line(file, number) => bytes_of(form_line(alloc, command, *file, *number)),
+        Refusal::NoHost(file, number) => bytes_of(host_line(alloc, command, *file, *number)),
+        Refusal::Unread(file, cause) => bundle_line(alloc, command, *file, cause),
         Refusal::NoMemory => Ok(b"no memory\n".to_vec(alloc)?),
         Refusal::NoFile(file) => bytes_of(line_with(alloc, "no file ", command, *file)),
     }
@@ -259,6 +375,7 @@ fn report_line(alloc: Global, report: &Report) -> Result<Vec<u8>, NoMemory>
         Report::Compiled(totals) => bytes_of(totals_line(alloc, totals)),
         Report::Stepped(None) => Ok(b"nothing\n".to_vec(alloc)?),
         Report::Stepped(Some(sent)) => sent_line(alloc, sent),
+        Report::Forwarded(text) => Ok(text.items().to_vec(alloc)?),
     }
 }
 

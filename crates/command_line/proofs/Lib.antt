@@ -1,3 +1,3 @@
 pub mod Matching
 pub mod Staying
-pub mod CompileStays
+pub mod CommandsStay

@@ -25,6 +25,16 @@ rule_required a b c id r p q =
 pub stays_local : (a b c : Arg) → a.global ≡ false → b ≡ record a { required = true } → c ≡ record b { action = Some Set } → c.global ≡ false
 stays_local a b c h p q = ap (λ (x : Arg). x.global) q ∙ ap (λ (x : Arg). x.global) p ∙ h
 
+-- an argument that was made an option, with one value
+pub rule_option : (a b c : Arg) (id : Text) (name : Bor Text) → rule_of a ≡ new_rule id → b ≡ record a { long = Some name } → c ≡ record b { action = Some Set } → rule_of c ≡ record (new_rule id) { long = Some name.now; action = Some Set }
+rule_option a b c id name r p q =
+    ap rule_of q
+    ∙ ap (λ (x : Arg). rule_of (record x { action = Some Set })) p
+    ∙ ap (λ (x : Rule). record x { long = Some name.now; action = Some Set }) r
+
+pub option_local : (a b c : Arg) (name : Bor Text) → a.global ≡ false → b ≡ record a { long = Some name } → c ≡ record b { action = Some Set } → c.global ≡ false
+option_local a b c name h p q = ap (λ (x : Arg). x.global) q ∙ ap (λ (x : Arg). x.global) p ∙ h
+
 or_false : (b : Bool) → (b || false) ≡ b
 or_false true = refl
 or_false false = refl

@@ -5,3 +5,4 @@ use Rattle.std.specs.Prelude.{ℕ, List}
 pub data Command : Type 0 where
   compile : (design defs out : List ℕ) → Command
   step : (design defs : List ℕ) (level : ℕ) (file : List ℕ) → Command
+  forward : (out packets : List ℕ) (hops : ℕ) → Command

@@ -28,6 +28,18 @@ level_argument = codes "LEVEL"
 abbrev pub case_argument : Text
 case_argument = codes "CASE"
 
+-- that for the file of packets
+abbrev pub packets_argument : Text
+packets_argument = codes "PACKETS"
+
+-- an option `--NAME`, with one value
+abbrev pub option_argument : Text → Rule
+option_argument name = record (new_rule name) { long = Some name; action = Some Set }
+
+-- the option for a number of visits
+abbrev pub hops_argument : Text
+hops_argument = codes "hops"
+
 -- a command with these arguments, in their order
 abbrev pub with_arguments : App → List Text → App
 with_arguments app [] = app
@@ -49,10 +61,16 @@ step_app =
     with_arguments (new_app (codes "step"))
     (design_argument ∷ defs_argument ∷ level_argument ∷ case_argument ∷ [])
 
+-- the subcommand `forward`
+abbrev pub forward_app : App
+forward_app =
+    with_rule (with_arguments (new_app (codes "forward")) (out_argument ∷ packets_argument ∷ []))
+    (option_argument hops_argument)
+
 -- the command line with these subcommands
 abbrev pub app_with : List App → App
 app_with subs = with_subcommands (new_app (codes "cocoon")) subs
 
 -- the whole command line
 abbrev pub cocoon_app : App
-cocoon_app = app_with (compile_app ∷ step_app ∷ [])
+cocoon_app = app_with (compile_app ∷ step_app ∷ forward_app ∷ [])

@@ -6,9 +6,9 @@ use Rattle.std.specs.Prelude.{ℕ, List, [], ◌∷◌, if◌then◌else◌, len
 use Rattle.clap.specs.Words.{App, Kinds, Row, Text, fault_of, first_of, subcommand_of}
 use Rattle.cocoon_num.specs.Names.{same_name}
 use Rattle.cocoon_num.specs.Tokens.{decimal_value, kept_if}
-use Rattle.command_line.specs.Command.{Command, compile, step}
+use Rattle.command_line.specs.Command.{Command, compile, step, forward}
 use Rattle.command_line.specs.Names.{is_file_name}
-use Rattle.command_line.specs.Syntax.{case_argument, cocoon_app, design_argument, defs_argument, level_argument, out_argument}
+use Rattle.command_line.specs.Syntax.{case_argument, cocoon_app, design_argument, defs_argument, hops_argument, level_argument, out_argument, packets_argument}
 
 -- a word that is a name
 abbrev pub name_of : Text → Option (List ℕ)
@@ -60,11 +60,44 @@ step_of rows =
     with_level (argument_name design_argument rows) (argument_name defs_argument rows)
     (level_in rows) (argument_name case_argument rows)
 
+-- the most visits of a packet that may be asked for
+abbrev pub most_hops : ℕ
+most_hops = 64
+
+-- how many are asked for where no word says it
+abbrev pub usual_hops : ℕ
+usual_hops = 16
+
+-- a word that is a number in this range
+abbrev pub number_between : (least most : ℕ) → Text → Option ℕ
+number_between least most word =
+    option_and_then (λ n. kept_if (nat_le least n) n) (number_up_to most word)
+
+-- the number of visits that a word asks for, if there is one
+abbrev pub hops_by : Option Text → Option ℕ
+hops_by None = Some usual_hops
+hops_by (Some word) = number_between 1 most_hops word
+
+-- the number of visits, by what `clap` matched
+abbrev pub hops_in : List Row → Option ℕ
+hops_in rows = hops_by (first_of hops_argument rows)
+
+-- `forward` with names and a number that are all there
+abbrev pub with_hops : Option (List ℕ) → Option (List ℕ) → Option ℕ → Option Command
+with_hops (Some out) (Some packets) (Some hops) = Some (forward out packets hops)
+with_hops _ _ _ = None
+
+-- what `forward` asks for, by its matches
+abbrev pub forward_of : List Row → Option Command
+forward_of rows =
+    with_hops (argument_name out_argument rows) (argument_name packets_argument rows) (hops_in rows)
+
 -- what a subcommand asks for, by its name and its matches
 abbrev pub command_of : Text × List Row → Option Command
 command_of met =
     if same_name met.0 (codes "compile") then compile_of met.1
     else if same_name met.0 (codes "step") then step_of met.1
+    else if same_name met.0 (codes "forward") then forward_of met.1
     else None
 
 -- what was met, where no kind of fault comes

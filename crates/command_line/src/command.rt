@@ -5,6 +5,7 @@
 pub enum Command<'w> {
     Compile(Compile<'w>),
     Step(Step<'w>),
+    Forward(Forward<'w>),
 }
 
 /// The names that `compile` is given.
@@ -29,4 +30,15 @@ pub struct Step<'w> {
     pub level: u32,
     /// The file of the case.
     pub file: &'w str,
+}
+
+/// What `forward` is given.
+#[derive(Clone, Copy, Debug, Drop)]
+pub struct Forward<'w> {
+    /// The name of the bundle, with which the names of its files begin.
+    pub out: &'w str,
+    /// The file of packets.
+    pub packets: &'w str,
+    /// The most visits of switches that a packet makes, from 1 to 64.
+    pub hops: u32,
 }

@@ -1,7 +1,7 @@
 //! What further subcommands leave as it was. The function does nothing; its contract is the law.
 ghost use Rattle.std.specs.Prelude.{◌≡◌, ℕ, List, [], ◌∷◌, Some};
-ghost use Rattle.command_line.specs.Command.{compile};
-ghost use Rattle.command_line.specs.Syntax.{app_with, compile_app};
+ghost use Rattle.command_line.specs.Command.{Command, compile};
+ghost use Rattle.command_line.specs.Syntax.{app_with, compile_app, step_app};
 ghost use Rattle.command_line.specs.Words.{command, command_by};
 
 /// The words that are a `compile` by the command line that has that subcommand alone are the same
@@ -10,4 +10,11 @@ pub fn compile_stays()
     ensures { (words : List (List ℕ)) (design defs out : List ℕ)
         → command_by (app_with (compile_app ∷ [])) words ≡ Some (compile design defs out)
         → command words ≡ Some (compile design defs out) }
+{}
+
+/// The words that are a command by the command line that has `compile` and `step` alone are the same command.
+pub fn commands_stay()
+    ensures { (words : List (List ℕ)) (asked : Command)
+        → command_by (app_with (compile_app ∷ step_app ∷ [])) words ≡ Some asked
+        → command words ≡ Some asked }
 {}

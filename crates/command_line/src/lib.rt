@@ -7,5 +7,5 @@ pub mod laws;
 pub mod parse;
 pub mod syntax;
 
-pub use command::{Command, Compile, Step};
+pub use command::{Command, Compile, Forward, Step};
 pub use parse::parse_command;

@@ -4,10 +4,10 @@ ghost use Rattle.clap.specs.Words.{found_of, rows_of, subcommand_rows_of};
 ghost use Rattle.command_line.specs.Command as spec;
 ghost use Rattle.command_line.specs.Names.{is_file_name, is_name_byte};
 ghost use Rattle.command_line.specs.Stands.{stands_for};
-ghost use Rattle.command_line.specs.Words.{argument_name, command, command_of, compile_of, level_in, number_of, number_up_to, step_of, subcommand};
+ghost use Rattle.command_line.specs.Words.{argument_name, command, command_of, compile_of, forward_of, hops_in, level_in, number_between, number_of, number_up_to, step_of, subcommand};
 
-use crate::command::{Command, Compile, Step};
-use crate::syntax::{CASE, DEFS, DESIGN, LEVEL, OUT, cocoon_app};
+use crate::command::{Command, Compile, Forward, Step};
+use crate::syntax::{CASE, DEFS, DESIGN, HOPS, LEVEL, OUT, PACKETS, cocoon_app};
 use clap::ArgMatches;
 use clap::error::ErrorKind;
 use cocoon_num::NoMemory;
@@ -18,6 +18,12 @@ use text_lines::decimal_value;
 const MOST_DIGITS: usize = 7;
 
 const HIGHEST_LEVEL: u32 = 16;
+
+/// The most visits of a packet that may be asked for.
+const MOST_HOPS: u32 = 64;
+
+/// How many are asked for where no word says it.
+const USUAL_HOPS: u32 = 16;
 
 /// What `clap` makes of the words; nothing where it refuses them, or is asked for help.
 fn matches<'w>(alloc: Global, words: &'w [String]) -> Result<Option<ArgMatches<'w>>, NoMemory>
@@ -124,6 +130,35 @@ fn step_of<'w>(matches: &ArgMatches<'w>) -> Option<Step<'w>>
     })
 }
 
+/// The number that a word is, if it is none below `least` and none above `most`.
+fn number_between(least: u32, most: u32, word: &str) -> Option<u32>
+    ensures { result ≡ number_between least most word.now }
+{
+    let number = number_up_to(most, word)?;
+    if least <= number { Some(number) } else { None }
+}
+
+/// The number of visits: that of the word for it, or the usual one where there is no word.
+fn hops<'w>(matches: &ArgMatches<'w>) -> Option<u32>
+    ensures { result ≡ hops_in (rows_of (found_of matches.now)) }
+{
+    match matches.get_str(HOPS) {
+        Some(word) => number_between(1, MOST_HOPS, word),
+        None => Some(USUAL_HOPS),
+    }
+}
+
+/// What a `forward` is given, where each part has its form.
+fn forward_of<'w>(matches: &ArgMatches<'w>) -> Option<Forward<'w>>
+    ensures { option_map (λ f. spec.forward f.out.now f.packets.now f.hops) result
+        ≡ forward_of (rows_of (found_of matches.now)) }
+{
+    let out = argument_name(matches, OUT)?;
+    let packets = argument_name(matches, PACKETS)?;
+    let hops = hops(matches)?;
+    Some(Forward { out, packets, hops })
+}
+
 /// What a subcommand asks for, by its name and its matches.
 fn command_of<'w>(name: &str, matches: &ArgMatches<'w>) -> Option<Command<'w>>
     ensures { option_map stands_for result
@@ -133,6 +168,8 @@ fn command_of<'w>(name: &str, matches: &ArgMatches<'w>) -> Option<Command<'w>>
         compile_of(matches).map(Command::Compile)
     } else if name == "step" {
         step_of(matches).map(Command::Step)
+    } else if name == "forward" {
+        forward_of(matches).map(Command::Forward)
     } else {
         None
     }

@@ -1,8 +1,8 @@
 //! The command line as `clap` states one: subcommands, each with its arguments.
 ghost use Rattle.std.specs.Prelude.{◌≡◌, IfOk, false, map};
-ghost use Rattle.clap.specs.Words.{app_of, rule_of, with_subcommand};
+ghost use Rattle.clap.specs.Words.{app_of, rule_of, with_rule, with_subcommand};
 ghost use Rattle.clap.specs.declared.builder.Command.TheViews.{out-Command};
-ghost use Rattle.command_line.specs.Syntax.{cocoon_app, compile_app, required_argument, step_app, with_arguments};
+ghost use Rattle.command_line.specs.Syntax.{cocoon_app, compile_app, forward_app, option_argument, required_argument, step_app, with_arguments};
 
 use clap::{Arg, ArgAction, Command};
 use cocoon_num::NoMemory;
@@ -23,12 +23,26 @@ pub const LEVEL: &str = "LEVEL";
 /// That for the file of a case.
 pub const CASE: &str = "CASE";
 
+/// That for the file of packets.
+pub const PACKETS: &str = "PACKETS";
+
+/// The option for the number of visits.
+pub const HOPS: &str = "hops";
+
 /// An argument that has to be there.
 fn required_argument<'w>(alloc: Global, id: &'w str) -> Arg<'w>
     ensures rule { rule_of result ≡ required_argument id.entry.now }
     ensures local { result.global ≡ false }
 {
     Arg::new(alloc, id).required(true).action(ArgAction::Set)
+}
+
+/// An option of this name, with one value.
+fn option_argument<'w>(alloc: Global, name: &'w str) -> Arg<'w>
+    ensures rule { rule_of result ≡ option_argument name.entry.now }
+    ensures local { result.global ≡ false }
+{
+    Arg::new(alloc, name).long(name).action(ArgAction::Set)
 }
 
 /// The command with these arguments, in their order.
@@ -69,6 +83,29 @@ fn step_app<'w>(alloc: Global) -> Result<Command<'w>, NoMemory>
     )
 }
 
+/// The command with one more option.
+fn with_option<'w>(
+    alloc: Global,
+    command: Command<'w>,
+    name: &'w str,
+) -> Result<Command<'w>, NoMemory>
+    ensures app { IfOk result (λ c. app_of c
+        ≡ with_rule (app_of command.entry) (option_argument name.now)) }
+    ensures local { IfOk result (λ c. (out-Command c).has_globals
+        ≡ (out-Command command.entry).has_globals) }
+{
+    Ok(command.arg(option_argument(alloc, name))?)
+}
+
+/// The subcommand `forward`.
+fn forward_app<'w>(alloc: Global) -> Result<Command<'w>, NoMemory>
+    ensures app { IfOk result (λ c. app_of c ≡ forward_app) }
+    ensures local { IfOk result (λ c. (out-Command c).has_globals ≡ false) }
+{
+    let command = with_arguments(alloc, Command::new(alloc, "forward"), &[OUT, PACKETS])?;
+    with_option(alloc, command, HOPS)
+}
+
 /// The command with one more subcommand.
 fn with_subcommand<'w>(command: Command<'w>, sub: Command<'w>) -> Result<Command<'w>, NoMemory>
     requires { (out-Command sub).has_globals ≡ false }
@@ -84,5 +121,6 @@ pub fn cocoon_app<'w>(alloc: Global) -> Result<Command<'w>, NoMemory>
 {
     let command = Command::new(alloc, "cocoon");
     let command = with_subcommand(command, compile_app(alloc)?)?;
-    with_subcommand(command, step_app(alloc)?)
+    let command = with_subcommand(command, step_app(alloc)?)?;
+    with_subcommand(command, forward_app(alloc)?)
 }

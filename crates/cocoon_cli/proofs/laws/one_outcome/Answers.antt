@@ -16,5 +16,6 @@ returns c = one (record {
   one_net = c.one_lowering.ensures.one;
   one_over = c.one_lowering.ensures.one_limit;
   one_step = c.one_step.ensures;
+  one_reading = c.one_reading.ensures;
   no_over = c.one_lowering.ensures.no_limit;
 })

@@ -1,7 +1,6 @@
 use Rattle.std.proofs.Common.{◌∙◌, IfErr, IfOk, subst}
 use Rattle.command_line.specs.Command.{step as command}
 use Rattle.cocoon_cli.specs.Reading.{FileNotRead, HasFile}
-use Rattle.cocoon_cli.specs.Run.{count}
 use Rattle.cocoon_cli.specs.Stepping.{NotStepped, StepsTexts}
 use Rattle.cocoon_cli.specs.Steps.{case_most, definitions_most}
 use Rattle.cocoon_cli.specs.declared.files.CommandFile.TheVariants.{Case, Definitions, Design}

@@ -1,4 +1,4 @@
-use Rattle.command_line.proofs.CompileStays.{compile_stays}
+use Rattle.command_line.proofs.CommandsStay.{compile_stays}
 use Rattle.command_line.proofs.laws.compile_stays.Goals as goal
 
 pub returns : goal.returns

@@ -1,0 +1,22 @@
+use Rattle.std.proofs.Common.{rules, ◌≡◌, ◌<◌, ◌+◌, ◌∷◌, ap, drop, length, map}
+use Rattle.loaded_net.specs.Nets.{net_in}
+use Rattle.p4_ir.specs.Wiring.{host_numbers}
+use Rattle.packet_file.specs.Judging.{packet_in}
+use Rattle.packet_runs.proofs.Reporting.{known_more, opened, over_more, report_more, within_more}
+use Rattle.packet_runs.proofs.running.run_packets.Goals as goal
+
+pub loop-packet-preserved : goal.loop-packet-preserved
+loop-packet-preserved c =
+    let ps = c.args.packets.now in
+    let i = c.loop-packet.packet-index in
+    let net = net_in c.args.net.now in
+    let hops = c.args.hops in
+    let p = packet_in c.packet-item.result in
+    let before : i < length ps = search rules in
+    let first : map packet_in (drop i ps) ≡ p ∷ map packet_in (drop (i + 1) ps) = opened ps i c.packet-item.result _ before c.packet-item.is in record {
+      index = ap (λ n. n + 1) c.loop-packet.invariant.index;
+      report = report_more net hops c.loop-packet.index p _ _ c.loop-packet.report.items c.push_packet.new.report.items _ first c.in_ok-push_packet.ensures.lines c.loop-packet.invariant.report;
+      known = known_more (host_numbers net.hosts) p _ _ first c.loop-packet.invariant.known;
+      within = λ h. c.loop-packet.invariant.within (within_more net hops p _ _ first c.in_ok-push_packet.ensures.within h);
+      over = λ h. c.loop-packet.invariant.over (over_more net hops p _ _ first h);
+    }

@@ -1,0 +1,72 @@
+//! The lines of what becomes of a packet.
+ghost use Rattle.std.specs.Prelude.{◌≡◌, ◌++◌, IfOk, map, OnOk, string_bytes};
+ghost use Rattle.net_run.specs.Delivering.{delivery_of};
+ghost use Rattle.packet_runs.specs.Reports.{bytes_text, delivery_line, delivery_lines, outcome_line, outcome_lines};
+
+use cocoon_num::NoMemory;
+use net_run::{Delivery, Outcome};
+use std::alloc::Global;
+
+/// The line of how many copies are delivered, and how many travel.
+fn outcome_line(
+    alloc: Global,
+    index: u64,
+    delivered: u64,
+    travelling: u32,
+) -> Result<String, NoMemory>
+    ensures { IfOk result (λ line. string_bytes line ≡ outcome_line index delivered travelling) }
+{
+    Ok(format!(in alloc; "{index} delivered {delivered} travelling {travelling}\n")?)
+}
+
+/// The digits of some bytes, in lower case, or `-` for none.
+fn bytes_text(alloc: Global, bytes: &[u8]) -> Result<String, NoMemory>
+    ensures { IfOk result (λ text. string_bytes text ≡ bytes_text bytes.now) }
+{
+    if bytes.is_empty() {
+        Ok(String::from_str(alloc, "-")?)
+    } else {
+        Ok(hex::encode(alloc, bytes)?)
+    }
+}
+
+/// The line of a delivery.
+fn delivery_line(alloc: Global, delivery: &Delivery) -> Result<String, NoMemory>
+    ensures { IfOk result (λ line. string_bytes line ≡ delivery_line (delivery_of delivery.now)) }
+{
+    let host = delivery.host;
+    let bytes = bytes_text(alloc, delivery.bytes.bytes())?;
+    Ok(format!(in alloc; "> {host} {bytes}\n")?)
+}
+
+/// The lines of some deliveries, in their order.
+fn push_deliveries(
+    alloc: Global,
+    report: &mut Vec<u8>,
+    deliveries: &[Delivery],
+) -> Result<(), NoMemory>
+    ensures { OnOk result (report.new.items
+        ≡ report.old.items ++ delivery_lines (map delivery_of deliveries.now)) }
+{
+    for delivery in deliveries {
+        report.extend_from_slice(delivery_line(alloc, delivery)?.as_bytes())?;
+    }
+    Ok(())
+}
+
+/// The lines of the packet of this index.
+pub(crate) fn push_outcome(
+    alloc: Global,
+    report: &mut Vec<u8>,
+    index: u64,
+    outcome: &Outcome,
+) -> Result<(), NoMemory>
+    ensures { OnOk result (report.new.items ≡ report.old.items
+        ++ outcome_lines index (map delivery_of outcome.now.delivered) outcome.now.travelling) }
+{
+    let delivered = outcome.delivered.items();
+    let line = outcome_line(alloc, index, delivered.len() as u64, outcome.travelling)?;
+    report.extend_from_slice(line.as_bytes())?;
+    push_deliveries(alloc, report, delivered)?;
+    Ok(())
+}

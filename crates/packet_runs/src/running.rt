@@ -1,0 +1,99 @@
+//! The packets of a file, run one after another.
+ghost use Rattle.std.specs.Prelude.{◌≡◌, ◌++◌, ◌≤◌, IfErr, IfOk, map, OnOk, true};
+ghost use Rattle.cocoon_num.specs.Lists.{has_number};
+ghost use Rattle.loaded_net.specs.Nets.{net_in};
+ghost use Rattle.net_run.specs.RunCounts.{most_runs, runs};
+ghost use Rattle.p4_ir.specs.Wiring.{host_numbers};
+ghost use Rattle.packet_file.specs.Judging.{packet_in};
+ghost use Rattle.packet_file.specs.Packets.{AllKnown};
+ghost use Rattle.packet_runs.specs.Reports.{packet_lines, report_of};
+ghost use Rattle.packet_runs.specs.Stopping.{AllWithin, IsOutcome, Stops, StopsAt};
+
+use crate::lines::push_outcome;
+use cocoon_num::NoMemory;
+use loaded_net::Net;
+use net_run::{Outcome, RunFault, deliver};
+use packet_file::Packet;
+use std::alloc::Global;
+
+/// Why packets are not all run.
+#[derive(Clone, Copy, Debug, Drop, PartialEq, Eq)]
+pub enum PacketsFault {
+    /// The copies of a packet would make more runs of ingress and of egress than may be made; it is how many there are at the
+    /// first one too many.
+    Copies(u64),
+    NoMemory,
+}
+
+impl From<NoMemory> for PacketsFault {
+    ghost use Rattle.std.specs.Prelude.{◌≡◌};
+    ghost use Rattle.packet_runs.specs.declared.running.PacketsFault.TheVariants.{NoMemory};
+
+    ghost from_gives = { λ _ fault. fault ≡ NoMemory };
+
+    fn from(_: NoMemory) -> PacketsFault {
+        PacketsFault::NoMemory
+    }
+}
+
+/// What becomes of a packet whose host the network has.
+fn outcome_of(alloc: Global, net: &Net, packet: &Packet, hops: u32) -> Result<Outcome, PacketsFault>
+    requires known { has_number packet.now.host (host_numbers (net_in net.now).hosts) ≡ true }
+    ensures outcome { IfOk result (IsOutcome (net_in net.now) hops (packet_in packet.now)) }
+    ensures within { IfOk result (λ o.
+        runs (net_in net.now) packet.now.host packet.now.bytes.items hops ≤ most_runs) }
+    ensures stops { IfErr result (StopsAt (net_in net.now) hops (packet_in packet.now)) }
+{
+    match deliver(alloc, net, packet.host, &packet.bytes, hops) {
+        Ok(outcome) => Ok(outcome),
+        Err(RunFault::NoSuchHost) => unreachable!(),
+        Err(RunFault::Copies(count)) => Err(PacketsFault::Copies(count)),
+        Err(RunFault::NoMemory) => Err(PacketsFault::NoMemory),
+    }
+}
+
+/// Runs a packet, and reports what becomes of it.
+fn push_packet(
+    alloc: Global,
+    net: &Net,
+    report: &mut Vec<u8>,
+    index: u64,
+    packet: &Packet,
+    hops: u32,
+) -> Result<(), PacketsFault>
+    requires known { has_number packet.now.host (host_numbers (net_in net.now).hosts) ≡ true }
+    ensures lines { OnOk result (report.new.items ≡ report.old.items
+        ++ packet_lines (net_in net.now) hops index (packet_in packet.now)) }
+    ensures within { IfOk result (λ o.
+        runs (net_in net.now) packet.now.host packet.now.bytes.items hops ≤ most_runs) }
+    ensures stops { IfErr result (StopsAt (net_in net.now) hops (packet_in packet.now)) }
+{
+    let outcome = outcome_of(alloc, net, packet, hops)?;
+    push_outcome(alloc, report, index, &outcome)?;
+    Ok(())
+}
+
+/// The report of packets that are run one after another, each with at most `hops` visits: for each a line with its index,
+/// from 1, with how many copies are delivered and how many travel on, and then a line for each delivery, in ascending order
+/// of the choices.
+pub fn run_packets(
+    alloc: Global,
+    net: &Net,
+    packets: &[Packet],
+    hops: u32,
+) -> Result<Vec<u8>, PacketsFault>
+    requires known { AllKnown (host_numbers (net_in net.now).hosts) (map packet_in packets.now) }
+    ensures report { IfOk result (λ report. report.items
+        ≡ report_of (net_in net.now) hops (map packet_in packets.now)) }
+    ensures within { IfOk result (λ report.
+        AllWithin (net_in net.now) hops (map packet_in packets.now)) }
+    ensures stops { IfErr result (Stops (net_in net.now) hops (map packet_in packets.now)) }
+{
+    let mut report = Vec::new(alloc);
+    let mut index = 0;
+    for packet in packets {
+        index += 1;
+        push_packet(alloc, net, &mut report, index, packet, hops)?;
+    }
+    Ok(report)
+}
