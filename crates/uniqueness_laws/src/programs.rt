@@ -4,6 +4,9 @@ ghost use Rattle.p4_ir.specs.P4Reads.{P4Reads};
 ghost use Rattle.p4_ir.specs.P4Text.{program_tokens};
 ghost use Rattle.p4_ir.specs.P4Tree.{Program};
 ghost use Rattle.p4_ir.specs.WellKinded.{WellKinded};
+ghost use Rattle.p4_unique.specs.Answers.{Answer, Answers, a_program};
+
+use p4_unique::texts::one_answer;
 
 /// Well-kinded programs with the same tokens are the same.
 pub fn one_program_of_tokens()
@@ -15,3 +18,11 @@ pub fn one_program_of_tokens()
 pub fn one_program()
     ensures { (text : List ℕ) (p q : Program) → P4Reads text p → P4Reads text q → p ≡ q }
 {}
+
+/// A text that reads as a program is answered by that program alone. So what is printed of a program is read back as it.
+pub fn printed_reads_back()
+    ensures { (text : List ℕ) (p : Program) → P4Reads text p
+        → (a : Answer) → Answers text a → a ≡ a_program p }
+{
+    one_answer();
+}
