@@ -31,7 +31,7 @@ use Rattle.cocoon_cli.specs.Leaves.{LeavesRefused, MayWriteFiles}
 use Rattle.cocoon_cli.specs.Reading.{HasFile, LacksFile, HasLongFile, FileNotRead, NamesReadFailure, bundle_refusal}
 use Rattle.cocoon_cli.specs.Run.{inputs_of, InputsAre, NamesFailure, Performs}
 use Rattle.cocoon_cli.specs.Steps.{Inputs, Step, is_there, is_within, design_reads, design_well_formed, design_within, definitions_read, definitions_fit, definitions_within, design_accepted, lowering_within, bundle_within, bundle_written, design_most, definitions_most, DesignIs, DefinitionsAre, Makes, MakesFiles, totals_of, AnswersFrom, Answers}
-use Rattle.cocoon_cli.specs.LowerTexts.{ReadsChecked, Binds, BindsTables, LowersTexts, told, NotChecked, NotRead, NotBound, NotLowered, NotMade}
+use Rattle.cocoon_cli.specs.LowerTexts.{ReadsChecked, Binds, BindsTables, LowersTexts, told, IsAccepted, NotChecked, NotTaken, NotRead, NotBound, NotLowered, NotMade}
 
 -- ---- what is read
 
@@ -94,12 +94,15 @@ defs_long d e o (Some files) x h = record { bytes = h.0; are = h.1; long = h.2 }
 
 -- ---- the steps
 
--- the steps from definitions that fit on, from a design that keeps the rules and the limits, from the texts, and from the definitions
+-- the steps from definitions that fit on, from a design that the compiler takes, from one that keeps the rules and the limits, from the texts, and from the definitions
 abbrev matched : List Step
-matched = design_accepted ∷ lowering_within ∷ bundle_within ∷ bundle_written ∷ []
+matched = lowering_within ∷ bundle_within ∷ bundle_written ∷ []
+
+abbrev accepted : List Step
+accepted = definitions_read ∷ definitions_fit ∷ definitions_within ∷ matched
 
 abbrev checked : List Step
-checked = definitions_read ∷ definitions_fit ∷ definitions_within ∷ matched
+checked = design_accepted ∷ accepted
 
 abbrev later : List Step
 later = design_reads ∷ design_well_formed ∷ design_within ∷ checked
@@ -250,20 +253,24 @@ answers_checked d e o before x y t outcome g h rest =
     let is = is_design d e o before x y t g h.reads in
     answers_both d e o before x y outcome g (inr ((t, is), inr ((t, is, h.resolves.rules), inr ((t, is, h.resolves.limits), rest))))
 
-answers_read : (d e o : List ℕ) (before : Option Files) (x y : List ℕ) (t : tree.Design) (es : tree.DefsText) (outcome : Result Report Refusal) → HasBoth before d e x y → ReadsChecked x t → ReadsDefs y es
-    → AnswersFrom (compile d e o) (both d e o before x y) (definitions_fit ∷ definitions_within ∷ matched) outcome → Answers (compile d e o) (both d e o before x y) outcome
-answers_read d e o before x y t es outcome g h k rest = answers_checked d e o before x y t outcome g h (inr ((es, are_defs d e o before x y es g k), rest))
+answers_accepted : (d e o : List ℕ) (before : Option Files) (x y : List ℕ) (outcome : Result Report Refusal) → HasBoth before d e x y → IsAccepted x
+    → AnswersFrom (compile d e o) (both d e o before x y) accepted outcome → Answers (compile d e o) (both d e o before x y) outcome
+answers_accepted d e o before x y outcome g (t, h, a) rest = answers_checked d e o before x y t outcome g h (inr ((t, is_design d e o before x y t g h.reads, a), rest))
 
-answers_bound : (d e o : List ℕ) (before : Option Files) (x y : List ℕ) (t : tree.Design) (es : tree.DefsText) (outcome : Result Report Refusal) → HasBoth before d e x y → Binds x y t es
+answers_read : (d e o : List ℕ) (before : Option Files) (x y : List ℕ) (es : tree.DefsText) (outcome : Result Report Refusal) → HasBoth before d e x y → IsAccepted x → ReadsDefs y es
+    → AnswersFrom (compile d e o) (both d e o before x y) (definitions_fit ∷ definitions_within ∷ matched) outcome → Answers (compile d e o) (both d e o before x y) outcome
+answers_read d e o before x y es outcome g a k rest = answers_accepted d e o before x y outcome g a (inr ((es, are_defs d e o before x y es g k), rest))
+
+answers_bound : (d e o : List ℕ) (before : Option Files) (x y : List ℕ) (t : tree.Design) (es : tree.DefsText) (outcome : Result Report Refusal) → HasBoth before d e x y → IsAccepted x → Binds x y t es
     → AnswersFrom (compile d e o) (both d e o before x y) (definitions_within ∷ matched) outcome → Answers (compile d e o) (both d e o before x y) outcome
-answers_bound d e o before x y t es outcome g h rest =
-    answers_read d e o before x y t es outcome g h.checked h.read
+answers_bound d e o before x y t es outcome g a h rest =
+    answers_read d e o before x y es outcome g a h.read
     (inr ((t, es, is_design d e o before x y t g h.checked.reads, are_defs d e o before x y es g h.read, h.fits), rest))
 
-answers_matched : (d e o : List ℕ) (before : Option Files) (x y : List ℕ) (t : tree.Design) (p : Places) (outcome : Result Report Refusal) → HasBoth before d e x y → BindsTables x y t p
+answers_matched : (d e o : List ℕ) (before : Option Files) (x y : List ℕ) (t : tree.Design) (p : Places) (outcome : Result Report Refusal) → HasBoth before d e x y → IsAccepted x → BindsTables x y t p
     → AnswersFrom (compile d e o) (both d e o before x y) matched outcome → Answers (compile d e o) (both d e o before x y) outcome
-answers_matched d e o before x y t p outcome g h rest =
-    answers_bound d e o before x y t h.entries outcome g h.binds (inr ((h.entries, are_defs d e o before x y h.entries g h.binds.read, h.are.bound.few), rest))
+answers_matched d e o before x y t p outcome g a h rest =
+    answers_bound d e o before x y t h.entries outcome g a h.binds (inr ((h.entries, are_defs d e o before x y h.entries g h.binds.read, h.are.bound.few), rest))
 
 -- why a design is not read
 design_answers : (d e o : List ℕ) (before : Option Files) (x y : List ℕ) (r : Refusal) → HasBoth before d e x y → NotChecked x r → Answers (compile d e o) (both d e o before x y) (Err r)
@@ -285,62 +292,70 @@ design_answers d e o before x y (refusal.OverLimit l n) g h =
 design_answers d e o before x y refusal.NoMemory g h = inl refl
 design_answers d e o before x y r g h = absurd h
 
+-- why the compiler does not take it
+taken_answers : (d e o : List ℕ) (before : Option Files) (x y : List ℕ) (r : Refusal) → HasBoth before d e x y → NotTaken x r → Answers (compile d e o) (both d e o before x y) (Err r)
+taken_answers d e o before x y (refusal.Language NotYet) g (t, h, untaken) =
+    answers_checked d e o before x y t _ g h (inl (refusal.Language NotYet, inl (t, is_design d e o before x y t g h.reads, untaken, refl), refl))
+taken_answers d e o before x y r g h = absurd h
+
 -- why definitions are not read
-defs_answer : (d e o : List ℕ) (before : Option Files) (x y : List ℕ) (t : tree.Design) (r : Refusal) → HasBoth before d e x y → ReadsChecked x t → NotRead y r → Answers (compile d e o) (both d e o before x y) (Err r)
-defs_answer d e o before x y t (refusal.Definitions (definitions.NoTree f)) g c h =
-    answers_checked d e o before x y t _ g c (inl (refusal.Definitions (definitions.NoTree f), inl (y, f, both_defs d e o before x y g, h, refl), refl))
-defs_answer d e o before x y t refusal.NoMemory g c h = inl refl
-defs_answer d e o before x y t r g c h = absurd h
+defs_answer : (d e o : List ℕ) (before : Option Files) (x y : List ℕ) (r : Refusal) → HasBoth before d e x y → IsAccepted x → NotRead y r → Answers (compile d e o) (both d e o before x y) (Err r)
+defs_answer d e o before x y (refusal.Definitions (definitions.NoTree f)) g a h =
+    answers_accepted d e o before x y _ g a (inl (refusal.Definitions (definitions.NoTree f), inl (y, f, both_defs d e o before x y g, h, refl), refl))
+defs_answer d e o before x y refusal.NoMemory g a h = inl refl
+defs_answer d e o before x y r g a h = absurd h
 
 -- why they are not bound
-bound_answers : (d e o : List ℕ) (before : Option Files) (x y : List ℕ) (r : Refusal) → HasBoth before d e x y → NotBound x y r → Answers (compile d e o) (both d e o before x y) (Err r)
-bound_answers d e o before x y (refusal.Definitions f) g h =
-    answers_read d e o before x y h.tree h.entries _ g h.checked h.read (inl (
+bound_answers : (d e o : List ℕ) (before : Option Files) (x y : List ℕ) (r : Refusal) → HasBoth before d e x y → IsAccepted x → NotBound x y r → Answers (compile d e o) (both d e o before x y) (Err r)
+bound_answers d e o before x y (refusal.Definitions f) g a h =
+    answers_read d e o before x y h.entries _ g a h.read (inl (
       refusal.Definitions (told y h.first),
       inl (h.tree, h.entries, h.first, is_design d e o before x y h.tree g h.checked.reads, are_defs d e o before x y h.entries g h.read, h.is_first, refl),
       ap (λ (z : DefinitionsFault). Err (refusal.Definitions z)) h.is_told,
     ))
-bound_answers d e o before x y (refusal.OverLimit l n) g h =
+bound_answers d e o before x y (refusal.OverLimit l n) g a h =
     let over : most_rows < row_count h.entries = subst (λ (m : ℕ). most_rows < m) h.counted h.over in
-    answers_bound d e o before x y h.tree h.entries _ g h.binds (inl (
+    answers_bound d e o before x y h.tree h.entries _ g a h.binds (inl (
       refusal.OverLimit Rows (row_count h.entries),
       inl (h.entries, are_defs d e o before x y h.entries g h.binds.read, over, refl),
       ap₂ (λ (z : LimitName) (m : ℕ). Err (refusal.OverLimit z m)) h.name h.counted,
     ))
-bound_answers d e o before x y refusal.NoMemory g h = inl refl
-bound_answers d e o before x y r g h = absurd h
+bound_answers d e o before x y refusal.NoMemory g a h = inl refl
+bound_answers d e o before x y r g a h = absurd h
 
 -- why no network is made of both
-lowered_answers : (d e o : List ℕ) (before : Option Files) (x y : List ℕ) (r : Refusal) → HasBoth before d e x y → NotLowered x y r → Answers (compile d e o) (both d e o before x y) (Err r)
-lowered_answers d e o before x y (refusal.Language NotYet) g (t, p, h, untaken) =
-    answers_matched d e o before x y t p _ g h (inl (refusal.Language NotYet, inl (t, is_design d e o before x y t g h.binds.checked.reads, untaken, refl), refl))
-lowered_answers d e o before x y (refusal.OverLimit l n) g (t, p, h, accepts, over) =
+lowered_answers : (d e o : List ℕ) (before : Option Files) (x y : List ℕ) (r : Refusal) → HasBoth before d e x y → IsAccepted x → NotLowered x y r → Answers (compile d e o) (both d e o before x y) (Err r)
+lowered_answers d e o before x y (refusal.OverLimit l n) g a (t, p, h, over) =
     let is = is_design d e o before x y t g h.binds.checked.reads in
-    answers_matched d e o before x y t p _ g h (inr (
-      (t, is, accepts),
-      inl (refusal.OverLimit l n, inl (t, h.entries, l, n, is, are_defs d e o before x y h.entries g h.binds.read, over, refl), refl),
+    answers_matched d e o before x y t p _ g a h (inl (
+      refusal.OverLimit l n,
+      inl (t, h.entries, l, n, is, are_defs d e o before x y h.entries g h.binds.read, over, refl),
+      refl,
     ))
-lowered_answers d e o before x y refusal.NoMemory g h = inl refl
-lowered_answers d e o before x y r g h = absurd h
+lowered_answers d e o before x y refusal.NoMemory g a h = inl refl
+lowered_answers d e o before x y r g a h = absurd h
 
 texts_answer : (d e o : List ℕ) (before : Option Files) (x y : List ℕ) (r : Refusal) → HasBoth before d e x y → NotMade x y r → Answers (compile d e o) (both d e o before x y) (Err r)
 texts_answer d e o before x y r g (inl (inl h)) = design_answers d e o before x y r g h
-texts_answer d e o before x y r g (inl (inr (inl h))) = defs_answer d e o before x y h.tree r g h.checked h.unread
-texts_answer d e o before x y r g (inl (inr (inr h))) = bound_answers d e o before x y r g h
-texts_answer d e o before x y r g (inr h) = lowered_answers d e o before x y r g h
+texts_answer d e o before x y r g (inl (inr h)) = taken_answers d e o before x y r g h
+texts_answer d e o before x y r g (inr (a, inl h)) = defs_answer d e o before x y r g a h.unread
+texts_answer d e o before x y r g (inr (a, inr (inl h))) = bound_answers d e o before x y r g a h
+texts_answer d e o before x y r g (inr (a, inr (inr h))) = lowered_answers d e o before x y r g a h
 
 -- texts are about no fault of the folder
 no_write : (x y : List ℕ) (f : CommandFile) → NotMade x y (refusal.WriteFault f) → ⊥
 no_write x y f (inl (inl h)) = h
-no_write x y f (inl (inr (inl h))) = h.unread
-no_write x y f (inl (inr (inr h))) = h
-no_write x y f (inr h) = h
+no_write x y f (inl (inr h)) = h
+no_write x y f (inr (a, inl h)) = h.unread
+no_write x y f (inr (a, inr (inl h))) = h
+no_write x y f (inr (a, inr (inr h))) = h
 
 no_read : (x y : List ℕ) (f : CommandFile) → NotMade x y (refusal.ReadFault f) → ⊥
 no_read x y f (inl (inl h)) = h
-no_read x y f (inl (inr (inl h))) = h.unread
-no_read x y f (inl (inr (inr h))) = h
-no_read x y f (inr h) = h
+no_read x y f (inl (inr h)) = h
+no_read x y f (inr (a, inl h)) = h.unread
+no_read x y f (inr (a, inr (inl h))) = h
+no_read x y f (inr (a, inr (inr h))) = h
 
 pub texts_refused : (d e o : List ℕ) (before after : Option Files) (x y : List ℕ) (r : Refusal) → after ≡ before → HasBoth before d e x y → NotMade x y r → Performs (compile d e o) before after (Err r)
 texts_refused d e o before after x y r same g h = record {
@@ -383,7 +398,7 @@ answers_made : (d e o : List ℕ) (before : Option Files) (x y : List ℕ) (net 
     → AnswersFrom (compile d e o) (both d e o before x y) (bundle_within ∷ bundle_written ∷ []) outcome → Answers (compile d e o) (both d e o before x y) outcome
 answers_made d e o before x y net outcome g h rest =
     let m = makes d e o before x y net g h in
-    answers_matched d e o before x y h.tree h.tables outcome g h.binds (inr ((h.tree, m.design_is, h.accepts), inr ((net, m, h.within), rest)))
+    answers_matched d e o before x y h.tree h.tables outcome g (h.tree, h.binds.binds.checked, h.accepts) h.binds (inr ((net, m, h.within), rest))
 
 -- and all of them, where the files fit
 may_write : (d e o : List ℕ) (before : Option Files) (x y : List ℕ) (net : NetData) → HasBoth before d e x y → LowersTexts x y net → AllFit (bundle x net None)
@@ -410,12 +425,15 @@ may_write d e o before x y net g h fit =
                   (
                     (h.tree, m.design_is, rules.limits),
                     (
-                      (es, m.defs_are),
+                      (h.tree, m.design_is, h.accepts),
                       (
-                        (h.tree, es, m.design_is, m.defs_are, h.binds.binds.fits),
+                        (es, m.defs_are),
                         (
-                          (es, m.defs_are, h.binds.are.bound.few),
-                          ((h.tree, m.design_is, h.accepts), ((net, m, h.within), ((bundle x net None, fs, fit), (tt, tt)))),
+                          (h.tree, es, m.design_is, m.defs_are, h.binds.binds.fits),
+                          (
+                            (es, m.defs_are, h.binds.are.bound.few),
+                            ((net, m, h.within), ((bundle x net None, fs, fit), (tt, tt))),
+                          ),
                         ),
                       ),
                     ),

@@ -107,6 +107,15 @@ NotChecked design (OverLimit limit count) =
 NotChecked design NoMemory = Unit {0}
 NotChecked design _ = ⊥
 
+-- why the compiler does not take a design that is read
+abbrev pub NotTaken : (design : List ℕ) → Refusal → Type 0
+NotTaken design (Language NotYet) = (tree : Design) × ReadsChecked design tree × (¬ Accepts tree)
+NotTaken design _ = ⊥
+
+-- why there is no design that the compiler takes
+abbrev pub NotAccepted : (design : List ℕ) → Refusal → Type 0
+NotAccepted design refusal = NotChecked design refusal ⊎ NotTaken design refusal
+
 -- why definitions do not read
 abbrev pub NotRead : (defs : List ℕ) → Refusal → Type 0
 NotRead defs (Definitions (definitions.NoTree f)) = FirstFault BeginsDefs defs f
@@ -120,13 +129,11 @@ NotBound design defs (OverLimit limit count) = ManyRows design defs limit count
 NotBound design defs NoMemory = Unit {0}
 NotBound design defs _ = ⊥
 
--- why no network is made of a design and definitions that fit it
+-- why no network is made of a design that the compiler takes and definitions that fit it
 abbrev pub NotLowered : (design defs : List ℕ) → Refusal → Type 0
-NotLowered design defs (Language NotYet) =
-    (tree : Design) × (tables : Places) × BindsTables design defs tree tables × (¬ Accepts tree)
 NotLowered design defs (OverLimit limit count) =
     (tree : Design) × (tables : Places) × (binds : BindsTables design defs tree tables)
-    × Accepts tree × IsOver tree binds.entries limit count
+    × IsOver tree binds.entries limit count
 NotLowered design defs NoMemory = Unit {0}
 NotLowered design defs _ = ⊥
 
@@ -141,6 +148,14 @@ abbrev pub NotMatched : (design defs : List ℕ) → Refusal → Type 0
 NotMatched design defs refusal =
     NotChecked design refusal ⊎ (NotReadAfter design defs refusal ⊎ NotBound design defs refusal)
 
--- why no network is made of two texts
+-- the compiler takes the design of the text
+abbrev pub IsAccepted : (design : List ℕ) → Type 0
+IsAccepted design = (tree : Design) × ReadsChecked design tree × Accepts tree
+
+-- why no network is made of two texts: of the definitions and the network only where the compiler
+-- takes the design
 abbrev pub NotMade : (design defs : List ℕ) → Refusal → Type 0
-NotMade design defs refusal = NotMatched design defs refusal ⊎ NotLowered design defs refusal
+NotMade design defs refusal =
+    NotAccepted design refusal
+    ⊎ (IsAccepted design × (NotReadAfter design defs refusal
+    ⊎ (NotBound design defs refusal ⊎ NotLowered design defs refusal)))

@@ -65,12 +65,12 @@ pub data Step : Type 0 where
   is_there : (file : CommandFile) → Step
   -- it has at most so many bytes
   is_within : (file : CommandFile) (most : ℕ) → Step
-  -- the design reads as a tree, keeps the rules, and is within the limits
-  design_reads design_well_formed design_within : Step
+  -- the design reads as a tree, keeps the rules, is within the limits, and the compiler takes it
+  design_reads design_well_formed design_within design_accepted : Step
   -- the definitions read as a tree, fit the design, and are within the limit on rows
   definitions_read definitions_fit definitions_within : Step
-  -- the compiler takes the design, and the network is within the limits
-  design_accepted lowering_within : Step
+  -- the network is within the limits
+  lowering_within : Step
   -- the level is one of the design
   level_there : (level : ℕ) → Step
   -- the lines of the case are of their forms, at this level
@@ -103,10 +103,9 @@ abbrev pub steps : Command → List Step
 steps (compile design defs out) =
     is_there Design ∷ is_within Design design_most
     ∷ is_there Definitions ∷ is_within Definitions definitions_most
-    ∷ design_reads ∷ design_well_formed ∷ design_within
+    ∷ design_reads ∷ design_well_formed ∷ design_within ∷ design_accepted
     ∷ definitions_read ∷ definitions_fit ∷ definitions_within
-    ∷ design_accepted ∷ lowering_within
-    ∷ bundle_within ∷ bundle_written ∷ []
+    ∷ lowering_within ∷ bundle_within ∷ bundle_written ∷ []
 steps (step design defs level file) =
     is_there Design ∷ is_within Design design_most
     ∷ is_there Definitions ∷ is_within Definitions definitions_most
@@ -174,13 +173,13 @@ IsGood inputs design_reads = (design : tree.Design) × DesignIs inputs design
 IsGood inputs design_well_formed =
     (design : tree.Design) × DesignIs inputs design × WellFormed design
 IsGood inputs design_within = (design : tree.Design) × DesignIs inputs design × WithinLimits design
+IsGood inputs design_accepted = (design : tree.Design) × DesignIs inputs design × Accepts design
 IsGood inputs definitions_read = (defs : tree.DefsText) × DefinitionsAre inputs defs
 IsGood inputs definitions_fit =
     (design : tree.Design) × (defs : tree.DefsText) × DesignIs inputs design
     × DefinitionsAre inputs defs × DefsFit design defs
 IsGood inputs definitions_within =
     (defs : tree.DefsText) × DefinitionsAre inputs defs × (row_count defs ≤ most_rows)
-IsGood inputs design_accepted = (design : tree.Design) × DesignIs inputs design × Accepts design
 IsGood inputs lowering_within =
     (net : NetData) × (makes : Makes inputs net) × IsWithin makes.design makes.defs
 IsGood inputs (level_there level) =
@@ -221,6 +220,9 @@ Refuses inputs design_well_formed r =
 Refuses inputs design_within r =
     (design : tree.Design) × (limit : LimitName) × (count : ℕ) × DesignIs inputs design
     × IsFirstOver design (Some (limit, count)) × (r ≡ refusal.OverLimit limit count)
+Refuses inputs design_accepted r =
+    (design : tree.Design) × DesignIs inputs design × (¬ Accepts design)
+    × (r ≡ refusal.Language NotYet)
 Refuses inputs definitions_read r =
     (text : List ℕ) × (fault : TextFault) × (inputs.file Definitions ≡ Some text)
     × FirstFault BeginsDefs text fault × (r ≡ refusal.Definitions (definitions.NoTree fault))
@@ -232,9 +234,6 @@ Refuses inputs definitions_fit r =
 Refuses inputs definitions_within r =
     (defs : tree.DefsText) × DefinitionsAre inputs defs × (most_rows < row_count defs)
     × (r ≡ refusal.OverLimit Rows (row_count defs))
-Refuses inputs design_accepted r =
-    (design : tree.Design) × DesignIs inputs design × (¬ Accepts design)
-    × (r ≡ refusal.Language NotYet)
 Refuses inputs lowering_within r =
     (design : tree.Design) × (defs : tree.DefsText) × (limit : LimitName) × (count : ℕ)
     × DesignIs inputs design × DefinitionsAre inputs defs × IsOver design defs limit count

@@ -10,11 +10,11 @@ use Rattle.lowered.specs.Delivers.{DeliversExactly, DeliversWithin}
 use Rattle.p4_ir.specs.P4Tree.{Program}
 use Rattle.p4_ir.specs.NetTree.{SwitchFiles, NetData}
 use Rattle.p4_ir.specs.NetFits.{net_fits}
-use Rattle.lower_p4.specs.Accepts.{Accepts, RunsProgram}
+use Rattle.lower_p4.specs.Accepts.{RunsProgram}
 use Rattle.lower_p4.specs.LowerLimits.{IsOver}
 pub use Rattle.lower_p4.specs.OfText.{AreOfText}
 use Rattle.lower_p4.specs.declared.lowering.LowerFault.{LowerFault}
-use Rattle.lower_p4.specs.declared.lowering.LowerFault.TheVariants.{NotYet, Limit, NoMemory}
+use Rattle.lower_p4.specs.declared.lowering.LowerFault.TheVariants.{Limit, NoMemory}
 
 -- each switch runs the program of its number
 abbrev pub RunPrograms : (ℕ → Program → Type 0) → List SwitchFiles → Type 0
@@ -38,6 +38,5 @@ pub record IsSound (design : Design) (defs : DefsText) (net : NetData) : Type 0 
 
 -- why there is no lowering
 abbrev pub NotLowered : Design → DefsText → LowerFault → Type 0
-NotLowered design defs NotYet = ¬ Accepts design
-NotLowered design defs (Limit limit count) = Accepts design × IsOver design defs limit count
+NotLowered design defs (Limit limit count) = IsOver design defs limit count
 NotLowered design defs NoMemory = Unit {0}

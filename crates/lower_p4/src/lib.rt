@@ -5,4 +5,4 @@
 pub mod laws;
 pub mod lowering;
 
-pub use lowering::{LowerFault, lower};
+pub use lowering::{LowerFault, is_accepted, lower};

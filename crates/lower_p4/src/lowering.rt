@@ -22,15 +22,13 @@ use std::alloc::Global;
 /// Why no network is made.
 #[derive(Clone, Copy, Debug, Drop, PartialEq, Eq)]
 pub enum LowerFault {
-    /// The compiler does not take this design yet.
-    NotYet,
     /// The design and its definitions exceed a limit, by this count.
     Limit(LimitName, u64),
     NoMemory,
 }
 
-/// Whether the compiler takes the design.
-fn is_accepted(checked: &Checked) -> bool
+/// Whether the compiler takes the design: it has one level and no assumption.
+pub fn is_accepted(checked: &Checked) -> bool
     ensures { IsTrue result ↔ Accepts (design_of checked.now) }
 {
     let last = checked.levels() - 1;
@@ -59,12 +57,13 @@ fn know_sizes(net: &NetData)
     }
 }
 
-/// The network of a design under its definitions, if the compiler takes the design and they are within the limits. The names
-/// of its headers and fields have to be words, as those of every design are that was read from a text.
+/// The network of a design that the compiler takes, under its definitions, if they are within the limits. The names of its
+/// headers and fields have to be words, as those of every design are that was read from a text.
 pub fn lower(alloc: Global, checked: &Checked, defs: &Defs) -> Result<NetData, LowerFault>
     requires words { IsTrue (is_spelled (design_of checked.now)) }
     requires read { WasRead (design_of checked.now) }
     requires fits { FitsDesign (design_of checked.now) defs.now }
+    requires accepted { Accepts (design_of checked.now) }
 
     // what the network is to the design
     ensures lowering { IfOk result (λ net. (text : DefsText)
@@ -90,9 +89,6 @@ pub fn lower(alloc: Global, checked: &Checked, defs: &Defs) -> Result<NetData, L
     networks_are_writable();
     code_literals_fit();
     checked.design();
-    if !is_accepted(checked) {
-        return Err(LowerFault::NotYet);
-    }
     match lower_net::lower(alloc, checked, defs) {
         Ok(net) => {
             know_ports(&net);

@@ -20,4 +20,4 @@ pub returns-in-Err-Limit-clause-refused : goal.returns-in-Err-Limit-clause-refus
 returns-in-Err-Limit-clause-refused c = λ design defs binds.
     let told : NotLowered (design_of c.args.bound.now.checked) binds.entries (Limit c.in-Err-Limit.limit c.in-Err-Limit.count) =
     subst (NotLowered (design_of c.args.bound.now.checked) binds.entries) c.in-Err-Limit.field-0-is (c.in-Err-Limit.ensures.refused binds.entries binds.are) in
-    (_, _, binds, told.0, told.1)
+    (_, _, binds, told)

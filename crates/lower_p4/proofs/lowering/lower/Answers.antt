@@ -1,4 +1,3 @@
-use Rattle.std.proofs.Common.{rules}
 use Rattle.cocoon_num.specs.Tree.{DefsText}
 use Rattle.cocoon_syntax.specs.TreeOf.{design_of}
 use Rattle.p4_ir.specs.NetOf.{net_of}
@@ -19,7 +18,7 @@ grounds c text of = record {
 }
 
 accepted : (c : goal.After-know_sizes) → Accepts (design_of c.args.checked.now)
-accepted c = c.is_accepted.ensures.0 (search rules)
+accepted c = c.requires.accepted
 
 pub returns-in-Ok-clause-lowering : goal.returns-in-Ok-clause-lowering
 returns-in-Ok-clause-lowering c = λ text of. record {
