@@ -8,6 +8,7 @@ mod decls;
 mod exprs;
 mod noting;
 mod operands;
+mod plain;
 mod sort;
 mod stmts;
 pub mod types;

@@ -1,5 +1,6 @@
 //! The walk over statements: each block's variables leave the scope at its end.
-ghost use Rattle.cocoon_syntax.specs.TreeOf.{block_of, design_of, stmt_kind_of, stmt_of};
+ghost use Rattle.cocoon_num.specs.Tree as tree;
+ghost use Rattle.cocoon_syntax.specs.TreeOf.{block_of, design_of, expr_of, name_of, stmt_kind_of, stmt_of};
 ghost use Rattle.cocoon_types.specs.Noting.{Notes};
 ghost use Rattle.cocoon_types.specs.Sites.{after_stmt, block_ends, stmt_ends};
 ghost use Rattle.declarations.specs.Declares.{Declares};
@@ -7,13 +8,11 @@ ghost use Rattle.std.specs.Prelude.{◌≡◌, ◌&&◌, ◌||◌, false, IfOk, 
 ghost use Rattle.type_rules.specs.Tests.{in_block, in_stmt};
 ghost use Rattle.type_rules.specs.Typed.{Around, scope_of};
 
-use crate::bodies::{
-    note_condition, note_fork, note_havoc, note_havoc_field, note_let, note_send, note_set_field,
-    role_parameters,
-};
-use crate::exprs::{note_args, note_expr};
+use crate::bodies::{note_condition, note_fork, note_havoc, note_havoc_field};
+use crate::exprs::note_expr;
+use crate::plain::{note_let_and_value, note_send_and_values, note_set_and_value, note_test};
 use cocoon_num::NoMemory;
-use cocoon_syntax::{Design, Stmt, StmtKind};
+use cocoon_syntax::{Design, Expr, Name, Stmt, StmtKind};
 use cocoon_types::Noted;
 use cocoon_types::first_faults::noting_laws;
 use declarations::Declarations;
@@ -87,6 +86,39 @@ fn note_stmt(
     )
 }
 
+/// Notes the faults of a fork, and of its condition and its block, where its variable is in scope.
+#[cycle(stmts)]
+fn note_fork_and_block(
+    alloc: Global,
+    names: &Declarations,
+    design: &Design,
+    vars: &mut Scopes,
+    at: u32,
+    ended: bool,
+    name: &Name,
+    width: u32,
+    body: &[Stmt],
+    condition: &Expr,
+    noted: &mut Noted,
+) -> Result<(), NoMemory>
+    requires { Declares names.now (design_of design.now) }
+    ensures vars { OnOk result (vars.new ≡ vars.old) }
+    ensures noted { (w : Around) → OnOk result (Notes
+        (in_stmt (scope_of w (design_of design.now) vars.old true) ended
+        (tree.fork at (name_of name.now) width (expr_of condition.now)
+        (block_of (map stmt_of body.now))))
+        noted.old noted.new) }
+{
+    noting_laws();
+    let depth = vars.depth();
+    vars.bind(alloc, name, width)?;
+    let condition = note_expr(names, design, vars, true, condition, noted);
+    note_fork(at, ended, name, width, condition, noted);
+    note_block(alloc, names, design, vars, body, noted)?;
+    vars.close(depth)?;
+    Ok(())
+}
+
 #[cycle(stmts)]
 fn note_stmt_kind(
     alloc: Global,
@@ -109,15 +141,12 @@ fn note_stmt_kind(
     noting_laws();
     match kind {
         StmtKind::Let(name, width, value) => {
-            let value = note_expr(names, design, vars, true, value, noted);
-            note_let(at, ended, name, *width, value, noted);
+            note_let_and_value(names, design, vars, at, ended, name, *width, value, noted);
             vars.bind(alloc, name, *width)?;
             Ok(false)
         }
         StmtKind::SetField(header, field, value) => {
-            let value = note_expr(names, design, vars, true, value, noted);
-            let width = names.field_width(design, header.text.bytes(), field.text.bytes());
-            note_set_field(at, ended, width, value, noted);
+            note_set_and_value(names, design, vars, at, ended, header, field, value, noted);
             Ok(false)
         }
         StmtKind::If(condition, first, second) => {
@@ -127,14 +156,8 @@ fn note_stmt_kind(
             let second = note_block(alloc, names, design, vars, second, noted)?;
             Ok(both(first, second))
         }
-        StmtKind::Filter(condition) => {
-            let condition = note_expr(names, design, vars, true, condition, noted);
-            note_condition(at, ended, condition, noted);
-            Ok(false)
-        }
-        StmtKind::Assume(condition) => {
-            let condition = note_expr(names, design, vars, true, condition, noted);
-            note_condition(at, ended, condition, noted);
+        StmtKind::Filter(condition) | StmtKind::Assume(condition) => {
+            note_test(names, design, vars, at, ended, condition, noted);
             Ok(false)
         }
         StmtKind::HavocVar(name, width) => {
@@ -147,26 +170,13 @@ fn note_stmt_kind(
             Ok(false)
         }
         StmtKind::Fork(name, width, condition, body) => {
-            let depth = vars.depth();
-            vars.bind(alloc, name, *width)?;
-            let condition = note_expr(names, design, vars, true, condition, noted);
-            note_fork(at, ended, name, *width, condition, noted);
-            note_block(alloc, names, design, vars, body, noted)?;
-            vars.close(depth)?;
+            note_fork_and_block(
+                alloc, names, design, vars, at, ended, name, *width, body, condition, noted,
+            )?;
             Ok(true)
         }
         StmtKind::Send(role, args) => {
-            let found = names.first_role(design, role.text.bytes());
-            let values = note_args(
-                names,
-                design,
-                vars,
-                true,
-                role_parameters(found),
-                args,
-                noted,
-            );
-            note_send(at, ended, found, args.len(), &values, noted);
+            note_send_and_values(names, design, vars, at, ended, role, args, noted);
             Ok(true)
         }
     }

@@ -89,9 +89,6 @@ module _ (laws : NotingLaws) (s : Scope) (ended : Bool) where
   pub assume_in : (at : ℕ) (e : Expr) {o p : Option Fault} → Notes (in_expr s e) o p → Notes (in_stmt s ended (assume at e)) o p
   assume_in at e m = quiet_in (assume at e) (in_expr s e) none_at (λ f. refl) m
 
-  pub havoc_in : (at : ℕ) (x : Name) (w : ℕ) {o p : Option Fault} → Notes (bound_again_at x) o p → Notes (in_stmt s ended (havoc_var at x w)) o p
-  havoc_in at x w m = alone_in (havoc_var at x w) (bound_again_at x) (λ f. only_twice (unless_named (is_none (var_width s x.text)) x) f) (λ f. refl) m
-
   pub havoc_field_in : (at : ℕ) (h g : Name) {o p : Option Fault} → Notes (among unknown_name (unknown_field s h g)) o p → Notes (in_stmt s ended (havoc_field at h g)) o p
   havoc_field_in at h g m = alone_in (havoc_field at h g) (among unknown_name (unknown_field s h g)) (λ f. only_unknown (unknown_field s h g) f) (λ f. refl) m
 

@@ -1,6 +1,6 @@
 //! The walk over statements: each block's variables leave the scope at its end.
 ghost use Rattle.cocoon_num.specs.Tree as tree;
-ghost use Rattle.cocoon_syntax.specs.TreeOf.{block_of, design_of, name_of, stmt_kind_of, stmt_of};
+ghost use Rattle.cocoon_syntax.specs.TreeOf.{block_of, design_of, expr_of, name_of, stmt_kind_of, stmt_of};
 ghost use Rattle.cocoon_types.specs.NameRules.{unknown_role_at};
 ghost use Rattle.cocoon_types.specs.Noting.{Notes};
 ghost use Rattle.cocoon_types.specs.RuleParts.{unless_named};
@@ -9,14 +9,14 @@ ghost use Rattle.cocoon_types.specs.Sites.{after_stmt};
 ghost use Rattle.cocoon_types.specs.Typing.{Scope};
 ghost use Rattle.declarations.specs.Declares.{Declares};
 ghost use Rattle.fault_notes.specs.Among.{among};
-ghost use Rattle.scopes.specs.Widths.{width_in};
-ghost use Rattle.std.specs.Prelude.{◌≡◌, Bool, is_none, map, OnOk, true};
+ghost use Rattle.scopes.specs.Widths.{variable, width_in};
+ghost use Rattle.std.specs.Prelude.{◌≡◌, ◌∷◌, Bool, is_none, map, ℕ, OnOk, true};
 ghost use Rattle.use_rules.specs.Tests.{in_block, in_stmt, scope_at};
 
 use crate::exprs::{note_args, note_expr, note_field};
 use crate::point::Point;
 use cocoon_num::NoMemory;
-use cocoon_syntax::{Design, Name, Stmt, StmtKind};
+use cocoon_syntax::{Design, Expr, Name, Stmt, StmtKind};
 use cocoon_types::first_faults::noting_laws;
 use cocoon_types::{Noted, TypeRule};
 use declarations::Declarations;
@@ -42,6 +42,52 @@ fn note_role(names: &Declarations, design: &Design, level: u32, role: &Name, not
 {
     let found = names.role_at(design, role.text.bytes(), level);
     note_unless(noted, found.is_some(), TypeRule::UnknownRole, role.at);
+}
+
+/// Notes the faults of a `let`. Its variable enters the scope.
+fn note_let(
+    alloc: Global,
+    names: &Declarations,
+    design: &Design,
+    point: Point,
+    vars: &mut Scopes,
+    name: &Name,
+    width: u32,
+    value: &Expr,
+    noted: &mut Noted,
+) -> Result<(), NoMemory>
+    requires { Declares names.now (design_of design.now) }
+    ensures vars { OnOk result (vars.new ≡ variable (name_of name.now) width ∷ vars.old) }
+    ensures noted { (ended : Bool) (at : ℕ) → OnOk result (Notes
+        (in_stmt (scope_at (design_of design.now) point vars.old true) ended
+        (tree.let_ at (name_of name.now) width (expr_of value.now)))
+        noted.old noted.new) }
+{
+    noting_laws();
+    note_bound(vars, name, noted);
+    note_expr(names, design, point, vars, value, noted);
+    vars.bind(alloc, name, width)?;
+    Ok(())
+}
+
+/// Notes the faults of a variable that is chosen. It enters the scope.
+fn note_havoc(
+    alloc: Global,
+    vars: &mut Scopes,
+    name: &Name,
+    width: u32,
+    noted: &mut Noted,
+) -> Result<(), NoMemory>
+    ensures vars { OnOk result (vars.new ≡ variable (name_of name.now) width ∷ vars.old) }
+    ensures noted { (design : tree.Design) (point : Point) (ended : Bool) (at : ℕ)
+        → OnOk result (Notes (in_stmt (scope_at design point vars.old true) ended
+        (tree.havoc_var at (name_of name.now) width))
+        noted.old noted.new) }
+{
+    noting_laws();
+    note_bound(vars, name, noted);
+    vars.bind(alloc, name, width)?;
+    Ok(())
 }
 
 /// Notes the faults of a block.
@@ -94,6 +140,38 @@ fn note_stmt(
     )
 }
 
+/// Notes the faults of a fork: of its variable, and of its condition and its block, where the variable is in scope.
+#[cycle(stmts)]
+fn note_fork(
+    alloc: Global,
+    names: &Declarations,
+    design: &Design,
+    point: Point,
+    vars: &mut Scopes,
+    name: &Name,
+    width: u32,
+    body: &[Stmt],
+    condition: &Expr,
+    noted: &mut Noted,
+) -> Result<(), NoMemory>
+    requires { Declares names.now (design_of design.now) }
+    ensures vars { OnOk result (vars.new ≡ vars.old) }
+    ensures noted { (ended : Bool) (at : ℕ) → OnOk result (Notes
+        (in_stmt (scope_at (design_of design.now) point vars.old true) ended
+        (tree.fork at (name_of name.now) width (expr_of condition.now)
+        (block_of (map stmt_of body.now))))
+        noted.old noted.new) }
+{
+    noting_laws();
+    note_bound(vars, name, noted);
+    let depth = vars.depth();
+    vars.bind(alloc, name, width)?;
+    note_expr(names, design, point, vars, condition, noted);
+    note_block(alloc, names, design, point, vars, body, noted)?;
+    vars.close(depth)?;
+    Ok(())
+}
+
 #[cycle(stmts)]
 fn note_stmt_kind(
     alloc: Global,
@@ -115,12 +193,9 @@ fn note_stmt_kind(
 {
     noting_laws();
     match kind {
-        StmtKind::Let(name, width, value) => {
-            note_bound(vars, name, noted);
-            note_expr(names, design, point, vars, value, noted);
-            vars.bind(alloc, name, *width)?;
-            Ok(())
-        }
+        StmtKind::Let(name, width, value) => note_let(
+            alloc, names, design, point, vars, name, *width, value, noted,
+        ),
         StmtKind::SetField(header, field, value) => {
             note_field(names, design, header, field, noted);
             note_expr(names, design, point, vars, value, noted);
@@ -140,24 +215,14 @@ fn note_stmt_kind(
             note_expr(names, design, point, vars, condition, noted);
             Ok(())
         }
-        StmtKind::HavocVar(name, width) => {
-            note_bound(vars, name, noted);
-            vars.bind(alloc, name, *width)?;
-            Ok(())
-        }
+        StmtKind::HavocVar(name, width) => note_havoc(alloc, vars, name, *width, noted),
         StmtKind::HavocField(header, field) => {
             note_field(names, design, header, field, noted);
             Ok(())
         }
-        StmtKind::Fork(name, width, condition, body) => {
-            note_bound(vars, name, noted);
-            let depth = vars.depth();
-            vars.bind(alloc, name, *width)?;
-            note_expr(names, design, point, vars, condition, noted);
-            note_block(alloc, names, design, point, vars, body, noted)?;
-            vars.close(depth)?;
-            Ok(())
-        }
+        StmtKind::Fork(name, width, condition, body) => note_fork(
+            alloc, names, design, point, vars, name, *width, body, condition, noted,
+        ),
         StmtKind::Send(role, args) => {
             note_role(names, design, point.level, role, noted);
             note_args(names, design, point, vars, args, noted);

@@ -1,16 +1,11 @@
-use Rattle.std.proofs.Common.{true, false, ◌≡◌, ◌<◌, ◌+◌, [], length, map, drop, option_map, Bor, rules, sym, ap, subst, ◌∙◌}
-use Rattle.cocoon_num.specs.Tree.{Stmt, let_, set_field, if_, filter, havoc_var, havoc_field, assume, fork, send}
-use Rattle.cocoon_syntax.specs.TreeOf.{block_of, design_of, expr_of, exprs_of, name_of, role_of, stmt_kind_of, stmt_of}
+use Rattle.std.proofs.Common.{true, false, ◌≡◌, ◌<◌, ◌+◌, [], length, map, drop, rules, sym, subst}
+use Rattle.cocoon_num.specs.Tree.{Stmt, let_, set_field, if_, havoc_var, havoc_field, fork, send}
+use Rattle.cocoon_syntax.specs.TreeOf.{block_of, design_of, expr_of, exprs_of, name_of, stmt_kind_of, stmt_of}
 use Rattle.cocoon_syntax.specs.declared.stmt.StmtKind as kinds
-use Rattle.cocoon_syntax.specs.declared.decl.Role.{Role}
-use Rattle.cocoon_types.specs.Design.{field_width}
 use Rattle.cocoon_types.specs.Noting.{Notes}
-use Rattle.cocoon_types.specs.TypeRules.{first_role}
-use Rattle.type_rules.specs.Tests.{in_block, in_expr, in_exprs, in_stmt}
+use Rattle.type_rules.specs.Tests.{in_block, in_expr, in_stmt}
 use Rattle.type_rules.specs.Typed.{IsTyped, scope_of}
-use Rattle.type_rules.proofs.CallTests.{counted}
-use Rattle.type_rules.proofs.StmtTests.{sent}
-use Rattle.type_rules.proofs.StmtParts.{let_in, set_in, filter_in, assume_in, havoc_in, havoc_field_in, send_in, if_in, fork_in, rest_step, bound_more, ends_more, noted_more}
+use Rattle.type_rules.proofs.StmtParts.{havoc_in, havoc_field_in, if_in, fork_in, rest_step, bound_more, ends_more, noted_more}
 use Rattle.type_rules.proofs.stmts.+stmts.Goals as goal
 
 pub note_block-loop-stmt-preserved : goal.note_block-loop-stmt-preserved
@@ -29,25 +24,51 @@ note_block-loop-stmt-preserved t c =
           c.either-ended.ensures c.in_ok-ends.ensures.ends next (c.in_ok-ends.ensures.vars w) (c.in_ok-ends.ensures.noted w) h);
     }
 
+pub note_fork_and_block-note_block-requires : goal.note_fork_and_block-note_block-requires
+note_fork_and_block-note_block-requires t c = (search rules, c.requires)
+
+pub note_fork_and_block-returns-clause-noted : goal.note_fork_and_block-returns-clause-noted
+note_fork_and_block-returns-clause-noted t c = λ w.
+    let d = design_of c.args.design.now in
+    let s = scope_of w d c.args.vars.now true in
+    let x = expr_of c.args.condition.now in
+    let b = block_of (map stmt_of c.args.body.now) in
+    fork_in c.noting_laws.ensures s c.args.ended c.args.at (name_of c.args.name.now) c.args.width x b
+    (subst (λ vs. Notes (in_expr (scope_of w d vs true) x) c.args.noted.now c.note_expr-condition.new.noted) c.in_ok-bind.ensures (c.note_expr-condition.ensures.noted w))
+    (c.note_fork.ensures s x b (subst (λ vs. IsTyped c.note_expr-condition.result (scope_of w d vs true) x) c.in_ok-bind.ensures (c.note_expr-condition.ensures.typed w)))
+    (subst (λ vs. Notes (in_block (scope_of w d vs true) false b) c.note_fork.new.noted c.note_block.new.noted) c.in_ok-bind.ensures (c.in_ok-note_block.ensures.noted w))
+
 pub note_stmt_kind-returns-in_ok-bind-in-Let-clause-noted : goal.note_stmt_kind-returns-in_ok-bind-in-Let-clause-noted
 note_stmt_kind-returns-in_ok-bind-in-Let-clause-noted t c = λ w.
     let s = scope_of w (design_of c.args.design.now) c.args.vars.now true in
     let is : stmt_kind_of c.args.kind.now c.args.at ≡ let_ c.args.at (name_of c.in-Let.name) c.in-Let.width (expr_of c.in-Let.value) = search (rules, kinds.the_lemmas) in
-    subst (λ (a : Stmt). Notes (in_stmt s c.args.ended a) c.args.noted.now c.note_let.new.noted) (sym is)
-    (let_in c.noting_laws.ensures s c.args.ended c.args.at (name_of c.in-Let.name) c.in-Let.width (expr_of c.in-Let.value) (c.note_expr-value.ensures.noted w)
-    (c.note_let.ensures s (expr_of c.in-Let.value) (c.note_expr-value.ensures.typed w)))
+    subst (λ (a : Stmt). Notes (in_stmt s c.args.ended a) c.args.noted.now c.note_let_and_value.new.noted) (sym is) (c.note_let_and_value.ensures w)
 
 pub note_stmt_kind-returns-in-SetField-clause-noted : goal.note_stmt_kind-returns-in-SetField-clause-noted
 note_stmt_kind-returns-in-SetField-clause-noted t c = λ w.
     let s = scope_of w (design_of c.args.design.now) c.args.vars.now true in
-    let h = name_of c.in-SetField.header in
-    let f = name_of c.in-SetField.field in
-    let width : c.field_width-width.result ≡ field_width (design_of c.args.design.now).headers c.in-SetField.header.text c.in-SetField.field.text =
-    c.field_width-width.ensures ∙ (λ i. field_width (design_of c.args.design.now).headers (c.bytes.ensures i) (c.bytes-in-SetField.ensures i)) in
     let is : stmt_kind_of c.args.kind.now c.args.at ≡ set_field c.args.at (name_of c.in-SetField.header) (name_of c.in-SetField.field) (expr_of c.in-SetField.value) = search (rules, kinds.the_lemmas) in
-    subst (λ (a : Stmt). Notes (in_stmt s c.args.ended a) c.args.noted.now c.note_set_field.new.noted) (sym is)
-    (set_in c.noting_laws.ensures s c.args.ended c.args.at h f (expr_of c.in-SetField.value) (c.note_expr-value-in-SetField.ensures.noted w)
-    (c.note_set_field.ensures s h f (expr_of c.in-SetField.value) width (c.note_expr-value-in-SetField.ensures.typed w)))
+    subst (λ (a : Stmt). Notes (in_stmt s c.args.ended a) c.args.noted.now c.note_set_and_value.new.noted) (sym is) (c.note_set_and_value.ensures w)
+
+pub note_stmt_kind-note_block-requires : goal.note_stmt_kind-note_block-requires
+note_stmt_kind-note_block-requires t c = (search (rules, kinds.the_lemmas), c.requires)
+
+pub note_stmt_kind-note_block-requires-in-If : goal.note_stmt_kind-note_block-requires-in-If
+note_stmt_kind-note_block-requires-in-If t c = (search (rules, kinds.the_lemmas), c.requires)
+
+pub note_stmt_kind-returns-in_ok-second-in-If-clause-noted : goal.note_stmt_kind-returns-in_ok-second-in-If-clause-noted
+note_stmt_kind-returns-in_ok-second-in-If-clause-noted t c = λ w.
+    let d = design_of c.args.design.now in
+    let s = scope_of w d c.args.vars.now true in
+    let x = expr_of c.in-If.condition in
+    let a = block_of (map stmt_of c.deref.result.now) in
+    let b = block_of (map stmt_of c.deref-in-If.result.now) in
+    let is : stmt_kind_of c.args.kind.now c.args.at ≡ if_ c.args.at (expr_of c.in-If.condition) (block_of (map stmt_of c.deref.result.now)) (block_of (map stmt_of c.deref-in-If.result.now)) = search (rules, kinds.the_lemmas) in
+    subst (λ (z : Stmt). Notes (in_stmt s c.args.ended z) c.args.noted.now c.note_block-in-If.new.noted) (sym is)
+    (if_in c.noting_laws.ensures s c.args.ended c.args.at x a b (c.note_expr-condition.ensures.noted w)
+    (c.note_condition.ensures.branch s x a b (c.note_expr-condition.ensures.typed w))
+    (c.in_ok-first-in-If.ensures.noted w)
+    (subst (λ vs. Notes (in_block (scope_of w d vs true) false b) c.note_block.new.noted c.note_block-in-If.new.noted) c.in_ok-first-in-If.ensures.vars (c.in_ok-second-in-If.ensures.noted w)))
 
 pub note_stmt_kind-returns-in_ok-bind-in-HavocVar-clause-noted : goal.note_stmt_kind-returns-in_ok-bind-in-HavocVar-clause-noted
 note_stmt_kind-returns-in_ok-bind-in-HavocVar-clause-noted t c = λ w.
@@ -65,73 +86,17 @@ note_stmt_kind-returns-in-HavocField-clause-noted t c = λ w.
     subst (λ (a : Stmt). Notes (in_stmt s c.args.ended a) c.args.noted.now c.note_havoc_field.new.noted) (sym is)
     (havoc_field_in c.noting_laws.ensures s c.args.ended c.args.at h f (c.note_havoc_field.ensures s h f))
 
-pub note_stmt_kind-returns-in-Filter-clause-noted : goal.note_stmt_kind-returns-in-Filter-clause-noted
-note_stmt_kind-returns-in-Filter-clause-noted t c = λ w.
+pub note_stmt_kind-note_fork_and_block-requires : goal.note_stmt_kind-note_fork_and_block-requires
+note_stmt_kind-note_fork_and_block-requires t c = (search (rules, kinds.the_lemmas), c.requires)
+
+pub note_stmt_kind-returns-in_ok-note_fork_and_block-in-Fork-clause-noted : goal.note_stmt_kind-returns-in_ok-note_fork_and_block-in-Fork-clause-noted
+note_stmt_kind-returns-in_ok-note_fork_and_block-in-Fork-clause-noted t c = λ w.
     let s = scope_of w (design_of c.args.design.now) c.args.vars.now true in
-    let x = expr_of c.in-Filter.condition in
-    let is : stmt_kind_of c.args.kind.now c.args.at ≡ filter c.args.at (expr_of c.in-Filter.condition) = search (rules, kinds.the_lemmas) in
-    subst (λ (a : Stmt). Notes (in_stmt s c.args.ended a) c.args.noted.now c.note_condition-in-Filter.new.noted) (sym is)
-    (filter_in c.noting_laws.ensures s c.args.ended c.args.at x (c.note_expr-condition-in-Filter.ensures.noted w)
-    (c.note_condition-in-Filter.ensures.filter s x (c.note_expr-condition-in-Filter.ensures.typed w)))
-
-pub note_stmt_kind-returns-in-Assume-clause-noted : goal.note_stmt_kind-returns-in-Assume-clause-noted
-note_stmt_kind-returns-in-Assume-clause-noted t c = λ w.
-    let s = scope_of w (design_of c.args.design.now) c.args.vars.now true in
-    let x = expr_of c.in-Assume.condition in
-    let is : stmt_kind_of c.args.kind.now c.args.at ≡ assume c.args.at (expr_of c.in-Assume.condition) = search (rules, kinds.the_lemmas) in
-    subst (λ (a : Stmt). Notes (in_stmt s c.args.ended a) c.args.noted.now c.note_condition-in-Assume.new.noted) (sym is)
-    (assume_in c.noting_laws.ensures s c.args.ended c.args.at x (c.note_expr-condition-in-Assume.ensures.noted w)
-    (c.note_condition-in-Assume.ensures.assume s x (c.note_expr-condition-in-Assume.ensures.typed w)))
-
-pub note_stmt_kind-note_block-requires : goal.note_stmt_kind-note_block-requires
-note_stmt_kind-note_block-requires t c = (search (rules, kinds.the_lemmas), c.requires)
-
-pub note_stmt_kind-note_block-requires-in-If : goal.note_stmt_kind-note_block-requires-in-If
-note_stmt_kind-note_block-requires-in-If t c = (search (rules, kinds.the_lemmas), c.requires)
-
-pub note_stmt_kind-note_block-requires-in-Fork : goal.note_stmt_kind-note_block-requires-in-Fork
-note_stmt_kind-note_block-requires-in-Fork t c = (search (rules, kinds.the_lemmas), c.requires)
-
-pub note_stmt_kind-returns-in_ok-second-in-If-clause-noted : goal.note_stmt_kind-returns-in_ok-second-in-If-clause-noted
-note_stmt_kind-returns-in_ok-second-in-If-clause-noted t c = λ w.
-    let d = design_of c.args.design.now in
-    let s = scope_of w d c.args.vars.now true in
-    let x = expr_of c.in-If.condition in
-    let a = block_of (map stmt_of c.deref.result.now) in
-    let b = block_of (map stmt_of c.deref-in-If.result.now) in
-    let is : stmt_kind_of c.args.kind.now c.args.at ≡ if_ c.args.at (expr_of c.in-If.condition) (block_of (map stmt_of c.deref.result.now)) (block_of (map stmt_of c.deref-in-If.result.now)) = search (rules, kinds.the_lemmas) in
-    subst (λ (z : Stmt). Notes (in_stmt s c.args.ended z) c.args.noted.now c.note_block-in-If.new.noted) (sym is)
-    (if_in c.noting_laws.ensures s c.args.ended c.args.at x a b (c.note_expr-condition.ensures.noted w)
-    (c.note_condition.ensures.branch s x a b (c.note_expr-condition.ensures.typed w))
-    (c.in_ok-first-in-If.ensures.noted w)
-    (subst (λ vs. Notes (in_block (scope_of w d vs true) false b) c.note_block.new.noted c.note_block-in-If.new.noted) c.in_ok-first-in-If.ensures.vars (c.in_ok-second-in-If.ensures.noted w)))
-
-pub note_stmt_kind-returns-in_ok-close-in-Fork-clause-noted : goal.note_stmt_kind-returns-in_ok-close-in-Fork-clause-noted
-note_stmt_kind-returns-in_ok-close-in-Fork-clause-noted t c = λ w.
-    let d = design_of c.args.design.now in
-    let s = scope_of w d c.args.vars.now true in
-    let n = name_of c.in-Fork.name in
-    let x = expr_of c.in-Fork.condition in
-    let b = block_of (map stmt_of c.deref-in-Fork.result.now) in
     let is : stmt_kind_of c.args.kind.now c.args.at ≡ fork c.args.at (name_of c.in-Fork.name) c.in-Fork.width (expr_of c.in-Fork.condition) (block_of (map stmt_of c.deref-in-Fork.result.now)) = search (rules, kinds.the_lemmas) in
-    subst (λ (z : Stmt). Notes (in_stmt s c.args.ended z) c.args.noted.now c.note_block-in-Fork.new.noted) (sym is)
-    (fork_in c.noting_laws.ensures s c.args.ended c.args.at n c.in-Fork.width x b
-    (subst (λ vs. Notes (in_expr (scope_of w d vs true) x) c.args.noted.now c.note_expr-condition-in-Fork.new.noted) c.in_ok-bind-in-Fork.ensures (c.note_expr-condition-in-Fork.ensures.noted w))
-    (c.note_fork.ensures s x b (subst (λ vs. IsTyped c.note_expr-condition-in-Fork.result (scope_of w d vs true) x) c.in_ok-bind-in-Fork.ensures (c.note_expr-condition-in-Fork.ensures.typed w)))
-    (subst (λ vs. Notes (in_block (scope_of w d vs true) false b) c.note_fork.new.noted c.note_block-in-Fork.new.noted) c.in_ok-bind-in-Fork.ensures (c.in_ok-note_block-in-Fork.ensures.noted w)))
+    subst (λ (z : Stmt). Notes (in_stmt s c.args.ended z) c.args.noted.now c.note_fork_and_block.new.noted) (sym is) (c.in_ok-note_fork_and_block-in-Fork.ensures.noted w)
 
 pub note_stmt_kind-returns-in-Send-clause-noted : goal.note_stmt_kind-returns-in-Send-clause-noted
 note_stmt_kind-returns-in-Send-clause-noted t c = λ w.
-    let d = design_of c.args.design.now in
-    let s = scope_of w d c.args.vars.now true in
-    let r = name_of c.in-Send.role in
-    let found = option_map (λ (x : Bor Role). role_of x.now) c.first_role-found.result in
-    let es = exprs_of (map expr_of c.in-Send.args.items) in
-    let known : first_role d r.text ≡ found = ap (first_role d) (sym c.bytes-in-Send.ensures) ∙ sym c.first_role-found.ensures in
-    let many : c.len.result ≡ length c.in-Send.args.items = search rules in
-    let is : stmt_kind_of c.args.kind.now c.args.at ≡ send c.args.at (name_of c.in-Send.role) (exprs_of (map expr_of c.in-Send.args.items)) = search (rules, kinds.the_lemmas) in
-    subst (λ (z : Stmt). Notes (in_stmt s c.args.ended z) c.args.noted.now c.note_send.new.noted) (sym is)
-    (send_in c.noting_laws.ensures s c.args.ended c.args.at r (map expr_of c.in-Send.args.items)
-    (subst (λ xs. Notes (in_exprs s (map expr_of xs)) c.args.noted.now c.note_args-values.new.noted) c.deref-in-Send.ensures.value (c.note_args-values.ensures.noted w))
-    (c.note_send.ensures s r es (counted c.len.result c.in-Send.args.items many) known
-    (sent r known c.role_parameters.ensures (ap (λ xs. exprs_of (map expr_of xs)) c.deref-in-Send.ensures.value) (c.note_args-values.ensures.args w))))
+    let s = scope_of w (design_of c.args.design.now) c.args.vars.now true in
+    let is : stmt_kind_of c.args.kind.now c.args.at ≡ send c.args.at (name_of c.in-Send.role) (exprs_of (map expr_of c.deref-in-Send.result.now)) = search (rules, kinds.the_lemmas) in
+    subst (λ (z : Stmt). Notes (in_stmt s c.args.ended z) c.args.noted.now c.note_send_and_values.new.noted) (sym is) (c.note_send_and_values.ensures w)

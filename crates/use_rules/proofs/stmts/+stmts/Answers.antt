@@ -1,4 +1,4 @@
-use Rattle.std.proofs.Common.{true, false, ◌≡◌, ◌||◌, ◌<◌, ◌≤◌, ◌+◌, [], length, map, drop, rules, refl, sym, subst}
+use Rattle.std.proofs.Common.{true, false, ◌≡◌, ◌||◌, ◌<◌, ◌≤◌, ◌+◌, [], length, map, drop, OnOk, rules, refl, sym, subst}
 use Rattle.std.proofs.lemmas.List.{drop_all}
 use Rattle.cocoon_num.specs.Tree.{Stmt, let_, set_field, if_, filter, havoc_var, havoc_field, assume, fork, send}
 use Rattle.cocoon_syntax.specs.TreeOf.{block_of, design_of, expr_of, exprs_of, name_of, stmt_kind_of, stmt_of}
@@ -6,7 +6,7 @@ use Rattle.cocoon_syntax.specs.declared.stmt.StmtKind as kinds
 use Rattle.cocoon_types.specs.Noting.{Notes}
 use Rattle.cocoon_types.specs.Sites.{stmt_ends}
 use Rattle.use_rules.specs.Tests.{in_block, in_expr, in_exprs, in_stmt, scope_at}
-use Rattle.use_rules.proofs.StmtParts.{let_in, set_in, filter_in, assume_in, havoc_in, havoc_field_in, send_in, if_in, fork_in, rest_step, bound_more, noted_more}
+use Rattle.use_rules.proofs.StmtParts.{set_in, filter_in, assume_in, havoc_field_in, send_in, if_in, fork_in, rest_step, bound_more, noted_more}
 use Rattle.use_rules.proofs.stmts.+stmts.Goals as goal
 
 pub note_block-loop-stmt-init : goal.note_block-loop-stmt-init
@@ -42,28 +42,37 @@ note_block-returns-clause-noted t c = λ ended.
     (subst (λ xs. Notes (in_block (scope_at (design_of c.args.design.now) c.args.point c.loop-stmt.vars true) held.0 (block_of (map stmt_of xs))) c.loop-stmt.noted c.loop-stmt.noted) (sym (drop_all c.loop-stmt.stmt-index c.args.stmts.now all))
     (c.noting_laws.ensures.nothing _ c.loop-stmt.noted (λ f. refl)))
 
+pub note_fork-note_block-requires : goal.note_fork-note_block-requires
+note_fork-note_block-requires t c = (search rules, c.requires)
+
+pub note_fork-returns-clause-noted : goal.note_fork-returns-clause-noted
+note_fork-returns-clause-noted t c = λ ended at.
+    let d = design_of c.args.design.now in
+    let s = scope_at d c.args.point c.args.vars.now true in
+    let x = expr_of c.args.condition.now in
+    let b = block_of (map stmt_of c.args.body.now) in
+    fork_in c.noting_laws.ensures s ended at (name_of c.args.name.now) c.args.width x b c.note_bound.ensures
+    (subst (λ vs. Notes (in_expr (scope_at d c.args.point vs true) x) c.note_bound.new.noted c.note_expr.new.noted) c.in_ok-bind.ensures (c.note_expr.ensures true))
+    (subst (λ vs. Notes (in_block (scope_at d c.args.point vs true) false b) c.note_expr.new.noted c.note_block.new.noted) c.in_ok-bind.ensures (c.in_ok-note_block.ensures.noted false))
+
 pub note_stmt_kind-note_block-requires : goal.note_stmt_kind-note_block-requires
 note_stmt_kind-note_block-requires t c = (search (rules, kinds.the_lemmas), c.requires)
 
 pub note_stmt_kind-note_block-requires-in-If : goal.note_stmt_kind-note_block-requires-in-If
 note_stmt_kind-note_block-requires-in-If t c = (search (rules, kinds.the_lemmas), c.requires)
 
-pub note_stmt_kind-note_block-requires-in-Fork : goal.note_stmt_kind-note_block-requires-in-Fork
-note_stmt_kind-note_block-requires-in-Fork t c = (search (rules, kinds.the_lemmas), c.requires)
-
-pub note_stmt_kind-returns-in_ok-bind-in-Let-clause-noted : goal.note_stmt_kind-returns-in_ok-bind-in-Let-clause-noted
-note_stmt_kind-returns-in_ok-bind-in-Let-clause-noted t c = λ ended.
+pub note_stmt_kind-returns-in-Let-clause-noted : goal.note_stmt_kind-returns-in-Let-clause-noted
+note_stmt_kind-returns-in-Let-clause-noted t c = λ ended.
     let s = scope_at (design_of c.args.design.now) c.args.point c.args.vars.now true in
     let is : stmt_kind_of c.args.kind.now c.args.at ≡ let_ c.args.at (name_of c.in-Let.name) c.in-Let.width (expr_of c.in-Let.value) = search (rules, kinds.the_lemmas) in
-    subst (λ (a : Stmt). Notes (in_stmt s ended a) c.args.noted.now c.note_expr.new.noted) (sym is)
-    (let_in c.noting_laws.ensures s ended c.args.at (name_of c.in-Let.name) c.in-Let.width (expr_of c.in-Let.value) c.note_bound.ensures (c.note_expr.ensures true))
+    subst (λ (a : Stmt). OnOk c.note_let.result (Notes (in_stmt s ended a) c.args.noted.now c.note_let.new.noted)) (sym is) (c.note_let.ensures.noted ended c.args.at)
 
 pub note_stmt_kind-returns-in-SetField-clause-noted : goal.note_stmt_kind-returns-in-SetField-clause-noted
 note_stmt_kind-returns-in-SetField-clause-noted t c = λ ended.
     let s = scope_at (design_of c.args.design.now) c.args.point c.args.vars.now true in
     let is : stmt_kind_of c.args.kind.now c.args.at ≡ set_field c.args.at (name_of c.in-SetField.header) (name_of c.in-SetField.field) (expr_of c.in-SetField.value) = search (rules, kinds.the_lemmas) in
-    subst (λ (a : Stmt). Notes (in_stmt s ended a) c.args.noted.now c.note_expr-in-SetField.new.noted) (sym is)
-    (set_in c.noting_laws.ensures s ended c.args.at (name_of c.in-SetField.header) (name_of c.in-SetField.field) (expr_of c.in-SetField.value) (c.note_field.ensures s refl) (c.note_expr-in-SetField.ensures true))
+    subst (λ (a : Stmt). Notes (in_stmt s ended a) c.args.noted.now c.note_expr.new.noted) (sym is)
+    (set_in c.noting_laws.ensures s ended c.args.at (name_of c.in-SetField.header) (name_of c.in-SetField.field) (expr_of c.in-SetField.value) (c.note_field.ensures s refl) (c.note_expr.ensures true))
 
 pub note_stmt_kind-returns-in_ok-note_block-in-If-2-clause-noted : goal.note_stmt_kind-returns-in_ok-note_block-in-If-2-clause-noted
 note_stmt_kind-returns-in_ok-note_block-in-If-2-clause-noted t c = λ ended.
@@ -90,12 +99,12 @@ note_stmt_kind-returns-in-Assume-clause-noted t c = λ ended.
     subst (λ (a : Stmt). Notes (in_stmt s ended a) c.args.noted.now c.note_expr-in-Assume.new.noted) (sym is)
     (assume_in c.noting_laws.ensures s ended c.args.at (expr_of c.in-Assume.condition) (c.note_expr-in-Assume.ensures true))
 
-pub note_stmt_kind-returns-in_ok-bind-in-HavocVar-clause-noted : goal.note_stmt_kind-returns-in_ok-bind-in-HavocVar-clause-noted
-note_stmt_kind-returns-in_ok-bind-in-HavocVar-clause-noted t c = λ ended.
-    let s = scope_at (design_of c.args.design.now) c.args.point c.args.vars.now true in
+pub note_stmt_kind-returns-in-HavocVar-clause-noted : goal.note_stmt_kind-returns-in-HavocVar-clause-noted
+note_stmt_kind-returns-in-HavocVar-clause-noted t c = λ ended.
+    let d = design_of c.args.design.now in
+    let s = scope_at d c.args.point c.args.vars.now true in
     let is : stmt_kind_of c.args.kind.now c.args.at ≡ havoc_var c.args.at (name_of c.in-HavocVar.name) c.in-HavocVar.width = search (rules, kinds.the_lemmas) in
-    subst (λ (a : Stmt). Notes (in_stmt s ended a) c.args.noted.now c.note_bound-in-HavocVar.new.noted) (sym is)
-    (havoc_in c.noting_laws.ensures s ended c.args.at (name_of c.in-HavocVar.name) c.in-HavocVar.width c.note_bound-in-HavocVar.ensures)
+    subst (λ (a : Stmt). OnOk c.note_havoc.result (Notes (in_stmt s ended a) c.args.noted.now c.note_havoc.new.noted)) (sym is) (c.note_havoc.ensures.noted d c.args.point ended c.args.at)
 
 pub note_stmt_kind-returns-in-HavocField-clause-noted : goal.note_stmt_kind-returns-in-HavocField-clause-noted
 note_stmt_kind-returns-in-HavocField-clause-noted t c = λ ended.
@@ -104,17 +113,14 @@ note_stmt_kind-returns-in-HavocField-clause-noted t c = λ ended.
     subst (λ (a : Stmt). Notes (in_stmt s ended a) c.args.noted.now c.note_field-in-HavocField.new.noted) (sym is)
     (havoc_field_in c.noting_laws.ensures s ended c.args.at (name_of c.in-HavocField.header) (name_of c.in-HavocField.field) (c.note_field-in-HavocField.ensures s refl))
 
-pub note_stmt_kind-returns-in_ok-close-in-Fork-clause-noted : goal.note_stmt_kind-returns-in_ok-close-in-Fork-clause-noted
-note_stmt_kind-returns-in_ok-close-in-Fork-clause-noted t c = λ ended.
-    let d = design_of c.args.design.now in
-    let s = scope_at d c.args.point c.args.vars.now true in
-    let x = expr_of c.in-Fork.condition in
-    let b = block_of (map stmt_of c.deref-in-Fork.result.now) in
+pub note_stmt_kind-note_fork-requires : goal.note_stmt_kind-note_fork-requires
+note_stmt_kind-note_fork-requires t c = (search (rules, kinds.the_lemmas), c.requires)
+
+pub note_stmt_kind-returns-in-Fork-clause-noted : goal.note_stmt_kind-returns-in-Fork-clause-noted
+note_stmt_kind-returns-in-Fork-clause-noted t c = λ ended.
+    let s = scope_at (design_of c.args.design.now) c.args.point c.args.vars.now true in
     let is : stmt_kind_of c.args.kind.now c.args.at ≡ fork c.args.at (name_of c.in-Fork.name) c.in-Fork.width (expr_of c.in-Fork.condition) (block_of (map stmt_of c.deref-in-Fork.result.now)) = search (rules, kinds.the_lemmas) in
-    subst (λ (a : Stmt). Notes (in_stmt s ended a) c.args.noted.now c.note_block-in-Fork.new.noted) (sym is)
-    (fork_in c.noting_laws.ensures s ended c.args.at (name_of c.in-Fork.name) c.in-Fork.width x b c.note_bound-in-Fork.ensures
-    (subst (λ vs. Notes (in_expr (scope_at d c.args.point vs true) x) c.note_bound-in-Fork.new.noted c.note_expr-in-Fork.new.noted) c.in_ok-bind-in-Fork.ensures (c.note_expr-in-Fork.ensures true))
-    (subst (λ vs. Notes (in_block (scope_at d c.args.point vs true) false b) c.note_expr-in-Fork.new.noted c.note_block-in-Fork.new.noted) c.in_ok-bind-in-Fork.ensures (c.in_ok-note_block-in-Fork.ensures.noted false)))
+    subst (λ (a : Stmt). OnOk c.note_fork.result (Notes (in_stmt s ended a) c.args.noted.now c.note_fork.new.noted)) (sym is) (c.note_fork.ensures.noted ended c.args.at)
 
 pub note_stmt_kind-returns-in-Send-clause-noted : goal.note_stmt_kind-returns-in-Send-clause-noted
 note_stmt_kind-returns-in-Send-clause-noted t c = λ ended.
