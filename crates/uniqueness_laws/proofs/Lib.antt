@@ -1,10 +1,4 @@
-pub mod ProgramLists
-pub mod ProgramReader
-pub mod ProgramSpells
-pub mod ProgramReads
-pub mod ProgramBlocks
-pub mod ProgramDeclarations
-pub mod ProgramWhole
+pub mod OneProgram
 pub mod SameValues
 pub mod DeliveryDesign
 pub mod DeliveryNetwork

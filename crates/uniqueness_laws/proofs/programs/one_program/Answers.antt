@@ -1,6 +1,6 @@
--- A text has one list of tokens, and the tokens are of one program.
-use Rattle.uniqueness_laws.proofs.ProgramWhole as whole
+-- A text has one answer.
+use Rattle.uniqueness_laws.proofs.OneProgram as one
 use Rattle.uniqueness_laws.proofs.programs.one_program.Goals as goal
 
 pub returns : goal.returns
-returns c = λ text p q a b. whole.one_program text p q a b
+returns c = one.one_program c.one_answer.ensures

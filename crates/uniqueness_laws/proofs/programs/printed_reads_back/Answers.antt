@@ -1,5 +1,5 @@
 -- The program that it reads as is one of its answers, and it has one.
-use Rattle.p4_unique.specs.Answers.{a_program}
+use Rattle.p4_read.specs.Answers.{a_program}
 use Rattle.uniqueness_laws.proofs.programs.printed_reads_back.Goals as goal
 
 pub returns : goal.returns

@@ -7,7 +7,7 @@ use Rattle.cocoon_num.specs.FirstFaults.{TooDeep, Unexpected}
 use Rattle.p4_ir.specs.P4Text.{p4_bounds}
 use Rattle.p4_texts.specs.Reading.{DeepAt}
 use Rattle.p4_texts.specs.Written.{BeginsP4, P4TextAt, ProgramText}
-use Rattle.p4_unique.proofs.Prefixes.{shallow_before, take_begins, take_shallow, text_begins}
+use Rattle.p4_read.proofs.Prefixes.{shallow_before, take_begins, take_shallow, text_begins}
 
 -- of two numbers that are not less than each other
 same_number : (i j : ℕ) → (i < j → ⊥) → (j < i → ⊥) → i ≡ j

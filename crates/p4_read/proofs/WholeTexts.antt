@@ -6,8 +6,8 @@ use Rattle.cocoon_num.specs.Names.{same_name}
 use Rattle.cocoon_num.specs.Tokens.{Kind, a_name, mark, finish}
 use Rattle.p4_ir.specs.P4Text.{architecture, match_kind, said}
 use Rattle.p4_texts.specs.Written.{BlockText, FieldText, HeaderText, MemberText, KeysText, no_keys, some_keys, TableText, ControlText, RestText, ProgramText, control_then, deparser_head, deparser_then, each_then, egress_begins, egress_head, egress_then, emit_then, extract_then, field_then, header_then, ingress_begins, ingress_head, ingress_then, key_then, keys_then, member_then, meta_then, parser_head, parser_then, rest_then, table_then, text_end, text_tokens, P4TextAt}
-use Rattle.p4_unique.proofs.Tokens.{Known, same_each, first_plain, first_width, first_number, name_at}
-use Rattle.p4_unique.proofs.Statements.{same_block}
+use Rattle.p4_read.proofs.Tokens.{Known, same_each, first_plain, first_width, first_number, name_at}
+use Rattle.p4_read.proofs.Statements.{same_block}
 
 abbrev plain_at : ℕ → List Kind → ℕ
 plain_at n ks = first_plain (drop n ks)

@@ -10,7 +10,7 @@ use Rattle.p4_ir.specs.declared.program.P4Binary.{P4Binary}
 use Rattle.p4_ir.specs.declared.program.P4Binary.TheVariants.{Add, Sub, BitAnd, BitOr, BitXor, Concat, Equal, Unequal, Less, LessEqual, Greater, GreaterEqual, And, Or}
 use Rattle.p4_texts.specs.Written.{ExprText, w_lit, w_truth, w_meta, w_field, w_port, w_rid, w_unary, w_binary, w_slice, w_pick, expr_then}
 use Rattle.p4_texts.proofs.Spells.{Bits, slices_then, with_slices}
-use Rattle.p4_unique.proofs.Tokens.{differ, first_number, first_width, name_at, mark_at}
+use Rattle.p4_read.proofs.Tokens.{differ, first_number, first_width, name_at, mark_at}
 
 -- no slice begins here
 abbrev pub opens_slice : List Kind → Bool

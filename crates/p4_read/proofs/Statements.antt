@@ -4,8 +4,8 @@ use Rattle.std.proofs.Common.{sym, ◌∙◌, ap, ap₂}
 use Rattle.cocoon_num.specs.Names.{same_name}
 use Rattle.cocoon_num.specs.Tokens.{Kind, a_name, mark}
 use Rattle.p4_texts.specs.Written.{ExprText, StmtText, w_set_meta, w_set_field, w_apply, w_if, w_if_else, w_verdict, w_egress_port, w_group, w_return, BlockText, w_done, w_then, value_then, condition_then, stmt_then, block_then}
-use Rattle.p4_unique.proofs.Tokens.{differ, first_number, first_width, name_at}
-use Rattle.p4_unique.proofs.Expressions.{same_expr}
+use Rattle.p4_read.proofs.Tokens.{differ, first_number, first_width, name_at}
+use Rattle.p4_read.proofs.Expressions.{same_expr}
 
 -- ---- which statement begins so
 

@@ -15,9 +15,9 @@ use Rattle.p4_read.specs.declared.fault.P4Fault.{P4Fault}
 use Rattle.p4_read.specs.declared.fault.P4Fault.TheVariants.{Lex, Unexpected, TooDeep, Kind, NoMemory}
 use Rattle.p4_resolve.specs.FirstKind.{first_of}
 use Rattle.p4_texts.specs.Written.{BeginsP4, P4TextAt, ProgramText}
-use Rattle.p4_unique.specs.Answers.{Answer, a_program, a_fault, Answers}
-use Rattle.p4_unique.proofs.FirstFaults.{not_both, one_deep, one_unexpected, text_expected, text_not_deep}
-use Rattle.p4_unique.proofs.WholeTexts.{one_tree}
+use Rattle.p4_read.specs.Answers.{Answer, a_program, a_fault, Answers}
+use Rattle.p4_read.proofs.FirstFaults.{not_both, one_deep, one_unexpected, text_expected, text_not_deep}
+use Rattle.p4_read.proofs.WholeTexts.{one_tree}
 
 -- ---- what is said of tokens
 

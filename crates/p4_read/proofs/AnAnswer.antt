@@ -20,9 +20,9 @@ use Rattle.p4_texts.specs.Written.{P4TextAt, ProgramText}
 use Rattle.p4_texts.proofs.Ends.{lexed_lasts}
 use Rattle.p4_texts.proofs.Exact.{text_stuck}
 use Rattle.p4_texts.proofs.WholeTexts.{the_reading}
-use Rattle.p4_unique.specs.Answers.{Answer, a_program, a_fault, Answers}
-use Rattle.p4_unique.proofs.FirstFaults.{first_deep}
-use Rattle.p4_unique.proofs.Prefixes.{shallow_before, take_shallow}
+use Rattle.p4_read.specs.Answers.{Answer, a_program, a_fault, Answers}
+use Rattle.p4_read.proofs.FirstFaults.{first_deep}
+use Rattle.p4_read.proofs.Prefixes.{shallow_before, take_shallow}
 
 -- where the reader is stuck
 record Place (ks bad : List Token-kind) : Type 0 where

@@ -1,4 +1,4 @@
--- The answers to a P4 text: the program that it reads as, and its first fault. The laws of `texts` cite them.
+-- The answers to a P4 text: the program that it reads as, and its first fault. The module `laws` cites them.
 use Rattle.std.specs.Prelude.{ℕ, List}
 use Rattle.p4_ir.specs.P4Reads.{P4Reads}
 use Rattle.p4_ir.specs.P4Tree.{Program}

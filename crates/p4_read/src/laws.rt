@@ -1,8 +1,8 @@
-//! Texts of P4 programs.
+//! Each P4 text has one tree, and one program or one first fault. The functions do nothing; their contracts are the laws.
 ghost use Rattle.std.specs.Prelude.{◌≡◌, List, ℕ};
 ghost use Rattle.cocoon_num.specs.Tokens.{Kind};
 ghost use Rattle.p4_texts.specs.Written.{P4TextAt, ProgramText};
-ghost use Rattle.p4_unique.specs.Answers.{Answer, Answers};
+ghost use Rattle.p4_read.specs.Answers.{Answer, Answers};
 
 use p4_names::texts::{reads_where_it_stands, stands_where_it_reads};
 

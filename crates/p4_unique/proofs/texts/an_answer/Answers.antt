@@ -1,5 +1,0 @@
-use Rattle.p4_unique.proofs.AnAnswer.{found}
-use Rattle.p4_unique.proofs.texts.an_answer.Goals as goal
-
-pub returns : goal.returns
-returns c = found c.reads_where_it_stands.ensures

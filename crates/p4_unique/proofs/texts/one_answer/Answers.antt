@@ -1,5 +1,0 @@
-use Rattle.p4_unique.proofs.OneAnswer.{the_answer}
-use Rattle.p4_unique.proofs.texts.one_answer.Goals as goal
-
-pub returns : goal.returns
-returns c = the_answer c.stands_where_it_reads.ensures
