@@ -3,7 +3,7 @@ use Rattle.std.proofs.Common.{◌≡◌, ℕ, ◌+◌, Bool, List, [], ◌∷◌
 use Rattle.p4_ir.specs.P4Tree.{P4Field}
 use Rattle.p4_names.specs.KindFaults.{Piece}
 use Rattle.p4_resolve.specs.FieldForms.{Declares, Keeps, field_fits}
-use Rattle.p4_resolve.specs.Judged.{Breaks, Sees, StopsBy}
+use Rattle.p4_resolve.specs.Judged.{Breaks, Sees, StopsBy, index}
 use Rattle.p4_resolve.specs.declared.fault.KindFault.{KindFault}
 use Rattle.p4_resolve.proofs.PieceFacts.{started, passed, stopped_by}
 
@@ -11,7 +11,7 @@ pub keeps_one : (x : Piece) (meant : P4Field) (at : ℕ) (names : List (List ℕ
     → length x.tokens ≡ 6 → x.keeps ≡ field_fits names name width named → meant ≡ record { name = name; width = width } → Declares at names name width named keys field end
     → Keeps at (x ∷ []) names field.name keys meant field end
 keeps_one x meant at names name width named keys field end six fits m d = record {
-  passes = passed at (x ∷ []) at end x [] (started at (x ∷ [])) (fits ∙ d.fits) (d.ends ∙ ap (λ n. at + n) (sym six));
+  passes = passed at (x ∷ []) at end x [] (started at (x ∷ [])) (fits ∙ d.fits) (d.ends ∙ ap (λ n. index (at + n)) (sym six));
   seen = subst (λ (f : P4Field). Sees keys (names ++ (f.name ∷ []))) (sym d.is) d.seen;
   is = d.is ∙ sym m;
 }

@@ -1,6 +1,7 @@
 -- Values, the pieces of statements that have one, and blocks.
 use Rattle.std.proofs.Common.{◌≡◌, ℕ, suc, ◌+◌, ◌<◌, ◌≤◌, ◌==◌, ◌&&◌, ◌||◌, Bool, true, false, not, List, [], ◌∷◌, ◌++◌, length, drop, get_or, Option, Some, None, codes, refl, sym, ap, subst, ◌∙◌, arith}
 use Rattle.std.specs.Prelude.{decimal}
+use Rattle.std.proofs.Math.Nat.{add_assoc}
 use Rattle.std.proofs.lemmas.Bool.{and_parts}
 use Rattle.std.proofs.lemmas.Bool.Decides.{nat_tests}
 use Rattle.std.proofs.lemmas.List.{at_drop_more, at_drop_all}
@@ -18,12 +19,12 @@ use Rattle.p4_names.specs.Meant.{block_meant, expr_meant, field_at, header_at, m
 use Rattle.p4_texts.specs.Written.{BlockText, ExprText, ProgramText, w_lit, w_truth, w_meta, w_field, w_port, w_rid, w_unary, w_binary, w_slice, w_pick, w_apply, w_set_meta, w_set_field, w_egress_port, w_group, w_if, w_if_else, condition_then, expr_then, stmt_then}
 use Rattle.p4_written.specs.TreeOf.{body_of, stmt_of}
 use Rattle.p4_written.specs.declared.WrittenStmt.{WrittenStmt}
-use Rattle.p4_resolve.specs.Judged.{Breaks, Passes, Rest, StopsBy}
+use Rattle.p4_resolve.specs.Judged.{Breaks, Passes, Rest, StopsBy, index}
 use Rattle.p4_resolve.specs.Numbered.{is_small}
 use Rattle.p4_resolve.specs.StmtForms.{BlockKeeps, ValueKeeps, condition_piece, value_fits}
 use Rattle.p4_resolve.specs.Typed.{expr_count}
 use Rattle.p4_resolve.specs.declared.fault.KindFault.{KindFault}
-use Rattle.p4_resolve.proofs.PieceFacts.{all_passed, one_stopped, passed, started, stopped_by}
+use Rattle.p4_resolve.proofs.PieceFacts.{all_passed, one_stopped, passed, started, stopped_by, then_after}
 
 pub none_differs : (s : Option Sort) → are_same s None ≡ false
 none_differs None = refl
@@ -61,11 +62,21 @@ count_then (w_pick c a b) ks =
     let h = count_then b (mark (codes ")") ∷ ks) in
     omega (arith, f, g, h)
 
+-- the token after so many, twice
+ends_after : (at begin mid front count back : ℕ) → begin ≡ index (at + front) → mid ≡ index (begin + count) → index (mid + back) ≡ index (at + (front + (count + back)))
+ends_after at begin mid front count back b m =
+    ap (λ i. index (i + back)) m ∙ then_after (begin + count) back ∙ ap index (add_assoc begin count back)
+    ∙ ap (λ i. index (i + (count + back))) b ∙ then_after (at + front) (count + back) ∙ ap index (add_assoc at front (count + back))
+
 -- a piece that is one value, with as many other tokens
 pub value_passes : (t : ProgramText) (c : Within) (wanted : Option Sort) (allowed : Bool) (e : ExprText) (x : Piece) (at begin : ℕ) (made : P4Expr) (mid end front back : ℕ) → ValueKeeps t c wanted allowed e begin made mid
-    → begin ≡ at + front → end ≡ mid + back → length x.tokens ≡ front + (expr_count e + back) → x.keeps ≡ value_fits c wanted allowed (expr_meant t e) → Passes at (x ∷ []) end
+    → begin ≡ index (at + front) → end ≡ index (mid + back) → length x.tokens ≡ front + (expr_count e + back) → x.keeps ≡ value_fits c wanted allowed (expr_meant t e) → Passes at (x ∷ []) end
 value_passes t c wanted allowed e x at begin made mid end front back v b d n k =
-    passed at (x ∷ []) at end x [] (started at (x ∷ [])) (k ∙ v.fits) (let m = v.ends in omega (arith, b, d, n, m))
+    passed at (x ∷ []) at end x [] (started at (x ∷ [])) (k ∙ v.fits) (d ∙ ends_after at begin mid front (expr_count e) back b v.ends ∙ ap (λ l. index (at + l)) (sym n))
+
+-- a piece that is a whole statement
+pub one_passes : (x : Piece) (at end : ℕ) → x.keeps ≡ true → end ≡ index (at + length x.tokens) → Passes at (x ∷ []) end
+one_passes x at end k e = passed at (x ∷ []) at end x [] (started at (x ∷ [])) k e
 
 pub value_stops : (x : Piece) (at : ℕ) (fits : Bool) (fault : KindFault) → x.keeps ≡ fits → Breaks at fits fault → StopsBy at (x ∷ []) fault
 value_stops x at fits fault e b = stopped_by at (x ∷ []) at x [] fault (started at (x ∷ [])) (subst (λ k. Breaks at k fault) (sym e) b)
@@ -115,7 +126,7 @@ pub if_else_pieces : (t : ProgramText) (d : Within) (e : ExprText) (a b : BlockT
 if_else_pieces t d e a b filled h =
     ap (λ f. let x : Piece = record { tokens = condition_then e []; keeps = has_sort truth_sort (p4_sort d (expr_meant t e)) && f } in x ∷ (block_pieces t d a ++ (else_brace ∷ (block_pieces t d b ++ (brace ∷ []))))) (sym h)
 
-pub if_passes : (t : ProgramText) (d : Within) (e : ExprText) (a : BlockText) (at opens close end : ℕ) → Passes at (condition_piece t d e true ∷ []) opens → Passes opens (block_pieces t d a) close → end ≡ close + 1 → Passes at (stmt_pieces t d (w_if e a)) end
+pub if_passes : (t : ProgramText) (d : Within) (e : ExprText) (a : BlockText) (at opens close end : ℕ) → Passes at (condition_piece t d e true ∷ []) opens → Passes opens (block_pieces t d a) close → end ≡ index (close + 1) → Passes at (stmt_pieces t d (w_if e a)) end
 if_passes t d e a at opens close end c b h =
     let all : List Piece = (condition_piece t d e true ∷ []) ++ (block_pieces t d a ++ (brace ∷ [])) in
     let opened = all_passed at all at opens (condition_piece t d e true ∷ []) (block_pieces t d a ++ (brace ∷ [])) (started at all) c in
@@ -142,14 +153,14 @@ else_all t d e a b filled = (condition_piece t d e filled ∷ []) ++ else_rest t
 pub else_opened : (t : ProgramText) (d : Within) (e : ExprText) (a b : BlockText) (filled : Bool) (at opens : ℕ) → Passes at (condition_piece t d e filled ∷ []) opens → Rest at (else_all t d e a b filled) opens (else_rest t d a b)
 else_opened t d e a b filled at opens c = all_passed at (else_all t d e a b filled) at opens (condition_piece t d e filled ∷ []) (else_rest t d a b) (started at (else_all t d e a b filled)) c
 
-pub else_other : (t : ProgramText) (d : Within) (e : ExprText) (a b : BlockText) (filled : Bool) (at opens close other : ℕ) → Passes at (condition_piece t d e filled ∷ []) opens → Passes opens (block_pieces t d a) close → other ≡ close + 3
+pub else_other : (t : ProgramText) (d : Within) (e : ExprText) (a b : BlockText) (filled : Bool) (at opens close other : ℕ) → Passes at (condition_piece t d e filled ∷ []) opens → Passes opens (block_pieces t d a) close → other ≡ index (close + 3)
     → Rest at (else_all t d e a b filled) other (block_pieces t d b ++ (brace ∷ []))
 else_other t d e a b filled at opens close other c x h =
     passed at (else_all t d e a b filled) close other else_brace (block_pieces t d b ++ (brace ∷ []))
     (all_passed at (else_all t d e a b filled) opens close (block_pieces t d a) (else_brace ∷ (block_pieces t d b ++ (brace ∷ []))) (else_opened t d e a b filled at opens c) x) refl h
 
-pub else_passes : (t : ProgramText) (d : Within) (e : ExprText) (a b : BlockText) (filled : Bool) (at opens close other last end : ℕ) → filled ≡ not (is_empty (block_meant t b)) → Passes at (condition_piece t d e filled ∷ []) opens → Passes opens (block_pieces t d a) close → other ≡ close + 3
-    → Passes other (block_pieces t d b) last → end ≡ last + 1 → Passes at (stmt_pieces t d (w_if_else e a b)) end
+pub else_passes : (t : ProgramText) (d : Within) (e : ExprText) (a b : BlockText) (filled : Bool) (at opens close other last end : ℕ) → filled ≡ not (is_empty (block_meant t b)) → Passes at (condition_piece t d e filled ∷ []) opens → Passes opens (block_pieces t d a) close → other ≡ index (close + 3)
+    → Passes other (block_pieces t d b) last → end ≡ index (last + 1) → Passes at (stmt_pieces t d (w_if_else e a b)) end
 else_passes t d e a b filled at opens close other last end f c x h y k =
     subst (λ ps. Passes at ps end) (sym (if_else_pieces t d e a b filled f))
     (passed at (else_all t d e a b filled) last end brace [] (all_passed at (else_all t d e a b filled) other last (block_pieces t d b) (brace ∷ []) (else_other t d e a b filled at opens close other c x h) y) refl k)
@@ -164,7 +175,7 @@ else_first_stops t d e a b filled at opens fault f c s =
     subst (λ ps. StopsBy at ps fault) (sym (if_else_pieces t d e a b filled f)) (one_stopped at (else_all t d e a b filled) opens (block_pieces t d a) (else_brace ∷ (block_pieces t d b ++ (brace ∷ []))) fault (else_opened t d e a b filled at opens c) s)
 
 pub else_second_stops : (t : ProgramText) (d : Within) (e : ExprText) (a b : BlockText) (filled : Bool) (at opens close other : ℕ) (fault : KindFault) → filled ≡ not (is_empty (block_meant t b)) → Passes at (condition_piece t d e filled ∷ []) opens → Passes opens (block_pieces t d a) close
-    → other ≡ close + 3 → StopsBy other (block_pieces t d b) fault → StopsBy at (stmt_pieces t d (w_if_else e a b)) fault
+    → other ≡ index (close + 3) → StopsBy other (block_pieces t d b) fault → StopsBy at (stmt_pieces t d (w_if_else e a b)) fault
 else_second_stops t d e a b filled at opens close other fault f c x h s =
     subst (λ ps. StopsBy at ps fault) (sym (if_else_pieces t d e a b filled f)) (one_stopped at (else_all t d e a b filled) other (block_pieces t d b) (brace ∷ []) fault (else_other t d e a b filled at opens close other c x h) s)
 

@@ -1,7 +1,8 @@
 -- Tables, each after those before it.
-use Rattle.std.proofs.Common.{◌≡◌, ℕ, suc, ◌+◌, ◌*◌, ◌<◌, ◌≤◌, ◌&&◌, Bool, true, false, List, [], ◌∷◌, ◌++◌, length, map, take, drop, get_or, Option, codes, refl, sym, ap, ap₂, subst, ◌∙◌, append_assoc, arith}
+use Rattle.std.proofs.Common.{◌≡◌, ℕ, suc, ◌+◌, ◌-◌, ◌*◌, ◌^◌, ◌<◌, ◌≤◌, ◌&&◌, Bool, true, false, List, [], ◌∷◌, ◌++◌, length, map, take, drop, get_or, Option, codes, refl, sym, ap, ap₂, subst, ◌∙◌, append_assoc, arith}
 use Rattle.std.specs.Prelude.{MatchOption, decimal, nat_le}
-use Rattle.std.proofs.lemmas.Bool.{and_parts}
+use Rattle.std.proofs.Math.Nat.{add_assoc, mod-eq_of_lt}
+use Rattle.std.proofs.lemmas.Bool.{and_parts, ltb-true}
 use Rattle.std.proofs.lemmas.List.{at_drop_more, at_drop_all, append-nil, map-append, take_all}
 use Rattle.cocoon_num.specs.Lists.{each}
 use Rattle.cocoon_num.specs.Names.{same_name}
@@ -18,13 +19,13 @@ use Rattle.p4_written.specs.declared.WrittenTable.{WrittenTable}
 use Rattle.declarations.proofs.NameFacts.{same-true}
 use Rattle.declarations.proofs.TableFacts.{taken}
 use Rattle.p4_resolve.specs.Controls.{IsBefore, TablesKeep, action_names, table_numbers}
-use Rattle.p4_resolve.specs.Judged.{Rest, Sees, StopsBy}
+use Rattle.p4_resolve.specs.Judged.{Rest, Sees, Stops, StopsBy, index}
 use Rattle.p4_resolve.specs.Numbered.{is_small}
 use Rattle.p4_resolve.specs.TableForms.{agrees, own_keeps}
 use Rattle.p4_resolve.specs.declared.controls.Before.{Before}
 use Rattle.p4_resolve.specs.declared.fault.KindFault.{KindFault}
 use Rattle.p4_resolve.specs.declared.fault.KindFault.TheVariants.{Kind}
-use Rattle.p4_resolve.proofs.PieceFacts.{all_passed, one_stopped, passed, started, stopped}
+use Rattle.p4_resolve.proofs.PieceFacts.{all_passed, index_kept, one_stopped, passed, started, stopped, then_after}
 
 -- ---- the rules of a table
 
@@ -87,32 +88,37 @@ names_more done k = map-append (λ (k : TableText). k.action) done (k ∷ [])
 pub numbers_more : (t : ProgramText) (done : List TableText) (k : TableText) → table_numbers t (done ++ k ∷ []) ≡ table_numbers t done ++ (number_in k.action ∷ [])
 numbers_more t done k = ap numbers_of (map-append (table_meant t) done (k ∷ [])) ∙ map-append (λ (m : P4Table). m.number) (map (table_meant t) done) (table_meant t k ∷ [])
 
+-- the number after that of a table has 32 bits
+pub least_is : (n l : ℕ) → is_small n ≡ true → l ≡ index (n + 1) → l ≡ n + 1
+least_is n l h e = e ∙ mod-eq_of_lt (let b = ltb-true n (2 ^ 32 - 1) h in omega (arith, b))
+
 pub before_more : (t : ProgramText) (done : List TableText) (k : TableText) (b : Before) → Sees b.actions.keys (action_names done ++ (k.action ∷ [])) → b.least ≡ number_in k.action + 1 → IsBefore b t (done ++ k ∷ [])
 before_more t done k b seen least = record {
   actions = subst (Sees b.actions.keys) (sym (names_more done k)) seen;
   least = least ∙ omega arith ∙ sym (ap least_after (numbers_more t done k) ∙ last_least (table_numbers t done) (number_in k.action));
 }
 
-action_passed : (t : ProgramText) (names : List (List ℕ)) (numbers : List ℕ) (k : TableText) (at middle : ℕ) → action_keeps t names k ≡ true → middle ≡ at + 17 → Rest at (table_pieces t names numbers (k ∷ [])) middle (own_piece t numbers k ∷ [])
+action_passed : (t : ProgramText) (names : List (List ℕ)) (numbers : List ℕ) (k : TableText) (at middle : ℕ) → action_keeps t names k ≡ true → middle ≡ index (at + 17) → Rest at (table_pieces t names numbers (k ∷ [])) middle (own_piece t numbers k ∷ [])
 action_passed t names numbers k at middle h e =
     passed at (table_pieces t names numbers (k ∷ [])) at middle (action_piece t names k) (own_piece t numbers k ∷ []) (started at (table_pieces t names numbers (k ∷ []))) h e
 
-pub one_table : (t : ProgramText) (done : List TableText) (k : WrittenTable) (b : Before) (made : P4Table) (at middle mid end : ℕ) → action_keeps t (action_names done) (table_of k) ≡ true → middle ≡ at + 17
-    → own_keeps t (least_after (table_numbers t done)) (table_of k) ≡ true → made ≡ table_meant t (table_of k) → mid ≡ middle + 21 → end ≡ mid + length k.keys * 6
+pub one_table : (t : ProgramText) (done : List TableText) (k : WrittenTable) (b : Before) (made : P4Table) (at middle mid end : ℕ) → action_keeps t (action_names done) (table_of k) ≡ true → middle ≡ index (at + 17)
+    → own_keeps t (least_after (table_numbers t done)) (table_of k) ≡ true → made ≡ table_meant t (table_of k) → mid ≡ index (middle + 21) → end ≡ index (mid + length k.keys * 6)
     → Sees b.actions.keys (action_names done ++ (k.action ∷ [])) → b.least ≡ made.number + 1 → TablesKeep t done (table_of k ∷ []) at (made ∷ []) b end
 one_table t done k b made at middle mid end h e own is m n seen least = record {
   is = ap (λ x. x ∷ []) is;
   passes = passed at _ middle end (own_piece t (table_numbers t done) (table_of k)) [] (action_passed t (action_names done) (table_numbers t done) (table_of k) at middle h e)
-      (sym (own_is t (table_numbers t done) (table_of k) (named_of t (action_names done) (table_of k) h)) ∙ own) (let c = own_count k in omega (arith, m, n, c));
+      (sym (own_is t (table_numbers t done) (table_of k) (named_of t (action_names done) (table_of k) h)) ∙ own) (n ∙ ap (λ i. index (i + length k.keys * 6)) m ∙ then_after (middle + 21) (length k.keys * 6) ∙ ap index (add_assoc middle 21 (length k.keys * 6)) ∙ ap (λ l. index (middle + l)) (sym (own_count k)));
   before = before_more t done (table_of k) b seen (least ∙ ap (λ (x : P4Table). x.number + 1) is);
   small = ap (λ (x : P4Table). is_small x.number && true) is ∙ ap (λ x. x && true) (small_of t (least_after (table_numbers t done)) (table_of k) own);
 }
 
-pub own_stops : (t : ProgramText) (done : List TableText) (k : WrittenTable) (at middle : ℕ) → action_keeps t (action_names done) (table_of k) ≡ true → middle ≡ at + 17
+pub own_stops : (t : ProgramText) (done : List TableText) (k : WrittenTable) (at middle : ℕ) → action_keeps t (action_names done) (table_of k) ≡ true → middle ≡ index (at + 17)
     → own_keeps t (least_after (table_numbers t done)) (table_of k) ≡ false → StopsBy at (table_pieces t (action_names done) (table_numbers t done) (table_of k ∷ [])) (Kind middle)
 own_stops t done k at middle h e own =
-    stopped at _ middle (own_piece t (table_numbers t done) (table_of k)) [] (action_passed t (action_names done) (table_numbers t done) (table_of k) at middle h e)
-    (sym (own_is t (table_numbers t done) (table_of k) (named_of t (action_names done) (table_of k) h)) ∙ own)
+    subst (Stops at (table_pieces t (action_names done) (table_numbers t done) (table_of k ∷ []))) (ap index e ∙ index_kept (at + 17) ∙ sym e)
+    (stopped at _ middle (own_piece t (table_numbers t done) (table_of k)) [] (action_passed t (action_names done) (table_numbers t done) (table_of k) at middle h e)
+    (sym (own_is t (table_numbers t done) (table_of k) (named_of t (action_names done) (table_of k) h)) ∙ own))
 
 -- ---- tables
 

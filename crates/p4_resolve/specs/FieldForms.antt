@@ -7,7 +7,7 @@ use Rattle.cocoon_num.specs.Tokens.{a_name, mark}
 use Rattle.p4_ir.specs.P4Tree.{P4Field}
 use Rattle.p4_names.specs.KindFaults.{Piece, field_keeps, field_pieces, fixed, header_keeps, meta_keeps}
 use Rattle.p4_names.specs.Meant.{field_meant, header_meant, meta_meant}
-use Rattle.p4_resolve.specs.Judged.{Passes, Sees}
+use Rattle.p4_resolve.specs.Judged.{Passes, Sees, index}
 use Rattle.p4_texts.specs.Written.{FieldText, HeaderText, field_then}
 
 abbrev pub field_fits : List (List ℕ) → (name : List ℕ) → (width : ℕ) → (is_named : Bool) → Bool
@@ -18,7 +18,7 @@ pub record Declares (at : ℕ) (names : List (List ℕ)) (name : List ℕ) (widt
   pub fits : field_fits names name width is_named ≡ true
   pub seen : Sees keys (names ++ (name ∷ []))
   pub is : field ≡ record { name = name; width = width }
-  pub ends : end ≡ at + 6
+  pub ends : end ≡ index (at + 6)
 
 -- the declarations at a token keep their rules, and this is what they declare
 pub record Keeps {M : Type 0} (at : ℕ) (ps : List Piece) (names : List (List ℕ)) (name : List ℕ) (keys : List (Vec ℕ Global)) (meant made : M) (end : ℕ) : Type 0 where

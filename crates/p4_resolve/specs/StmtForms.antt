@@ -6,7 +6,7 @@ use Rattle.p4_ir.specs.P4Tree.{P4Block, P4Expr, P4Stmt}
 use Rattle.p4_names.specs.KindFaults.{Piece, block_pieces, stmt_pieces}
 use Rattle.p4_names.specs.Meant.{block_meant, expr_meant, stmt_meant}
 use Rattle.p4_texts.specs.Written.{BlockText, ExprText, ProgramText, StmtText, condition_then}
-use Rattle.p4_resolve.specs.Judged.{Passes}
+use Rattle.p4_resolve.specs.Judged.{Passes, index}
 use Rattle.p4_resolve.specs.Typed.{expr_count}
 
 -- an expression has the type that is wanted, where it may stand
@@ -16,7 +16,7 @@ value_fits c wanted allowed e = are_same wanted (p4_sort c e) && allowed
 pub record ValueKeeps (t : ProgramText) (c : Within) (wanted : Option Sort) (allowed : Bool) (e : ExprText) (begin : ℕ) (made : P4Expr) (end : ℕ) : Type 0 where
   pub fits : value_fits c wanted allowed (expr_meant t e) ≡ true
   pub is : made ≡ expr_meant t e
-  pub ends : end ≡ begin + expr_count e
+  pub ends : end ≡ index (begin + expr_count e)
 
 pub record StmtKeeps (t : ProgramText) (c : Within) (s : StmtText) (at : ℕ) (made : P4Stmt) (end : ℕ) : Type 0 where
   pub is : made ≡ stmt_meant t s

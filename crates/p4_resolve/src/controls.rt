@@ -58,8 +58,8 @@ fn table(
     let middle = pass(at, 17, fits)?;
     match fitting_table(alloc, scope, before.least, table)? {
         Some(made) => {
-            before.least = after(made.number, 1)?;
-            let end = after_keys(after(middle, 21)?, table.keys.items())?;
+            before.least = after(made.number, 1);
+            let end = after_keys(after(middle, 21), table.keys.items());
             Ok((made, end))
         }
         None => Err(KindFault::Kind(middle)),
@@ -106,7 +106,8 @@ pub(crate) fn control(
         → IfOk result (λ made.
         ControlKeeps t done scope.old.in_ingress begin (control_of control.now) at
         (ir.control_of made.0) before.new made.1) }
-    ensures known { (t : ProgramText) → KnowsText scope.old t → OnOk result (KnowsText scope.new t) }
+    ensures known { (t : ProgramText) → KnowsText scope.old t
+        → OnOk result (KnowsText scope.new t) }
     ensures stops { (t : ProgramText) (done : Items TableText) (begin : Items ℕ)
         → fixed ≡ 2 + length (said begin) → KnowsText scope.old t → IsBefore before.old t done
         → IfErr result (StopsBy at
@@ -115,9 +116,9 @@ pub(crate) fn control(
     let (tables, head) = tables(alloc, at, scope, before, control.tables.items())?;
     let numbers = numbers_of(alloc, &tables)?;
     scope.tables = numbers;
-    let begin = after(head, fixed)?;
+    let begin = after(head, fixed);
     let (body, close) = block(alloc, scope, begin, control.body.items())?;
-    let end = after(close, 2)?;
+    let end = after(close, 2);
     let tables = List::from(tables);
     let body = List::from(body);
     Ok((Control { tables, body }, end))

@@ -7,6 +7,7 @@ ghost use Rattle.p4_ir.specs.Program as ir;
 ghost use Rattle.p4_kinds.specs.Typed.{sort_of};
 ghost use Rattle.p4_names.specs.Meant as meant;
 ghost use Rattle.p4_names.specs.Meant.{expr_meant};
+ghost use Rattle.p4_resolve.specs.Judged.{index};
 ghost use Rattle.p4_resolve.specs.Scopes.{Knows};
 ghost use Rattle.p4_resolve.specs.Typed.{Means, expr_count};
 ghost use Rattle.p4_texts.specs.Written as written;
@@ -221,8 +222,8 @@ pub(crate) fn meaning(
 }
 
 /// The token after an expression that begins at this one.
-pub(crate) fn after_expr(at: u32, expr: &WrittenExpr) -> Result<u32, NoMemory>
-    ensures { IfOk result (λ end. end ≡ at + expr_count (expr_of expr.now)) }
+pub(crate) fn after_expr(at: u32, expr: &WrittenExpr) -> u32
+    ensures { result ≡ index (at + expr_count (expr_of expr.now)) }
 {
     match expr {
         WrittenExpr::Lit(_) => after(at, 1),
@@ -231,12 +232,12 @@ pub(crate) fn after_expr(at: u32, expr: &WrittenExpr) -> Result<u32, NoMemory>
         WrittenExpr::Field(_, _) => after(at, 5),
         WrittenExpr::Port => after(at, 1),
         WrittenExpr::Rid => after(at, 1),
-        WrittenExpr::Unary(_, a) => after(after_expr(at, a)?, 3),
-        WrittenExpr::Binary(_, a, b) => after(after_expr(after_expr(at, a)?, b)?, 3),
-        WrittenExpr::Slice(a, _, _) => after(after_expr(at, a)?, 5),
+        WrittenExpr::Unary(_, a) => after(after_expr(at, a), 3),
+        WrittenExpr::Binary(_, a, b) => after(after_expr(after_expr(at, a), b), 3),
+        WrittenExpr::Slice(a, _, _) => after(after_expr(at, a), 5),
         WrittenExpr::Pick(condition, a, b) => {
-            let condition = after_expr(at, condition)?;
-            after(after_expr(after_expr(condition, a)?, b)?, 4)
+            let condition = after_expr(at, condition);
+            after(after_expr(after_expr(condition, a), b), 4)
         }
     }
 }

@@ -65,7 +65,7 @@ fn header(
     let is_new = is_new(alloc, before, name)?;
     let open = pass(at, 3, header_fits(name, is_new, header.fields.items()))?;
     let (fields, close) = fields(alloc, open, header.fields.items())?;
-    let end = after(close, 1)?;
+    let end = after(close, 1);
     Ok((named(alloc, name, fields)?, end))
 }
 

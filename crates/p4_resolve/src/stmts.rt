@@ -59,7 +59,7 @@ fn value(
     ensures breaks { (t : ProgramText) (c : Within) → Knows scope.now t c → IfErr result
         (Breaks at (value_fits c (sort_of wanted) allowed (expr_meant t (expr_of expr.now)))) }
 {
-    let end = after_expr(begin, expr)?;
+    let end = after_expr(begin, expr);
     let found = meaning(alloc, scope, expr)?;
     match fitting(found, wanted, allowed) {
         Some(made) => Ok((made, end)),
@@ -82,9 +82,9 @@ fn set_meta(
         (stmt_pieces t c (text.w_set_meta name.now (expr_of expr.now)))) }
 {
     let index = scope.meta(name);
-    let begin = after(at, 4)?;
+    let begin = after(at, 4);
     let (made, end) = value(alloc, scope, at, begin, scope.meta_sort(index), true, expr)?;
-    let next = after(end, 1)?;
+    let next = after(end, 1);
     Ok((P4Stmt::SetMeta(index, made), next))
 }
 
@@ -106,10 +106,10 @@ fn set_field(
 {
     let header = scope.header(header);
     let field = scope.field(header, field);
-    let begin = after(at, 6)?;
+    let begin = after(at, 6);
     let sort = scope.field_sort(header, field);
     let (made, end) = value(alloc, scope, at, begin, sort, true, expr)?;
-    let next = after(end, 1)?;
+    let next = after(end, 1);
     Ok((P4Stmt::SetField(header, field, made), next))
 }
 
@@ -125,9 +125,9 @@ fn egress_port(
     ensures stops { (t : ProgramText) (c : Within) → Knows scope.now t c
         → IfErr result (StopsBy at (stmt_pieces t c (text.w_egress_port (expr_of expr.now)))) }
 {
-    let begin = after(at, 2)?;
+    let begin = after(at, 2);
     let (made, end) = value(alloc, scope, at, begin, Some(Sort::Bits(16)), true, expr)?;
-    let next = after(end, 1)?;
+    let next = after(end, 1);
     Ok((P4Stmt::EgressPort(made), next))
 }
 
@@ -144,10 +144,10 @@ fn group(
     ensures stops { (t : ProgramText) (c : Within) → Knows scope.now t c
         → IfErr result (StopsBy at (stmt_pieces t c (text.w_group (expr_of expr.now)))) }
 {
-    let begin = after(at, 2)?;
+    let begin = after(at, 2);
     let wanted = Some(Sort::Bits(16));
     let (made, end) = value(alloc, scope, at, begin, wanted, scope.in_ingress, expr)?;
-    let next = after(end, 1)?;
+    let next = after(end, 1);
     Ok((P4Stmt::Group(made), next))
 }
 
@@ -198,7 +198,7 @@ fn apply(scope: &Scope, at: u32, name: &[u8]) -> Result<(P4Stmt, u32), KindFault
         → IfErr result (StopsBy at (stmt_pieces t c (text.w_apply name.now))) }
 {
     match applied(scope, name) {
-        Some(number) => Ok((P4Stmt::Apply(number), after(at, 6)?)),
+        Some(number) => Ok((P4Stmt::Apply(number), after(at, 6))),
         None => Err(KindFault::Kind(at)),
     }
 }
@@ -217,9 +217,9 @@ fn condition(
     ensures stops { (t : ProgramText) (c : Within) → Knows scope.now t c
         → IfErr result (StopsBy at (condition_piece t c (expr_of expr.now) is_filled ∷ [])) }
 {
-    let begin = after(at, 2)?;
+    let begin = after(at, 2);
     let (made, end) = value(alloc, scope, at, begin, Some(Sort::Truth), is_filled, expr)?;
-    let next = after(end, 2)?;
+    let next = after(end, 2);
     Ok((made, next))
 }
 
@@ -251,21 +251,21 @@ fn stmt(
         WrittenStmt::If(expr, first) => {
             let (test, begin) = condition(alloc, scope, at, expr, true)?;
             let (first, close) = block(alloc, scope, begin, first)?;
-            let end = after(close, 1)?;
+            let end = after(close, 1);
             Ok((P4Stmt::If(test, first), end))
         }
         WrittenStmt::IfElse(expr, first, second) => {
             let (test, begin) = condition(alloc, scope, at, expr, is_filled(second))?;
             let (first, close) = block(alloc, scope, begin, first)?;
-            let other = after(close, 3)?;
+            let other = after(close, 3);
             let (second, last) = block(alloc, scope, other, second)?;
-            let end = after(last, 1)?;
+            let end = after(last, 1);
             Ok((P4Stmt::IfElse(test, first, second), end))
         }
         WrittenStmt::Verdict(bits) => verdict(scope, at, *bits),
         WrittenStmt::EgressPort(expr) => egress_port(alloc, scope, at, expr),
         WrittenStmt::Group(expr) => group(alloc, scope, at, expr),
-        WrittenStmt::Return => Ok((P4Stmt::Return, after(at, 2)?)),
+        WrittenStmt::Return => Ok((P4Stmt::Return, after(at, 2))),
     }
 }
 

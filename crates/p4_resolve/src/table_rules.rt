@@ -6,7 +6,7 @@ ghost use Rattle.p4_names.specs.KindFaults.{action_keeps};
 ghost use Rattle.p4_names.specs.Meant as meant;
 ghost use Rattle.p4_names.specs.Meant.{number_in};
 ghost use Rattle.p4_resolve.specs.Controls.{KnowsText};
-ghost use Rattle.p4_resolve.specs.Judged.{Sees};
+ghost use Rattle.p4_resolve.specs.Judged.{Sees, index};
 ghost use Rattle.p4_resolve.specs.TableForms as spec;
 ghost use Rattle.p4_resolve.specs.TableForms.{is_wide, own_keeps};
 ghost use Rattle.p4_texts.specs.Written.{ProgramText};
@@ -137,9 +137,12 @@ pub(crate) fn fitting_table(
 }
 
 /// The token after keys of six tokens each, the first at this one.
-pub(crate) fn after_keys(at: u32, keys: &[Text]) -> Result<u32, NoMemory>
-    ensures { IfOk result (λ end. end ≡ at + length keys.now * 6) }
+pub(crate) fn after_keys(at: u32, keys: &[Text]) -> u32
+    ensures { result ≡ index (at + length keys.now * 6) }
 {
-    let count = u32::try_from(keys.len()).map_err(|_| NoMemory)?;
-    after(at, count.checked_mul(6).ok_or(NoMemory)?)
+    let mut next = at;
+    for _key in keys {
+        next = after(next, 6);
+    }
+    next
 }

@@ -19,6 +19,7 @@ use crate::lines::{lines, members};
 use crate::pieces::after;
 use crate::scope::Scope;
 use p4_ir::{Control, Program};
+use p4_names::texts::faults_are_tokens;
 use p4_written::WrittenProgram;
 use std::alloc::Global;
 use std::collections::BTreeSet;
@@ -29,13 +30,13 @@ fn declarations(alloc: Global, text: &WrittenProgram) -> Result<(Scope, u32), Ki
     ensures stops { IfErr result (StopsBy 0 (pieces (text_of text.now))) }
 {
     let (headers, members_at) = headers(alloc, 157, text.headers.items())?;
-    let first_member = after(members_at, 3)?;
+    let first_member = after(members_at, 3);
     let meta_at = members(first_member, &headers, text.members.items())?;
-    let first_meta = after(meta_at, 4)?;
+    let first_meta = after(meta_at, 4);
     let (meta, parser_at) = meta_fields(alloc, first_meta, text.meta.items())?;
-    let first_extract = after(parser_at, 19)?;
+    let first_extract = after(parser_at, 19);
     let ingress_at = lines(first_extract, &headers, text.extracts.items())?;
-    let first_table = after(ingress_at, 45)?;
+    let first_table = after(ingress_at, 45);
     let scope = Scope::new(alloc, text, headers, meta)?;
     Ok((scope, first_table))
 }
@@ -57,7 +58,7 @@ fn controls(
     let mut before = Before::none(alloc);
     let (ingress, egress_at) = control(alloc, at, scope, &mut before, 14, &text.ingress)?;
     scope.in_ingress = false;
-    let first = after(egress_at, 33)?;
+    let first = after(egress_at, 33);
     let (egress, deparser_at) = control(alloc, first, scope, &mut before, 10, &text.egress)?;
     Ok(((ingress, egress), deparser_at))
 }
@@ -69,9 +70,10 @@ pub fn resolve(alloc: Global, text: &WrittenProgram) -> Result<Program, KindFaul
     ensures stands { IfOk result (λ p. program_of p ≡ program_of_text (text_of text.now)) }
     ensures fault { IfErr result (IsFirstKind (text_of text.now)) }
 {
+    faults_are_tokens();
     let (mut scope, at) = declarations(alloc, text)?;
     let ((ingress, egress), deparser_at) = controls(alloc, text, at, &mut scope)?;
-    let first_emit = after(deparser_at, 13)?;
+    let first_emit = after(deparser_at, 13);
     let _end = lines(first_emit, scope.headers(), text.emits.items())?;
     Ok(scope.into_program(ingress, egress))
 }

@@ -9,7 +9,7 @@ use Rattle.p4_names.specs.Meant.{block_meant, table_meant}
 use Rattle.p4_written.specs.TreeOf.{body_of, control_of, table_of}
 use Rattle.p4_resolve.specs.Controls.{action_names, table_numbers}
 use Rattle.p4_resolve.specs.Numbered.{is_small}
-use Rattle.p4_resolve.specs.Judged.{Passes, StopsBy}
+use Rattle.p4_resolve.specs.Judged.{Passes, StopsBy, index}
 use Rattle.p4_resolve.proofs.ControlFacts.{body_stops, control_passes, tables_stop}
 use Rattle.p4_resolve.proofs.PieceFacts.{handed_on}
 use Rattle.p4_resolve.proofs.controls.control.Goals as goal
@@ -23,13 +23,13 @@ returns-clause-keeps c = λ t done begin f known before.
     let made = k.is ∙ ap (λ ts. map (table_meant t) (map table_of ts)) c.items.ensures in
     let numbers = subst (λ ts. HasNumbers c.in_ok-numbers.numbers.keys (numbers_of ts)) (ap (map ir.table_of) c.deref.ensures.value ∙ made) c.in_ok-numbers.ensures in
     let small = subst (λ ts. each is_small (numbers_of ts) ≡ true) made k.small in
-    let at = c.in_ok-begin.ensures ∙ ap (λ n. c.in_ok-tables.head + n) f in
+    let at = c.after-begin.ensures ∙ ap (λ n. index (c.in_ok-tables.head + n)) f in
     let body = c.in_ok-body.ensures.keeps t (stands_in t b own) (record { program_headers = known.program_headers; program_meta = known.program_meta; in_ingress = refl; meta = known.meta; headers = known.headers; fields = known.fields; tables = numbers; small = small }) in
-    let inside = subst (λ ss. Passes c.in_ok-begin.begin (block_pieces t (stands_in t b own) (body_of ss)) c.in_ok-body.close) c.items-2.ensures body.passes in
+    let inside = subst (λ ss. Passes c.after-begin.result (block_pieces t (stands_in t b own) (body_of ss)) c.in_ok-body.close) c.items-2.ensures body.passes in
     record {
       is = ap₂ (λ ts ss. let made : tree.Control = record { tables = ts; body = ss } in made) (ap (map ir.table_of) c.from-tables.ensures ∙ made)
           (ap (λ ss. ir.block_of (map ir.stmt_of ss)) c.from-body.ensures ∙ body.is ∙ ap (λ ss. block_meant t (body_of ss)) c.items-2.ensures);
-      passes = control_passes t done b begin own c.args.at c.in_ok-tables.head c.in_ok-begin.begin c.in_ok-body.close c.in_ok-end.end tables at inside c.in_ok-end.ensures;
+      passes = control_passes t done b begin own c.args.at c.in_ok-tables.head c.after-begin.result c.in_ok-body.close c.after-end.result tables at inside c.after-end.ensures;
       before = rw c.items.ensures at k.before;
     }
 
@@ -53,9 +53,9 @@ returns-in_err-body-clause-stops c = λ t done begin f known before.
     let made = k.is ∙ ap (λ ts. map (table_meant t) (map table_of ts)) c.items.ensures in
     let numbers = subst (λ ts. HasNumbers c.in_ok-numbers.numbers.keys (numbers_of ts)) (ap (map ir.table_of) c.deref.ensures.value ∙ made) c.in_ok-numbers.ensures in
     let small = subst (λ ts. each is_small (numbers_of ts) ≡ true) made k.small in
-    let at = c.in_ok-begin.ensures ∙ ap (λ n. c.in_ok-tables.head + n) f in
+    let at = c.after-begin.ensures ∙ ap (λ n. index (c.in_ok-tables.head + n)) f in
     let fault = c.in_err-body.field-0.0 in
     let same : c.from_residual-in_err-body.result ≡ Err c.in_err-body.field-0.0 = search rules in
     let stops = c.in_err-body.ensures.stops t (stands_in t b own) (record { program_headers = known.program_headers; program_meta = known.program_meta; in_ingress = refl; meta = known.meta; headers = known.headers; fields = known.fields; tables = numbers; small = small }) in
     handed_on c.from_residual-in_err-body.result fault (StopsBy c.args.at (control_pieces t done b begin own)) same
-    (body_stops t done b begin own c.args.at c.in_ok-tables.head c.in_ok-begin.begin fault tables at (subst (λ ss. StopsBy c.in_ok-begin.begin (block_pieces t (stands_in t b own) (body_of ss)) fault) c.items-2.ensures stops))
+    (body_stops t done b begin own c.args.at c.in_ok-tables.head c.after-begin.result fault tables at (subst (λ ss. StopsBy c.after-begin.result (block_pieces t (stands_in t b own) (body_of ss)) fault) c.items-2.ensures stops))

@@ -27,7 +27,7 @@ returns-clause-keeps c = λ names seen.
     let closed = all_passed at own c.in_ok-open.open c.in_ok-fields.close (field_pieces [] h.fields) (close ∷ []) opened inside in
     let made_name = c.in_ok-named.ensures.0 ∙ name in
     record {
-      passes = passed at own c.in_ok-fields.close c.in_ok-end.end close [] closed refl c.in_ok-end.ensures;
+      passes = passed at own c.in_ok-fields.close c.after-end.result close [] closed refl c.after-end.ensures;
       seen = subst (λ n. Sees c.is_new.new.names.keys (names ++ (n ∷ []))) (sym c.in_ok-named.ensures.0) (seen_more c.rest_after-name.result.now c.args.before.now.keys c.is_new.new.names.keys c.in_ok-is_new.is_new names seen c.in_ok-is_new.ensures);
       is = ap₂ (λ n fs. let made : P4Header = record { name = n; fields = fs } in made) made_name
           (ap (map ir.field_of) c.in_ok-named.ensures.1 ∙ c.in_ok-fields.ensures.fields ∙ ap (λ fs. map field_meant (map field_of fs)) c.items-2.ensures);

@@ -1,7 +1,7 @@
 use Rattle.std.proofs.Common.{◌≡◌, ◌+◌, map, drop, slice_get, Err, rules, ap, sym, subst, ◌∙◌}
 use Rattle.p4_ir.specs.Program as ir
 use Rattle.p4_names.specs.KindFaults.{line_pieces}
-use Rattle.p4_resolve.specs.Judged.{Breaks}
+use Rattle.p4_resolve.specs.Judged.{Breaks, index}
 use Rattle.p4_resolve.specs.Lines.{line_fits}
 use Rattle.p4_resolve.proofs.LineFacts.{lines_left, line_piece}
 use Rattle.p4_resolve.proofs.PieceFacts.{handed_on, passed, stopped_by}
@@ -28,4 +28,4 @@ loop-index-preserved c = λ line nine.
     let is = c.is_line.ensures ∙ ap (line_fits (slice_get hs c.loop-index.index)) c.bytes.ensures in
     passed c.args.at all c.loop-index.next c.in_ok-next.next (line_piece line (slice_get hs c.loop-index.index) x) (line_pieces line (drop (c.loop-index.index + 1) hs) (drop (c.loop-index.index + 1) xs))
     (lines_left line c.args.at all c.loop-index.next hs xs c.loop-index.index x c.loop-index-test.true c.index-names-index.is (c.loop-index.invariant line nine))
-    (sym is ∙ c.in_ok-next.ensures.passed.0) (c.in_ok-next.ensures.passed.1 ∙ ap (λ n. c.loop-index.next + n) (sym (nine x)))
+    (sym is ∙ c.in_ok-next.ensures.passed.0) (c.in_ok-next.ensures.passed.1 ∙ ap (λ n. index (c.loop-index.next + n)) (sym (nine x)))

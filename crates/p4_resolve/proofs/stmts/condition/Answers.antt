@@ -15,12 +15,12 @@ returns-clause-keeps c = λ t d k.
     let v = c.in_ok-made.ensures.keeps t d k in
     record {
       is = v.is;
-      passes = facts.value_passes t d (Some truth_sort) c.args.is_filled e (condition_piece t d e c.args.is_filled) c.args.at c.in_ok-begin.begin (ir.expr_of c.in_ok-made.made) c.in_ok-made.end c.in_ok-next.next 2 2 v c.in_ok-begin.ensures c.in_ok-next.ensures (facts.condition_count e) refl;
+      passes = facts.value_passes t d (Some truth_sort) c.args.is_filled e (condition_piece t d e c.args.is_filled) c.args.at c.after-begin.result (ir.expr_of c.in_ok-made.made) c.in_ok-made.end c.after-next.result 2 2 v c.after-begin.ensures c.after-next.ensures (facts.condition_count e) refl;
     }
 
 pub returns-in_err-made-clause-stops : goal.returns-in_err-made-clause-stops
 returns-in_err-made-clause-stops c = λ t d k.
     let e = expr_of c.args.expr.now in
-    let same : c.from_residual-in_err-made.result ≡ Err c.in_err-made.field-0.0 = search rules in
-    handed_on c.from_residual-in_err-made.result c.in_err-made.field-0.0 (StopsBy c.args.at (condition_piece t d e c.args.is_filled ∷ [])) same
+    let same : c.from_residual.result ≡ Err c.in_err-made.field-0.0 = search rules in
+    handed_on c.from_residual.result c.in_err-made.field-0.0 (StopsBy c.args.at (condition_piece t d e c.args.is_filled ∷ [])) same
     (facts.value_stops (condition_piece t d e c.args.is_filled) c.args.at (value_fits d (Some truth_sort) c.args.is_filled (expr_meant t e)) c.in_err-made.field-0.0 refl (c.in_err-made.ensures.breaks t d k))

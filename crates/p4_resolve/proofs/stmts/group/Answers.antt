@@ -21,7 +21,7 @@ returns-clause-keeps c = λ t d k.
     let v = c.in_ok-made.ensures.keeps t d k in
     record {
       is = forms.group_code c.in_ok-made.made ∙ ap tree.group v.is;
-      passes = facts.value_passes t d (Some (bits_sort 16)) c.args.scope.now.in_ingress e x c.args.at c.in_ok-begin.begin (ir.expr_of c.in_ok-made.made) c.in_ok-made.end c.in_ok-next.next 2 1 v c.in_ok-begin.ensures c.in_ok-next.ensures (facts.group_count e) (facts.group_fits t d e c.args.scope.now.in_ingress k.in_ingress);
+      passes = facts.value_passes t d (Some (bits_sort 16)) c.args.scope.now.in_ingress e x c.args.at c.after-begin.result (ir.expr_of c.in_ok-made.made) c.in_ok-made.end c.after-next.result 2 1 v c.after-begin.ensures c.after-next.ensures (facts.group_count e) (facts.group_fits t d e c.args.scope.now.in_ingress k.in_ingress);
     }
 
 pub returns-in_err-made-clause-stops : goal.returns-in_err-made-clause-stops
@@ -29,6 +29,6 @@ returns-in_err-made-clause-stops c = λ t d k.
     let e = expr_of c.args.expr.now in
     let s = text.w_group e in
     let x : Piece = record { tokens = text.stmt_then s []; keeps = stmt_keeps t d s } in
-    let same : c.from_residual-in_err-made.result ≡ Err c.in_err-made.field-0.0 = search rules in
-    handed_on c.from_residual-in_err-made.result c.in_err-made.field-0.0 (StopsBy c.args.at (stmt_pieces t d s)) same
+    let same : c.from_residual.result ≡ Err c.in_err-made.field-0.0 = search rules in
+    handed_on c.from_residual.result c.in_err-made.field-0.0 (StopsBy c.args.at (stmt_pieces t d s)) same
     (facts.value_stops x c.args.at (value_fits d (Some (bits_sort 16)) c.args.scope.now.in_ingress (expr_meant t e)) c.in_err-made.field-0.0 (facts.group_fits t d e c.args.scope.now.in_ingress k.in_ingress) (c.in_err-made.ensures.breaks t d k))

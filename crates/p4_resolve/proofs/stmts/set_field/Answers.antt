@@ -24,7 +24,7 @@ returns-clause-keeps c = λ t d k.
     let v = c.in_ok-made.ensures.keeps t d k in
     record {
       is = forms.set_field_code c.header-header.result c.field-field.result c.in_ok-made.made ∙ ap₂ (λ m n. tree.set_header m n (ir.expr_of c.in_ok-made.made)) h f ∙ ap (tree.set_header (header_at t c.args.header.now) (field_at t (header_at t c.args.header.now) c.args.field.now)) v.is;
-      passes = facts.value_passes t d (sort_of c.field_sort-sort.result) true e x c.args.at c.in_ok-begin.begin (ir.expr_of c.in_ok-made.made) c.in_ok-made.end c.in_ok-next.next 6 1 v c.in_ok-begin.ensures c.in_ok-next.ensures (facts.field_count c.args.header.now c.args.field.now e) (facts.field_fits t d c.args.header.now c.args.field.now e (sort_of c.field_sort-sort.result) (c.field_sort-sort.ensures t d k ∙ ap₂ (rules.field_sort d.program) h f));
+      passes = facts.value_passes t d (sort_of c.field_sort-sort.result) true e x c.args.at c.after-begin.result (ir.expr_of c.in_ok-made.made) c.in_ok-made.end c.after-next.result 6 1 v c.after-begin.ensures c.after-next.ensures (facts.field_count c.args.header.now c.args.field.now e) (facts.field_fits t d c.args.header.now c.args.field.now e (sort_of c.field_sort-sort.result) (c.field_sort-sort.ensures t d k ∙ ap₂ (rules.field_sort d.program) h f));
     }
 
 pub returns-in_err-made-clause-stops : goal.returns-in_err-made-clause-stops
@@ -34,6 +34,6 @@ returns-in_err-made-clause-stops c = λ t d k.
     let f = c.field-field.ensures t d k ∙ ap (λ n. field_at t n c.args.field.now) h in
     let s = text.w_set_field c.args.header.now c.args.field.now e in
     let x : Piece = record { tokens = text.stmt_then s []; keeps = stmt_keeps t d s } in
-    let same : c.from_residual-in_err-made.result ≡ Err c.in_err-made.field-0.0 = search rules in
-    handed_on c.from_residual-in_err-made.result c.in_err-made.field-0.0 (StopsBy c.args.at (stmt_pieces t d s)) same
+    let same : c.from_residual.result ≡ Err c.in_err-made.field-0.0 = search rules in
+    handed_on c.from_residual.result c.in_err-made.field-0.0 (StopsBy c.args.at (stmt_pieces t d s)) same
     (facts.value_stops x c.args.at (value_fits d (sort_of c.field_sort-sort.result) true (expr_meant t e)) c.in_err-made.field-0.0 (facts.field_fits t d c.args.header.now c.args.field.now e (sort_of c.field_sort-sort.result) (c.field_sort-sort.ensures t d k ∙ ap₂ (rules.field_sort d.program) h f)) (c.in_err-made.ensures.breaks t d k))

@@ -23,7 +23,7 @@ returns-clause-keeps c = λ t d k.
     let v = c.in_ok-made.ensures.keeps t d k in
     record {
       is = forms.set_meta_code c.meta-index.result c.in_ok-made.made ∙ ap₂ tree.set_meta i v.is;
-      passes = facts.value_passes t d (sort_of c.meta_sort.result) true e x c.args.at c.in_ok-begin.begin (ir.expr_of c.in_ok-made.made) c.in_ok-made.end c.in_ok-next.next 4 1 v c.in_ok-begin.ensures c.in_ok-next.ensures (facts.meta_count c.args.name.now e) (facts.meta_fits t d c.args.name.now e (sort_of c.meta_sort.result) (c.meta_sort.ensures t d k ∙ ap (rules.meta_sort d.program) i));
+      passes = facts.value_passes t d (sort_of c.meta_sort.result) true e x c.args.at c.after-begin.result (ir.expr_of c.in_ok-made.made) c.in_ok-made.end c.after-next.result 4 1 v c.after-begin.ensures c.after-next.ensures (facts.meta_count c.args.name.now e) (facts.meta_fits t d c.args.name.now e (sort_of c.meta_sort.result) (c.meta_sort.ensures t d k ∙ ap (rules.meta_sort d.program) i));
     }
 
 pub returns-in_err-made-clause-stops : goal.returns-in_err-made-clause-stops
@@ -32,6 +32,6 @@ returns-in_err-made-clause-stops c = λ t d k.
     let i = c.meta-index.ensures t d k in
     let s = text.w_set_meta c.args.name.now e in
     let x : Piece = record { tokens = text.stmt_then s []; keeps = stmt_keeps t d s } in
-    let same : c.from_residual-in_err-made.result ≡ Err c.in_err-made.field-0.0 = search rules in
-    handed_on c.from_residual-in_err-made.result c.in_err-made.field-0.0 (StopsBy c.args.at (stmt_pieces t d s)) same
+    let same : c.from_residual.result ≡ Err c.in_err-made.field-0.0 = search rules in
+    handed_on c.from_residual.result c.in_err-made.field-0.0 (StopsBy c.args.at (stmt_pieces t d s)) same
     (facts.value_stops x c.args.at (value_fits d (sort_of c.meta_sort.result) true (expr_meant t e)) c.in_err-made.field-0.0 (facts.meta_fits t d c.args.name.now e (sort_of c.meta_sort.result) (c.meta_sort.ensures t d k ∙ ap (rules.meta_sort d.program) i)) (c.in_err-made.ensures.breaks t d k))

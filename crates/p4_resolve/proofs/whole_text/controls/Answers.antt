@@ -24,11 +24,11 @@ returns-in_err-egress-clause-stops c = λ dec.
     let i = c.in_ok-ingress.ensures.keeps t [] ingress_begins refl dec.known (c.none-before.ensures t) in
     let ingress = subst (λ b. Passes c.args.at (control_pieces t [] b ingress_begins t.rest.ingress) c.in_ok-ingress.egress_at) dec.in_ingress i.passes in
     let known = c.in_ok-ingress.ensures.known t dec.known in
-    let at_egress = parts.at_egress t c.args.at c.in_ok-ingress.egress_at c.in_ok-first.first dec.rest ingress c.in_ok-first.ensures in
+    let at_egress = parts.at_egress t c.args.at c.in_ok-ingress.egress_at c.after-first.result dec.rest ingress c.after-first.ensures in
     let fault = c.in_err-egress.field-0.0 in
     let same : c.from_residual-in_err-egress.result ≡ Err c.in_err-egress.field-0.0 = search rules in
     handed_on c.from_residual-in_err-egress.result fault (StopsBy 0 (pieces t)) same
-    (one_stopped 0 (pieces t) c.in_ok-first.first (control_pieces t t.rest.ingress.tables false egress_begins t.rest.egress) (fixed (said deparser_head) ∷ from_emits t) fault at_egress
+    (one_stopped 0 (pieces t) c.after-first.result (control_pieces t t.rest.ingress.tables false egress_begins t.rest.egress) (fixed (said deparser_head) ∷ from_emits t) fault at_egress
     (c.in_err-egress.ensures.stops t t.rest.ingress.tables egress_begins refl (record { program_headers = known.program_headers; program_meta = known.program_meta; meta = known.meta; headers = known.headers; fields = known.fields }) i.before))
 
 pub returns-clause-keeps : goal.returns-clause-keeps
@@ -37,12 +37,12 @@ returns-clause-keeps c = λ dec.
     let i = c.in_ok-ingress.ensures.keeps t [] ingress_begins refl dec.known (c.none-before.ensures t) in
     let ingress = subst (λ b. Passes c.args.at (control_pieces t [] b ingress_begins t.rest.ingress) c.in_ok-ingress.egress_at) dec.in_ingress i.passes in
     let known = c.in_ok-ingress.ensures.known t dec.known in
-    let at_egress = parts.at_egress t c.args.at c.in_ok-ingress.egress_at c.in_ok-first.first dec.rest ingress c.in_ok-first.ensures in
+    let at_egress = parts.at_egress t c.args.at c.in_ok-ingress.egress_at c.after-first.result dec.rest ingress c.after-first.ensures in
     let e = c.in_ok-egress.ensures.keeps t t.rest.ingress.tables egress_begins refl (record { program_headers = known.program_headers; program_meta = known.program_meta; meta = known.meta; headers = known.headers; fields = known.fields }) i.before in
     record {
       ingress_is = i.is;
       egress_is = e.is;
-      rest = parts.at_deparser t c.in_ok-first.first c.in_ok-egress.deparser_at at_egress e.passes;
+      rest = parts.at_deparser t c.after-first.result c.in_ok-egress.deparser_at at_egress e.passes;
     }
 
 pub returns-clause-known : goal.returns-clause-known
@@ -51,5 +51,5 @@ returns-clause-known c = λ dec.
     let i = c.in_ok-ingress.ensures.keeps t [] ingress_begins refl dec.known (c.none-before.ensures t) in
     let ingress = subst (λ b. Passes c.args.at (control_pieces t [] b ingress_begins t.rest.ingress) c.in_ok-ingress.egress_at) dec.in_ingress i.passes in
     let known = c.in_ok-ingress.ensures.known t dec.known in
-    let at_egress = parts.at_egress t c.args.at c.in_ok-ingress.egress_at c.in_ok-first.first dec.rest ingress c.in_ok-first.ensures in
+    let at_egress = parts.at_egress t c.args.at c.in_ok-ingress.egress_at c.after-first.result dec.rest ingress c.after-first.ensures in
     c.in_ok-egress.ensures.known t (record { program_headers = known.program_headers; program_meta = known.program_meta; meta = known.meta; headers = known.headers; fields = known.fields })
