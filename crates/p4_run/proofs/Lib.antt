@@ -9,7 +9,9 @@ pub mod Sizes
 pub mod StmtSteps
 pub mod TableFacts
 pub mod TestSteps
+pub mod ValueParts
 pub mod ValueSorts
+pub mod ValuesThere
 pub mod VisitLaws
 pub mod VisitSteps
 pub mod WidthFacts

@@ -1,8 +1,8 @@
 -- Rows in the order of their values: what a search in them says of all rows.
-use Rattle.std.proofs.Common.{◌≡◌, ◌⊎◌, ℕ, zero, suc, ◌+◌, ◌-◌, ◌<◌, ◌≤◌, ◌^◌, ◌==◌, ◌&&◌, ◌||◌, not, Bool, true, false, nat_eq, nat_le, nat_lt, bit_and, if◌then◌else◌, List, [], ◌∷◌, ◌++◌, Vec, Global, length, map, take, get_or, slice_get, Option, Some, None, refl, sym, ◌∙◌, ap, subst, inl, inr, arith}
+use Rattle.std.proofs.Common.{All, ◌≡◌, ◌⊎◌, ℕ, zero, suc, ◌+◌, ◌-◌, ◌<◌, ◌≤◌, ◌^◌, ◌==◌, ◌&&◌, ◌||◌, not, Bool, true, false, nat_eq, nat_le, nat_lt, bit_and, if◌then◌else◌, List, [], ◌∷◌, ◌++◌, Vec, Global, length, map, take, get_or, slice_get, Option, Some, None, refl, sym, ◌∙◌, ap, subst, inl, inr, arith}
 use Rattle.std.specs.Cmp.Lexicographic.{pointwise, slice_cmp}
 use Rattle.std.specs.List.{list_any}
-use Rattle.std.specs.Ordering.{nat_cmp, ordering_reverse}
+use Rattle.std.specs.Ordering.{nat_cmp, ordering_reverse, ordering_then}
 use Rattle.std.specs.declared.cmp.Ordering.{Ordering}
 use Rattle.std.specs.declared.cmp.Ordering.TheVariants.{Less, Equal, Greater}
 use Rattle.std.proofs.lemmas.Bool.{and_parts, and_right, cases_eq, cases_lt, eqb-true, eq-eqb, leb-true, ltb-true, or_cases, or_left, or_right}
@@ -22,8 +22,8 @@ use Rattle.p4_ir.specs.P4Tree.{field_widths, KeyRow, meta_width, P4Table, Progra
 use Rattle.p4_ir.specs.Switch.{table_numbered, table_result}
 use Rattle.p4_ir.specs.declared.rows.KeyRow.{KeyRow as CodeRow}
 use Rattle.p4_ir.specs.declared.rows.TableRows.{TableRows as CodeTableRows}
-use Rattle.p4_run.specs.Keyed.{keyed}
-use Rattle.p4_run.specs.Orders.{AreOrders, Ascends, compared, Covers, IsAbove, is_literal, IsOrder, IsOrderOf, masks_full, order_at, result_at, Searched, values_at}
+use Rattle.p4_run.specs.Keyed.{HasKeys, keyed}
+use Rattle.p4_run.specs.Orders.{AreFirsts, AreOrders, Ascends, compared, Covers, first_at, IsAbove, is_literal, IsOrder, IsOrderOf, IsTelling, masks_full, order_at, result_at, Searched, values_at}
 use Rattle.p4_run.specs.Spans.{IsNarrowed}
 use Rattle.p4_run.specs.declared.orders.Span.{Span}
 use Rattle.p4_run.proofs.TestSteps.{is_symmetric}
@@ -47,6 +47,16 @@ pub values_get : (rows : List CodeRow) (j : ℕ) (d : CodeRow) → j < length ro
 values_get [] j d l = absurd (omega arith)
 values_get (r ∷ rows) zero d l = refl
 values_get (r ∷ rows) (suc j) d l = values_get rows j d (omega arith)
+
+pub values_none : (rows : List CodeRow) (j : ℕ) → length rows ≤ j → values_at (map key_row_of rows) j ≡ []
+values_none [] j l = refl
+values_none (r ∷ rows) zero l = absurd (omega arith)
+values_none (r ∷ rows) (suc j) l = values_none rows j (omega arith)
+
+pub values_counted : (rows : List CodeRow) (n j : ℕ) → All (HasKeys n) rows → j < length rows → length (values_at (map key_row_of rows) j) ≡ n
+values_counted [] n j a l = absurd (omega arith)
+values_counted (r ∷ rows) n zero a l = (a 0 r (omega arith)).0
+values_counted (r ∷ rows) n (suc j) a l = values_counted rows n j (λ k d m. a (suc k) d (omega arith)) (omega arith)
 
 pub result_get : (rows : List CodeRow) (j : ℕ) (d : CodeRow) → j < length rows → result_at (map key_row_of rows) j ≡ (get_or rows j d).result
 result_get [] j d l = absurd (omega arith)
@@ -84,6 +94,32 @@ above_less r Greater h g = absurd (cc)
 
 pub turned : (xs ys : List ℕ) → slice_cmp nat_cmp xs ys ≡ Greater → slice_cmp nat_cmp ys xs ≡ Less
 turned xs ys h = reversed (slice_cmp nat_cmp xs ys) (slice_cmp nat_cmp ys xs) (nat_list_cmp_total.antisymm xs ys) h
+
+told : (r s : Ordering) → (r ≡ Equal → ⊥) → r ≡ ordering_then r s
+told Less s h = refl
+told Equal s h = absurd (h refl)
+told Greater s h = refl
+
+told_alone : (r : Ordering) → r ≡ ordering_then r Equal
+told_alone Less = refl
+told_alone Equal = refl
+told_alone Greater = refl
+
+-- what the first values tell
+pub first_tells : (vs meta keys : List ℕ) → length vs ≡ length keys → 0 < length keys → IsTelling (nat_cmp (get_or vs 0 0) (get_or meta (get_or keys 0 0) 0)) keys
+    → nat_cmp (get_or vs 0 0) (get_or meta (get_or keys 0 0) 0) ≡ slice_cmp nat_cmp vs (keyed meta keys)
+first_tells vs meta [] m l h = absurd (omega arith)
+first_tells [] meta (k ∷ keys) m l h = absurd (let bad : 0 ≡ suc (length keys) = m in omega arith)
+first_tells (v ∷ vs) meta (k ∷ keys) m l (inl h) = told (nat_cmp v (get_or meta k 0)) (slice_cmp nat_cmp vs (keyed meta keys)) h
+first_tells (v ∷ []) meta (k ∷ []) m l (inr h) = told_alone (nat_cmp v (get_or meta k 0))
+first_tells (v ∷ u ∷ vs) meta (k ∷ []) m l (inr h) = absurd (let bad : suc (suc (length vs)) ≡ 1 = m in omega arith)
+first_tells (v ∷ vs) meta (k ∷ j ∷ keys) m l (inr h) = absurd (let bad : suc (suc (length keys)) ≡ 1 = h in omega arith)
+
+-- the first values of all rows in order
+pub first_get : (rows : List KeyRow) (order : List ℕ) (i : ℕ) → i < length order → get_or (map (first_at rows) order) i 0 ≡ first_at rows (get_or order i 0)
+first_get rows [] i l = absurd (omega arith)
+first_get rows (j ∷ order) zero l = refl
+first_get rows (j ∷ order) (suc i) l = first_get rows order i (omega arith)
 
 -- ---- one half more
 
@@ -287,13 +323,13 @@ pick_rest : (b : Bool) (x y : ℕ) → b ≡ false → (if b then x else y) ≡ 
 pick_rest true x y h = absurd (cc)
 pick_rest false x y h = refl
 
-first_at : (rows : List KeyRow) (xs : List ℕ) (otherwise j : ℕ) → Matches rows xs → j < length rows → same_name (values_at rows j) xs ≡ true → ((k : ℕ) → k < j → same_name (values_at rows k) xs ≡ false)
+first_match_at : (rows : List KeyRow) (xs : List ℕ) (otherwise j : ℕ) → Matches rows xs → j < length rows → same_name (values_at rows j) xs ≡ true → ((k : ℕ) → k < j → same_name (values_at rows k) xs ≡ false)
     → table_result rows otherwise xs ≡ result_at rows j
-first_at [] xs otherwise j m l h n = absurd (omega arith)
-first_at (r ∷ rows) xs otherwise zero m l h n = pick_first (all_fit r.values r.masks xs) r.result (table_result rows otherwise xs) (m 0 r refl ∙ h)
-first_at (r ∷ rows) xs otherwise (suc j) m l h n =
+first_match_at [] xs otherwise j m l h n = absurd (omega arith)
+first_match_at (r ∷ rows) xs otherwise zero m l h n = pick_first (all_fit r.values r.masks xs) r.result (table_result rows otherwise xs) (m 0 r refl ∙ h)
+first_match_at (r ∷ rows) xs otherwise (suc j) m l h n =
     pick_rest (all_fit r.values r.masks xs) r.result (table_result rows otherwise xs) (m 0 r refl ∙ n 0 (omega arith))
-    ∙ first_at rows xs otherwise j (λ k u e. m (suc k) u e) (omega arith) h (λ k b. n (suc k) (omega arith))
+    ∙ first_match_at rows xs otherwise j (λ k u e. m (suc k) u e) (omega arith) h (λ k b. n (suc k) (omega arith))
 
 first_none : (rows : List KeyRow) (xs : List ℕ) (otherwise : ℕ) → Matches rows xs → ((k : ℕ) → k < length rows → same_name (values_at rows k) xs ≡ false) → table_result rows otherwise xs ≡ otherwise
 first_none [] xs otherwise m n = refl
@@ -344,7 +380,7 @@ search_is_first p t rows order meta otherwise (Some j) o h s n =
     let values : values_at rows j ≡ xs = exact_bytes (values_at rows j) xs n.3 in
     let listed : j < length rows = subst (λ k. k < length rows) n.2 (o.ascends.within n.0 n.1) in
     let matches : same_name (values_at rows j) xs ≡ true = ap (λ ys. same_name ys xs) values ∙ same_names xs in
-    sym (first_at rows xs otherwise j (matching p t rows meta h o.literal s) listed matches (λ k l. false_from (same_name (values_at rows k) xs) (λ e.
+    sym (first_match_at rows xs otherwise j (matching p t rows meta h o.literal s) listed matches (λ k l. false_from (same_name (values_at rows k) xs) (λ e.
     let r = covered rows order xs k o.covers (omega arith) e in
     let place : r.0 ≡ n.0 = one_place rows order r.0 n.0 o.ascends r.1 n.1 (r.3 ∙ sym values ∙ ap (values_at rows) (sym n.2)) in
     let row : get_or order r.0 0 ≡ j = ap (λ i. get_or order i 0) place ∙ n.2 in
@@ -388,6 +424,32 @@ orders_more p tables n x olds news v l e m pushed a h =
     length-map (take n tables) table_rows_of ∙ length-take-le n tables (omega arith) ∙ sym m ∙ sym (length-map olds items) in
     subst (λ os. AreOrders p (map table_rows_of (take (n + 1) tables)) os) (sym orders)
     (subst (λ ts. AreOrders p ts (map items olds ++ v.items ∷ [])) (sym rows) (one_more p (map table_rows_of (take n tables)) (map items olds) (table_rows_of x) v.items many a h))
+
+firsts_one : (ts : List TableRows) (g : ℕ → List ℕ) (fs : List (List ℕ)) (r : TableRows) (f : List ℕ) → length ts ≡ length fs
+    → ((i : ℕ) (u : TableRows) → slice_get ts i ≡ Some u → order_at fs i ≡ map (first_at u.rows) (g i)) → f ≡ map (first_at r.rows) (g (length ts))
+    → (i : ℕ) (u : TableRows) → slice_get (ts ++ r ∷ []) i ≡ Some u → order_at (fs ++ f ∷ []) i ≡ map (first_at u.rows) (g i)
+firsts_one [] g [] r f m a h zero u e =
+    let same : r ≡ u = some_rows r u e in
+    h ∙ ap (λ (x : TableRows). map (first_at x.rows) (g 0)) same
+firsts_one [] g [] r f m a h (suc i) u e = absurd (cc)
+firsts_one [] g (x ∷ fs) r f m a h i u e = absurd (let bad : 0 ≡ suc (length fs) = m in omega arith)
+firsts_one (y ∷ ts) g [] r f m a h i u e = absurd (let bad : suc (length ts) ≡ 0 = m in omega arith)
+firsts_one (y ∷ ts) g (x ∷ fs) r f m a h zero u e = a 0 u e
+firsts_one (y ∷ ts) g (x ∷ fs) r f m a h (suc i) u e = firsts_one ts (λ k. g (suc k)) fs r f (cc) (λ j v d. a (suc j) v d) h i u e
+
+pub firsts_more : (tables : List CodeTableRows) (orders : List (List ℕ)) (n : ℕ) (x : CodeTableRows) (olds news : List (Vec ℕ Global)) (v : Vec ℕ Global) → n < length tables → x ≡ get_or tables n x → length olds ≡ n
+    → news ≡ olds ++ v ∷ [] → AreFirsts (map table_rows_of (take n tables)) orders (map (λ (w : Vec ℕ Global). w.items) olds) → v.items ≡ map (first_at (table_rows_of x).rows) (order_at orders n)
+    → AreFirsts (map table_rows_of (take (n + 1) tables)) orders (map (λ (w : Vec ℕ Global). w.items) news)
+firsts_more tables orders n x olds news v l e m pushed a h =
+    let items = λ (w : Vec ℕ Global). w.items in
+    let taken : take (n + 1) tables ≡ take n tables ++ x ∷ [] = take_more tables n x l ∙ ap (λ y. take n tables ++ y ∷ []) (sym e) in
+    let rows : map table_rows_of (take (n + 1) tables) ≡ map table_rows_of (take n tables) ++ table_rows_of x ∷ [] = ap (map table_rows_of) taken ∙ map-append table_rows_of (take n tables) (x ∷ []) in
+    let firsts : map items news ≡ map items olds ++ v.items ∷ [] = ap (map items) pushed ∙ map-append items olds (v ∷ []) in
+    let counted : length (map table_rows_of (take n tables)) ≡ n = length-map (take n tables) table_rows_of ∙ length-take-le n tables (omega arith) in
+    let many : length (map table_rows_of (take n tables)) ≡ length (map items olds) = counted ∙ sym m ∙ sym (length-map olds items) in
+    subst (λ fs. AreFirsts (map table_rows_of (take (n + 1) tables)) orders fs) (sym firsts)
+    (subst (λ ts. AreFirsts ts orders (map items olds ++ v.items ∷ [])) (sym rows) (firsts_one (map table_rows_of (take n tables)) (order_at orders) (map items olds) (table_rows_of x) v.items many a
+    (h ∙ ap (λ k. map (first_at (table_rows_of x).rows) (order_at orders k)) (sym counted))))
 
 pub positive : (n : ℕ) → (n == 0) ≡ false → 0 < n
 positive zero h = absurd (cc)

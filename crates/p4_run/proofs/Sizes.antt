@@ -1,8 +1,15 @@
--- How large statements are: the measure of a run.
+-- How large statements and expressions are: the measures of a run.
 use Rattle.std.proofs.Common.{◌≡◌, ℕ, zero, suc, ◌+◌, ◌<◌, ◌≤◌, List, [], ◌∷◌, length, map, get_or, ap, arith}
-use Rattle.p4_ir.specs.P4Tree.{P4Stmt, p_if, p_if_else, P4Block, p_done, p_then}
+use Rattle.p4_ir.specs.P4Tree.{P4Expr, p_unary, p_binary, p_slice, p_pick, P4Stmt, p_if, p_if_else, P4Block, p_done, p_then}
 use Rattle.p4_ir.specs.Program.{block_of, stmt_of}
 use Rattle.p4_ir.specs.declared.program.P4Stmt.{P4Stmt as CodeStmt}
+
+abbrev pub expr_size : P4Expr → ℕ
+expr_size (p_unary op a) = suc (expr_size a)
+expr_size (p_binary op a b) = suc (expr_size a + expr_size b)
+expr_size (p_slice a high low) = suc (expr_size a)
+expr_size (p_pick c a b) = suc (expr_size c + expr_size a + expr_size b)
+expr_size _ = 0
 
 abbrev mutual
   pub stmt_size : P4Stmt → ℕ

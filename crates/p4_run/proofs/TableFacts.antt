@@ -180,6 +180,10 @@ control_fits : (p : Program) (side : Side) → Kinds p → each (table_fits p) (
 control_fits p (Ingress port) k = k.ingress_tables
 control_fits p (Egress rid) k = k.egress_tables
 
+counted : (n : ℕ) → not (n == 0) ≡ true → 0 < n
+counted zero h = absurd (cc)
+counted (suc n) h = omega arith
+
 pub table_at : (p : Program) (rows : RowsFile) (side : Side) (n : ℕ) (t : P4Table) (r : TableRows) → kinds_fit p ≡ true → rows_load p rows ≡ true
     → table_numbered (control_at p side).tables n ≡ Some t → rows_numbered rows.tables n ≡ Some r → TableFits p t r
 table_at p rows side n t r h k e f =
@@ -194,6 +198,7 @@ table_at p rows side n t r h k e f =
     let a = and_parts (not (length t.keys == 0) && each (λ i. nat_lt i (length p.meta)) t.keys && nat_lt t.result (length p.meta)) (nat_lt t.number (2 ^ 32 - 1)) own in
     let b = and_parts (not (length t.keys == 0) && each (λ i. nat_lt i (length p.meta)) t.keys) (nat_lt t.result (length p.meta)) a.0 in
     record {
+      some = counted (length t.keys) (and_parts (not (length t.keys == 0)) (each (λ i. nat_lt i (length p.meta)) t.keys) b.0).0;
       keys = (and_parts (not (length t.keys == 0)) (each (λ i. nat_lt i (length p.meta)) t.keys) b.0).1;
       result = ltb-true t.result (length p.meta) b.1;
       rows = parts.0;

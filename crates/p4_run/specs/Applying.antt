@@ -13,6 +13,7 @@ paired (Some t) (Some r) = Some (t, r)
 
 -- the rows fit the table, and the table fits the program
 pub record TableFits (p : Program) (t : P4Table) (r : TableRows) : Type 0 where
+  pub some : 0 < length t.keys
   pub keys : each (λ i. nat_lt i (length p.meta)) t.keys ≡ true
   pub result : t.result < length p.meta
   pub rows : each (row_fits p t) r.rows ≡ true

@@ -9,6 +9,7 @@ pub mod Orders
 pub mod Outcomes
 pub mod Places
 pub mod Running
+pub mod Sorted
 pub mod Spans
 pub mod States
 pub mod Visits

@@ -1,5 +1,5 @@
 -- Cited by what loading keeps of rows that are literal: some rows in the order of their values, by which all are searched.
-use Rattle.std.specs.Prelude.{◌≡◌, ℕ, zero, suc, ◌+◌, ◌<◌, ◌^◌, ◌&&◌, Bool, true, false, nat_le, List, [], ◌∷◌, get_or, length, slice_get, Option, Some, None}
+use Rattle.std.specs.Prelude.{◌≡◌, ◌⊎◌, ℕ, zero, suc, ◌+◌, ◌<◌, ◌^◌, ◌&&◌, Bool, true, false, nat_le, List, [], ◌∷◌, get_or, length, map, slice_get, Option, Some, None}
 use Rattle.std.specs.List.{list_any}
 use Rattle.std.specs.Ordering.{nat_cmp}
 use Rattle.std.specs.Cmp.Lexicographic.{slice_cmp}
@@ -21,6 +21,10 @@ abbrev pub result_at : List KeyRow → ℕ → ℕ
 result_at [] j = 0
 result_at (r ∷ rows) zero = r.result
 result_at (r ∷ rows) (suc j) = result_at rows j
+
+-- the first of the values at an index
+abbrev pub first_at : List KeyRow → ℕ → ℕ
+first_at rows j = get_or (values_at rows j) 0 0
 
 -- the values at an index, compared with others
 abbrev pub compared : List KeyRow → ℕ → List ℕ → Ordering
@@ -78,3 +82,12 @@ abbrev pub AreOrders : Program → List TableRows → List (List ℕ) → Type 0
 AreOrders p tables orders =
     (i : ℕ) (r : TableRows) (t : P4Table) → slice_get tables i ≡ Some r → table_numbered (all_tables p) r.number ≡ Some t → 0 < length (order_at orders i)
     → IsOrder p t r.rows (order_at orders i)
+
+-- for the rows of each table the first values of those in order
+abbrev pub AreFirsts : List TableRows → List (List ℕ) → List (List ℕ) → Type 0
+AreFirsts tables orders firsts =
+    (i : ℕ) (r : TableRows) → slice_get tables i ≡ Some r → order_at firsts i ≡ map (first_at r.rows) (order_at orders i)
+
+-- a comparison of the first values tells what all tell: it finds them unequal, or there are no others
+abbrev pub IsTelling : Ordering → (keys : List ℕ) → Type 0
+IsTelling found keys = (found ≡ Equal → ⊥) ⊎ (length keys ≡ 1)

@@ -1,17 +1,11 @@
 -- Cited by the private clauses of statements: how they end.
-use Rattle.std.specs.Prelude.{Bool, Option, Some, None}
+use Rattle.std.specs.Prelude.{Option, Some, None}
 use Rattle.cocoon_num.specs.Packets.{Layout}
-use Rattle.cocoon_num.specs.Values.{Value, number, truth}
 use Rattle.p4_ir.specs.Switch.{Outcome, proceeds, returned}
 use Rattle.p4_run.specs.States.{state_in}
 use Rattle.p4_run.specs.declared.registers.Registers.{Registers}
 use Rattle.p4_run.specs.declared.statements.Way.{Way}
 use Rattle.p4_run.specs.declared.statements.Way.TheVariants.{Proceeds, Returned}
-
--- the truth value of a value
-abbrev pub as_truth : Value → Option Bool
-as_truth (truth b) = Some b
-as_truth (number w n) = None
 
 -- the outcome, with what the registers are then; none where a value was wanted that is not there
 abbrev pub outcome_of : Layout → Option Way → Registers → Option Outcome

@@ -7,7 +7,7 @@ ghost use Rattle.p4_ir.specs.P4Kinds.{kinds_fit};
 ghost use Rattle.p4_ir.specs.P4Tree.{program_layout};
 ghost use Rattle.p4_ir.specs.Program.{program_of};
 ghost use Rattle.std.proofs.Props.{props};
-ghost use Rattle.p4_run.specs.Orders.{AreOrders};
+ghost use Rattle.p4_run.specs.Orders.{AreFirsts, AreOrders};
 ghost use Rattle.p4_run.specs.Places.{places_in, starts_from};
 
 use p4_ir::{Program, RowsFile};
@@ -27,6 +27,8 @@ pub struct Loaded {
     pub(crate) egress_places: Vec<usize>,
     /// For the rows of each table their order by values, where all are literal; else no index.
     pub(crate) orders: Vec<Vec<u32>>,
+    /// For the rows of each table the first values of those in order.
+    pub(crate) firsts: Vec<Vec<u64>>,
     ghost kinds: { IsTrue (kinds_fit (program_of program)) },
     ghost loads: { IsTrue (rows_load (program_of program) (rows_of rows)) },
     ghost widths_are: { widths.items ≡ widths_in (program_layout (program_of program)) },
@@ -38,4 +40,6 @@ pub struct Loaded {
         ≡ places_in (rows_of rows).tables (program_of program).egress.tables },
     ghost orders_are: { AreOrders (program_of program) (rows_of rows).tables
         (map (λ v. v.items) orders.items) } by { Prim.hlevel props },
+    ghost firsts_are: { AreFirsts (rows_of rows).tables (map (λ v. v.items) orders.items)
+        (map (λ v. v.items) firsts.items) } by { Prim.hlevel props },
 }

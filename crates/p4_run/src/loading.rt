@@ -7,28 +7,31 @@ ghost use Rattle.p4_ir.specs.Program.{program_of};
 ghost use Rattle.p4_ir.specs.WellKinded.{WellKinded};
 ghost use Rattle.p4_run.specs.FaultOf.{IsFault};
 ghost use Rattle.p4_run.specs.Faults as faults;
-ghost use Rattle.p4_run.specs.Orders.{AreOrders};
+ghost use Rattle.p4_run.specs.Orders.{AreFirsts, AreOrders};
 ghost use Rattle.p4_run.specs.Running.{program_in, rows_in};
 
 use crate::faults::{LoadFault, load_fault};
 use crate::loaded::Loaded;
-use crate::orders::all_orders;
+use crate::orders::{all_firsts, all_orders};
 use crate::places::{FieldWidths, bit_count, field_widths, rows_places};
 use cocoon_num::NoMemory;
 use p4_ir::{Program, RowsFile};
 use std::alloc::Global;
 
-/// A program with rows that load, and the orders of these.
+/// A program with rows that load, and the orders of these with their first values.
 fn placed(
     alloc: Global,
     program: Program,
     rows: RowsFile,
     orders: Vec<Vec<u32>>,
+    firsts: Vec<Vec<u64>>,
 ) -> Result<Loaded, NoMemory>
     requires kinds { IsTrue (kinds_fit (program_of program)) }
     requires loads { IsTrue (rows_load (program_of program) (rows_of rows)) }
     requires orders { AreOrders (program_of program) (rows_of rows).tables
         (map (λ v. v.items) orders.items) }
+    requires firsts { AreFirsts (rows_of rows).tables (map (λ v. v.items) orders.items)
+        (map (λ v. v.items) firsts.items) }
     ensures program { IfOk result (λ loaded. program_in loaded ≡ program_of program) }
     ensures rows { IfOk result (λ loaded. rows_in loaded ≡ rows_of rows) }
 {
@@ -46,6 +49,7 @@ fn placed(
         ingress_places,
         egress_places,
         orders,
+        firsts,
     })
 }
 
@@ -57,7 +61,8 @@ fn resolved(alloc: Global, program: Program, rows: RowsFile) -> Result<Loaded, N
     ensures rows { IfOk result (λ loaded. rows_in loaded ≡ rows_of rows) }
 {
     let orders = all_orders(alloc, &program, rows.tables.items())?;
-    placed(alloc, program, rows, orders)
+    let firsts = all_firsts(alloc, rows.tables.items(), &orders)?;
+    placed(alloc, program, rows, orders, firsts)
 }
 
 impl Loaded {

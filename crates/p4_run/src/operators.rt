@@ -3,7 +3,7 @@
 ghost use Rattle.std.specs.Prelude.{◌≡◌, ◌==◌, false, option_map, Some};
 ghost use Rattle.cocoon_num.specs.BitsOf.{value_of};
 ghost use Rattle.cocoon_num.specs.Values as values;
-ghost use Rattle.cocoon_num.specs.Values.{apply_binary, apply_pick, apply_slice, apply_unary, number, truth};
+ghost use Rattle.cocoon_num.specs.Values.{apply_binary, apply_slice, apply_unary, number, truth};
 ghost use Rattle.p4_ir.specs.Program.{binary_of, unary_of};
 ghost use Rattle.p4_run.specs.Meant.{meant};
 
@@ -12,6 +12,7 @@ use cocoon_num::Bits;
 use p4_ir::{P4Binary, P4Unary};
 
 /// What an operator makes of one operand.
+#[inline(always)]
 pub fn unary(op: P4Unary, operand: Value) -> Option<Value>
     ensures { option_map meant result ≡ apply_unary (unary_of op) (meant operand) }
 {
@@ -28,6 +29,7 @@ pub fn unary(op: P4Unary, operand: Value) -> Option<Value>
 }
 
 /// Two numbers one after another, if they are not too wide together.
+#[inline(always)]
 fn joined(high: Bits, low: Bits) -> Option<Value>
     ensures { option_map meant result ≡ apply_binary values.concat (value_of high) (value_of low) }
 {
@@ -39,6 +41,7 @@ fn joined(high: Bits, low: Bits) -> Option<Value>
 }
 
 /// What an operator makes of two numbers of one width.
+#[inline(always)]
 fn alike(op: P4Binary, first: Bits, second: Bits) -> Option<Value>
     requires { first.width ≡ second.width }
     ensures { option_map meant result
@@ -63,6 +66,7 @@ fn alike(op: P4Binary, first: Bits, second: Bits) -> Option<Value>
 }
 
 /// What an operator makes of two numbers of two widths.
+#[inline(always)]
 fn unlike(op: P4Binary, first: Bits, second: Bits) -> Option<Value>
     requires { (first.width == second.width) ≡ false }
     ensures { option_map meant result
@@ -75,7 +79,8 @@ fn unlike(op: P4Binary, first: Bits, second: Bits) -> Option<Value>
 }
 
 /// What an operator makes of two numbers.
-fn numbers(op: P4Binary, first: Bits, second: Bits) -> Option<Value>
+#[inline(always)]
+pub(crate) fn numbers(op: P4Binary, first: Bits, second: Bits) -> Option<Value>
     ensures { option_map meant result
         ≡ apply_binary (binary_of op) (value_of first) (value_of second) }
 {
@@ -87,7 +92,8 @@ fn numbers(op: P4Binary, first: Bits, second: Bits) -> Option<Value>
 }
 
 /// What an operator makes of two truth values.
-fn truths(op: P4Binary, first: bool, second: bool) -> Option<Value>
+#[inline(always)]
+pub(crate) fn truths(op: P4Binary, first: bool, second: bool) -> Option<Value>
     ensures { option_map meant result ≡ apply_binary (binary_of op) (truth first) (truth second) }
 {
     match op {
@@ -97,23 +103,8 @@ fn truths(op: P4Binary, first: bool, second: bool) -> Option<Value>
     }
 }
 
-/// What an operator makes of two operands.
-pub fn binary(op: P4Binary, first: Value, second: Value) -> Option<Value>
-    ensures { option_map meant result ≡ apply_binary (binary_of op) (meant first) (meant second) }
-{
-    match first {
-        Value::Number(a) => match second {
-            Value::Number(b) => numbers(op, a, b),
-            Value::Truth(_) => None,
-        },
-        Value::Truth(a) => match second {
-            Value::Number(_) => None,
-            Value::Truth(b) => truths(op, a, b),
-        },
-    }
-}
-
 /// The bits from `high` down to `low` of a number that has them.
+#[inline(always)]
 pub fn slice(operand: Value, high: u8, low: u8) -> Option<Value>
     ensures { option_map meant result ≡ apply_slice (meant operand) high low }
 {
@@ -126,16 +117,5 @@ pub fn slice(operand: Value, high: u8, low: u8) -> Option<Value>
             }
         }
         Value::Truth(_) => None,
-    }
-}
-
-/// The first where the condition is true, else the second.
-pub fn pick(condition: Value, first: Value, second: Value) -> Option<Value>
-    ensures { option_map meant result ≡ apply_pick (meant condition) (meant first) (meant second) }
-{
-    match condition {
-        Value::Number(_) => None,
-        Value::Truth(true) => Some(first),
-        Value::Truth(false) => Some(second),
     }
 }

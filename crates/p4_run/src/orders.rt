@@ -1,5 +1,5 @@
 //! Rows that are literal, in the order of their values: made at loading, and searched by halves.
-ghost use Rattle.std.specs.Prelude.{All, ◌≡◌, ◌↔◌, ◌<◌, IfOk, IsTrue, length, map};
+ghost use Rattle.std.specs.Prelude.{All, ◌≡◌, ◌↔◌, ◌<◌, get_or, IfOk, IsTrue, length, map};
 ghost use Rattle.std.specs.Cmp.Lexicographic.{slice_cmp};
 ghost use Rattle.std.specs.Ordering.{nat_cmp};
 ghost use Rattle.cocoon_num.specs.Lists.{each};
@@ -8,7 +8,7 @@ ghost use Rattle.p4_ir.specs.NetOf.{key_row_of, table_rows_of};
 ghost use Rattle.p4_ir.specs.Program.{program_of, table_of};
 ghost use Rattle.p4_run.specs.Keyed.{HasKeys, keyed};
 ghost use Rattle.p4_run.specs.Orders as spec;
-ghost use Rattle.p4_run.specs.Orders.{AreOrders, Ascends, Covers, IsAbove, IsFirst, IsOrder, IsOrderOf, Searched};
+ghost use Rattle.p4_run.specs.Orders.{AreFirsts, AreOrders, Ascends, compared, Covers, IsAbove, IsFirst, IsOrder, IsOrderOf, IsTelling, Searched};
 ghost use Rattle.p4_run.specs.Spans.{IsNarrowed};
 
 use crate::faults::{is_full, meta_width, number_of, table_of_either};
@@ -21,6 +21,7 @@ use std::collections::BTreeMap;
 // ---- searching
 
 /// Compares values with the numbers in some keys, one after another.
+#[inline(never)]
 fn compare(values: &[u64], keys: &[u32], meta: &[u64]) -> Ordering
     requires many { length values.now ≡ length keys.now }
     requires keys { All (λ key. key < length meta.now) keys.now }
@@ -35,6 +36,49 @@ fn compare(values: &[u64], keys: &[u32], meta: &[u64]) -> Ordering
     Ordering::Equal
 }
 
+#[inline(always)]
+fn compare_numbers(one: u64, other: u64) -> Ordering
+    ensures { result ≡ nat_cmp one other }
+{
+    one.cmp(&other)
+}
+
+/// Whether a comparison of first values, one for the first of some keys, tells what all tell.
+#[inline(always)]
+fn is_telling(found: Ordering, keys: &[u32]) -> bool
+    ensures { IsTrue result → IsTelling found keys.now }
+{
+    found != Ordering::Equal || keys.len() == 1
+}
+
+/// Compares the values of the row at a place of the order with the numbers in some keys. Where the first of them tells, which
+/// stands beside the order, the row is not looked at.
+#[inline(always)]
+fn compare_at(
+    order: &[u32],
+    firsts: &[u64],
+    rows: &[KeyRow],
+    keys: &[u32],
+    meta: &[u64],
+    place: usize,
+) -> Ordering
+    requires order { Ascends (map key_row_of rows.now) order.now }
+    requires firsts { firsts.now ≡ map (spec.first_at (map key_row_of rows.now)) order.now }
+    requires rows { All (HasKeys (length keys.now)) rows.now }
+    requires keys { All (λ key. key < length meta.now) keys.now }
+    requires some { 0 < length keys.now }
+    requires place { place < length order.now }
+    ensures { result
+        ≡ compared (map key_row_of rows.now) (get_or order.now place 0) (keyed meta.now keys.now) }
+{
+    let found = compare_numbers(firsts[place], meta[keys[0] as usize]);
+    if is_telling(found, keys) {
+        return found;
+    }
+    compare(rows[order[place] as usize].values.items(), keys, meta)
+}
+
+#[inline(always)]
 fn is_equal(found: Ordering) -> bool
     ensures { IsTrue result ↔ (found ≡ Ordering.Equal) }
 {
@@ -49,6 +93,7 @@ struct Span {
 }
 
 /// The half behind or before the middle, by how that compares.
+#[inline(always)]
 fn narrowed(span: Span, middle: usize, found: Ordering) -> Span
     requires { middle < span.high }
     ensures { IsNarrowed span middle found result }
@@ -67,10 +112,18 @@ fn narrowed(span: Span, middle: usize, found: Ordering) -> Span
 }
 
 /// The index of a row that has the numbers in some keys, among rows in the order of their values.
-pub(crate) fn search(order: &[u32], rows: &[KeyRow], keys: &[u32], meta: &[u64]) -> Option<u32>
+pub(crate) fn search(
+    order: &[u32],
+    firsts: &[u64],
+    rows: &[KeyRow],
+    keys: &[u32],
+    meta: &[u64],
+) -> Option<u32>
     requires order { Ascends (map key_row_of rows.now) order.now }
+    requires firsts { firsts.now ≡ map (spec.first_at (map key_row_of rows.now)) order.now }
     requires rows { All (HasKeys (length keys.now)) rows.now }
     requires keys { All (λ key. key < length meta.now) keys.now }
+    requires some { 0 < length keys.now }
     ensures { Searched (map key_row_of rows.now) order.now (keyed meta.now keys.now) result }
 {
     let mut span = Span {
@@ -79,10 +132,9 @@ pub(crate) fn search(order: &[u32], rows: &[KeyRow], keys: &[u32], meta: &[u64])
     };
     while span.low < span.high {
         let middle = span.low + (span.high - span.low) / 2;
-        let row = order[middle];
-        let found = compare(rows[row as usize].values.items(), keys, meta);
+        let found = compare_at(order, firsts, rows, keys, meta, middle);
         if is_equal(found) {
-            return Some(row);
+            return Some(order[middle]);
         }
         span = narrowed(span, middle, found);
     }
@@ -304,6 +356,65 @@ pub(crate) fn order_at(orders: &[Vec<u32>], place: usize) -> &[u32]
 {
     match orders.get(place) {
         Some(order) => order.as_slice(),
+        None => &[],
+    }
+}
+
+// ---- first values
+
+fn first_of(values: &[u64]) -> u64
+    ensures { result ≡ get_or values.now 0 0 }
+{
+    if values.is_empty() {
+        return 0;
+    }
+    values[0]
+}
+
+/// The first value of the row of an index.
+fn first_value(rows: &[KeyRow], row: u32) -> u64
+    ensures { result ≡ spec.first_at (map key_row_of rows.now) row }
+{
+    match rows.get(row as usize) {
+        Some(found) => first_of(found.values.items()),
+        None => 0,
+    }
+}
+
+fn first_values(alloc: Global, rows: &[KeyRow], order: &[u32]) -> Result<Vec<u64>, NoMemory>
+    ensures { IfOk result (λ firsts.
+        firsts.items ≡ map (spec.first_at (map key_row_of rows.now)) order.now) }
+{
+    let mut firsts = Vec::new(alloc);
+    for row in order {
+        firsts.push(first_value(rows, *row))?;
+    }
+    Ok(firsts)
+}
+
+/// For the rows of each table the first values of those in order.
+pub(crate) fn all_firsts(
+    alloc: Global,
+    tables: &[TableRows],
+    orders: &[Vec<u32>],
+) -> Result<Vec<Vec<u64>>, NoMemory>
+    ensures { IfOk result (λ firsts. AreFirsts (map table_rows_of tables.now)
+        (map (λ v. v.items) orders.now) (map (λ v. v.items) firsts.items)) }
+{
+    let mut firsts = Vec::new(alloc);
+    for (place, rows) in tables.iter().enumerate() {
+        let order = order_at(orders, place);
+        firsts.push(first_values(alloc, rows.rows.items(), order)?)?;
+    }
+    Ok(firsts)
+}
+
+/// The first values of the rows of the table at a place.
+pub(crate) fn firsts_at(firsts: &[Vec<u64>], place: usize) -> &[u64]
+    ensures { result.now ≡ spec.order_at (map (λ v. v.items) firsts.now) place }
+{
+    match firsts.get(place) {
+        Some(found) => found.as_slice(),
         None => &[],
     }
 }

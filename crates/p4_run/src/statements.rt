@@ -9,7 +9,7 @@ ghost use Rattle.p4_ir.specs.P4Kinds.{block_fits, field_sort, meta_sort, stmt_fi
 ghost use Rattle.p4_ir.specs.Program.{block_of, expr_of, stmt_of, table_of};
 ghost use Rattle.p4_ir.specs.Switch.{applied, p4_run, p4_run_all, proceeds, rows_numbered, set_in_header, table_numbered, table_result};
 ghost use Rattle.p4_run.specs.Keyed.{keyed};
-ghost use Rattle.p4_run.specs.Orders.{IsOrder};
+ghost use Rattle.p4_run.specs.Orders.{first_at, IsOrder};
 ghost use Rattle.p4_run.specs.Outcomes.{outcome_of};
 ghost use Rattle.p4_run.specs.Applying.{paired, set_by, TableFits};
 ghost use Rattle.p4_run.specs.Running.{control_at, layout_in, program_in, rows_in, running_at, within_at};
@@ -17,7 +17,7 @@ ghost use Rattle.p4_run.specs.States.{Fit, state_in};
 
 use crate::loaded::Loaded;
 use crate::look::look;
-use crate::orders::{order_at, search};
+use crate::orders::{firsts_at, order_at, search};
 use crate::places::table_place;
 use crate::registers::Registers;
 use crate::running::{Side, places, tables};
@@ -59,13 +59,15 @@ fn set_field(loaded: &Loaded, registers: &mut Registers, header: u32, field: u32
     registers.fields[index] = number.value as u64;
 }
 
-/// The table of a number, and its rows with their order.
-fn found(loaded: &Loaded, side: Side, number: u32) -> Option<(&Table, &TableRows, &[u32])>
+/// The table of a number, and its rows with their order and the first values in this.
+fn found(loaded: &Loaded, side: Side, number: u32) -> Option<(&Table, &TableRows, &[u32], &[u64])>
     ensures found { option_map (λ f. (table_of f.0.now, table_rows_of f.1.now)) result
         ≡ paired (table_numbered (control_at (program_in loaded.now) side).tables number)
         (rows_numbered (rows_in loaded.now).tables number) }
     ensures order { IfSome result (λ f. 0 < length f.2.now → IsOrder (program_in loaded.now)
         (table_of f.0.now) (map key_row_of f.1.now.rows) f.2.now) }
+    ensures firsts { IfSome result (λ f.
+        f.3.now ≡ map (first_at (map key_row_of f.1.now.rows)) f.2.now) }
 {
     let tables = tables(loaded, side);
     let at = table_place(tables, number);
@@ -73,7 +75,10 @@ fn found(loaded: &Loaded, side: Side, number: u32) -> Option<(&Table, &TableRows
         Some(table) => {
             let place = places(loaded, side)[at];
             match loaded.rows.tables.items().get(place) {
-                Some(rows) => Some((table, rows, order_at(&loaded.orders, place))),
+                Some(rows) => {
+                    let order = order_at(&loaded.orders, place);
+                    Some((table, rows, order, firsts_at(&loaded.firsts, place)))
+                }
                 None => None,
             }
         }
@@ -82,12 +87,20 @@ fn found(loaded: &Loaded, side: Side, number: u32) -> Option<(&Table, &TableRows
 }
 
 /// The result of a table by the numbers in its keys: searched where there is an order, else looked at row by row.
-fn look_up(loaded: &Loaded, table: &Table, rows: &TableRows, order: &[u32], meta: &[u64]) -> u64
+fn look_up(
+    loaded: &Loaded,
+    table: &Table,
+    rows: &TableRows,
+    order: &[u32],
+    firsts: &[u64],
+    meta: &[u64],
+) -> u64
     requires meta { FieldsFit (field_widths (program_in loaded.now).meta) meta.now }
     requires table { TableFits (program_in loaded.now) (table_of table.now)
         (table_rows_of rows.now) }
     requires order { 0 < length order.now → IsOrder (program_in loaded.now) (table_of table.now)
         (map key_row_of rows.now.rows) order.now }
+    requires firsts { firsts.now ≡ map (first_at (map key_row_of rows.now.rows)) order.now }
     ensures { result ≡ table_result (map key_row_of rows.now.rows) rows.now.default
         (keyed meta.now table.now.keys) }
 {
@@ -95,7 +108,7 @@ fn look_up(loaded: &Loaded, table: &Table, rows: &TableRows, order: &[u32], meta
     if order.is_empty() {
         return look(rows, keys, meta);
     }
-    match search(order, rows.rows.items(), keys, meta) {
+    match search(order, firsts, rows.rows.items(), keys, meta) {
         Some(row) => rows.rows.items()[row as usize].result,
         None => rows.default,
     }
@@ -108,18 +121,20 @@ fn set_result(
     table: &Table,
     rows: &TableRows,
     order: &[u32],
+    firsts: &[u64],
 )
     requires fit { Fit (program_in loaded.now) registers.old }
     requires table { TableFits (program_in loaded.now) (table_of table.now)
         (table_rows_of rows.now) }
     requires order { 0 < length order.now → IsOrder (program_in loaded.now) (table_of table.now)
         (map key_row_of rows.now.rows) order.now }
+    requires firsts { firsts.now ≡ map (first_at (map key_row_of rows.now.rows)) order.now }
     ensures fit { Fit (program_in loaded.now) registers.new }
     ensures state { Some (state_in (layout_in loaded.now) registers.new)
         ≡ set_by (state_in (layout_in loaded.now) registers.old) (table_of table.now)
         (table_rows_of rows.now) }
 {
-    let result = look_up(loaded, table, rows, order, &registers.meta);
+    let result = look_up(loaded, table, rows, order, firsts, &registers.meta);
     registers.meta[table.result as usize] = result;
 }
 
@@ -133,8 +148,8 @@ fn apply(loaded: &Loaded, side: Side, registers: &mut Registers, number: u32) ->
         (state_in (layout_in loaded.now) registers.old) number) }
 {
     match found(loaded, side, number) {
-        Some((table, rows, order)) => {
-            set_result(loaded, registers, table, rows, order);
+        Some((table, rows, order, firsts)) => {
+            set_result(loaded, registers, table, rows, order, firsts);
             Some(Way::Proceeds)
         }
         None => None,
@@ -156,7 +171,7 @@ fn set_egress_port(
         ≡ p4_run (running_at (program_in loaded.now) (rows_in loaded.now) side)
         (tree.egress_port (expr_of value.now)) (state_in (layout_in loaded.now) registers.old) }
 {
-    registers.egress_port = number_in(loaded, side, registers, value)?.value as u16;
+    registers.egress_port = number_in(loaded, side, registers, value).value as u16;
     Some(Way::Proceeds)
 }
 
@@ -170,7 +185,7 @@ fn set_group(loaded: &Loaded, side: Side, registers: &mut Registers, value: &P4E
         ≡ p4_run (running_at (program_in loaded.now) (rows_in loaded.now) side)
         (tree.group (expr_of value.now)) (state_in (layout_in loaded.now) registers.old) }
 {
-    registers.group = number_in(loaded, side, registers, value)?.value as u16;
+    registers.group = number_in(loaded, side, registers, value).value as u16;
     Some(Way::Proceeds)
 }
 
@@ -187,25 +202,25 @@ fn run(loaded: &Loaded, side: Side, registers: &mut Registers, stmt: &P4Stmt) ->
 {
     match stmt {
         P4Stmt::SetMeta(index, value) => {
-            let number = number_in(loaded, side, registers, value)?;
+            let number = number_in(loaded, side, registers, value);
             set_meta(loaded, registers, *index, number);
             Some(Way::Proceeds)
         }
         P4Stmt::SetField(header, field, value) => {
-            let number = number_in(loaded, side, registers, value)?;
+            let number = number_in(loaded, side, registers, value);
             set_field(loaded, registers, *header, *field, number);
             Some(Way::Proceeds)
         }
         P4Stmt::Apply(number) => apply(loaded, side, registers, *number),
         P4Stmt::If(condition, first) => {
-            if truth_in(loaded, side, registers, condition)? {
+            if truth_in(loaded, side, registers, condition) {
                 run_all(loaded, side, registers, first)
             } else {
                 Some(Way::Proceeds)
             }
         }
         P4Stmt::IfElse(condition, first, second) => {
-            if truth_in(loaded, side, registers, condition)? {
+            if truth_in(loaded, side, registers, condition) {
                 run_all(loaded, side, registers, first)
             } else {
                 run_all(loaded, side, registers, second)

@@ -19,9 +19,7 @@ returns-then-is_equal c =
     let top : s.high ≤ length order = c.loop-span.invariant.high in
     let l : middle < length order = omega arith in
     let j = get_or order middle 0 in
-    let m : j < length rows = subst (λ n. j < n) (rows_counted_same rows) (c.requires.order.within middle l) in
-    let found_is : c.compare-found.result ≡ compared all j xs =
-    c.compare-found.ensures ∙ ap (λ v. slice_cmp nat_cmp v xs) (c.items.ensures ∙ sym (values_get rows j c.index-rows-row.result m)) in
+    let found_is : c.compare_at-found.result ≡ compared all j xs = c.compare_at-found.ensures in
     (middle, l, refl, sym found_is ∙ c.is_equal.ensures.0 c.if-is_equal.true)
 
 pub loop-span-preserved : goal.loop-span-preserved
@@ -36,8 +34,6 @@ loop-span-preserved c =
     let top : s.high ≤ length order = c.loop-span.invariant.high in
     let l : middle < length order = omega arith in
     let j = get_or order middle 0 in
-    let m : j < length rows = subst (λ n. j < n) (rows_counted_same rows) (c.requires.order.within middle l) in
-    let found_is : c.compare-found.result ≡ compared all j xs =
-    c.compare-found.ensures ∙ ap (λ v. slice_cmp nat_cmp v xs) (c.items.ensures ∙ sym (values_get rows j c.index-rows-row.result m)) in
-    narrows all order xs s c.narrowed-span.result middle c.compare-found.result c.requires.order c.loop-span.invariant (omega arith) (omega arith) found_is
+    let found_is : c.compare_at-found.result ≡ compared all j xs = c.compare_at-found.ensures in
+    narrows all order xs s c.narrowed-span.result middle c.compare_at-found.result c.requires.order c.loop-span.invariant (omega arith) (omega arith) found_is
     (λ e. let yes = c.is_equal.ensures.1 e in let not_ = c.if-is_equal.false in cc) c.narrowed-span.ensures

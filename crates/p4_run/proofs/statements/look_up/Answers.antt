@@ -4,7 +4,7 @@ use Rattle.p4_ir.specs.NetOf.{key_row_of}
 use Rattle.p4_ir.specs.P4Tree.{field_widths}
 use Rattle.p4_ir.specs.Program.{table_of}
 use Rattle.p4_run.specs.Keyed.{HasKeys, keyed}
-use Rattle.p4_run.specs.Orders.{Ascends, IsOrder, Searched}
+use Rattle.p4_run.specs.Orders.{Ascends, first_at, IsOrder, Searched}
 use Rattle.p4_run.specs.Running.{program_in}
 use Rattle.p4_run.proofs.OrderFacts.{meta_small, positive, result_get, rows_counted_same, search_is_first}
 use Rattle.p4_run.proofs.TableFacts.{all_below, rows_counted}
@@ -88,3 +88,9 @@ returns-in-None c =
     subst (λ rs. Searched (map key_row_of rs) order (keyed meta t.keys) None) c.items.ensures (subst (λ ks. Searched (map key_row_of c.items.result.now) order (keyed meta ks) None) c.items-keys.ensures c.in-None.ensures) in
     let same = search_is_first p (table_of t) all order meta c.args.rows.now.default None is c.requires.table.rows (meta_small p meta c.requires.meta) found in
     same
+
+pub search-requires-clause-firsts : goal.search-requires-clause-firsts
+search-requires-clause-firsts c = subst (λ rs. c.args.firsts.now ≡ map (first_at (map key_row_of rs)) c.args.order.now) (sym c.items.ensures) c.requires.firsts
+
+pub search-requires-clause-some : goal.search-requires-clause-some
+search-requires-clause-some c = subst (λ ks. 0 < length ks) (sym c.items-keys.ensures) c.requires.table.some
