@@ -45,7 +45,8 @@ impl Chains {
         ensures { (vars : ℕ) (firsts : List ℕ) → Registers vars firsts self.now
             → IsLast firsts (index_of first.number) (length firsts) result }
     {
-        self.heads[first.index()]
+        let at = first.index();
+        self.heads[at]
     }
 
     /// The same for those before a clause.

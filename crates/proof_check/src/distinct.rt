@@ -42,8 +42,27 @@ fn each_new(alloc: Global, cnf: &Cnf, steps: &[Step]) -> Result<bool, NoMemory>
         ↔ ((k : ℕ) → k < length steps.now → BringsNew cnf.now steps.now k)) }
 {
     let mut chains = Chains::new(alloc, cnf.vars)?;
-    if register(&mut chains, cnf.vars, cnf.clauses.items())? {
-        each_beside(alloc, chains, cnf, steps)
+    let mut trail = Trail::new(alloc, cnf.vars)?;
+    each_registered(&mut trail, &mut chains, cnf, steps)
+}
+
+/// The same, on a trail on which nothing is true, where no clause is registered.
+fn each_registered(
+    trail: &mut Trail,
+    chains: &mut Chains,
+    cnf: &Cnf,
+    steps: &[Step],
+) -> Result<bool, NoMemory>
+    requires named { WellNamed cnf.now }
+    requires derived { EachDerived cnf.now steps.now }
+    requires empty { trues trail.old ≡ [] }
+    requires room { room trail.old ≡ cnf.now.vars }
+    requires none { Registers cnf.now.vars [] chains.old }
+    ensures { IfOk result (λ answer. IsTrue answer
+        ↔ ((k : ℕ) → k < length steps.now → BringsNew cnf.now steps.now k)) }
+{
+    if register(chains, cnf.vars, cnf.clauses.items())? {
+        each_beside(trail, chains, cnf, steps)
     } else {
         Ok(steps.is_empty())
     }
@@ -51,26 +70,27 @@ fn each_new(alloc: Global, cnf: &Cnf, steps: &[Step]) -> Result<bool, NoMemory>
 
 /// The same, where the clauses that are given are registered and none of them is empty.
 fn each_beside(
-    alloc: Global,
-    mut chains: Chains,
+    trail: &mut Trail,
+    chains: &mut Chains,
     cnf: &Cnf,
     steps: &[Step],
 ) -> Result<bool, NoMemory>
     requires named { WellNamed cnf.now }
     requires derived { EachDerived cnf.now steps.now }
+    requires empty { trues trail.old ≡ [] }
+    requires room { room trail.old ≡ cnf.now.vars }
     requires registered { Registers cnf.now.vars
-        (firsts_of (map literals cnf.now.clauses)) chains }
+        (firsts_of (map literals cnf.now.clauses)) chains.old }
     requires filled { AllFilled (map literals cnf.now.clauses) }
     ensures { IfOk result (λ answer. IsTrue answer
         ↔ ((k : ℕ) → k < length steps.now → BringsNew cnf.now steps.now k)) }
 {
-    let mut trail = Trail::new(alloc, cnf.vars)?;
     for (index, step) in steps.iter().enumerate() {
         let known = Known {
             cnf,
             so_far: before(steps, index),
         };
-        if !brings_new(&mut trail, &mut chains, &known, &step.clause)? {
+        if !brings_new(trail, chains, &known, &step.clause)? {
             return Ok(false);
         }
     }

@@ -42,12 +42,22 @@ pub(crate) fn each_derived(alloc: Global, cnf: &Cnf, steps: &[Step]) -> Result<b
     ensures { IfOk result (λ answer. IsTrue answer ↔ EachDerived cnf.now steps.now) }
 {
     let mut trail = Trail::new(alloc, cnf.vars)?;
+    each_follows(&mut trail, cnf, steps)
+}
+
+/// The same, on a trail on which nothing is true.
+fn each_follows(trail: &mut Trail, cnf: &Cnf, steps: &[Step]) -> Result<bool, NoMemory>
+    requires named { WellNamed cnf.now }
+    requires empty { trues trail.old ≡ [] }
+    requires room { room trail.old ≡ cnf.now.vars }
+    ensures { IfOk result (λ answer. IsTrue answer ↔ EachDerived cnf.now steps.now) }
+{
     for (index, step) in steps.iter().enumerate() {
         let known = Known {
             cnf,
             so_far: before(steps, index),
         };
-        if !follows(&mut trail, &known, step)? {
+        if !follows(trail, &known, step)? {
             return Ok(false);
         }
     }

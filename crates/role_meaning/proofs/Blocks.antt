@@ -1,6 +1,7 @@
 -- Runs of statements, one by one.
 use Rattle.std.proofs.Common.{◌≡◌, ◌≢◌, ℕ, ◌+◌, ◌<◌, List, [], ◌∷◌, map, take, drop, length, get_or, Bool, true, false, Option, Some, None, option_map, option_and_then, if◌then◌else◌, Vec, Global, refl, sym, ap, subst, ◌∙◌}
 use Rattle.std.proofs.lemmas.List.{drop_more}
+use Rattle.std.proofs.lemmas.Option.{same_Some}
 use Rattle.cocoon_num.specs.Packets.{Packet}
 use Rattle.cocoon_num.specs.Tree.{Expr, fork, Name, Stmt, Block, HeaderDecl}
 use Rattle.cocoon_num.specs.Values.{Value, truth, number, fits_width}
@@ -10,7 +11,7 @@ use Rattle.cocoon_types.specs.Runs.{falls, World}
 use Rattle.cocoon_types.specs.Taken.{by_truth, Ended, go_on, only_sends, take_one, where_true}
 use Rattle.cocoon_types.specs.Val.{bound, Env, value}
 use Rattle.role_meaning.specs.Levels.{is_true, truth_in, world_at}
-use Rattle.role_meaning.specs.Progresses.{BindsTo, Chooses, ended_of, Enters, env_in, packet_in}
+use Rattle.role_meaning.specs.Progresses.{BindsTo, Chooses, ended_of, Enters, env_in, packet_in, picked}
 use Rattle.role_meaning.specs.declared.level.Level.{Level}
 use Rattle.role_meaning.specs.declared.progress.End.{End}
 use Rattle.role_meaning.specs.declared.progress.End.TheVariants.{Falls, Sends}
@@ -30,22 +31,18 @@ where_is (Some (truth true)) r = refl
 where_is (Some (truth false)) r = refl
 where_is (Some (number w n)) r = refl
 
-pub first_way : (v : Option Value) (r s : Ended) → Some true ≡ truth_in v → by_truth v r s ≡ r
-first_way None r s h = absurd (cc)
-first_way (Some (truth true)) r s h = refl
-first_way (Some (truth false)) r s h = absurd (cc)
-first_way (Some (number w n)) r s h = absurd (cc)
+-- the block that is picked runs
+pub picks : (v : Option Value) (first second b : Block) (run : Block → Ended) → picked (truth_in v) first second ≡ Some b → by_truth v (run first) (run second) ≡ run b
+picks None first second b run h = absurd (cc)
+picks (Some (truth true)) first second b run h = ap run (same_Some first b h)
+picks (Some (truth false)) first second b run h = ap run (same_Some second b h)
+picks (Some (number w n)) first second b run h = absurd (cc)
 
-pub second_way : (v : Option Value) (r s : Ended) → Some false ≡ truth_in v → by_truth v r s ≡ s
-second_way None r s h = absurd (cc)
-second_way (Some (truth true)) r s h = absurd (cc)
-second_way (Some (truth false)) r s h = refl
-second_way (Some (number w n)) r s h = absurd (cc)
-
-pub no_way : (v : Option Value) (r s : Ended) → None ≡ truth_in v → by_truth v r s ≡ None
-no_way None r s h = refl
-no_way (Some (truth b)) r s h = absurd (cc)
-no_way (Some (number w n)) r s h = refl
+pub picks_none : (v : Option Value) (first second : Block) (r s : Ended) → picked (truth_in v) first second ≡ None → by_truth v r s ≡ None
+picks_none None first second r s h = refl
+picks_none (Some (truth true)) first second r s h = absurd (cc)
+picks_none (Some (truth false)) first second r s h = absurd (cc)
+picks_none (Some (number w n)) first second r s h = refl
 
 -- ---- fields that are chosen
 

@@ -47,6 +47,12 @@ abbrev pub RunsBranch : Level → Progress → Block → Option End → Progress
 RunsBranch l old b end new =
     ended_of l end new ≡ back (env_in old) (fitting_all (world_at l) b (env_in old) (packet_in l old) old.choices.now)
 
+-- one of two blocks, by a truth value
+abbrev pub picked : Option Bool → (first second : Block) → Option Block
+picked None first second = None
+picked (Some true) first second = Some first
+picked (Some false) first second = Some second
+
 -- whether what follows is done
 abbrev pub Goes : Bool → Option End → Type 0
 Goes true end = end ≡ Some Falls

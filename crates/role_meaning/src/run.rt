@@ -8,10 +8,10 @@ ghost use Rattle.role_meaning.specs.Progresses.{ended_of, EndsAt, Fits, Goes, Gr
 ghost use Rattle.role_meaning.specs.declared.level.Level.{Level as At};
 ghost use Rattle.role_meaning.specs.declared.progress.Progress.{Progress as Stand};
 
-use crate::level::{Level, truth};
+use crate::level::Level;
 use crate::progress::{End, Progress};
 use crate::steps::{
-    bind_value, choose_field, choose_variable, enter_fork, fall_where, send, set_field,
+    bind_value, choose_field, choose_variable, enter_fork, fall_where, pick, send, set_field,
 };
 use cocoon_num::NoMemory;
 use cocoon_syntax::{Expr, Name, Stmt, StmtKind};
@@ -102,9 +102,8 @@ fn run_if(
     ensures same { OnOk result
         (progress.new.state.variables.items ≡ progress.old.state.variables.items) }
 {
-    match truth(alloc, &level.scene, &progress.state, condition)? {
-        Some(true) => run_branch(alloc, level, progress, first),
-        Some(false) => run_branch(alloc, level, progress, second),
+    match pick(alloc, level, progress, condition, first, second)? {
+        Some(block) => run_branch(alloc, level, progress, block),
         None => Ok(None),
     }
 }

@@ -2,16 +2,17 @@
 ghost use Rattle.std.specs.Prelude.{◌≡◌, if◌then◌else◌, IfOk, map, None, OnOk, option_and_then, option_map, Some};
 ghost use Rattle.cocoon_num.specs.Tree as tree;
 ghost use Rattle.cocoon_num.specs.Values.{as_number};
-ghost use Rattle.cocoon_syntax.specs.TreeOf.{expr_of, exprs_of, name_of};
-ghost use Rattle.role_meaning.specs.Levels.{CanRun};
-ghost use Rattle.role_meaning.specs.Progresses.{ended_of, EndsAt, Enters, Fits, Grows, Runs, set_to};
+ghost use Rattle.cocoon_syntax.specs.TreeOf.{block_of, expr_of, exprs_of, name_of, stmt_of};
+ghost use Rattle.role_meaning.specs.Levels.{CanRun, truth_in};
+ghost use Rattle.role_meaning.specs.Progresses.{ended_of, EndsAt, Enters, Fits, Grows, picked, Runs, set_to};
 ghost use Rattle.role_values.specs.Meant.{meant};
+ghost use Rattle.role_values.specs.Scenes.{value_in};
 
-use crate::level::{Level, is_true};
+use crate::level::{Level, is_true, truth};
 use crate::place::Loc;
 use crate::progress::{End, Progress};
 use cocoon_num::NoMemory;
-use cocoon_syntax::{Expr, Name};
+use cocoon_syntax::{Expr, Name, Stmt};
 use role_values::fields::write_field;
 use role_values::{Value, evaluate, evaluate_all};
 use std::alloc::Global;
@@ -143,6 +144,28 @@ pub(crate) fn fall_where(
         (tree.filter 0 (expr_of condition.now)) end progress.now) }
 {
     Ok(falls_if(is_true(alloc, &level.scene, &progress.state, condition)?))
+}
+
+/// One of two blocks, by the value of a condition.
+pub(crate) fn pick<'b>(
+    alloc: Global,
+    level: &Level<'_>,
+    progress: &Progress<'_>,
+    condition: &Expr,
+    first: &'b [Stmt],
+    second: &'b [Stmt],
+) -> Result<Option<&'b [Stmt]>, NoMemory>
+    requires ready { CanRun level.now }
+    requires fits { Fits level.now progress.now }
+    ensures { IfOk result (λ block. option_map (λ b. block_of (map stmt_of b.now)) block
+        ≡ picked (truth_in (value_in level.now.scene progress.now.state (expr_of condition.now)))
+        (block_of (map stmt_of first.now)) (block_of (map stmt_of second.now))) }
+{
+    match truth(alloc, &level.scene, &progress.state, condition)? {
+        Some(true) => Ok(Some(first)),
+        Some(false) => Ok(Some(second)),
+        None => Ok(None),
+    }
 }
 
 /// Binds the variable of a fork to a choice. False where there is none that fits, or the condition

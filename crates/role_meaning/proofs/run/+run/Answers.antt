@@ -1,15 +1,17 @@
-use Rattle.std.proofs.Common.{◌≡◌, ◌+◌, ◌≤◌, ℕ, List, map, drop, IfOk, rules, sym, ap, subst, ◌∙◌}
+use Rattle.std.proofs.Common.{◌≡◌, ◌+◌, ◌≤◌, ℕ, List, map, drop, option_map, Bor, IfOk, rules, sym, ap, subst, ◌∙◌}
 use Rattle.cocoon_num.specs.Packets.{Packet}
-use Rattle.cocoon_num.specs.Tree.{fork, send}
+use Rattle.cocoon_num.specs.Tree.{Block, fork, send}
+use Rattle.cocoon_syntax.specs.declared.stmt.Stmt.{Stmt as Node}
 use Rattle.cocoon_syntax.specs.declared.stmt.StmtKind as kinds
 use Rattle.cocoon_syntax.specs.TreeOf.{block_of, expr_of, exprs_of, name_of, stmt_of}
-use Rattle.cocoon_types.specs.Taken.{Ended, go_on}
+use Rattle.cocoon_types.specs.Taken.{back, Ended, go_on}
 use Rattle.cocoon_types.specs.Val.{Env}
-use Rattle.role_meaning.specs.Levels.{world_at}
-use Rattle.role_meaning.specs.Progresses.{env_in, packet_in, Runs}
+use Rattle.role_meaning.specs.Levels.{truth_in, world_at}
+use Rattle.role_meaning.specs.Progresses.{ended_of, env_in, packet_in, Runs}
 use Rattle.role_values.specs.FittingRuns.{fitting_all}
-use Rattle.role_meaning.proofs.Blocks.{block_step, goes_on, not_entered, still, stops}
-use Rattle.role_meaning.proofs.Sizes.{one_of, size, size_all}
+use Rattle.role_values.specs.Scenes.{value_in}
+use Rattle.role_meaning.proofs.Blocks.{block_step, goes_on, not_entered, picks, still, stops}
+use Rattle.role_meaning.proofs.Sizes.{one_of, picked_size, size, size_all}
 use Rattle.role_meaning.proofs.run.+run.Goals as goal
 
 pub run_block-run_stmt-requires : goal.run_block-run_stmt-requires
@@ -43,6 +45,25 @@ run_block-loop-stmt-preserved t c =
           ∙ ap (λ r. go_on r K) (sym c.in_ok-end.ensures.runs)
           ∙ goes_on l c.in_ok-end.end c.run_stmt.new.progress K (search rules);
     }
+
+pub run_if-run_branch-requires : goal.run_if-run_branch-requires
+run_if-run_branch-requires t c =
+    let v = truth_in (value_in c.args.level.now.scene c.args.progress.now.state (expr_of c.args.condition.now)) in
+    let small : size_all (block_of (map stmt_of c.in-Some.block.now)) ≤ size_all (block_of (map stmt_of c.args.first.now)) + size_all (block_of (map stmt_of c.args.second.now)) =
+    picked_size v (block_of (map stmt_of c.args.first.now)) (block_of (map stmt_of c.args.second.now)) (block_of (map stmt_of c.in-Some.block.now))
+    (sym c.in_ok-block.ensures ∙ ap (option_map (λ (b : Bor (List Node)). block_of (map stmt_of b.now))) c.in-Some.is) in
+    search rules
+
+pub run_if-returns-in-Some-clause-runs : goal.run_if-returns-in-Some-clause-runs
+run_if-returns-in-Some-clause-runs t c =
+    let l = c.args.level.now in
+    let p = c.args.progress.now in
+    let v = value_in l.scene p.state (expr_of c.args.condition.now) in
+    let runs = λ (b : Block). fitting_all (world_at l) b (env_in p) (packet_in l p) p.choices.now in
+    subst (λ z. IfOk c.run_branch.result (λ end. ended_of l end c.run_branch.new.progress ≡ back (env_in p) z))
+    (sym (picks v (block_of (map stmt_of c.args.first.now)) (block_of (map stmt_of c.args.second.now)) (block_of (map stmt_of c.in-Some.block.now)) runs
+    (sym c.in_ok-block.ensures ∙ ap (option_map (λ (b : Bor (List Node)). block_of (map stmt_of b.now))) c.in-Some.is)))
+    c.run_branch.ensures.runs
 
 pub run_fork-returns-else-branch-clause-runs : goal.run_fork-returns-else-branch-clause-runs
 run_fork-returns-else-branch-clause-runs t c =

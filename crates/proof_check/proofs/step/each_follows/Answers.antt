@@ -2,11 +2,11 @@ use Rattle.std.proofs.Common.{rules, IsTrue, ◌∙◌}
 use Rattle.std.proofs.lemmas.Bool.{both_ways, false≢true}
 use Rattle.cnf_core.specs.TrailViews.{room}
 use Rattle.proof_check.proofs.Hinting.{derived-follows, follows-derived, known-named, one-more}
-use Rattle.proof_check.proofs.step.each_derived.Goals as goal
+use Rattle.proof_check.proofs.step.each_follows.Goals as goal
 
 pub follows-requires-clause-named : goal.follows-requires-clause-named
 follows-requires-clause-named c = known-named c.args.cnf.now c.args.steps.now c.before-in-loop-index.result.now c.loop-index.index (room c.loop-index.trail)
-    c.requires c.loop-index.invariant.derived c.before-in-loop-index.ensures c.loop-index.invariant.same_room
+    c.requires.named c.loop-index.invariant.derived c.before-in-loop-index.ensures c.loop-index.invariant.same_room
 
 pub returns-then-not-branch : goal.returns-then-not-branch
 returns-then-not-branch c = (

@@ -1,7 +1,7 @@
 use Rattle.std.proofs.Common.{◌≡◌, ◌<◌, ℕ, []}
 use Rattle.cnf_core.specs.Deriving.{Derived}
 use Rattle.cnf_core.specs.TrailViews.{room, trues}
-use Rattle.proof_check.proofs.step.each_derived.Given as goal
+use Rattle.proof_check.proofs.step.each_follows.Given as goal
 
 abbrev pub invariant-loop-index : goal.invariant-loop-index
 invariant-loop-index l = record {

@@ -4,7 +4,7 @@ use Rattle.std.proofs.lemmas.List.Elements.{All-map}
 use Rattle.cnf_core.specs.Clauses.{literals}
 use Rattle.cnf_core.specs.Literals.{Names}
 use Rattle.proof_check.specs.Hinted.{AllNamed}
-use Rattle.proof_check.proofs.distinct.each_new.Goals as goal
+use Rattle.proof_check.proofs.distinct.each_registered.Goals as goal
 
 pub register-requires-clause-named : goal.register-requires-clause-named
 register-requires-clause-named c = subst (λ cs. AllNamed c.args.cnf.now.vars (map literals cs)) (sym c.items.ensures)
