@@ -8,7 +8,7 @@ use Rattle.lower_body.specs.Log.{tables_in}
 use Rattle.lower_body.specs.Lower.{Callees, Counts, FieldName, Lowered, Made, Variable, a_field, a_group, a_table, after_args, by_group, by_table, callees, closed, fields_from, front_params, key_name, var_name, lower_call, lower_expr, lower_exprs, lower_group, variables_from}
 use Rattle.lower_body.specs.LowerBlock.{Site, forked, fork_args, fork_function, in_block, lower_block, lower_stmt}
 use Rattle.lower_body.specs.LowerSites.{lower_site, lower_sites}
-use Rattle.lower_code.specs.Counting.{all_tables, block_tables, call_tables, expr_tables, exprs_tables, forks, group_tables, site_tables, stmt_forks, stmt_site_tables, stmt_tables}
+use Rattle.lower_code.specs.Counting.{all_tables, block_count, call_count, expr_count, exprs_count, forks, group_count, site_count, stmt_forks, stmt_site_count, stmt_count}
 
 abbrev count : List Made → ℕ
 count ms = length (tables_in ms)
@@ -31,34 +31,37 @@ no_tables named j i (p ∷ ps) more = no_tables named (suc j) (suc i) ps more
 
 -- ---- expressions
 
+no_parts : (m n : ℕ) → m ≡ n → m ≡ 0 + n
+no_parts m n h = h ∙ omega arith
+
 abbrev Calls : Callees → (List ℕ → ℕ) → Type 0
 Calls c calls = (f : List ℕ) (es : List P4Expr) (n : Counts) → count (c.call f es n).made ≡ calls f
 
 mutual
-  expr_counted : (c : Callees) (calls : List ℕ → ℕ) → Calls c calls → (vars : List Variable) (n : Counts) (e : Expr) → count (lower_expr c vars n e).made ≡ expr_tables calls e
+  expr_counted : (c : Callees) (calls : List ℕ → ℕ) → Calls c calls → (vars : List Variable) (n : Counts) (e : Expr) → count (lower_expr c vars n e).made ≡ expr_count 0 calls e
   expr_counted c calls h vars n (name at x) = refl
   expr_counted c calls h vars n (field at hd f) = refl
   expr_counted c calls h vars n (lit at w x) = refl
   expr_counted c calls h vars n (true_or_false at b) = refl
   expr_counted c calls h vars n (call at f es) =
-      count_two (lower_exprs c vars n es).made (c.call f.text (lower_exprs c vars n es).exprs (lower_exprs c vars n es).next).made (exprs_tables calls es) (calls f.text)
+      count_two (lower_exprs c vars n es).made (c.call f.text (lower_exprs c vars n es).exprs (lower_exprs c vars n es).next).made (exprs_count 0 calls es) (calls f.text)
       (exprs_counted c calls h vars n es) (h f.text (lower_exprs c vars n es).exprs (lower_exprs c vars n es).next)
-  expr_counted c calls h vars n (unary at op a) = expr_counted c calls h vars n a
+  expr_counted c calls h vars n (unary at op a) = no_parts _ _ (expr_counted c calls h vars n a)
   expr_counted c calls h vars n (binary at op a b) =
       let k = (lower_expr c vars n a).next in
-      count_two (lower_expr c vars n a).made (lower_expr c vars k b).made (expr_tables calls a) (expr_tables calls b) (expr_counted c calls h vars n a) (expr_counted c calls h vars k b)
-  expr_counted c calls h vars n (slice at a high low) = expr_counted c calls h vars n a
+      no_parts _ _ (count_two (lower_expr c vars n a).made (lower_expr c vars k b).made (expr_count 0 calls a) (expr_count 0 calls b) (expr_counted c calls h vars n a) (expr_counted c calls h vars k b))
+  expr_counted c calls h vars n (slice at a high low) = no_parts _ _ (expr_counted c calls h vars n a)
   expr_counted c calls h vars n (pick at e a b) =
       let k = (lower_expr c vars n e).next in
       let m = (lower_expr c vars k a).next in
-      count_three (lower_expr c vars n e).made (lower_expr c vars k a).made (lower_expr c vars m b).made (expr_tables calls e) (expr_tables calls a) (expr_tables calls b)
-      (expr_counted c calls h vars n e) (expr_counted c calls h vars k a) (expr_counted c calls h vars m b)
+      no_parts _ _ (count_three (lower_expr c vars n e).made (lower_expr c vars k a).made (lower_expr c vars m b).made (expr_count 0 calls e) (expr_count 0 calls a) (expr_count 0 calls b)
+      (expr_counted c calls h vars n e) (expr_counted c calls h vars k a) (expr_counted c calls h vars m b))
 
-  exprs_counted : (c : Callees) (calls : List ℕ → ℕ) → Calls c calls → (vars : List Variable) (n : Counts) (es : Exprs) → count (lower_exprs c vars n es).made ≡ exprs_tables calls es
+  exprs_counted : (c : Callees) (calls : List ℕ → ℕ) → Calls c calls → (vars : List Variable) (n : Counts) (es : Exprs) → count (lower_exprs c vars n es).made ≡ exprs_count 0 calls es
   exprs_counted c calls h vars n no_exprs = refl
   exprs_counted c calls h vars n (expr e es) =
       let k = (lower_expr c vars n e).next in
-      count_two (lower_expr c vars n e).made (lower_exprs c vars k es).made (expr_tables calls e) (exprs_tables calls es) (expr_counted c calls h vars n e) (exprs_counted c calls h vars k es)
+      count_two (lower_expr c vars n e).made (lower_exprs c vars k es).made (expr_count 0 calls e) (exprs_count 0 calls es) (expr_counted c calls h vars n e) (exprs_counted c calls h vars k es)
 
 -- ---- calls
 
@@ -69,28 +72,28 @@ if_body headers earlier d body es n =
       | Some e ↦ closed d es n (lower_expr (callees headers earlier []) (variables_from n.field d.params) (after_args d n) e)
     ]
 
-body_counted : (headers : List HeaderDecl) (earlier : List FunctionDecl) (d : FunctionDecl) (body : Option Expr) (es : List P4Expr) (n : Counts) → Calls (callees headers earlier []) (call_tables earlier)
-    → count (if_body headers earlier d body es n).made ≡ elim body [ None ↦ 1 | Some e ↦ expr_tables (call_tables earlier) e ]
+body_counted : (headers : List HeaderDecl) (earlier : List FunctionDecl) (d : FunctionDecl) (body : Option Expr) (es : List P4Expr) (n : Counts) → Calls (callees headers earlier []) (call_count 0 earlier)
+    → count (if_body headers earlier d body es n).made ≡ elim body [ None ↦ 1 | Some e ↦ 0 + expr_count 0 (call_count 0 earlier) e ]
 body_counted headers earlier d None es n h = no_tables (key_name n.app) 0 n.field d.params _
 body_counted headers earlier d (Some e) es n h =
     let r = lower_expr (callees headers earlier []) (variables_from n.field d.params) (after_args d n) e in
     no_tables var_name n.var n.field d.params _ ∙ count_more r.made (a_field _ _ _ ∷ []) ∙ omega arith
-    ∙ expr_counted (callees headers earlier []) (call_tables earlier) h (variables_from n.field d.params) (after_args d n) e
+    ∙ no_parts _ _ (expr_counted (callees headers earlier []) (call_count 0 earlier) h (variables_from n.field d.params) (after_args d n) e)
 
 if_counted : (b : Bool) (x y : Lowered) (k m : ℕ) → count x.made ≡ k → count y.made ≡ m → count (if b then x else y).made ≡ (if b then k else m)
 if_counted true x y k m hx hy = hx
 if_counted false x y k m hx hy = hy
 
-call_counted : (headers : List HeaderDecl) (fs : List FunctionDecl) (f : List ℕ) (es : List P4Expr) (n : Counts) → count (lower_call headers fs f es n).made ≡ call_tables fs f
+call_counted : (headers : List HeaderDecl) (fs : List FunctionDecl) (f : List ℕ) (es : List P4Expr) (n : Counts) → count (lower_call headers fs f es n).made ≡ call_count 0 fs f
 call_counted headers [] f es n = refl
 call_counted headers (d ∷ earlier) f es n =
     if_counted (same_name f d.name.text) (if_body headers earlier d d.body es n) (lower_call headers earlier f es n) _ _
     (body_counted headers earlier d d.body es n (λ g xs m. call_counted headers earlier g xs m)) (call_counted headers earlier f es n)
 
-group_counted : (fs : List FunctionDecl) (f : List ℕ) (es : List P4Expr) (n : Counts) → count (lower_group fs f es n).made ≡ group_tables fs f
+group_counted : (fs : List FunctionDecl) (f : List ℕ) (es : List P4Expr) (n : Counts) → count (lower_group fs f es n).made ≡ group_count fs f
 group_counted [] f es n = refl
 group_counted (d ∷ earlier) f es n =
-    if_counted (same_name f d.name.text) (by_group d es n) (lower_group earlier f es n) 1 (group_tables earlier f)
+    if_counted (same_name f d.name.text) (by_group d es n) (lower_group earlier f es n) 1 (group_count earlier f)
     (no_tables (key_name n.app) 0 n.field (front_params d.params) _) (group_counted earlier f es n)
 
 -- ---- blocks
@@ -103,18 +106,18 @@ plus_none : (ms : List Made) (m : Made) (k : ℕ) → count (m ∷ []) ≡ 0 →
 plus_none ms m k z h = count_two ms (m ∷ []) k 0 h z ∙ omega arith
 
 mutual
-  stmt_counted : (headers : List HeaderDecl) (fs : List FunctionDecl) (port : List ℕ) (vars : List Variable) (n : Counts) (s : Stmt) → count (lower_stmt (callees headers fs port) vars n s).made ≡ stmt_tables fs s
+  stmt_counted : (headers : List HeaderDecl) (fs : List FunctionDecl) (port : List ℕ) (vars : List Variable) (n : Counts) (s : Stmt) → count (lower_stmt (callees headers fs port) vars n s).made ≡ stmt_count 0 fs s
   stmt_counted headers fs port vars n (let_ at x w e) =
       let r = lower_expr (callees headers fs port) vars n e in
-      plus_none r.made (a_field (var_name r.next.var) r.next.field w) (expr_tables (call_tables fs) e) refl (expr_counted (callees headers fs port) (call_tables fs) (call_counted headers fs) vars n e)
-  stmt_counted headers fs port vars n (set_field at h f e) = expr_counted (callees headers fs port) (call_tables fs) (call_counted headers fs) vars n e
+      plus_none r.made (a_field (var_name r.next.var) r.next.field w) (expr_count 0 (call_count 0 fs) e) refl (expr_counted (callees headers fs port) (call_count 0 fs) (call_counted headers fs) vars n e)
+  stmt_counted headers fs port vars n (set_field at h f e) = expr_counted (callees headers fs port) (call_count 0 fs) (call_counted headers fs) vars n e
   stmt_counted headers fs port vars n (if_ at e first second) =
       let c = callees headers fs port in
       let k = (lower_expr c vars n e).next in
       let m = (lower_block c vars k first).next in
       count_three (lower_expr c vars n e).made (lower_block c vars k first).made (lower_block c vars m second).made _ _ _
-      (expr_counted c (call_tables fs) (call_counted headers fs) vars n e) (block_counted headers fs port vars k first) (block_counted headers fs port vars m second)
-  stmt_counted headers fs port vars n (filter at e) = expr_counted (callees headers fs port) (call_tables fs) (call_counted headers fs) vars n e
+      (expr_counted c (call_count 0 fs) (call_counted headers fs) vars n e) (block_counted headers fs port vars k first) (block_counted headers fs port vars m second)
+  stmt_counted headers fs port vars n (filter at e) = expr_counted (callees headers fs port) (call_count 0 fs) (call_counted headers fs) vars n e
   stmt_counted headers fs port vars n (havoc_var at x w) = refl
   stmt_counted headers fs port vars n (havoc_field at h f) = refl
   stmt_counted headers fs port vars n (assume at e) = refl
@@ -123,10 +126,10 @@ mutual
       let a = lower_exprs c vars n (fork_args e) in
       fork_counted x.text w body (in_block port body) vars _
       ∙ count_two a.made (lower_group fs (fork_function e) a.exprs a.next).made _ _
-      (exprs_counted c (call_tables fs) (call_counted headers fs) vars n (fork_args e)) (group_counted fs (fork_function e) a.exprs a.next)
-  stmt_counted headers fs port vars n (send at r es) = exprs_counted (callees headers fs port) (call_tables fs) (call_counted headers fs) vars n es
+      (exprs_counted c (call_count 0 fs) (call_counted headers fs) vars n (fork_args e)) (group_counted fs (fork_function e) a.exprs a.next)
+  stmt_counted headers fs port vars n (send at r es) = exprs_counted (callees headers fs port) (call_count 0 fs) (call_counted headers fs) vars n es
 
-  pub block_counted : (headers : List HeaderDecl) (fs : List FunctionDecl) (port : List ℕ) (vars : List Variable) (n : Counts) (b : Block) → count (lower_block (callees headers fs port) vars n b).made ≡ block_tables fs b
+  pub block_counted : (headers : List HeaderDecl) (fs : List FunctionDecl) (port : List ℕ) (vars : List Variable) (n : Counts) (b : Block) → count (lower_block (callees headers fs port) vars n b).made ≡ block_count 0 fs b
   block_counted headers fs port vars n no_stmts = refl
   block_counted headers fs port vars n (stmt s rest) =
       let a = lower_stmt (callees headers fs port) vars n s in
@@ -134,15 +137,15 @@ mutual
 
 -- ---- the blocks of forks
 
-abbrev sites_tables : List FunctionDecl → List Site → ℕ
-sites_tables fs [] = 0
-sites_tables fs (x ∷ xs) = block_tables fs x.body + sites_tables fs xs
+abbrev sites_count : List FunctionDecl → List Site → ℕ
+sites_count fs [] = 0
+sites_count fs (x ∷ xs) = block_count 0 fs x.body + sites_count fs xs
 
-sites_more : (fs : List FunctionDecl) (xs ys : List Site) → sites_tables fs (xs ++ ys) ≡ sites_tables fs xs + sites_tables fs ys
+sites_more : (fs : List FunctionDecl) (xs ys : List Site) → sites_count fs (xs ++ ys) ≡ sites_count fs xs + sites_count fs ys
 sites_more fs [] ys = omega arith
 sites_more fs (x ∷ xs) ys = let r = sites_more fs xs ys in omega arith
 
-sites_counted : (headers : List HeaderDecl) (fs : List FunctionDecl) (port : List ℕ) (n : Counts) (xs : List Site) → count (lower_sites (callees headers fs port) n xs).made ≡ sites_tables fs xs
+sites_counted : (headers : List HeaderDecl) (fs : List FunctionDecl) (port : List ℕ) (n : Counts) (xs : List Site) → count (lower_sites (callees headers fs port) n xs).made ≡ sites_count fs xs
 sites_counted headers fs port n [] = refl
 sites_counted headers fs port n (x ∷ xs) =
     let a = lower_site (callees headers fs port) n x in
@@ -150,13 +153,13 @@ sites_counted headers fs port n (x ∷ xs) =
     (block_counted headers fs port _ _ x.body) (sites_counted headers fs port a.next xs)
 
 forked_sites : (fs : List FunctionDecl) (x : List ℕ) (w : ℕ) (body : Block) (b : Bool) (vars : List Variable) (r : Lowered)
-    → (sites_tables fs (forked x w body b vars r).sites ≡ block_tables fs body) × (length (forked x w body b vars r).sites ≡ 1)
+    → (sites_count fs (forked x w body b vars r).sites ≡ block_count 0 fs body) × (length (forked x w body b vars r).sites ≡ 1)
 forked_sites fs x w body true vars r = (omega arith, refl)
 forked_sites fs x w body false vars r = (omega arith, refl)
 
 mutual
   stmt_sites : (c : Callees) (fs : List FunctionDecl) (vars : List Variable) (n : Counts) (s : Stmt)
-      → (sites_tables fs (lower_stmt c vars n s).sites ≡ stmt_site_tables fs s) × (length (lower_stmt c vars n s).sites ≡ stmt_forks s)
+      → (sites_count fs (lower_stmt c vars n s).sites ≡ stmt_site_count 0 fs s) × (length (lower_stmt c vars n s).sites ≡ stmt_forks s)
   stmt_sites c fs vars n (let_ at x w e) = (refl, refl)
   stmt_sites c fs vars n (set_field at h f e) = (refl, refl)
   stmt_sites c fs vars n (if_ at e first second) =
@@ -174,7 +177,7 @@ mutual
   stmt_sites c fs vars n (send at r es) = (refl, refl)
 
   block_sites : (c : Callees) (fs : List FunctionDecl) (vars : List Variable) (n : Counts) (b : Block)
-      → (sites_tables fs (lower_block c vars n b).sites ≡ site_tables fs b) × (length (lower_block c vars n b).sites ≡ forks b)
+      → (sites_count fs (lower_block c vars n b).sites ≡ site_count 0 fs b) × (length (lower_block c vars n b).sites ≡ forks b)
   block_sites c fs vars n no_stmts = (refl, refl)
   block_sites c fs vars n (stmt s rest) =
       let a = lower_stmt c vars n s in

@@ -9,5 +9,4 @@ pub mod BlockSteps
 pub mod Scoped
 pub mod SiteSteps
 pub mod Counted
-pub mod FoundTables
-pub mod Measures
+pub mod FoundCounts

@@ -1,71 +1,87 @@
--- Cited by the clauses of counting: how many tables and forks the code of a body has. It follows "Lowering and the P4 text" in
--- docs/FORMATS.md: an application of a function that is defined at run time is a table, and so is a fork.
+-- Cited by the clauses of counting: how many tables and forks the code of a body has, and how large it is. It follows "Lowering
+-- and the P4 text" in docs/FORMATS.md: an application of a function that is defined at run time is a table, and so is a fork.
 use Rattle.std.specs.Prelude.{ℕ, ◌+◌, List, [], ◌∷◌, if◌then◌else◌, Some, None}
 use Rattle.cocoon_num.specs.Names.{same_name}
 use Rattle.cocoon_num.specs.Tree.{Expr, name, field, lit, true_or_false, call, unary, binary, slice, pick, Exprs, no_exprs, expr, FunctionDecl, Stmt, Block, let_, set_field, if_, filter, havoc_var, havoc_field, assume, fork, send, no_stmts, stmt}
 use Rattle.lower_body.specs.LowerBlock.{fork_args, fork_function}
 
--- ---- tables
+-- ---- tables, and parts of expressions
+
+-- Each table counts as one, and each part of an expression as so many: as none where tables alone are counted.
 
 abbrev mutual
   -- of an expression, by those of the calls of each function
-  pub expr_tables : (List ℕ → ℕ) → Expr → ℕ
-  expr_tables calls (name at x) = 0
-  expr_tables calls (field at h f) = 0
-  expr_tables calls (lit at w n) = 0
-  expr_tables calls (true_or_false at b) = 0
-  expr_tables calls (call at f es) = exprs_tables calls es + calls f.text
-  expr_tables calls (unary at op a) = expr_tables calls a
-  expr_tables calls (binary at op a b) = expr_tables calls a + expr_tables calls b
-  expr_tables calls (slice at a high low) = expr_tables calls a
-  expr_tables calls (pick at e a b) = expr_tables calls e + (expr_tables calls a + expr_tables calls b)
+  pub expr_count : (part : ℕ) → (List ℕ → ℕ) → Expr → ℕ
+  expr_count part calls (name at x) = part
+  expr_count part calls (field at h f) = part
+  expr_count part calls (lit at w n) = part
+  expr_count part calls (true_or_false at b) = part
+  expr_count part calls (call at f es) = exprs_count part calls es + calls f.text
+  expr_count part calls (unary at op a) = part + expr_count part calls a
+  expr_count part calls (binary at op a b) = part + (expr_count part calls a + expr_count part calls b)
+  expr_count part calls (slice at a high low) = part + expr_count part calls a
+  expr_count part calls (pick at e a b) = part + (expr_count part calls e + (expr_count part calls a + expr_count part calls b))
 
-  pub exprs_tables : (List ℕ → ℕ) → Exprs → ℕ
-  exprs_tables calls no_exprs = 0
-  exprs_tables calls (expr e es) = expr_tables calls e + exprs_tables calls es
+  pub exprs_count : (part : ℕ) → (List ℕ → ℕ) → Exprs → ℕ
+  exprs_count part calls no_exprs = 0
+  exprs_count part calls (expr e es) = expr_count part calls e + exprs_count part calls es
 
--- of a call of the first of these functions of that name; its body sees those after it
-abbrev pub call_tables : List FunctionDecl → List ℕ → ℕ
-call_tables [] f = 0
-call_tables (d ∷ earlier) f =
-    if same_name f d.name.text then elim d.body [ None ↦ 1 | Some e ↦ expr_tables (call_tables earlier) e ] else call_tables earlier f
+-- Of a call of the first of these functions of that name; its body sees those after it. The field that keeps the value of a body
+-- is read, which is a part.
+abbrev pub call_count : (part : ℕ) → List FunctionDecl → List ℕ → ℕ
+call_count part [] f = 0
+call_count part (d ∷ earlier) f =
+    if same_name f d.name.text then
+    elim d.body [
+      | None ↦ 1
+      | Some e ↦ part + expr_count part (call_count part earlier) e
+    ]
+    else call_count part earlier f
 
 -- of the fork of the function of that name
-abbrev pub group_tables : List FunctionDecl → List ℕ → ℕ
-group_tables [] f = 0
-group_tables (d ∷ earlier) f = if same_name f d.name.text then 1 else group_tables earlier f
+abbrev pub group_count : List FunctionDecl → List ℕ → ℕ
+group_count [] f = 0
+group_count (d ∷ earlier) f = if same_name f d.name.text then 1 else group_count earlier f
 
 abbrev mutual
   -- of a block, but for the blocks of its forks
-  pub block_tables : List FunctionDecl → Block → ℕ
-  block_tables fs no_stmts = 0
-  block_tables fs (stmt s rest) = stmt_tables fs s + block_tables fs rest
+  pub block_count : (part : ℕ) → List FunctionDecl → Block → ℕ
+  block_count part fs no_stmts = 0
+  block_count part fs (stmt s rest) = stmt_count part fs s + block_count part fs rest
 
-  pub stmt_tables : List FunctionDecl → Stmt → ℕ
-  stmt_tables fs (let_ at x w e) = expr_tables (call_tables fs) e
-  stmt_tables fs (set_field at h f e) = expr_tables (call_tables fs) e
-  stmt_tables fs (if_ at e first second) = expr_tables (call_tables fs) e + (block_tables fs first + block_tables fs second)
-  stmt_tables fs (filter at e) = expr_tables (call_tables fs) e
-  stmt_tables fs (havoc_var at x w) = 0
-  stmt_tables fs (havoc_field at h f) = 0
-  stmt_tables fs (assume at e) = 0
-  stmt_tables fs (fork at x w e body) = exprs_tables (call_tables fs) (fork_args e) + group_tables fs (fork_function e)
-  stmt_tables fs (send at r es) = exprs_tables (call_tables fs) es
+  pub stmt_count : (part : ℕ) → List FunctionDecl → Stmt → ℕ
+  stmt_count part fs (let_ at x w e) = expr_count part (call_count part fs) e
+  stmt_count part fs (set_field at h f e) = expr_count part (call_count part fs) e
+  stmt_count part fs (if_ at e first second) = expr_count part (call_count part fs) e + (block_count part fs first + block_count part fs second)
+  stmt_count part fs (filter at e) = expr_count part (call_count part fs) e
+  stmt_count part fs (havoc_var at x w) = 0
+  stmt_count part fs (havoc_field at h f) = 0
+  stmt_count part fs (assume at e) = 0
+  stmt_count part fs (fork at x w e body) = exprs_count part (call_count part fs) (fork_args e) + group_count fs (fork_function e)
+  stmt_count part fs (send at r es) = exprs_count part (call_count part fs) es
 
 abbrev mutual
   -- of the blocks of a block's forks
-  pub site_tables : List FunctionDecl → Block → ℕ
-  site_tables fs no_stmts = 0
-  site_tables fs (stmt s rest) = stmt_site_tables fs s + site_tables fs rest
+  pub site_count : (part : ℕ) → List FunctionDecl → Block → ℕ
+  site_count part fs no_stmts = 0
+  site_count part fs (stmt s rest) = stmt_site_count part fs s + site_count part fs rest
 
-  pub stmt_site_tables : List FunctionDecl → Stmt → ℕ
-  stmt_site_tables fs (if_ at e first second) = site_tables fs first + site_tables fs second
-  stmt_site_tables fs (fork at x w e body) = block_tables fs body
-  stmt_site_tables fs s = 0
+  pub stmt_site_count : (part : ℕ) → List FunctionDecl → Stmt → ℕ
+  stmt_site_count part fs (if_ at e first second) = site_count part fs first + site_count part fs second
+  stmt_site_count part fs (fork at x w e body) = block_count part fs body
+  stmt_site_count part fs s = 0
 
 -- of both controls
+abbrev pub all_count : (part : ℕ) → List FunctionDecl → Block → ℕ
+all_count part fs b = block_count part fs b + site_count part fs b
+
+-- the tables of both controls
 abbrev pub all_tables : List FunctionDecl → Block → ℕ
-all_tables fs b = block_tables fs b + site_tables fs b
+all_tables fs b = all_count 0 fs b
+
+-- the same, and the parts of all expressions
+abbrev pub all_parts : List FunctionDecl → Block → ℕ
+all_parts fs b = all_count 1 fs b
 
 -- ---- forks
 

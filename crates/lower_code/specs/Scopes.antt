@@ -1,5 +1,5 @@
 -- Cited by the clauses of expressions, calls and blocks: in what they are lowered.
-use Rattle.std.specs.Prelude.{◌≡◌, ℕ, Bool, ◌≤◌, List, [], ◌∷◌, length, reverse, slice_get, take, if◌then◌else◌, Option, Some, None}
+use Rattle.std.specs.Prelude.{◌≡◌, ℕ, ◌+◌, Bool, ◌≤◌, List, [], ◌∷◌, length, reverse, slice_get, take, if◌then◌else◌, Option, Some, None}
 use Rattle.cocoon_num.specs.Names.{same_name}
 use Rattle.cocoon_num.specs.Tree.{Block, Expr, FunctionDecl, HeaderDecl, Design}
 use Rattle.cocoon_syntax.specs.TreeOf.{design_of}
@@ -8,7 +8,7 @@ use Rattle.cocoon_num.specs.Values.{BinaryOp, implies}
 use Rattle.p4_ir.specs.P4Tree.{P4Expr, p_binary}
 use Rattle.lower_body.specs.Lower.{Callees, Counts, Lowered, Variable, p_operation, after_args, by_table, callees, closed, lower_expr, variables_from}
 use Rattle.lower_body.specs.LowerBlock.{in_block}
-use Rattle.lower_code.specs.Counting.{call_tables, expr_tables}
+use Rattle.lower_code.specs.Counting.{call_count, expr_count}
 use Rattle.lower_code.specs.declared.functions.Scope.{Scope}
 
 -- the first functions of a design, so many, the last first
@@ -63,18 +63,19 @@ uses_port s b = in_block s.port.now b
 abbrev pub functions_in : Scope → ℕ → List FunctionDecl
 functions_in s number = functions_before (design_in s) number
 
--- the tables of a call of a function that is seen
-abbrev pub called_tables : Scope → List ℕ → ℕ
-called_tables s f = call_tables (functions_in s s.before) f
+-- what is counted of a call of a function that is seen
+abbrev pub called_count : (part : ℕ) → Scope → List ℕ → ℕ
+called_count part s f = call_count part (functions_in s s.before) f
 
--- those of a call of this function, which sees those before it
-abbrev pub function_tables : Design → ℕ → FunctionDecl → ℕ
-function_tables d number g =
+-- that of a call of this function, which sees those before it
+abbrev pub function_count : (part : ℕ) → Design → ℕ → FunctionDecl → ℕ
+function_count part d number g =
     elim g.body [
       | None ↦ 1
-      | Some e ↦ expr_tables (call_tables (functions_before d number)) e
+      | Some e ↦ part + expr_count part (call_count part (functions_before d number)) e
     ]
 
 -- the counts that are kept of calls of functions, by their numbers, are theirs
-abbrev pub KnowsTables : Design → List (Option ℕ) → Type 0
-KnowsTables d known = (k n : ℕ) (g : FunctionDecl) → slice_get (functions d) k ≡ Some g → slice_get known k ≡ Some (Some n) → n ≡ function_tables d k g
+abbrev pub KnowsCounts : (part : ℕ) → Design → List (Option ℕ) → Type 0
+KnowsCounts part d known =
+    (k n : ℕ) (g : FunctionDecl) → slice_get (functions d) k ≡ Some g → slice_get known k ≡ Some (Some n) → n ≡ function_count part d k g

@@ -1,11 +1,12 @@
-//! How many tables and forks the code of a body has, without the code.
+//! How many tables and forks the code of a body has, and how large it is, without the code: functions with bodies can call one
+//! another so often that no memory would hold it.
 ghost use Rattle.std.specs.Prelude.{◌≡◌, ◌<◌, ◌+◌, IfOk, IfSome, map, slice_get, Some};
 ghost use Rattle.cocoon_num.specs.Tree.{FunctionDecl as Function};
 ghost use Rattle.cocoon_syntax.specs.TreeOf.{block_of, expr_of, exprs_of, stmt_of};
 ghost use Rattle.cocoon_types.specs.Design.{functions};
 ghost use Rattle.lower_body.specs.LowerBlock.{fork_args, fork_function};
 ghost use Rattle.lower_code.specs.Counting as spec;
-ghost use Rattle.lower_code.specs.Scopes.{called_tables, design_in, function_tables as spec_tables, functions_in, KnowsTables, SeesFunctions};
+ghost use Rattle.lower_code.specs.Scopes.{called_count, design_in, function_count as spec_count, functions_in, KnowsCounts, SeesFunctions};
 
 use crate::blocks::choice_parts;
 use crate::functions::{Scope, find};
@@ -20,55 +21,81 @@ fn plus(a: u64, b: u64) -> Result<u64, NoMemory>
     a.checked_add(b).ok_or(NoMemory)
 }
 
+fn sum(a: u64, b: u64, c: u64) -> Result<u64, NoMemory>
+    ensures { IfOk result (λ n. n ≡ a + (b + c)) }
+{
+    plus(a, plus(b, c)?)
+}
+
+/// The tables of an expression, with so many more for each of its parts.
 #[cycle(count)]
-fn expr_tables(scope: &Scope<'_>, known: &[Option<u64>], expr: &Expr) -> Result<u64, NoMemory>
+fn expr_count(
+    scope: &Scope<'_>,
+    known: &[Option<u64>],
+    part: u64,
+    expr: &Expr,
+) -> Result<u64, NoMemory>
     requires functions { SeesFunctions scope.now }
-    requires known { KnowsTables (design_in scope.now) known.now }
+    requires known { KnowsCounts part (design_in scope.now) known.now }
     ensures { IfOk result (λ n. n
-        ≡ spec.expr_tables (called_tables scope.now) (expr_of expr.now)) }
+        ≡ spec.expr_count part (called_count part scope.now) (expr_of expr.now)) }
 {
     match &expr.kind {
-        ExprKind::Name(_) => Ok(0),
-        ExprKind::Field(_, _) => Ok(0),
-        ExprKind::Lit(_) => Ok(0),
-        ExprKind::Truth(_) => Ok(0),
+        ExprKind::Name(_) => Ok(part),
+        ExprKind::Field(_, _) => Ok(part),
+        ExprKind::Lit(_) => Ok(part),
+        ExprKind::Truth(_) => Ok(part),
         ExprKind::Call(function, args) => {
-            let tables = exprs_tables(scope, known, args)?;
-            plus(tables, call_tables(scope, known, function.text.bytes())?)
+            let count = exprs_count(scope, known, part, args)?;
+            plus(
+                count,
+                call_count(scope, known, part, function.text.bytes())?,
+            )
         }
-        ExprKind::Unary(_, a) => expr_tables(scope, known, a),
+        ExprKind::Unary(_, a) => plus(part, expr_count(scope, known, part, a)?),
         ExprKind::Binary(_, a, b) => {
-            let tables = expr_tables(scope, known, a)?;
-            plus(tables, expr_tables(scope, known, b)?)
+            let first = expr_count(scope, known, part, a)?;
+            sum(part, first, expr_count(scope, known, part, b)?)
         }
-        ExprKind::Slice(a, _, _) => expr_tables(scope, known, a),
+        ExprKind::Slice(a, _, _) => plus(part, expr_count(scope, known, part, a)?),
         ExprKind::Pick(condition, a, b) => {
-            let tables = expr_tables(scope, known, condition)?;
-            let first = expr_tables(scope, known, a)?;
-            plus(tables, plus(first, expr_tables(scope, known, b)?)?)
+            let condition = expr_count(scope, known, part, condition)?;
+            let first = expr_count(scope, known, part, a)?;
+            let second = expr_count(scope, known, part, b)?;
+            plus(part, sum(condition, first, second)?)
         }
     }
 }
 
 #[cycle(count)]
-fn exprs_tables(scope: &Scope<'_>, known: &[Option<u64>], exprs: &[Expr]) -> Result<u64, NoMemory>
+fn exprs_count(
+    scope: &Scope<'_>,
+    known: &[Option<u64>],
+    part: u64,
+    exprs: &[Expr],
+) -> Result<u64, NoMemory>
     requires functions { SeesFunctions scope.now }
-    requires known { KnowsTables (design_in scope.now) known.now }
+    requires known { KnowsCounts part (design_in scope.now) known.now }
     ensures { IfOk result (λ n. n
-        ≡ spec.exprs_tables (called_tables scope.now) (exprs_of (map expr_of exprs.now))) }
+        ≡ spec.exprs_count part (called_count part scope.now) (exprs_of (map expr_of exprs.now))) }
 {
-    let mut tables = 0;
+    let mut count = 0;
     for expr in exprs {
-        tables = plus(tables, expr_tables(scope, known, expr)?)?;
+        count = plus(count, expr_count(scope, known, part, expr)?)?;
     }
-    Ok(tables)
+    Ok(count)
 }
 
 /// Those of a call of the function of this name.
-fn call_tables(scope: &Scope<'_>, known: &[Option<u64>], name: &[u8]) -> Result<u64, NoMemory>
+fn call_count(
+    scope: &Scope<'_>,
+    known: &[Option<u64>],
+    part: u64,
+    name: &[u8],
+) -> Result<u64, NoMemory>
     requires functions { SeesFunctions scope.now }
-    requires known { KnowsTables (design_in scope.now) known.now }
-    ensures { IfOk result (λ n. n ≡ called_tables scope.now name.now) }
+    requires known { KnowsCounts part (design_in scope.now) known.now }
+    ensures { IfOk result (λ n. n ≡ called_count part scope.now name.now) }
 {
     match find(scope, name) {
         Some(number) => match known_at(known, number as usize) {
@@ -91,49 +118,54 @@ fn known_at(known: &[Option<u64>], index: usize) -> Option<u64>
 
 /// Those of a call of the function of this number, which sees the functions before it; none where they are too many to be
 /// counted.
-fn function_tables(scope: &Scope<'_>, known: &[Option<u64>], number: FunId) -> Option<u64>
+fn function_count(scope: &Scope<'_>, known: &[Option<u64>], part: u64, number: FunId) -> Option<u64>
     requires functions { SeesFunctions scope.now }
     requires within { number < scope.now.before }
-    requires known { KnowsTables (design_in scope.now) known.now }
+    requires known { KnowsCounts part (design_in scope.now) known.now }
     ensures { (g : Function) → slice_get (functions (design_in scope.now)) number ≡ Some g
-        → IfSome result (λ n. n ≡ spec_tables (design_in scope.now) number g) }
+        → IfSome result (λ n. n ≡ spec_count part (design_in scope.now) number g) }
 {
     match &scope.checked.function(number).body {
-        Some(body) => body_tables(scope, known, number, body).ok(),
+        Some(body) => body_count(scope, known, part, number, body).ok(),
         None => Some(1),
     }
 }
 
 /// Those of the body of the function of this number, which sees the functions before it.
-fn body_tables(
+fn body_count(
     scope: &Scope<'_>,
     known: &[Option<u64>],
+    part: u64,
     number: FunId,
     body: &Expr,
 ) -> Result<u64, NoMemory>
     requires functions { SeesFunctions scope.now }
     requires within { number < scope.now.before }
-    requires known { KnowsTables (design_in scope.now) known.now }
-    ensures { IfOk result (λ n. n ≡ spec.expr_tables
-        (spec.call_tables (functions_in scope.now number)) (expr_of body.now)) }
+    requires known { KnowsCounts part (design_in scope.now) known.now }
+    ensures { IfOk result (λ n. n ≡ part + spec.expr_count part
+        (spec.call_count part (functions_in scope.now number)) (expr_of body.now)) }
 {
     let inner = Scope {
         before: number,
         port: &[],
         ..*scope
     };
-    expr_tables(&inner, known, body)
+    plus(part, expr_count(&inner, known, part, body)?)
 }
 
 /// Those of a call of each function that is seen. Each body is walked once, so the time is in proportion to the bodies.
-fn all_function_tables(alloc: Global, scope: &Scope<'_>) -> Result<Vec<Option<u64>>, NoMemory>
+fn all_function_counts(
+    alloc: Global,
+    scope: &Scope<'_>,
+    part: u64,
+) -> Result<Vec<Option<u64>>, NoMemory>
     requires { SeesFunctions scope.now }
-    ensures { IfOk result (λ known. KnowsTables (design_in scope.now) known.items) }
+    ensures { IfOk result (λ known. KnowsCounts part (design_in scope.now) known.items) }
 {
     let mut known = Vec::new(alloc);
     let mut number = 0;
     while number < scope.before {
-        let count = function_tables(scope, &known, number);
+        let count = function_count(scope, &known, part, number);
         known.push(count)?;
         number += 1;
     }
@@ -141,9 +173,9 @@ fn all_function_tables(alloc: Global, scope: &Scope<'_>) -> Result<Vec<Option<u6
 }
 
 /// Those of the fork of the function of this name.
-fn group_tables(scope: &Scope<'_>, name: &[u8]) -> u64
+fn group_count(scope: &Scope<'_>, name: &[u8]) -> u64
     requires { SeesFunctions scope.now }
-    ensures { result ≡ spec.group_tables (functions_in scope.now scope.now.before) name.now }
+    ensures { result ≡ spec.group_count (functions_in scope.now scope.now.before) name.now }
 {
     match find(scope, name) {
         Some(_) => 1,
@@ -152,71 +184,94 @@ fn group_tables(scope: &Scope<'_>, name: &[u8]) -> u64
 }
 
 /// Those of a fork, without its block.
-fn fork_tables(scope: &Scope<'_>, known: &[Option<u64>], choice: &Expr) -> Result<u64, NoMemory>
+fn choice_count(
+    scope: &Scope<'_>,
+    known: &[Option<u64>],
+    part: u64,
+    choice: &Expr,
+) -> Result<u64, NoMemory>
     requires functions { SeesFunctions scope.now }
-    requires known { KnowsTables (design_in scope.now) known.now }
+    requires known { KnowsCounts part (design_in scope.now) known.now }
     ensures { IfOk result (λ n. n
-        ≡ spec.exprs_tables (called_tables scope.now) (fork_args (expr_of choice.now))
-        + spec.group_tables (functions_in scope.now scope.now.before)
+        ≡ spec.exprs_count part (called_count part scope.now) (fork_args (expr_of choice.now))
+        + spec.group_count (functions_in scope.now scope.now.before)
         (fork_function (expr_of choice.now))) }
 {
     let (function, args) = choice_parts(choice);
-    let tables = exprs_tables(scope, known, args)?;
-    plus(tables, group_tables(scope, function))
+    let count = exprs_count(scope, known, part, args)?;
+    plus(count, group_count(scope, function))
 }
 
 #[cycle(stmt)]
-fn stmt_tables(scope: &Scope<'_>, known: &[Option<u64>], stmt: &Stmt) -> Result<u64, NoMemory>
+fn stmt_count(
+    scope: &Scope<'_>,
+    known: &[Option<u64>],
+    part: u64,
+    stmt: &Stmt,
+) -> Result<u64, NoMemory>
     requires functions { SeesFunctions scope.now }
-    requires known { KnowsTables (design_in scope.now) known.now }
+    requires known { KnowsCounts part (design_in scope.now) known.now }
     ensures { IfOk result (λ n. n
-        ≡ spec.stmt_tables (functions_in scope.now scope.now.before) (stmt_of stmt.now)) }
+        ≡ spec.stmt_count part (functions_in scope.now scope.now.before) (stmt_of stmt.now)) }
 {
     match &stmt.kind {
-        StmtKind::Let(_, _, value) => expr_tables(scope, known, value),
-        StmtKind::SetField(_, _, value) => expr_tables(scope, known, value),
+        StmtKind::Let(_, _, value) => expr_count(scope, known, part, value),
+        StmtKind::SetField(_, _, value) => expr_count(scope, known, part, value),
         StmtKind::If(condition, first, second) => {
-            let tables = expr_tables(scope, known, condition)?;
-            let branch = block_tables(scope, known, first)?;
-            plus(tables, plus(branch, block_tables(scope, known, second)?)?)
+            let count = expr_count(scope, known, part, condition)?;
+            let branch = block_count(scope, known, part, first)?;
+            plus(
+                count,
+                plus(branch, block_count(scope, known, part, second)?)?,
+            )
         }
-        StmtKind::Filter(condition) => expr_tables(scope, known, condition),
+        StmtKind::Filter(condition) => expr_count(scope, known, part, condition),
         StmtKind::HavocVar(_, _) => Ok(0),
         StmtKind::HavocField(_, _) => Ok(0),
         StmtKind::Assume(_) => Ok(0),
-        StmtKind::Fork(_, _, choice, _) => fork_tables(scope, known, choice),
-        StmtKind::Send(_, args) => exprs_tables(scope, known, args),
+        StmtKind::Fork(_, _, choice, _) => choice_count(scope, known, part, choice),
+        StmtKind::Send(_, args) => exprs_count(scope, known, part, args),
     }
 }
 
 /// Those of statements, but for the blocks of their forks.
 #[cycle(stmt)]
-fn block_tables(scope: &Scope<'_>, known: &[Option<u64>], stmts: &[Stmt]) -> Result<u64, NoMemory>
+fn block_count(
+    scope: &Scope<'_>,
+    known: &[Option<u64>],
+    part: u64,
+    stmts: &[Stmt],
+) -> Result<u64, NoMemory>
     requires functions { SeesFunctions scope.now }
-    requires known { KnowsTables (design_in scope.now) known.now }
-    ensures { IfOk result (λ n. n ≡ spec.block_tables
+    requires known { KnowsCounts part (design_in scope.now) known.now }
+    ensures { IfOk result (λ n. n ≡ spec.block_count part
         (functions_in scope.now scope.now.before) (block_of (map stmt_of stmts.now))) }
 {
-    let mut tables = 0;
+    let mut count = 0;
     for stmt in stmts {
-        tables = plus(tables, stmt_tables(scope, known, stmt)?)?;
+        count = plus(count, stmt_count(scope, known, part, stmt)?)?;
     }
-    Ok(tables)
+    Ok(count)
 }
 
 #[cycle(site)]
-fn stmt_site_tables(scope: &Scope<'_>, known: &[Option<u64>], stmt: &Stmt) -> Result<u64, NoMemory>
+fn stmt_site_count(
+    scope: &Scope<'_>,
+    known: &[Option<u64>],
+    part: u64,
+    stmt: &Stmt,
+) -> Result<u64, NoMemory>
     requires functions { SeesFunctions scope.now }
-    requires known { KnowsTables (design_in scope.now) known.now }
+    requires known { KnowsCounts part (design_in scope.now) known.now }
     ensures { IfOk result (λ n. n
-        ≡ spec.stmt_site_tables (functions_in scope.now scope.now.before) (stmt_of stmt.now)) }
+        ≡ spec.stmt_site_count part (functions_in scope.now scope.now.before) (stmt_of stmt.now)) }
 {
     match &stmt.kind {
         StmtKind::If(_, first, second) => {
-            let tables = site_tables(scope, known, first)?;
-            plus(tables, site_tables(scope, known, second)?)
+            let count = site_count(scope, known, part, first)?;
+            plus(count, site_count(scope, known, part, second)?)
         }
-        StmtKind::Fork(_, _, _, body) => block_tables(scope, known, body),
+        StmtKind::Fork(_, _, _, body) => block_count(scope, known, part, body),
         StmtKind::Let(_, _, _) => Ok(0),
         StmtKind::SetField(_, _, _) => Ok(0),
         StmtKind::Filter(_) => Ok(0),
@@ -229,17 +284,33 @@ fn stmt_site_tables(scope: &Scope<'_>, known: &[Option<u64>], stmt: &Stmt) -> Re
 
 /// Those of the blocks of forks.
 #[cycle(site)]
-fn site_tables(scope: &Scope<'_>, known: &[Option<u64>], stmts: &[Stmt]) -> Result<u64, NoMemory>
+fn site_count(
+    scope: &Scope<'_>,
+    known: &[Option<u64>],
+    part: u64,
+    stmts: &[Stmt],
+) -> Result<u64, NoMemory>
     requires functions { SeesFunctions scope.now }
-    requires known { KnowsTables (design_in scope.now) known.now }
-    ensures { IfOk result (λ n. n ≡ spec.site_tables
+    requires known { KnowsCounts part (design_in scope.now) known.now }
+    ensures { IfOk result (λ n. n ≡ spec.site_count part
         (functions_in scope.now scope.now.before) (block_of (map stmt_of stmts.now))) }
 {
-    let mut tables = 0;
+    let mut count = 0;
     for stmt in stmts {
-        tables = plus(tables, stmt_site_tables(scope, known, stmt)?)?;
+        count = plus(count, stmt_site_count(scope, known, part, stmt)?)?;
     }
-    Ok(tables)
+    Ok(count)
+}
+
+/// Those of both controls.
+fn all_count(alloc: Global, scope: &Scope<'_>, part: u64, stmts: &[Stmt]) -> Result<u64, NoMemory>
+    requires { SeesFunctions scope.now }
+    ensures { IfOk result (λ n. n ≡ spec.all_count part
+        (functions_in scope.now scope.now.before) (block_of (map stmt_of stmts.now))) }
+{
+    let known = all_function_counts(alloc, scope, part)?;
+    let count = block_count(scope, &known, part, stmts)?;
+    plus(count, site_count(scope, &known, part, stmts)?)
 }
 
 /// How many tables the code of a body has in both controls. The time is in proportion to the body and the bodies of functions,
@@ -249,9 +320,17 @@ pub fn count_tables(alloc: Global, scope: &Scope<'_>, stmts: &[Stmt]) -> Result<
     ensures { IfOk result (λ n. n ≡ spec.all_tables
         (functions_in scope.now scope.now.before) (block_of (map stmt_of stmts.now))) }
 {
-    let known = all_function_tables(alloc, scope)?;
-    let tables = block_tables(scope, &known, stmts)?;
-    plus(tables, site_tables(scope, &known, stmts)?)
+    all_count(alloc, scope, 0, stmts)
+}
+
+/// How large the code of a body is: its tables and the parts of its expressions, each of which is a byte of the text at least.
+/// Time and want of memory are as of `count_tables`.
+pub fn code_size(alloc: Global, scope: &Scope<'_>, stmts: &[Stmt]) -> Result<u64, NoMemory>
+    requires { SeesFunctions scope.now }
+    ensures { IfOk result (λ n. n ≡ spec.all_parts
+        (functions_in scope.now scope.now.before) (block_of (map stmt_of stmts.now))) }
+{
+    all_count(alloc, scope, 1, stmts)
 }
 
 #[cycle(fork)]

@@ -3,7 +3,6 @@
 #![tactic(auto)]
 
 pub mod blocks;
-pub mod bulk;
 mod calls;
 pub mod counting;
 mod exprs;
@@ -17,8 +16,7 @@ mod uses;
 pub mod variables;
 
 pub use blocks::{Frame, Site, lower_block};
-pub use bulk::code_size;
-pub use counting::{count_forks, count_tables};
+pub use counting::{code_size, count_forks, count_tables};
 pub use exprs::{lower_expr, lower_exprs};
 pub use functions::Scope;
 pub use made::{Counts, FieldName, Lowering, Made, MetaField};

@@ -1,6 +1,8 @@
--- Cited by private clauses of `limits`: the counts of a network, in three parts.
-use Rattle.std.specs.Prelude.{ℕ, List, [], ◌∷◌, map, length}
+-- Cited by private clauses of `limits` and `lowering`: the counts of a network, in three parts, and what is too large to be made.
+use Rattle.std.specs.Prelude.{ℕ, ◌==◌, nat_lt, Bool, not, ◌&&◌, List, [], ◌∷◌, map, length}
 use Rattle.cocoon_num.specs.declared.limit_name.LimitName.TheVariants as limit
+use Rattle.lower_body.specs.Whole.{SwitchRole}
+use Rattle.lower_switch.specs.Parts.{role_size}
 use Rattle.lowered.specs.Counts.{Counted}
 use Rattle.lowered.specs.Groups.{ForkGroup}
 
@@ -14,3 +16,7 @@ of_program tables forks =
 
 abbrev pub of_groups : List ForkGroup → List Counted
 of_groups gs = map (λ (g : ForkGroup). record { limit = limit.Members; count = length g.grouped.members; most = 256 }) gs
+
+-- there is a switch, and the code of its program is so large that none is made: its text would be four times as long as its file may be
+abbrev pub too_large : List ℕ → SwitchRole → Bool
+too_large switches r = not (length switches == 0) && nat_lt 16777216 (role_size r)

@@ -2,6 +2,7 @@
 ghost use Rattle.std.specs.Prelude.{◌≡◌, ℕ, IfErr, IfOk, None, Some, length, map};
 ghost use Rattle.cocoon_syntax.specs.TreeOf.{design_of};
 ghost use Rattle.cocoon_types.specs.Design as design;
+ghost use Rattle.lower_net.specs.Limits.{too_large};
 ghost use Rattle.lower_net.specs.Refused.{IsRefused, Lowers};
 ghost use Rattle.lowered.specs.Roles.{net_parts};
 ghost use Rattle.lower_rows.specs.AllGroups.{fork_group_of};
@@ -24,9 +25,9 @@ use p4_ir::NetData;
 use runtime_defs::Defs;
 use std::alloc::Global;
 
-/// The most bytes that the text of a program may have for certain, four times as many as its file: of one that has more no
-/// network is made, since there may be no memory for it.
-const MOST_TEXT: u64 = 16 * 1024 * 1024;
+/// How large the code of a program may be: as many bytes as four of its files may have. Of a larger one no network is made,
+/// since its text, which is longer still, may find no memory.
+const MOST_CODE: u64 = 16_777_216;
 
 /// Why no network is made.
 #[derive(Clone, Copy, Debug, Drop, PartialEq, Eq)]
@@ -123,7 +124,7 @@ fn find_over(
     }
 }
 
-/// Whether there is a switch, and its program's text is so long for certain that none is made.
+/// Whether there is a switch, and the code of its program is so large that none is made.
 fn is_too_large(
     alloc: Global,
     checked: &Checked,
@@ -132,12 +133,14 @@ fn is_too_large(
     numbers: &[u16],
 ) -> Result<bool, NoMemory>
     requires { functions ≡ length (design.functions (design_of checked.now)) }
+    ensures { IfOk result (λ large. large
+        ≡ too_large numbers.now (switch_role (design_of checked.now) parts.now.ingress)) }
 {
     if numbers.is_empty() {
         return Ok(false);
     }
     let size = program_size(alloc, checked, functions, &parts.ingress)?;
-    Ok(size > MOST_TEXT)
+    Ok(size > MOST_CODE)
 }
 
 /// The network of these parts, or the first limit that is exceeded, with the count.

@@ -1,11 +1,11 @@
-//! How many tables and forks the programs of the switches have, which are as many for each switch.
+//! How many tables and forks the programs of the switches have, and how large their code is; that is alike for each switch.
 ghost use Rattle.std.specs.Prelude.{◌≡◌, IfOk, length, ℕ};
 ghost use Rattle.cocoon_syntax.specs.TreeOf.{design_of};
 ghost use Rattle.cocoon_types.specs.Design as design;
 ghost use Rattle.lower_body.specs.Log.{tables_in};
 ghost use Rattle.lower_body.specs.Whole.{role_lowered};
 ghost use Rattle.lowered.specs.SwitchProgram.{switch_made};
-ghost use Rattle.lower_switch.specs.Parts.{switch_role};
+ghost use Rattle.lower_switch.specs.Parts.{role_size, switch_role};
 
 use crate::parts::Ingress;
 use cocoon_num::NoMemory;
@@ -45,7 +45,7 @@ pub fn program_counts(
     Ok(ProgramCounts { tables, forks })
 }
 
-/// How many bytes the text of a program has at least, where so many functions are all of the design's.
+/// How large the code of a program is, where so many functions are all of the design's: the text has at least so many bytes.
 pub fn program_size(
     alloc: Global,
     checked: &Checked,
@@ -53,6 +53,7 @@ pub fn program_size(
     ingress: &Ingress<'_>,
 ) -> Result<u64, NoMemory>
     requires { functions ≡ length (design.functions (design_of checked.now)) }
+    ensures { IfOk result (λ n. n ≡ role_size (switch_role (design_of checked.now) ingress.now)) }
 {
     let scope = Scope {
         checked,

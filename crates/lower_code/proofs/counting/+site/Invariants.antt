@@ -5,13 +5,13 @@ use Rattle.lower_code.specs.Scopes.{functions_in}
 use Rattle.lower_code.proofs.Sizes.{block_nodes, stmt_nodes}
 use Rattle.lower_code.proofs.counting.+site.Given as goal
 
-abbrev pub invariant-site_tables-loop-stmt : goal.invariant-site_tables-loop-stmt
-invariant-site_tables-loop-stmt l =
-    spec.site_tables (functions_in l.scope l.scope.before) (block_of (map stmt_of l.stmts))
-    ≡ l.tables + spec.site_tables (functions_in l.scope l.scope.before) (block_of (map stmt_of (drop l.stmt-index l.stmts)))
+abbrev pub invariant-site_count-loop-stmt : goal.invariant-site_count-loop-stmt
+invariant-site_count-loop-stmt l =
+    spec.site_count l.part (functions_in l.scope l.scope.before) (block_of (map stmt_of l.stmts))
+    ≡ l.count + spec.site_count l.part (functions_in l.scope l.scope.before) (block_of (map stmt_of (drop l.stmt-index l.stmts)))
 
-abbrev pub decreases-stmt_site_tables : goal.decreases-stmt_site_tables
-decreases-stmt_site_tables l = 2 * stmt_nodes (stmt_of l.stmt.now)
+abbrev pub decreases-stmt_site_count : goal.decreases-stmt_site_count
+decreases-stmt_site_count l = 2 * stmt_nodes (stmt_of l.stmt.now)
 
-abbrev pub decreases-site_tables : goal.decreases-site_tables
-decreases-site_tables l = 2 * block_nodes (block_of (map stmt_of l.stmts.now)) + 1
+abbrev pub decreases-site_count : goal.decreases-site_count
+decreases-site_count l = 2 * block_nodes (block_of (map stmt_of l.stmts.now)) + 1

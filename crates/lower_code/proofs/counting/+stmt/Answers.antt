@@ -9,37 +9,37 @@ use Rattle.lower_code.specs.Scopes.{functions_in}
 use Rattle.lower_code.proofs.Sizes.{block_nodes, one_stmt, stmt_nodes}
 use Rattle.lower_code.proofs.counting.+stmt.Goals as goal
 
-pub stmt_tables-returns-in-Let : goal.stmt_tables-returns-in-Let
-stmt_tables-returns-in-Let t c =
+pub stmt_count-returns-in-Let : goal.stmt_count-returns-in-Let
+stmt_count-returns-in-Let t c =
     let fs = functions_in c.args.scope.now c.args.scope.now.before in
     let is : stmt_of c.args.stmt.now ≡ let_ c.args.stmt.now.at (name_of c.in-Let.field-0) c.in-Let.field-1 (expr_of c.in-Let.value) = search (rules, kinds.the_lemmas, c.in-Let.is) in
-    subst (λ (s : Stmt). IfOk c.expr_tables.result (λ n. n ≡ spec.stmt_tables fs s)) (sym is) c.expr_tables.ensures
+    subst (λ (s : Stmt). IfOk c.expr_count.result (λ n. n ≡ spec.stmt_count c.args.part fs s)) (sym is) c.expr_count.ensures
 
-pub stmt_tables-returns-in-SetField : goal.stmt_tables-returns-in-SetField
-stmt_tables-returns-in-SetField t c =
+pub stmt_count-returns-in-SetField : goal.stmt_count-returns-in-SetField
+stmt_count-returns-in-SetField t c =
     let fs = functions_in c.args.scope.now c.args.scope.now.before in
     let is : stmt_of c.args.stmt.now ≡ set_field c.args.stmt.now.at (name_of c.in-SetField.field-0) (name_of c.in-SetField.field-1) (expr_of c.in-SetField.value) = search (rules, kinds.the_lemmas, c.in-SetField.is) in
-    subst (λ (s : Stmt). IfOk c.expr_tables-in-SetField.result (λ n. n ≡ spec.stmt_tables fs s)) (sym is) c.expr_tables-in-SetField.ensures
+    subst (λ (s : Stmt). IfOk c.expr_count-in-SetField.result (λ n. n ≡ spec.stmt_count c.args.part fs s)) (sym is) c.expr_count-in-SetField.ensures
 
-pub stmt_tables-returns-in-Filter : goal.stmt_tables-returns-in-Filter
-stmt_tables-returns-in-Filter t c =
+pub stmt_count-returns-in-Filter : goal.stmt_count-returns-in-Filter
+stmt_count-returns-in-Filter t c =
     let fs = functions_in c.args.scope.now c.args.scope.now.before in
     let is : stmt_of c.args.stmt.now ≡ filter c.args.stmt.now.at (expr_of c.in-Filter.condition) = search (rules, kinds.the_lemmas, c.in-Filter.is) in
-    subst (λ (s : Stmt). IfOk c.expr_tables-in-Filter.result (λ n. n ≡ spec.stmt_tables fs s)) (sym is) c.expr_tables-in-Filter.ensures
+    subst (λ (s : Stmt). IfOk c.expr_count-in-Filter.result (λ n. n ≡ spec.stmt_count c.args.part fs s)) (sym is) c.expr_count-in-Filter.ensures
 
-pub stmt_tables-returns-in_ok-plus-in-If : goal.stmt_tables-returns-in_ok-plus-in-If
-stmt_tables-returns-in_ok-plus-in-If t c =
+pub stmt_count-returns-in_ok-plus-in-If : goal.stmt_count-returns-in_ok-plus-in-If
+stmt_count-returns-in_ok-plus-in-If t c =
     let fs = functions_in c.args.scope.now c.args.scope.now.before in
-    let of_block = λ (xs : List Statement). spec.block_tables fs (block_of (map stmt_of xs)) in
+    let of_block = λ (xs : List Statement). spec.block_count c.args.part fs (block_of (map stmt_of xs)) in
     let is : stmt_of c.args.stmt.now ≡ if_ c.args.stmt.now.at (expr_of c.in-If.condition) (block_of (map stmt_of c.in-If.first.items)) (block_of (map stmt_of c.in-If.second.items)) = search (rules, kinds.the_lemmas, c.in-If.is) in
     let first = c.in_ok-branch-in-If.ensures ∙ ap of_block c.deref.ensures.value in
-    let second = c.in_ok-block_tables-in-If.ensures ∙ ap of_block c.deref-in-If.ensures.value in
+    let second = c.in_ok-block_count-in-If.ensures ∙ ap of_block c.deref-in-If.ensures.value in
     IfOk-weaker c.plus-in-If.result _ _
-    (λ n h. h ∙ (λ i. c.in_ok-tables-in-If.ensures i + ((c.in_ok-plus-in-If.ensures ∙ (λ j. first j + second j)) i)) ∙ ap (λ (s : Stmt). spec.stmt_tables fs s) (sym is))
+    (λ n h. h ∙ (λ i. c.in_ok-count-in-If.ensures i + ((c.in_ok-plus-in-If.ensures ∙ (λ j. first j + second j)) i)) ∙ ap (λ (s : Stmt). spec.stmt_count c.args.part fs s) (sym is))
     c.plus-in-If.ensures
 
-pub block_tables-stmt_tables-requires : goal.block_tables-stmt_tables-requires
-block_tables-stmt_tables-requires t c =
+pub block_count-stmt_count-requires : goal.block_count-stmt_count-requires
+block_count-stmt_count-requires t c =
     let small : stmt_nodes (stmt_of c.stmt-item.result) ≤ block_nodes (block_of (map stmt_of c.args.stmts.now)) =
     one_stmt stmt_of c.args.stmts.now c.loop-stmt.stmt-index c.stmt-item.result c.loop-stmt-test.true c.stmt-item.is in
     search rules
