@@ -9,7 +9,7 @@ use Rattle.p4_ir.specs.P4Reads.{P4Reads}
 use Rattle.p4_ir.specs.P4Tree as tree
 use Rattle.p4_read.specs.declared.fault.P4Fault.{P4Fault}
 use Rattle.p4_read.specs.declared.fault.P4Fault.TheVariants as p4-fault
-use Rattle.p4_unique.specs.Answers.{Answer, Answers, a_fault, a_program}
+use Rattle.p4_read.specs.Answers.{Answer, Answers, a_fault, a_program}
 use Rattle.net_bundle.specs.Bundle.{whole_name}
 use Rattle.net_bundle.specs.BundleNames.{digest_of}
 use Rattle.net_bundle.specs.Network.{IsJson}

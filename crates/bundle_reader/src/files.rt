@@ -57,9 +57,7 @@ pub(crate) fn read_file<F: Folder>(
         }
         Ok(None) => Err(ReadFault::Missing(file)),
         Err(FolderFault::Failed) => Err(ReadFault::Folder(file, FolderFault::Failed)),
-        Err(FolderFault::TooLong(limit)) => {
-            Err(ReadFault::Folder(file, FolderFault::TooLong(limit)))
-        }
+        Err(FolderFault::TooLong(_)) => Err(ReadFault::Folder(file, FolderFault::TooLong(most))),
         Err(FolderFault::NoMemory) => Err(ReadFault::NoMemory),
     }
 }

@@ -11,8 +11,8 @@ ghost use Rattle.net_bundle.specs.declared.fault.BundleFault.{BundleFault};
 ghost use Rattle.p4_ir.specs.NetTree.{NetData};
 
 use bundle_forms::laws::{net_form_is_exact, rows_form_is_exact};
+use p4_read::laws::one_answer;
 use p4_run::laws::rows_without_fault_load;
-use p4_unique::texts::one_answer;
 
 /// What `write_bundle` wrote reads as the network that it wrote: its clauses say that the files were put in, that they fit
 /// and that they hold the network.

@@ -1,5 +1,5 @@
--- What departs from one visit of a switch, as a list: for each list of members with which the visit may go on, in ascending
--- order, what it gives. The clauses of `visit` cite it, and the laws of net_run join it to the definition of a visit.
+-- What departs from one visit of a switch, as a list: for each list of members with which the visit may go on, in the order
+-- of the group, what it gives. The clauses of `visit` cite it, and the laws of net_run join it to the definition of a visit.
 use Rattle.std.specs.Prelude.{ℕ, suc, List, [], ◌∷◌, length, map, Option, Some, None}
 use Rattle.p4_ir.specs.NetTree.{SwitchFiles}
 use Rattle.p4_ir.specs.P4Tree.{Program, RowsFile}

@@ -1,5 +1,5 @@
 -- How many runs of ingress and of egress all copies of a packet make, and how many they may make. It follows the same visits
--- as `Ends`. The clauses of `visit` cite the bound.
+-- as `Ends`. The clauses of `deliver` cite it, and those of `visit` the bound.
 use Rattle.std.specs.Prelude.{ℕ, zero, suc, ◌+◌, List, [], ◌∷◌, Option, Some, None}
 use Rattle.p4_ir.specs.NetRuns.{attach_at, link_at, switch_at}
 use Rattle.p4_ir.specs.NetTree.{LinkEnd, to_switch, to_host, SwitchFiles, NetData}

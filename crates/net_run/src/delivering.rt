@@ -42,7 +42,8 @@ pub fn deliver(
         ≡ spec.deliveries (net_in net.now) host bytes.now hops) }
     ensures travelling { IfOk result (λ o. o.travelling
         ≡ spec.travelling (net_in net.now) host bytes.now hops) }
-    ensures known { IfOk result (λ o. has_number host (host_numbers (net_in net.now).hosts) ≡ true) }
+    ensures known { IfOk result (λ o.
+        has_number host (host_numbers (net_in net.now).hosts) ≡ true) }
     ensures within { IfOk result (λ o. runs (net_in net.now) host bytes.now hops ≤ most_runs) }
     ensures stops { IfErr result (RunStops (net_in net.now) host bytes.now hops) }
 {

@@ -43,7 +43,8 @@ impl<'n> Stations<'n> {
     fn index(&mut self, alloc: Global, net: &'n Net, number: u16) -> Result<Option<usize>, NoMemory>
         requires { StationsFit net.now self.old }
         ensures fit { OnOk result (StationsFit net.now self.new) }
-        ensures found { IfOk result (λ found. StandsAt net.now number self.new.visited.items found) }
+        ensures found { IfOk result (λ found.
+            StandsAt net.now number self.new.visited.items found) }
     {
         let at = self.visited.partition_point(|known| known.number < number);
         if at < self.visited.len() && self.visited[at].number == number {

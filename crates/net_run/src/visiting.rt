@@ -75,12 +75,14 @@ pub fn visit(
     ensures departed { IfOk result (λ v. map departed_of v.departed.items
         ≡ departures (program_in loaded.now) (rows_in loaded.now) port bytes.now) }
     ensures runs { IfOk result (λ v. v.runs ≡ runs_after (rows_in loaded.now)
-        (after_ingress (ingress_left (program_in loaded.now) (rows_in loaded.now) port bytes.now))) }
+        (after_ingress
+        (ingress_left (program_in loaded.now) (rows_in loaded.now) port bytes.now))) }
     ensures within { IfOk result (λ v. runs_after (rows_in loaded.now)
         (after_ingress (ingress_left (program_in loaded.now) (rows_in loaded.now) port bytes.now))
         ≤ most) }
     ensures over { IfErr result (λ fault. VisitStops fault (most < runs_after (rows_in loaded.now)
-        (after_ingress (ingress_left (program_in loaded.now) (rows_in loaded.now) port bytes.now)))) }
+        (after_ingress
+        (ingress_left (program_in loaded.now) (rows_in loaded.now) port bytes.now)))) }
 {
     let mut all = Vec::new(alloc);
     let next = loaded.ingress(frame, port, bytes);

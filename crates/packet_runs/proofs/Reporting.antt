@@ -11,23 +11,23 @@ use Rattle.packet_runs.specs.Reports.{delivery_lines, outcome_line, outcome_line
 use Rattle.packet_runs.specs.Stopping.{AllWithin, SomeOver}
 
 -- the line of a packet, and those of what is delivered of it
-pub one_outcome : (before with_line after line : List ℕ) (index t n : ℕ) (ds : List Delivery) → n ≡ length ds → line ≡ outcome_line index n t → with_line ≡ before ++ line
-    → after ≡ with_line ++ delivery_lines ds → after ≡ before ++ outcome_lines index ds t
-one_outcome before with_line after line index t n ds e p q r =
+pub one_outcome : (before with_line after line : List ℕ) (number t n : ℕ) (ds : List Delivery) → n ≡ length ds → line ≡ outcome_line number n t → with_line ≡ before ++ line
+    → after ≡ with_line ++ delivery_lines ds → after ≡ before ++ outcome_lines number ds t
+one_outcome before with_line after line number t n ds e p q r =
     r
-    ∙ ap (λ x. x ++ delivery_lines ds) (q ∙ ap (λ l. before ++ l) (p ∙ ap (λ k. outcome_line index k t) e))
-    ∙ append_assoc before (outcome_line index (length ds) t) (delivery_lines ds)
+    ∙ ap (λ x. x ++ delivery_lines ds) (q ∙ ap (λ l. before ++ l) (p ∙ ap (λ k. outcome_line number k t) e))
+    ∙ append_assoc before (outcome_line number (length ds) t) (delivery_lines ds)
 
 -- the first packet of those that are left
 pub opened : (ps : List code.Packet) (i : ℕ) (p d : code.Packet) → i < length ps → p ≡ slice_index_or ps i d → map packet_in (drop i ps) ≡ packet_in p ∷ map packet_in (drop (i + 1) ps)
 opened ps i p d h e = at_drop_more (map packet_in) ps i d h ∙ sym (ap (λ x. packet_in x ∷ map packet_in (drop (i + 1) ps)) e)
 
-pub report_more : (net : NetData) (hops index : ℕ) (p : Packet) (left rest : List Packet) (before after all : List ℕ) → left ≡ p ∷ rest → after ≡ before ++ packet_lines net hops (index + 1) p
-    → before ++ report_from net hops (index + 1) left ≡ all → after ++ report_from net hops (index + 1 + 1) rest ≡ all
-report_more net hops index p left rest before after all e q h =
-    ap (λ x. x ++ report_from net hops (index + 1 + 1) rest) q
-    ∙ append_assoc before (packet_lines net hops (index + 1) p) (report_from net hops (index + 1 + 1) rest)
-    ∙ sym (ap (λ ps. before ++ report_from net hops (index + 1) ps) e)
+pub report_more : (net : NetData) (hops number : ℕ) (p : Packet) (left rest : List Packet) (before after all : List ℕ) → left ≡ p ∷ rest → after ≡ before ++ packet_lines net hops (number + 1) p
+    → before ++ report_from net hops (number + 1) left ≡ all → after ++ report_from net hops (number + 1 + 1) rest ≡ all
+report_more net hops number p left rest before after all e q h =
+    ap (λ x. x ++ report_from net hops (number + 1 + 1) rest) q
+    ∙ append_assoc before (packet_lines net hops (number + 1) p) (report_from net hops (number + 1 + 1) rest)
+    ∙ sym (ap (λ ps. before ++ report_from net hops (number + 1) ps) e)
     ∙ h
 
 pub known_more : (hosts : List ℕ) (p : Packet) (left rest : List Packet) → left ≡ p ∷ rest → AllKnown hosts left → AllKnown hosts rest

@@ -19,7 +19,7 @@ abbrev pub SomeOver : NetData → (hops : ℕ) → List Packet → Type 0
 SomeOver net hops [] = ⊥
 SomeOver net hops (p ∷ ps) = (most_runs < runs net p.host p.bytes hops) ⊎ SomeOver net hops ps
 
--- The runs of this packet are more than may be made, and the count is that of the first run too many. Want of memory is told
+-- The runs of this packet are more than may be made, and the count is that of the first run too many. Out of memory is told
 -- of any.
 abbrev pub StopsAt : NetData → (hops : ℕ) → Packet → PacketsFault → Type 0
 StopsAt net hops p (Copies count) =

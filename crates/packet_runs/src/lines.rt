@@ -10,13 +10,13 @@ use std::alloc::Global;
 /// The line of how many copies are delivered, and how many travel.
 fn outcome_line(
     alloc: Global,
-    index: u64,
+    number: u64,
     delivered: u64,
     travelling: u32,
 ) -> Result<String, NoMemory>
-    ensures { IfOk result (λ line. string_bytes line ≡ outcome_line index delivered travelling) }
+    ensures { IfOk result (λ line. string_bytes line ≡ outcome_line number delivered travelling) }
 {
-    Ok(format!(in alloc; "{index} delivered {delivered} travelling {travelling}\n")?)
+    Ok(format!(in alloc; "{number} delivered {delivered} travelling {travelling}\n")?)
 }
 
 /// The digits of some bytes, in lower case, or `-` for none.
@@ -54,18 +54,18 @@ fn push_deliveries(
     Ok(())
 }
 
-/// The lines of the packet of this index.
+/// The lines of the packet of this number, counted from 1.
 pub(crate) fn push_outcome(
     alloc: Global,
     report: &mut Vec<u8>,
-    index: u64,
+    number: u64,
     outcome: &Outcome,
 ) -> Result<(), NoMemory>
     ensures { OnOk result (report.new.items ≡ report.old.items
-        ++ outcome_lines index (map delivery_of outcome.now.delivered) outcome.now.travelling) }
+        ++ outcome_lines number (map delivery_of outcome.now.delivered) outcome.now.travelling) }
 {
     let delivered = outcome.delivered.items();
-    let line = outcome_line(alloc, index, delivered.len() as u64, outcome.travelling)?;
+    let line = outcome_line(alloc, number, delivered.len() as u64, outcome.travelling)?;
     report.extend_from_slice(line.as_bytes())?;
     push_deliveries(alloc, report, delivered)?;
     Ok(())

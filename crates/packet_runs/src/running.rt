@@ -57,23 +57,23 @@ fn push_packet(
     alloc: Global,
     net: &Net,
     report: &mut Vec<u8>,
-    index: u64,
+    number: u64,
     packet: &Packet,
     hops: u32,
 ) -> Result<(), PacketsFault>
     requires known { has_number packet.now.host (host_numbers (net_in net.now).hosts) ≡ true }
     ensures lines { OnOk result (report.new.items ≡ report.old.items
-        ++ packet_lines (net_in net.now) hops index (packet_in packet.now)) }
+        ++ packet_lines (net_in net.now) hops number (packet_in packet.now)) }
     ensures within { IfOk result (λ o.
         runs (net_in net.now) packet.now.host packet.now.bytes.items hops ≤ most_runs) }
     ensures stops { IfErr result (StopsAt (net_in net.now) hops (packet_in packet.now)) }
 {
     let outcome = outcome_of(alloc, net, packet, hops)?;
-    push_outcome(alloc, report, index, &outcome)?;
+    push_outcome(alloc, report, number, &outcome)?;
     Ok(())
 }
 
-/// The report of packets that are run one after another, each with at most `hops` visits: for each a line with its index,
+/// The report of packets that are run one after another, each with at most `hops` visits: for each a line with its number,
 /// from 1, with how many copies are delivered and how many travel on, and then a line for each delivery, in ascending order
 /// of the choices.
 pub fn run_packets(
@@ -90,10 +90,10 @@ pub fn run_packets(
     ensures stops { IfErr result (Stops (net_in net.now) hops (map packet_in packets.now)) }
 {
     let mut report = Vec::new(alloc);
-    let mut index = 0;
+    let mut number = 0;
     for packet in packets {
-        index += 1;
-        push_packet(alloc, net, &mut report, index, packet, hops)?;
+        number += 1;
+        push_packet(alloc, net, &mut report, number, packet, hops)?;
     }
     Ok(report)
 }

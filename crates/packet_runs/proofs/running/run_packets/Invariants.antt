@@ -9,8 +9,8 @@ use Rattle.packet_runs.proofs.running.run_packets.Given as goal
 
 abbrev pub invariant-loop-packet : goal.invariant-loop-packet
 invariant-loop-packet l = record {
-  index : l.index ≡ l.packet-index;
-  report : l.report.items ++ report_from (net_in l.net) l.hops (l.index + 1) (map packet_in (drop l.packet-index l.packets)) ≡ report_of (net_in l.net) l.hops (map packet_in l.packets);
+  number : l.number ≡ l.packet-index;
+  report : l.report.items ++ report_from (net_in l.net) l.hops (l.number + 1) (map packet_in (drop l.packet-index l.packets)) ≡ report_of (net_in l.net) l.hops (map packet_in l.packets);
   known : AllKnown (host_numbers (net_in l.net).hosts) (map packet_in (drop l.packet-index l.packets));
   within : AllWithin (net_in l.net) l.hops (map packet_in (drop l.packet-index l.packets)) → AllWithin (net_in l.net) l.hops (map packet_in l.packets);
   over : SomeOver (net_in l.net) l.hops (map packet_in (drop l.packet-index l.packets)) → SomeOver (net_in l.net) l.hops (map packet_in l.packets);
