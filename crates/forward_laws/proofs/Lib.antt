@@ -1,0 +1,3 @@
+pub mod SameBundle
+pub mod Telling
+pub mod Travelling
