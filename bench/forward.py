@@ -1,22 +1,27 @@
 #!/usr/bin/env python3
 """How long packets take through a large network: 100,000 of them, and half as many.
 
-    bench/forward.py [RUNS]     runs `cocoon forward` on both so often (3), and prints the least wall times and the most memory
+    bench/forward.py [RUNS]             runs `cocoon forward` on both so often (3), and prints the least wall times and the most memory
+    bench/forward.py instructions N     prints how many instructions each of N packets takes, by cachegrind of valgrind
 
 It needs the program of crates/cocoon: `rt run` there builds it; or COCOON names one. The network has 64 switches of 256 ports, 512
 hosts and 7,680 rows; each switch is linked to the eight that follow it in a ring, so a packet visits up to nine of them. All files
 are in memory where the machine has a folder for that, and each run reads the bundle and the packets, and prints. What it prints is
-compared with where each packet has to go.
+compared with where each packet has to go. Where a compiler `cc` is there, the plain program visits.c reads the same network in its
+plain form and the same packets, and has to print the same.
 """
 
 import os
 import pathlib
+import re
+import shutil
 import subprocess
 import sys
 import tempfile
 import time
 
 from lower import FIRST_LINK, design
+from plain_form import plain_form
 
 TOP = pathlib.Path(__file__).resolve().parent.parent
 SWITCHES = 64
@@ -68,40 +73,86 @@ def compiled(program, folder):
         sys.exit(f"forward.py: compile printed {done.stdout!r}, wanted {wanted!r}")
 
 
-def one_run(program, folder, wanted):
+def write_packets(folder, count):
+    """A file of so many packets; what is to be printed of them."""
+    (folder / "packets").write_text("".join(f"{packet(n)[0]} {bytes_of(n)}\n" for n in range(count)))
+    return "".join(f"{n + 1} delivered 1 travelling 0\n> {packet(n)[1]} {bytes_of(n)}\n" for n in range(count))
+
+
+def one_run(words, folder, wanted):
     """The wall time in seconds and the most memory in MiB of one run."""
     with open(folder / "printed", "wb") as printed:
         start = time.perf_counter()
-        child = subprocess.Popen([program, "forward", "out", "packets", "--hops", "16"], cwd=folder, stdout=printed)
+        child = subprocess.Popen(words, cwd=folder, stdout=printed)
         _, status, used = os.wait4(child.pid, 0)
         taken = time.perf_counter() - start
     if status != 0 or (folder / "printed").read_text() != wanted:
-        sys.exit(f"forward.py: status {status >> 8}, and not the deliveries that are wanted")
+        sys.exit(f"forward.py: {words[0]} ends with status {status >> 8}, and not with the deliveries that are wanted")
     return taken, used.ru_maxrss / 1024
 
 
-def measured(program, folder, count, runs):
-    """The least time and the most memory for so many packets."""
-    (folder / "packets").write_text("".join(f"{packet(n)[0]} {bytes_of(n)}\n" for n in range(count)))
-    wanted = "".join(f"{n + 1} delivered 1 travelling 0\n> {packet(n)[1]} {bytes_of(n)}\n" for n in range(count))
-    found = [one_run(program, folder, wanted) for _ in range(runs)]
-    return min(taken for taken, _ in found), max(memory for _, memory in found)
+def measured(commands, folder, count, runs):
+    """For each command the least time and the most memory for so many packets. They run in turn."""
+    wanted = write_packets(folder, count)
+    found = [[one_run(words, folder, wanted) for words in commands] for _ in range(runs)]
+    return [(min(taken for taken, _ in of), max(memory for _, memory in of)) for of in zip(*found)]
+
+
+def instructions(words, folder, count):
+    """How many a packet takes: those of so many packets, without those of none."""
+    totals = []
+    for packets in (0, count):
+        wanted = write_packets(folder, packets)
+        asked = ["valgrind", "--tool=cachegrind", "--cache-sim=no", f"--cachegrind-out-file={folder / 'counts'}", *words]
+        done = subprocess.run(asked, cwd=folder, stdout=subprocess.PIPE, stderr=subprocess.PIPE, check=False)
+        if done.returncode != 0 or done.stdout.decode() != wanted:
+            sys.exit(f"forward.py: {words[0]} ends with status {done.returncode}, and not with the deliveries that are wanted")
+        totals.append(int(re.search(r"I\s+refs:\s+([\d,]+)", done.stderr.decode()).group(1).replace(",", "")))
+    return (totals[1] - totals[0]) // count, totals[0]
+
+
+def commands_for(program, folder):
+    """The program, and beside it the plain one where it can be built."""
+    found = [[program, "forward", "out", "packets", "--hops", "16"]]
+    if shutil.which("cc"):
+        subprocess.run(["cc", "-O2", "-o", folder / "visits", TOP / "bench" / "visits.c"], check=True)
+        (folder / "plain").write_text(plain_form(folder, "out"))
+        found.append([folder / "visits", "forward", "plain", "packets", "16"])
+    return found
+
+
+def print_instructions(commands, folder, count):
+    print("| Program | Instructions for a packet | For the bundle |\n|---|---|---|")
+    for words in commands:
+        each, bundle = instructions(words, folder, count)
+        print(f"| {pathlib.Path(words[0]).name} | {each:,} | {bundle:,} |", flush=True)
+
+
+def print_times(commands, folder, runs):
+    print("| Packets | Time | Memory | In C | Memory | Ratio |\n|---|---|---|---|---|---|")
+    whole = None
+    for count in (0, PACKETS // 2, PACKETS):
+        half, whole = whole, measured(commands, folder, count, runs)
+        line = f"| {count:,}"
+        for taken, memory in whole:
+            line += f" | {taken:.2f} s | {memory:,.0f} MiB"
+        print(line + (f" | {whole[0][0] / whole[1][0]:.2f} |" if len(whole) > 1 else " | | | |"), flush=True)
+    print("Whole to half: " + ", ".join(f"{both[1][0] / both[0][0]:.2f}" for both in zip(half, whole)))
 
 
 def main():
-    runs = int(sys.argv[1]) if len(sys.argv) > 1 else 3
     program = os.environ.get("COCOON") or TOP / "crates" / "cocoon" / "out" / "cocoon"
     if not os.access(program, os.X_OK):
         sys.exit("forward.py: build the program first: `rt run` in crates/cocoon")
     memory_folder = "/dev/shm" if os.access("/dev/shm", os.W_OK) else None
-    print("| Packets | Time | Whole to half | Memory |\n|---|---|---|---|")
     with tempfile.TemporaryDirectory(dir=memory_folder) as name:
         folder = pathlib.Path(name)
         compiled(program, folder)
-        half, _ = measured(program, folder, PACKETS // 2, runs)
-        whole, memory = measured(program, folder, PACKETS, runs)
-    print(f"| {PACKETS // 2:,} | {half:.2f} s | | |")
-    print(f"| {PACKETS:,} | {whole:.2f} s | {whole / half:.2f} | {memory:,.0f} MiB |")
+        commands = commands_for(program, folder)
+        if sys.argv[1:2] == ["instructions"]:
+            print_instructions(commands, folder, int(sys.argv[2]))
+        else:
+            print_times(commands, folder, int(sys.argv[1]) if len(sys.argv) > 1 else 3)
 
 
 if __name__ == "__main__":

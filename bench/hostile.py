@@ -1,16 +1,23 @@
 #!/usr/bin/env python3
 """Runs the built program on files that were mutated, and reports what no page promises.
 
-    bench/hostile.py PROGRAM [RUNS] [SEED]     so many runs (10,000), from this seed (1)
+    bench/hostile.py PROGRAM [RUNS] [SEED] [WORKERS]     so many runs (10,000), from this seed (1), in so many processes (one for
+                                                         each processor)
 
-The corpus are the designs, definitions and cases of examples/, the bundles that `compile` writes of them, and packets for their hosts. In
+The corpus are the designs, definitions and cases of examples/ (or of the folder that CORPUS names), the bundles that `compile` writes of
+them, and packets for their hosts. In
 each run one file is mutated one to four times: a byte is replaced, a piece is cut out, doubled, or put in from another file of the
-corpus, lines are exchanged, a number becomes one at a border, or the file is cut off. A mutated program or rows file gets its digest in the
-file of the network anew in half of the runs, so that more is looked at than the digest.
+corpus, lines are exchanged, a number becomes one at a border, a name, a number or a mark becomes another one of the file, or the file is
+cut off. A mutated program or rows file gets its digest in the file of the network anew in most runs, so that more is looked at than the
+digest. A third of the runs are of `compile`, of `step` and of `forward`.
 
-A run is reported where the program ends by a signal, takes over two seconds of the processor, ends with a status that its command does not have, says
-something on the standard error, prints a line that is not one of the report's forms, changes or makes a file though it refuses, or gives
-another answer when it is run again. The last line says how often each status came. It needs nothing but Python; the gate does not run it.
+A run is reported where the program ends by a signal, takes over two seconds of the processor, ends with a status that its command does
+not have, says something on the standard error, prints what is no report of its command with this status, changes or makes a file though it
+refuses, or, in one run of 16, gives another answer or writes other files when it is run again. What a mutated design compiled to is
+compared in the ways that bench/agreed.py names: a difference is reported, too.
+
+Run N is the same whenever it is run and with however many processes, as long as the examples are: `bench/hostile.py PROGRAM 1 N` repeats
+it. The last lines say how often each status came, and the most that a run took. It needs nothing but Python; the gate does not run it.
 """
 
 import collections
@@ -22,50 +29,154 @@ import pathlib
 import random
 import re
 import resource
-import subprocess
+import signal
 import sys
 import tempfile
 
+import agreed
+
 TOP = pathlib.Path(__file__).resolve().parent.parent
-EXAMPLES = TOP / "examples"
+CORPUS = pathlib.Path(os.environ.get("CORPUS") or TOP / "examples")
+MEMORY_FOLDER = "/dev/shm" if os.access("/dev/shm", os.W_OK) else None
 # Seconds of the processor, and of the clock, that a run may take.
 SECONDS, WAIT = 2, 60
+# Bytes of memory that it may ask for: with more it ends with status 12, which is reported.
+ADDRESSES = 4 << 30
+RUNS_OF_A_TASK = 250
 BORDERS = ["0", "1", "7", "63", "64", "65", "255", "256", "257", "65535", "65536", "4294967295", "4294967296", "18446744073709551615", "18446744073709551616"]
-STATUSES = {"compile": {0, 3, 4, 10}, "step": {0, 3, 4, 10, 11}, "forward": {0, 7, 10, 11}}
-# The forms of the lines of each status, over all commands.
+
+# ---- the reports of each command and status
+
+TEXT_FAULTS = "BadByte|BadNumber|OpenComment|Unexpected|TooDeep"
+RULES = (
+    "Twice|UnknownName|LateFunction|UnknownRole|NotRefinable|SinkRefined|NoHost|NoSwitch|ZeroCount|TooWide|HeaderWidth|WrongWidth|NotBool|WrongCount|"
+    "BadSlice|AfterSend|PacketInGuard|SinkForm|HeaderChanged|GuardForm|NotSwitchForm|NotWire|LastChoice|ForkForm|HiddenChoice"
+)
+NUMBERS = r"(-|\d+( \d+)*)"
+LANGUAGE = rf"language d\.ccn \d+:\d+ ({TEXT_FAULTS}|{RULES})"
+DEFINITIONS = rf"definitions d\.defs (\d+:\d+ ({TEXT_FAULTS}|UnknownFunction|WrongRow|TwoDefaults|GuardRows|ForkRows)|NoDefault [A-Za-z_]\w*)"
+OF_DESIGN = r"limit (refines|within|ports|roles|functions|assumptions|params|headers|fields|paths|expanded|rows)"
+BUNDLE = r"bundle lab\.(net\.json|s\d+\.(p4|rows\.json)) "
 FORMS = {
-    0: r"(compiled switches \d+ hosts \d+ links \d+ obligations \d+|nothing|\w+( \d+)* :( \S+)*|\d+ delivered \d+ travelling \d+|> \d+ (-|([0-9a-f]{2})+))",
-    3: r"language \S+ \d+:\d+ \w+",
-    4: r"definitions \S+ (\d+:\d+ \w+|NoDefault \w+)",
-    7: r"bundle \S+ (missing|notjson|shape \S+|p4 \w+ \d+|load \w+( \d+)+|stale [0-9a-f]{64} \S*)",
-    10: r"limit (file \S+|\w+ \d+) over \d+",
-    11: r"line \S+ \d+ \w+",
+    ("compile", 0): r"compiled switches \d+ hosts \d+ links \d+ obligations 0",
+    ("compile", 3): LANGUAGE + r"|language d\.ccn 1:1 NotYet",
+    ("compile", 4): DEFINITIONS,
+    ("compile", 10): rf"limit file (d\.ccn|d\.defs|new\.\S+) over \d+|({OF_DESIGN}|limit (switches|hosts|tables|sites|members)) \d+ over \d+",
+    ("step", 0): rf"nothing|[A-Za-z_]\w* {NUMBERS} : {NUMBERS}",
+    ("step", 3): LANGUAGE,
+    ("step", 4): DEFINITIONS,
+    ("step", 10): rf"limit file \S+ over \d+|{OF_DESIGN} \d+ over \d+|limit level \d+ over \d+",
+    ("step", 11): r"line \S+ [1-9]\d* Form",
+    ("forward", 7): BUNDLE
+    + r"(missing|notjson|shape (-|/[a-z]+)|p4 (Lex|Unexpected|TooDeep|Kind) \d+|stale [0-9a-f]{64} [0-9a-f]{64}"
+    + r"|load (MissingTable \d+|UnknownTable \d+|RowShape \d+ \d+|GroupShape \d+))",
+    ("forward", 10): r"limit file \S+ over \d+|limit packet \d+ over 65535|limit copies 65537 over 65536",
+    ("forward", 11): r"line p\.txt [1-9]\d* (Form|NoSuchHost)",
 }
+FORMS = {of: re.compile(rf"({form})\n".encode()) for of, form in FORMS.items()}
+PACKET = re.compile(rb"(\d+) delivered (\d+) travelling \d+\n((?:> \d+ (?:-|(?:[0-9a-f]{2})+)\n)*)")
 
 
-class Job:
-    """Words of the program with the files that it reads, of which one is mutated."""
-
-    def __init__(self, words, files, targets):
-        self.words, self.files, self.targets = words, files, targets
-
-
-def bounded():
-    """A process that uses more of the processor is ended by a signal."""
-    resource.setrlimit(resource.RLIMIT_CPU, (SECONDS, SECONDS + 1))
+def is_forwarded(printed):
+    """Whether this tells of packets 1, 2 and so on, each with as many deliveries as are told."""
+    at = 0
+    for index, found in enumerate(PACKET.finditer(printed), 1):
+        if found.start() != at or int(found[1]) != index or int(found[2]) != found[3].count(b"\n"):
+            return False
+        at = found.end()
+    return at == len(printed)
 
 
-def run(program, words, folder):
-    return subprocess.run([program, *words], cwd=folder, capture_output=True, timeout=WAIT, env={}, preexec_fn=bounded)
+def is_report(command, status, printed):
+    if (command, status) == ("forward", 0):
+        return is_forwarded(printed)
+    return FORMS[command, status].fullmatch(printed) is not None
 
 
-def written(folder, files):
-    for name, content in files.items():
-        (folder / name).write_bytes(content)
+# ---- runs of the program
+
+Done = collections.namedtuple("Done", "status out err seconds memory")
 
 
-def content(folder):
-    return {path.name: path.read_bytes() for path in folder.iterdir()}
+class Program:
+    """The built program, run in the current folder. What it prints goes into files in memory, which are read when it has ended."""
+
+    def __init__(self, path):
+        self.path = path
+        self.outputs = [os.memfd_create(name) for name in ("out", "err")]
+        self.actions = [(os.POSIX_SPAWN_OPEN, 0, "/dev/null", os.O_RDONLY, 0)]
+        self.actions += [(os.POSIX_SPAWN_DUP2, output, to) for to, output in enumerate(self.outputs, 1)]
+        self.child = None
+        signal.signal(signal.SIGALRM, lambda *_: os.kill(self.child, signal.SIGKILL))
+
+    def run(self, words, path=None):
+        self.child = os.posix_spawn(path or self.path, ["program", *words], {}, file_actions=self.actions)
+        resource.prlimit(self.child, resource.RLIMIT_CPU, (SECONDS, SECONDS + 1))
+        resource.prlimit(self.child, resource.RLIMIT_AS, (ADDRESSES, ADDRESSES))
+        signal.alarm(WAIT)
+        _, status, used = os.wait4(self.child, 0)
+        signal.alarm(0)
+        printed = [self.taken(output) for output in self.outputs]
+        return Done(os.waitstatus_to_exitcode(status), *printed, used.ru_utime + used.ru_stime, used.ru_maxrss)
+
+    def taken(self, output):
+        """What stands in the file, which is empty afterwards."""
+        size = os.lseek(output, 0, os.SEEK_CUR)
+        if size == 0:
+            return b""
+        text = os.pread(output, size, 0)
+        os.ftruncate(output, 0)
+        os.lseek(output, 0, os.SEEK_SET)
+        return text
+
+
+def mark(state):
+    return state.st_mtime_ns, state.st_size, state.st_ino
+
+
+def bytes_of(name):
+    file = os.open(name, os.O_RDONLY)
+    text = os.read(file, os.fstat(file).st_size + 1)
+    os.close(file)
+    return text
+
+
+class Room:
+    """A folder with files. It knows how each was left, so that a change is seen by a look at the folder alone."""
+
+    def __init__(self, folder, files):
+        self.folder, self.files, self.left = folder, files, {}
+        folder.mkdir()
+        self.enter()
+        for name, text in files.items():
+            self.put(name, text)
+
+    def enter(self):
+        os.chdir(self.folder)
+
+    def put(self, name, text):
+        file = os.open(name, os.O_WRONLY | os.O_CREAT | os.O_TRUNC)
+        os.write(file, text)
+        os.close(file)
+        self.left[name] = mark(os.stat(name))
+
+    def is_as_left(self, name, text):
+        """Whether no file is another one; of the one that was written last the bytes are looked at, since a clock is coarse."""
+        names = os.listdir()
+        is_known = len(names) == len(self.left) and all(name in self.left for name in names)
+        return is_known and all(mark(os.stat(name)) == self.left[name] for name in names) and bytes_of(name) == text
+
+    def taken(self):
+        """The files that the run made, by their names; they are removed."""
+        made = {name: bytes_of(name) for name in os.listdir() if name not in self.left}
+        for name in made:
+            os.unlink(name)
+        return made
+
+
+# ---- the corpus
+
+Job = collections.namedtuple("Job", "room words targets")
 
 
 def packets_for(net):
@@ -76,36 +187,37 @@ def packets_for(net):
     return "".join(f"{host} {packet.hex() or '-'}\n" for host in hosts for packet in packets).encode()
 
 
-def is_known(program, command):
-    """Whether the program has the command yet: other words have status 2."""
-    with tempfile.TemporaryDirectory() as folder:
-        return run(program, [command, "none", "none", "0", "none"][:{"forward": 3, "compile": 4, "step": 5}[command]], folder).returncode != 2
+def texts_of_examples():
+    """Each design that has definitions, with the cases beside it, or where there is none two others."""
+    for definitions in sorted(CORPUS.rglob("*.defs")):
+        design = definitions.with_suffix(".ccn")
+        if not design.exists():
+            continue
+        cases = sorted(design.parent.glob("*.case")) or sorted((TOP / "examples").rglob("*.case"))[:2]
+        texts = {"d.ccn": design.read_bytes(), "d.defs": definitions.read_bytes()}
+        yield texts | {f"{number}.case": case.read_bytes() for number, case in enumerate(cases)}
 
 
-def jobs_of(program, design, definitions, cases):
-    """The jobs that one design of the corpus gives."""
-    texts = {"d.ccn": design.read_bytes(), "d.defs": definitions.read_bytes()}
-    yield Job(["compile", "d.ccn", "d.defs", "new"], texts, ["d.ccn", "d.defs"])
-    for case in cases:
+def with_bundle(program, folder, texts):
+    """The texts with the files of the bundle that they compile to, and packets; without where the design is not compiled."""
+    room = Room(folder, texts)
+    if program.run(["compile", "d.ccn", "d.defs", "lab"]).status:
+        return texts
+    bundle = room.taken()
+    return texts | bundle | {"p.txt": packets_for(bundle["lab.net.json"])}
+
+
+def jobs_of(files, room):
+    """What is run in a room: words of each command with the files that are mutated."""
+    texts = ["d.ccn", "d.defs"]
+    yield Job(room, ["compile", *texts, "new"], texts)
+    for case in sorted(name for name in files if name.endswith(".case")):
         for level in "001":
-            yield Job(["step", "d.ccn", "d.defs", level, "c.case"], texts | {"c.case": case.read_bytes()}, ["d.ccn", "d.defs", "c.case", "c.case"])
-    with tempfile.TemporaryDirectory() as name:
-        folder = pathlib.Path(name)
-        written(folder, texts)
-        if run(program, ["compile", "d.ccn", "d.defs", "lab"], folder).returncode or not is_known(program, "forward"):
-            return
-        bundle = {name: text for name, text in content(folder).items() if name.startswith("lab.")}
-    bundle["p.txt"] = packets_for(bundle["lab.net.json"])
-    for hops in (["--hops", "3"], []):
-        yield Job(["forward", "lab", "p.txt", *hops], bundle, sorted(bundle))
-
-
-def corpus(program):
-    jobs = []
-    for design in sorted(EXAMPLES.rglob("*.ccn")):
-        cases = sorted(design.parent.glob("*.case")) if design.parent != EXAMPLES else sorted(EXAMPLES.rglob("*.case"))[:2]
-        jobs += jobs_of(program, design, design.with_suffix(".defs"), cases)
-    return jobs
+            yield Job(room, ["step", *texts, level, case], [*texts, case, case])
+    bundle = sorted(name for name in files if name.startswith("lab.")) + ["p.txt"]
+    if "p.txt" in files:
+        for hops in (["--hops", "3"], []):
+            yield Job(room, ["forward", "lab", "p.txt", *hops], bundle)
 
 
 # ---- mutations, each of bytes that are not empty
@@ -145,19 +257,36 @@ def lines_exchanged(text, source, pool):
     return b"\n".join(lines)
 
 
+NUMBER = re.compile(rb"\d+")
+# A word is a literal, by its width; a name; another number; or a mark. Two words of one kind have the same last group, and of literals the same text in it.
+WORD = re.compile(rb"\b(\d+w)[0-9a-fA-Fx]+\b|\b([A-Za-z_])\w*|\b(\d)\w*|([-+&|^~!=<>?]+)")
+TRIES = 12
+
+
 def at_border(text, source, pool):
-    numbers = list(re.finditer(rb"\d+", text))
-    if not numbers:
-        return text
-    number = source.choice(numbers)
-    return text[: number.start()] + source.choice(BORDERS).encode() + text[number.end() :]
+    number = NUMBER.search(text, source.randrange(len(text)))
+    return text[: number.start()] + source.choice(BORDERS).encode() + text[number.end() :] if number else text
+
+
+def kind(word):
+    return word.lastindex, word[1]
+
+
+def word_exchanged(text, source, pool):
+    """A word becomes another one of its kind, where some tries find one."""
+    word = WORD.search(text, source.randrange(len(text)))
+    for _ in range(TRIES if word else 0):
+        other = WORD.search(text, source.randrange(len(text)))
+        if other and kind(other) == kind(word) and other[0] != word[0]:
+            return text[: word.start()] + other[0] + text[word.end() :]
+    return text
 
 
 def cut_off(text, source, pool):
     return text[: source.randrange(len(text))]
 
 
-MUTATIONS = [replaced, replaced, cut_out, doubled, spliced, lines_exchanged, at_border, at_border, cut_off]
+MUTATIONS = [replaced, replaced, cut_out, doubled, spliced, lines_exchanged, at_border, at_border, word_exchanged, word_exchanged, word_exchanged, cut_off]
 
 
 def mutated(text, source, pool):
@@ -167,70 +296,131 @@ def mutated(text, source, pool):
     return text
 
 
-def with_digest(files, name, old):
-    """The file of the network keeps the digest of the file's new bytes."""
-    digests = [hashlib.sha256(text).hexdigest().encode() for text in (old, files[name])]
-    return files | {"lab.net.json": files["lab.net.json"].replace(*digests)}
+def with_digest(net, old, new):
+    """The file of the network with the digest of a file's new bytes."""
+    digests = [hashlib.sha256(text).hexdigest().encode() for text in (old, new)]
+    return net.replace(*digests)
 
 
-# ---- what is wrong with an answer
+# ---- one run
 
 
-def complaint(job, before, after, done):
-    command, status = job.words[0], done.returncode
-    if status < 0:
-        return f"signal {-status}"
-    if status not in STATUSES[command]:
-        return f"status {status}"
-    if done.stderr:
-        return "says something on the standard error"
-    lines = done.stdout.decode(errors="replace").splitlines()
-    if status and len(lines) != 1 or any(not re.fullmatch(FORMS[status], line) for line in lines):
-        return f"line {lines[:1]}"
-    is_free = command == "compile" and status == 0
-    if {name: text for name, text in after.items() if not (is_free and name.startswith("new."))} != before:
-        return "a file is changed or made"
-    return None
+class Worker:
+    """What a process of runs keeps: the program, a room for each design of the corpus, and the jobs."""
 
+    def __init__(self, program, folder, corpus):
+        self.program = Program(program)
+        self.home = pathlib.Path(folder) / str(os.getpid())
+        self.home.mkdir()
+        self.rooms = [Room(self.home / str(number), files) for number, files in enumerate(corpus)]
+        jobs = [job for room in self.rooms for job in jobs_of(room.files, room)]
+        self.jobs = [[job for job in jobs if job.words[0] == command] for command in ("compile", "step", "forward")]
+        self.jobs = [some for some in self.jobs if some]
+        self.pool = [text for files in corpus for text in files.values()]
+        self.counts, self.most, self.lines = collections.Counter(), {}, []
 
-def tried(program, jobs, pool, seed):
-    """One run: the status, and what is wrong with it."""
-    source = random.Random(seed)
-    job = source.choice(jobs)
-    target = source.choice(job.targets)
-    files = job.files | {target: mutated(job.files[target], source, pool)}
-    if target.startswith("lab.s") and source.random() < 0.5:
-        files = with_digest(files, target, job.files[target])
-    with tempfile.TemporaryDirectory(dir="/dev/shm" if os.path.isdir("/dev/shm") else None) as name:
-        folder = pathlib.Path(name)
-        written(folder, files)
+    def tried(self, seed):
+        """One run; what is wrong with it gets a line."""
+        source = random.Random(seed)
+        job = source.choice(source.choice(self.jobs))
+        target = source.choice(job.targets)
+        room, old = job.room, job.room.files[target]
+        new = mutated(old, source, self.pool)
+        room.enter()
+        room.put(target, new)
+        is_renewed = target.startswith("lab.s") and source.random() < 0.875
+        if is_renewed:
+            room.put("lab.net.json", with_digest(room.files["lab.net.json"], old, new))
         try:
-            done = run(program, job.words, folder)
-        except subprocess.TimeoutExpired:
-            return job.words[0], None, f"seed {seed}: no end after {WAIT} seconds", target
-        wrong = complaint(job, files, content(folder), done)
-        if wrong is None and seed % 16 == 0 and run(program, job.words, folder).stdout != done.stdout:
-            wrong = "another answer in the second run"
-    return job.words[0], done.returncode, wrong and f"seed {seed}: {' '.join(job.words)} with {target}: {wrong}", target
+            wrong = self.complaint(job, target, new, source, seed % 16 == 0)
+        except Exception as failure:  # a fault of the script is told as one of the run, and other runs go on
+            wrong = f"the script fails: {failure!r}"
+        if wrong:
+            self.lines.append(f"seed {seed}: {' '.join(job.words)} with {target}: {wrong}")
+            self.left_as_it_was(room)
+        room.put(target, old)
+        if is_renewed:
+            room.put("lab.net.json", room.files["lab.net.json"])
+
+    def complaint(self, job, target, new, source, is_twice):
+        """What is wrong with a run of the job, or nothing."""
+        done = self.program.run(job.words)
+        command, status = job.words[0], done.status
+        self.counts[command, status] += 1
+        self.most[command] = [max(pair) for pair in zip(self.most.get(command, (0, 0)), (done.seconds, done.memory))]
+        if status == -signal.SIGKILL:
+            return f"no end after {WAIT} seconds"
+        if status < 0:
+            return f"signal {-status}"
+        if (command, status) not in FORMS and (command, status) != ("forward", 0):
+            return f"status {status}"
+        if done.err:
+            return "says something on the standard error"
+        if done.seconds > SECONDS:
+            return f"{done.seconds} seconds"
+        if not is_report(command, status, done.out):
+            return f"prints {done.out[:200]}"
+        made = job.room.taken() if command == "compile" and status == 0 else {}
+        if not job.room.is_as_left(target, new):
+            return "a file is changed or made"
+        if is_twice and (self.program.run(job.words).out, job.room.taken()) != (done.out, made):
+            return "another answer in the second run"
+        return self.disagreement(job.room, made, target, new, source) if made else None
+
+    def disagreement(self, room, made, target, new, source):
+        """What is wrong with the bundle that a design was compiled to, or nothing."""
+        texts = [new if name == target else room.files[name] for name in ("d.ccn", "d.defs")]
+        compared = agreed.Compared(self.program, texts, made, source)
+        wrong = compared.difference()
+        self.counts += compared.counts
+        room.taken()
+        return wrong
+
+    def left_as_it_was(self, room):
+        room.taken()
+        for name, text in room.files.items():
+            room.put(name, text)
+
+
+WORKER = None
+
+
+def begin(program, folder, corpus):
+    global WORKER
+    WORKER = Worker(program, folder, corpus)
+
+
+def task(seeds):
+    """The runs of some seeds: the counts, the most that a run of each command took, and the lines."""
+    WORKER.counts, WORKER.most, WORKER.lines = collections.Counter(), {}, []
+    for seed in seeds:
+        WORKER.tried(seed)
+    return WORKER.counts, WORKER.most, WORKER.lines
 
 
 def main():
     program = os.path.abspath(sys.argv[1])
-    runs, first = (int(word) for word in (sys.argv[2:] + ["10000", "1"][len(sys.argv) - 2 :]))
-    jobs = corpus(program)
-    pool = [text for job in jobs for text in job.files.values()]
-    counts, wrong = collections.Counter(), 0
-    with concurrent.futures.ThreadPoolExecutor(os.cpu_count()) as threads:
-        for command, status, line, _ in threads.map(lambda seed: tried(program, jobs, pool, seed), range(first, first + runs)):
-            counts[command, status] += 1
-            if line:
-                wrong += 1
-                print(line, flush=True)
-    print(f"{runs} runs from seed {first}, {wrong} wrong;", ", ".join(f"{command} {status}: {count}" for (command, status), count in sorted(counts.items(), key=str)))
+    runs, first, workers = (int(word) for word in (sys.argv[2:] + ["10000", "1", str(os.cpu_count())][len(sys.argv) - 2 :]))
+    counts, most, wrong = collections.Counter(), {}, 0
+    home = os.getcwd()
+    with tempfile.TemporaryDirectory(dir=MEMORY_FOLDER) as folder:
+        alone = Program(program)
+        corpus = [with_bundle(alone, pathlib.Path(folder) / f"corpus{number}", texts) for number, texts in enumerate(texts_of_examples())]
+        os.chdir(home)
+        tasks = [range(start, min(start + RUNS_OF_A_TASK, first + runs)) for start in range(first, first + runs, RUNS_OF_A_TASK)]
+        with concurrent.futures.ProcessPoolExecutor(workers, initializer=begin, initargs=(program, folder, corpus)) as pool:
+            for counted, used, lines in pool.map(task, tasks):
+                counts += counted
+                most |= {command: [max(pair) for pair in zip(most.get(command, (0, 0)), pair)] for command, pair in used.items()}
+                wrong += len(lines)
+                for line in lines:
+                    print(line, flush=True)
+    print(f"{runs} runs from seed {first}, {wrong} wrong;", ", ".join(f"{what} {status}: {count}" for (what, status), count in sorted(counts.items(), key=str)))
+    print("the most:", ", ".join(f"{command} {seconds:.2f} s {memory / 1024:.0f} MiB" for command, (seconds, memory) in sorted(most.items())))
     return 1 if wrong else 0
 
 
 if __name__ == "__main__":
-    if not 2 <= len(sys.argv) <= 4:
+    if not 2 <= len(sys.argv) <= 5:
         sys.exit(__doc__)
     sys.exit(main())
