@@ -7,6 +7,7 @@
     docs/check.py links       each link and each path of a crate's file leads somewhere; MAP.md has each crate and each file of definitions
     docs/check.py cases       a program of tests is given each file of cases, and its copies of the examples are as they are in examples/
     docs/check.py commands    each command of a page, run with the built program, prints what the page shows
+    docs/check.py faults      each wrong design and each wrong definitions of the tables of LANGUAGE.md have the fault that is told there
 
 A command is a line that begins with `$ ` in a block marked `console`; the lines after it are all that it prints on the standard output (a last
 line feed that is not printed is not missed). The
@@ -294,7 +295,64 @@ def check_commands():
     return [wrong for page in pages() for wrong in check_page(page)]
 
 
-CHECKS = {"believed": check_believed, "clauses": check_clauses, "links": check_links, "cases": check_cases, "commands": check_commands}
+# ---- the faults that tables show
+
+LANGUAGE = TOP / "docs" / "LANGUAGE.md"
+
+
+def rows_of(page, *head):
+    """The rows of the table of a page that has this head, cell by cell."""
+    text = page.read_text()
+    table = text[text.index(f"| {' | '.join(head)} |") :].splitlines()
+    rows = [*itertools.takewhile(lambda line: line.startswith("|"), table)][2:]
+    return [[cell.strip().replace("\\|", "|") for cell in re.split(r"(?<!\\)\|", row)[1:-1]] for row in rows]
+
+
+def with_edits(lines, edits):
+    """A design by its lines, with what a cell says: `line 3: ..`, `without line 9`, or `.. before line 28`. Indentation is kept."""
+    new = list(lines)
+    for number, text in re.findall(r"line (\d+): `([^`]*)`", edits):
+        old = new[int(number) - 1]
+        new[int(number) - 1] = old[: len(old) - len(old.lstrip())] + text
+    for text, number in re.findall(r"`([^`]*)` before line (\d+)", edits):
+        new.insert(int(number) - 1, f"  {text}")
+    for number in re.findall(r"without line (\d+)", edits):
+        del new[int(number) - 1]
+    return "\n".join(new)
+
+
+def compiled(design, definitions):
+    """What `compile` prints of two texts, which stand in files of the names DESIGN and DEFS."""
+    with tempfile.TemporaryDirectory() as room:
+        (pathlib.Path(room) / "DESIGN").write_text(design)
+        (pathlib.Path(room) / "DEFS").write_text(definitions)
+        words = [TOP / "cocoon", "compile", "DESIGN", "DEFS", "out"]
+        return subprocess.run(words, cwd=room, stdin=subprocess.DEVNULL, stdout=subprocess.PIPE, text=True).stdout.strip()
+
+
+def check_faults():
+    lines = (TOP / "examples" / "m.ccn").read_text().splitlines()
+    definitions = (TOP / "examples" / "m.defs").read_text()
+    tried = [
+        (rule, f"language DESIGN {at} {rule.strip('`')}", compiled(with_edits(lines, edits), definitions))
+        for rule, edits, at in rows_of(LANGUAGE, "Rule", "`m.ccn` with", "Told at")
+    ]
+    design = (TOP / "examples" / "f.ccn").read_text()
+    tried += [
+        (entries, f"definitions DEFS {fault.replace('`', '')}", compiled(design, entries.strip("`")))
+        for entries, fault in rows_of(LANGUAGE, "Definitions", "Their first fault")
+    ]
+    return [f"{said(LANGUAGE)}: {what} is told as {got}, and not as {wanted}" for what, wanted, got in tried if got != wanted]
+
+
+CHECKS = {
+    "believed": check_believed,
+    "clauses": check_clauses,
+    "links": check_links,
+    "cases": check_cases,
+    "commands": check_commands,
+    "faults": check_faults,
+}
 
 
 def main():
