@@ -1,7 +1,7 @@
 #!/usr/bin/env python3
 """What the gate costs: processor seconds of each crate's own proof, its tests and its must-fail edits.
 
-    bench/price.py            runs `rt ci --anew` at the top of the repository and prints a table
+    bench/price.py            runs `rt ci` from nothing at the top of the repository and prints a table
     bench/price.py slowest    prints the slowest steps of the checks whose work stands in crates/*/out
 
 The first needs Linux, `rt` on the path, and nothing else at work on the machine. It looks at the checker's processes four times a second, so
@@ -82,13 +82,19 @@ def row(crate, spent):
     return "| " + " | ".join(cells) + " |"
 
 
+def gate_words():
+    """The words that run the gate from nothing: a kit that keeps what it proved has a word for that, and another begins anew anyway."""
+    said = subprocess.run(["rt", "help"], stdout=subprocess.PIPE, stderr=subprocess.STDOUT, text=True).stdout
+    return ["rt", "ci", *(["--anew"] if "--anew" in said else [])]
+
+
 def gate():
     """Runs the gate from nothing and prints what it cost."""
-    seconds, is_done, began = {}, threading.Event(), time.monotonic()
+    words, seconds, is_done, began = gate_words(), {}, threading.Event(), time.monotonic()
     sampler = threading.Thread(target=sample, args=(seconds, is_done))
     sampler.start()
     try:
-        status = subprocess.run(["rt", "ci", "--anew"], cwd=TOP, stdin=subprocess.DEVNULL).returncode
+        status = subprocess.run(words, cwd=TOP, stdin=subprocess.DEVNULL).returncode
     finally:
         is_done.set()
         sampler.join()
