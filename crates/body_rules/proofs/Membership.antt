@@ -1,4 +1,4 @@
--- Tests over lists, and token indexes of several lists.
+-- Tests over lists, and token indices of several lists.
 use Rattle.std.proofs.Common.{◌≡◌, ℕ, ◌==◌, ◌&&◌, ◌||◌, Bool, true, false, List, [], ◌∷◌, ◌++◌, map, refl, sym, ap, ◌∙◌}
 use Rattle.std.specs.Prelude.{flat_map}
 use Rattle.std.specs.List.{list_any}
@@ -57,7 +57,7 @@ module _ {A : Type 0} where
   any-map p g [] = refl
   any-map p g (x ∷ xs) = ap (λ b. p (g x) || b) (any-map p g xs)
 
--- ---- token indexes
+-- ---- token indices
 
 pub has-append : (n : ℕ) (xs ys : List ℕ) → has_number n (xs ++ ys) ≡ (has_number n xs || has_number n ys)
 has-append n xs ys = any-append (λ m. n == m) xs ys

@@ -19,7 +19,7 @@ use Rattle.body_rules.specs.declared.stmts.Asked.{Asked}
 abbrev pub any_mentions : List ℕ → Exprs → Bool
 any_mentions x es = list_any (λ a. same_expr a (name 0 x)) (parts_of es)
 
--- ---- the token indexes at which a rule fails at a statement
+-- ---- the token indices at which a rule fails at a statement
 
 -- a choice
 abbrev pub choice_fails : Stmt → List ℕ

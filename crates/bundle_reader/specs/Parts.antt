@@ -1,4 +1,5 @@
--- What the parts of reading tell of a folder's files. Private clauses of `reading` cite it.
+-- What is said of a folder's files where a bundle is read step by step. Private clauses of `reading`, `files` and `switches`
+-- cite it.
 use Rattle.std.specs.Prelude.{◌≡◌, ℕ, List, Option, Some, None}
 use Rattle.cocoon_io.specs.Files.{Files}
 use Rattle.p4_ir.specs.NetTree.{SwitchFiles}

@@ -126,7 +126,7 @@ FilesNotLoaded files out (Program s) fault = ⊥
 FilesNotLoaded files out Network fault = ⊥
 FilesNotLoaded files out Certificates fault = ⊥
 
--- The first fault of these files, in the order in which they are read. Want of memory is told of any files.
+-- The first fault of these files, in the order in which they are read. Out of memory is told of any files.
 abbrev pub IsFirstFault : Files → (out : List ℕ) → ReadFault → Type 0
 IsFirstFault files out (Missing file) = (kept : Option (List ℕ)) × Turn files out file kept × (get files (whole_name out file) ≡ None)
 IsFirstFault files out (Folder file Failed) = (kept : Option (List ℕ)) × Turn files out file kept

@@ -134,7 +134,7 @@ most_allowed limit.Copies = most_runs
 most_allowed limit.Packet = most_bytes
 most_allowed name = most name
 
--- that of a design or definitions that are over a limit
+-- that of a count that is over its limit
 abbrev pub over_line : LimitName → ℕ → List ℕ
 over_line limit count =
     codes "limit " ++ (limit_text limit ++ (codes " " ++ (decimal count ++ (codes " over "

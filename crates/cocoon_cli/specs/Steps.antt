@@ -1,7 +1,7 @@
 -- Cited by `one_outcome`, and through Run.antt by `keeps` of `run`. The outcome of a command: the
 -- first of its steps that refuses, or else its report. A step looks at what is read of the
--- command's files; each is a case of its own, and a new rule, limit or command adds cases. It
--- follows "Statuses" in docs/FORMATS.md.
+-- command's files; each is a case of its own. A new command adds cases; a new rule or limit of
+-- designs adds none. It follows "Statuses" in docs/FORMATS.md.
 use Rattle.std.specs.Prelude.{◌≡◌, ◌⊎◌, ◌≤◌, ◌<◌, ℕ, suc, List, [], ◌∷◌, length, Option, Some, None, Result, Ok, Err}
 use Rattle.cocoon_num.specs.Lists.{first_of}
 use Rattle.cocoon_num.specs.Tree as tree

@@ -43,7 +43,8 @@ pub fn three<A: Drop, B: Drop, C: Drop>(
     second: Result<B, NoMemory>,
     third: Result<C, NoMemory>,
 ) -> Result<(A, B, C), NoMemory>
-    ensures { IfOk result (λ made. (first ≡ Ok made.0) × (second ≡ Ok made.1) × (third ≡ Ok made.2)) }
+    ensures { IfOk result
+        (λ made. (first ≡ Ok made.0) × (second ≡ Ok made.1) × (third ≡ Ok made.2)) }
 {
     let (first, second) = both(first, second)?;
     Ok((first, second, third?))

@@ -21,7 +21,8 @@ impl Bits {
     #[tactic(auto, using(crate::proofs::Widths::low_places))]
     pub fn add(self, other: Bits) -> Bits
         requires { self.width ≡ other.width }
-        ensures { apply_binary values.add (value_of self) (value_of other) ≡ Some (value_of result) }
+        ensures { apply_binary values.add (value_of self) (value_of other)
+            ≡ Some (value_of result) }
     {
         Bits {
             width: self.width,
@@ -33,7 +34,8 @@ impl Bits {
     #[tactic(auto, using(crate::proofs::Widths::difference))]
     pub fn sub(self, other: Bits) -> Bits
         requires { self.width ≡ other.width }
-        ensures { apply_binary values.sub (value_of self) (value_of other) ≡ Some (value_of result) }
+        ensures { apply_binary values.sub (value_of self) (value_of other)
+            ≡ Some (value_of result) }
     {
         Bits {
             width: self.width,
@@ -44,7 +46,8 @@ impl Bits {
     /// The bits that both have.
     pub fn and(self, other: Bits) -> Bits
         requires { self.width ≡ other.width }
-        ensures { apply_binary values.bits_and (value_of self) (value_of other) ≡ Some (value_of result) }
+        ensures { apply_binary values.bits_and (value_of self) (value_of other)
+            ≡ Some (value_of result) }
     {
         Bits {
             width: self.width,
@@ -56,7 +59,8 @@ impl Bits {
     #[tactic(auto, using(std::proofs::lemmas::Nat::or_lt))]
     pub fn or(self, other: Bits) -> Bits
         requires { self.width ≡ other.width }
-        ensures { apply_binary values.bits_or (value_of self) (value_of other) ≡ Some (value_of result) }
+        ensures { apply_binary values.bits_or (value_of self) (value_of other)
+            ≡ Some (value_of result) }
     {
         Bits {
             width: self.width,
@@ -68,7 +72,8 @@ impl Bits {
     #[tactic(auto, using(std::proofs::lemmas::Nat::xor_lt))]
     pub fn xor(self, other: Bits) -> Bits
         requires { self.width ≡ other.width }
-        ensures { apply_binary values.bits_xor (value_of self) (value_of other) ≡ Some (value_of result) }
+        ensures { apply_binary values.bits_xor (value_of self) (value_of other)
+            ≡ Some (value_of result) }
     {
         Bits {
             width: self.width,
@@ -90,7 +95,8 @@ impl Bits {
     #[tactic(auto, using(crate::proofs::Widths::joined_bits, crate::proofs::Widths::shifted_below))]
     pub fn concat(self, low: Bits) -> Bits
         requires { self.width + low.width ≤ 128 }
-        ensures { apply_binary values.concat (value_of self) (value_of low) ≡ Some (value_of result) }
+        ensures { apply_binary values.concat (value_of self) (value_of low)
+            ≡ Some (value_of result) }
     {
         Bits {
             width: self.width + low.width,

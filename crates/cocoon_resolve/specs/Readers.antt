@@ -33,7 +33,7 @@ all_widths hs = flat_map (λ (h : HeaderDecl). widths_of h.fields) hs
 abbrev pub field_widths : Design → List ℕ
 field_widths d = all_widths d.headers
 
--- no choice of the role's body is hidden
+-- the role has no body, or no choice of its body is hidden
 abbrev pub reads_back : Design → Role → Bool
 reads_back d r = elim r.body [ None ↦ true | Some b ↦ length (hidden_in d b) == 0 ]
 

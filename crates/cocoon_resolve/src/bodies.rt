@@ -51,7 +51,8 @@ fn note_decl(
 ) -> Result<(), NoMemory>
     requires { Declares names.now (design_of design.now) }
     ensures { (before : List Declared) → HoldsRow (design_of design.now) before row.old.items
-        → OnOk result (HoldsRow (design_of design.now) (before ++ decl_of decl.now ∷ []) row.new.items) }
+        → OnOk result (HoldsRow (design_of design.now) (before ++ decl_of decl.now ∷ [])
+        row.new.items) }
 {
     if let Decl::Role(role) = decl {
         if let Some(number) = names.role_of(design, role.name.text.bytes()) {
@@ -71,7 +72,8 @@ fn note_level(
 ) -> Result<(), NoMemory>
     requires { Declares names.now (design_of design.now) }
     ensures { (before : List Declared) → HoldsRow (design_of design.now) before row.old.items
-        → OnOk result (HoldsRow (design_of design.now) (before ++ map decl_of decls.now) row.new.items) }
+        → OnOk result (HoldsRow (design_of design.now) (before ++ map decl_of decls.now)
+        row.new.items) }
 {
     for decl in decls {
         note_decl(alloc, names, design, decl, row)?;

@@ -118,7 +118,8 @@ impl Checked {
     /// The function of this number.
     pub fn function(&self, function: FunId) -> &FunctionDecl
         requires { function < length (functions (design_of self.now)) }
-        ensures { slice_get (functions (design_of self.now)) function ≡ Some (function_of result.now) }
+        ensures { slice_get (functions (design_of self.now)) function
+            ≡ Some (function_of result.now) }
     {
         self.names.function(&self.design, function).unwrap()
     }

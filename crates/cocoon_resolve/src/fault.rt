@@ -5,7 +5,7 @@ ghost use Rattle.cocoon_resolve.specs.RuleTexts.{rule_text};
 use cocoon_num::{LimitName, NoMemory};
 use cocoon_types::TypeRule;
 
-/// Why a design is refused. The order of the rules is that of their phases and of their table in docs/LANGUAGE.md.
+/// Why a design is refused.
 #[derive(Clone, Copy, Drop)]
 pub enum TypeFault {
     /// The first rule that fails, at the token of this index.

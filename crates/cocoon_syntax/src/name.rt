@@ -4,7 +4,7 @@ ghost use Rattle.cocoon_num.specs.Tree.{Name as Called};
 ghost use Rattle.cocoon_syntax.specs.TreeOf.{name_of};
 
 use cocoon_num::copies::Copied;
-use cocoon_num::{NoMemory, Text};
+use cocoon_num::{NoMemory, Text, both};
 use std::alloc::Global;
 
 /// A name, and its token index.
@@ -25,4 +25,12 @@ impl Copied for Name {
         let text = Text::from(alloc, self.text.bytes())?;
         Ok(Name { at: self.at, text })
     }
+}
+
+/// Copies of two names, as of a header and its field.
+pub(crate) fn copy_two(alloc: Global, first: &Name, second: &Name) -> Result<(Name, Name), NoMemory>
+    ensures { IfOk result (λ copies.
+        (name_of copies.0 ≡ name_of first.now) × (name_of copies.1 ≡ name_of second.now)) }
+{
+    both(first.copy(alloc), second.copy(alloc))
 }

@@ -3,7 +3,7 @@ ghost use Rattle.std.specs.Prelude.{◌≡◌, IfOk, map};
 ghost use Rattle.cocoon_syntax.specs.TreeOf.{stmt_kind_of, stmt_of};
 
 use crate::expr::{Expr, copy_exprs};
-use crate::name::Name;
+use crate::name::{Name, copy_two};
 use cocoon_num::copies::Copied;
 use cocoon_num::{NoMemory, both, three};
 use std::alloc::Global;
@@ -66,11 +66,7 @@ fn copy_kind(alloc: Global, kind: &StmtKind) -> Result<StmtKind, NoMemory>
             Ok(StmtKind::Let(name, *width, value))
         }
         StmtKind::SetField(header, field, value) => {
-            let (header, field, value) = three(
-                header.copy(alloc),
-                field.copy(alloc),
-                value.copy(alloc),
-            )?;
+            let ((header, field), value) = both(copy_two(alloc, header, field), value.copy(alloc))?;
             Ok(StmtKind::SetField(header, field, value))
         }
         StmtKind::If(condition, first, second) => {
@@ -84,7 +80,7 @@ fn copy_kind(alloc: Global, kind: &StmtKind) -> Result<StmtKind, NoMemory>
         StmtKind::Filter(condition) => Ok(StmtKind::Filter(condition.copy(alloc)?)),
         StmtKind::HavocVar(name, width) => Ok(StmtKind::HavocVar(name.copy(alloc)?, *width)),
         StmtKind::HavocField(header, field) => {
-            let (header, field) = both(header.copy(alloc), field.copy(alloc))?;
+            let (header, field) = copy_two(alloc, header, field)?;
             Ok(StmtKind::HavocField(header, field))
         }
         StmtKind::Assume(condition) => Ok(StmtKind::Assume(condition.copy(alloc)?)),

@@ -36,7 +36,7 @@ note_one f None = (Some f, note_first f)
 note_one f (Some g) =
     elim (cases_Bool (comes_before f g)) [ inl h ↦ (Some f, note_earlier f g h) | inr h ↦ (Some g, note_later f g h) ]
 
--- the fault is of this rule, at one of these token indexes
+-- the fault is of this rule, at one of these token indices
 abbrev is_at : Rule → List ℕ → Fault → Bool
 is_at rule ns f = (rank f.rule == rank rule) && has_number f.at ns
 

@@ -11,10 +11,10 @@ use Rattle.cocoon_num.specs.Packets.{Packet}
 use Rattle.cocoon_types.specs.Design.{write_field, field_width}
 use Rattle.cocoon_types.specs.Val.{Env, bound, bind, value, numbers}
 use Rattle.cocoon_types.specs.Taken.{Ended, Reached, Used, RunsAreTaken, where_true, by_truth, take_one, back, only_sent, only_sends, after, go_on, guard_at, run, run_all, reached, if_reached, if_true, body_go, go, or_stop, then_walk, walk}
-use Rattle.cocoon_types.specs.Runs.{Loc, World, End, falls, sends, Stands, back_to, Does, DoesAll, Go, IsSink, Walk}
+use Rattle.cocoon_types.specs.Runs.{Loc, World, End, falls, sends, CanStand, back_to, Does, DoesAll, Go, IsSink, Walk}
 
 -- the guard of a location that stands is true
-at_guard : (w : World) (at : Loc) → Stands w at → guard_at w at ≡ Some (truth true)
+at_guard : (w : World) (at : Loc) → CanStand w at → guard_at w at ≡ Some (truth true)
 at_guard w at s = rw (s.2, s.3, s.4) refl
 
 mutual
@@ -143,7 +143,7 @@ went_on (Some r) f end rest h = by_end r.0 r.1 h
     by_end (sends to packet) cs h = inr (to, packet, ap (some_of (sends to packet)) (pair_of h).1, sym (pair_of h).0)
 
 -- a location whose guard is true stands
-guard_true : (w : World) (at : Loc) → guard_at w at ≡ Some (truth true) → Stands w at
+guard_true : (w : World) (at : Loc) → guard_at w at ≡ Some (truth true) → CanStand w at
 guard_true w at h =
     let r : (r : Role) × (w.role at.role ≡ Some r) × (option_and_then (λ env. value w.context env [] r.guard) (bind r.params at.values) ≡ Some (truth true)) = then_is_some _ (w.role at.role) (truth true) h in
     let e : (env : Env) × (bind r.0.params at.values ≡ Some env) × (value w.context env [] r.0.guard ≡ Some (truth true)) = then_is_some _ (bind r.0.params at.values) (truth true) r.2 in
@@ -271,7 +271,7 @@ guarded (Some (number w n)) r y h = absurd cc
 
 -- the body that was run
 body_gives : (w : World) (from : Loc) (packet : Packet) (cs : List ℕ) (to : Loc) (sent : Packet) (rest : List ℕ) (r : Role) (b : Option Block)
-    → Stands w from → w.role from.role ≡ Some r → r.body ≡ b → body_go w r b from packet cs ≡ Some (to, sent, rest) → Used cs rest (λ used. Go w from packet used to sent)
+    → CanStand w from → w.role from.role ≡ Some r → r.body ≡ b → body_go w r b from packet cs ≡ Some (to, sent, rest) → Used cs rest (λ used. Go w from packet used to sent)
 body_gives w from packet cs to sent rest r None s e f h = absurd cc
 body_gives w from packet cs to sent rest r (Some b) s e f h =
     let m : (env : Env) × (bind r.params from.values ≡ Some env) × (if_reached (run_all w b env packet cs) ≡ Some (to, sent, rest)) = then_is_some _ (bind r.params from.values) (to, sent, rest) h in

@@ -1,4 +1,4 @@
--- The rules on forms, the third phase of "Rules of a design" in docs/LANGUAGE.md: for each the token indexes at which it
+-- The rules on forms, the third phase of "Rules of a design" in docs/LANGUAGE.md: for each the token indices at which it
 -- fails.
 use Rattle.std.specs.Prelude.{ℕ, ◌==◌, ◌&&◌, ◌||◌, Bool, true, false, not, nat_lt, List, [], ◌∷◌, ◌++◌, flat_map, filter_map, filter, length, reverse, if◌then◌else◌, Option, Some, None, is_none, option_and_then}
 use Rattle.std.specs.List.{list_any, list_all}

@@ -1,4 +1,4 @@
--- The rules on names, the first phase of "Rules of a design" in docs/LANGUAGE.md: for each the token indexes at which it
+-- The rules on names, the first phase of "Rules of a design" in docs/LANGUAGE.md: for each the token indices at which it
 -- fails.
 use Rattle.std.specs.Prelude.{ℕ, ◌&&◌, ◌||◌, Bool, not, List, [], ◌∷◌, ◌++◌, map, flat_map, filter_map, filter, drop, Some, None, is_none, is_some}
 use Rattle.cocoon_num.specs.Tree.{Name, name, field, call, set_field, havoc_field, send, Param, FunctionDecl, HostDecl, SwitchDecl, Decl, a_host, a_switch, Refine, HeaderDecl, Design}

@@ -21,7 +21,7 @@ pub record FieldValue : Type 0 where
   pub field : List ℕ
   pub value : Expr
 
--- what a path has met: its conditions, the token indexes of its choices, the values as they are now, and what it sent
+-- what a path has met: its conditions, the token indices of its choices, the values as they are now, and what it sent
 pub record Path : Type 0 where
   pub conditions : List Expr
   pub choices : List ℕ
@@ -141,6 +141,6 @@ hidden_on p = elim p.sent [ None ↦ [] | Some args ↦ list_filter (is_hidden a
 abbrev pub first_fields : List HeaderDecl → List FieldValue
 first_fields hs = flat_map (λ (h : HeaderDecl). map (λ (f : Param). record { header = h.name.text; field = f.name.text; value = field 0 h.name f.name }) h.fields) hs
 
--- the token indexes of the hidden choices of a body
+-- the token indices of the hidden choices of a body
 abbrev pub hidden_in : Design → Block → List ℕ
 hidden_in d b = flat_map hidden_on (paths_in b (record { conditions = []; choices = []; vars = []; fields = first_fields d.headers; sent = None }))

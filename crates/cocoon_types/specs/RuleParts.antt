@@ -1,4 +1,4 @@
--- What the rules are made of: token indexes where a test fails, tests on names, and the blocks with the level above each.
+-- What the rules are made of: token indices where a test fails, tests on names, and the blocks with the level above each.
 -- It follows the section "Rules of a design" of docs/LANGUAGE.md; a fault there is at the index of its token.
 use Rattle.std.specs.Prelude.{ℕ, suc, Bool, true, false, not, List, [], ◌∷◌, ◌++◌, map, filter_map}
 use Rattle.std.specs.List.{list_any}

@@ -1,4 +1,4 @@
--- The rules that a design keeps. For each rule there is the list of the token indexes at which it fails; a design is well
+-- The rules that a design keeps. For each rule there is the list of the token indices at which it fails; a design is well
 -- formed where none of them fails anywhere. It follows the section "Rules of a design" of docs/LANGUAGE.md. All of its
 -- rules are there; optional headers, which are absent, would add some. The lists may name a token more than once.
 use Rattle.std.specs.Prelude.{◌≡◌, ℕ, List, [], ◌++◌, flat_map, is_some}
@@ -16,7 +16,7 @@ pub data Rule : Type 0 where
   zero_count too_wide header_width wrong_width not_bool wrong_count bad_slice after_send packet_in_guard : Rule
   sink_form header_changed guard_form not_switch_form not_wire last_choice fork_form hidden_choice : Rule
 
--- the token indexes at which a rule fails
+-- the token indices at which a rule fails
 abbrev pub fails_at : Rule → Design → List ℕ
 fails_at twice d = twice_at d
 fails_at unknown_name d = flat_map unknown_in_expr (all_exprs d) ++ flat_map unknown_in_stmt (all_stmts d)

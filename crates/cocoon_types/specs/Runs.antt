@@ -38,9 +38,9 @@ IsTrueAt w env packet e = value w.context env packet e ≡ Some (truth true)
 abbrev pub IsFalseAt : World → Env → Packet → Expr → Type 0
 IsFalseAt w env packet e = value w.context env packet e ≡ Some (truth false)
 
--- the guard of a location is true
-abbrev pub Stands : World → Loc → Type 0
-Stands w at = (r : Role) × (env : Env) × (w.role at.role ≡ Some r) × (bind r.params at.values ≡ Some env) × IsTrueAt w env [] r.guard
+-- a packet can stand at a location: its guard is true
+abbrev pub CanStand : World → Loc → Type 0
+CanStand w at = (r : Role) × (env : Env) × (w.role at.role ≡ Some r) × (bind r.params at.values ≡ Some env) × IsTrueAt w env [] r.guard
 
 -- a branch ends as its block does, and its variables end with it
 abbrev pub back_to : Env → End → End
@@ -70,7 +70,7 @@ abbrev mutual
       × IsTrueAt w (bound x.text (number width c) env) packet e
       × DoesAll w body (bound x.text (number width c) env) packet rest (sends to sent) × (end ≡ sends to sent)
   Does w (send at r es) env packet cs end =
-      (ns : List ℕ) × (numbers w.context env packet es ≡ Some ns) × Stands w (record { role = r.text; values = ns })
+      (ns : List ℕ) × (numbers w.context env packet es ≡ Some ns) × CanStand w (record { role = r.text; values = ns })
       × (cs ≡ []) × (end ≡ sends (record { role = r.text; values = ns }) packet)
 
   -- the same of a block: the empty one falls, a statement that falls is followed by the rest of the block, and
@@ -87,7 +87,7 @@ pub record Go (w : World) (from : Loc) (packet : Packet) (cs : List ℕ) (to : L
   pub role : Role
   pub body : Block
   pub env : Env
-  pub stands : Stands w from
+  pub stands : CanStand w from
   pub role_is : w.role from.role ≡ Some role
   pub body_is : role.body ≡ Some body
   pub env_is : bind role.params from.values ≡ Some env

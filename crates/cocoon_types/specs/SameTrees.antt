@@ -1,4 +1,4 @@
--- Expressions and parameters that are the same as trees, token indexes aside.
+-- Expressions and parameters that are the same as trees, token indices aside.
 use Rattle.std.specs.Prelude.{◌==◌, ◌&&◌, Bool, true, false, not, List, [], ◌∷◌, if◌then◌else◌}
 use Rattle.cocoon_num.specs.Values.{UnaryOp, flip, not_}
 use Rattle.cocoon_num.specs.Tree.{Expr, name, field, lit, true_or_false, call, unary, binary, slice, pick, Exprs, no_exprs, expr, Param}
@@ -17,7 +17,7 @@ same_unary not_ not_ = true
 same_unary _ _ = false
 
 abbrev mutual
-  -- the same tree, token indexes aside; no two operators are written alike
+  -- the same tree, token indices aside; no two operators are written alike
   pub same_expr : Expr → Expr → Bool
   same_expr (name at x) e = elim e [ name at' y ↦ same_name x y | _ ↦ false ]
   same_expr (field at h f) e = elim e [ field at' i g ↦ same_name h.text i.text && same_name f.text g.text | _ ↦ false ]

@@ -1,4 +1,4 @@
--- The rules on types, the second phase of "Rules of a design" in docs/LANGUAGE.md: for each the token indexes at which it
+-- The rules on types, the second phase of "Rules of a design" in docs/LANGUAGE.md: for each the token indices at which it
 -- fails.
 use Rattle.std.specs.Prelude.{ℕ, ◌+◌, ◌%◌, ◌==◌, ◌&&◌, ◌||◌, Bool, true, false, not, nat_le, nat_lt, List, [], ◌∷◌, ◌++◌, flat_map, filter_map, length, Option, Some, None, is_some}
 use Rattle.std.specs.List.{list_all}
@@ -88,7 +88,7 @@ wrong_args s _ _ = []
 abbrev pub found_widths : Option FunctionDecl → List ℕ
 found_widths f = elim f [ None ↦ [] | Some d ↦ widths_of d.params ]
 
--- token indexes, where a test holds
+-- token indices, where a test holds
 abbrev pub where_ : Bool → List ℕ → List ℕ
 where_ true ats = ats
 where_ false ats = []

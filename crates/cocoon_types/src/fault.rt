@@ -6,7 +6,8 @@ ghost use Rattle.cocoon_types.specs.RuleNames.{fault_at, fault_of, rule_of};
 
 use std::marker::Model;
 
-/// A rule of designs, in the order of their table.
+/// A rule of designs. The rules stand in the order of their phases, and of their table in
+/// docs/LANGUAGE.md.
 #[derive(Clone, Copy, Drop)]
 pub enum TypeRule {
     Twice,
@@ -86,14 +87,15 @@ impl Noted {
 
 /// The earlier of the fault that is held, if any is, and of one more.
 fn earliest(held: Option<(TypeRule, u32)>, rule: TypeRule, at: u32) -> Option<(TypeRule, u32)>
-    ensures { Notes (same_fault (fault_at rule at)) (option_map fault_of held) (option_map fault_of result) }
+    ensures { Notes (same_fault (fault_at rule at)) (option_map fault_of held)
+        (option_map fault_of result) }
 {
     match held {
-        Some((first, place)) => {
-            if comes_before(rule, at, first, place) {
+        Some((first, first_at)) => {
+            if comes_before(rule, at, first, first_at) {
                 Some((rule, at))
             } else {
-                Some((first, place))
+                Some((first, first_at))
             }
         }
         None => Some((rule, at)),

@@ -1,4 +1,4 @@
--- Token indexes of two lists, one after the other.
+-- Token indices of two lists, one after the other.
 use Rattle.std.proofs.Common.{◌≡◌, ℕ, ◌==◌, ◌&&◌, ◌||◌, Bool, true, false, List, [], ◌∷◌, ◌++◌, Option, refl, sym, ap, ◌∙◌}
 use Rattle.cocoon_num.specs.Lists.{has_number}
 use Rattle.cocoon_types.specs.Rules.{Rule}

@@ -1,4 +1,4 @@
-//! Faults of a rule are noted where a test fails: [`note_unless`]. What is noted of several lists of token indexes is put
+//! Faults of a rule are noted where a test fails: [`note_unless`]. What is noted of several lists of token indices is put
 //! together by [`among_laws`].
 #![tactic(auto)]
 

@@ -1,4 +1,4 @@
-//! What notes a fault where a test fails, and the laws on lists of token indexes.
+//! What notes a fault where a test fails, and the laws on lists of token indices.
 ghost use Rattle.cocoon_types.specs.Noting.{Notes};
 ghost use Rattle.cocoon_types.specs.RuleNames.{rule_of};
 ghost use Rattle.cocoon_types.specs.RuleParts.{unless};
@@ -17,7 +17,7 @@ pub fn note_unless(noted: &mut Noted, holds: bool, rule: TypeRule, at: u32)
     }
 }
 
-/// What is noted of lists of token indexes is put together by these laws.
+/// What is noted of lists of token indices is put together by these laws.
 pub fn among_laws()
     ensures { AmongLaws }
 {

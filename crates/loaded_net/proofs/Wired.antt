@@ -16,7 +16,7 @@ use Rattle.p4_ir.specs.declared.network.Link.{Link}
 use Rattle.p4_ir.specs.declared.network.NetData.{NetData}
 use Rattle.p4_ir.specs.declared.network.SwitchFiles.{SwitchFiles}
 use Rattle.p4_run.specs.declared.loaded.Loaded.{Loaded}
-use Rattle.loaded_net.specs.Places.{place_of}
+use Rattle.loaded_net.specs.Locations.{location_of}
 use Rattle.loaded_net.specs.Runs.{runs_in, runs_of}
 use Rattle.loaded_net.proofs.Searching.{indexed}
 
@@ -29,7 +29,7 @@ mapped g f (x ∷ xs) = ap (λ ys. g (f x) ∷ ys) (mapped g f xs)
 pub record Rising (n : NetData) : Type 0 where
   pub switches : ascend (map (λ (f : SwitchFiles). f.number) n.switches) ≡ true
   pub hosts : ascend (map (λ (h : HostPort). h.host) n.hosts) ≡ true
-  pub links : pairs_ascend (map place_of n.links) ≡ true
+  pub links : pairs_ascend (map location_of n.links) ≡ true
 
 pub rising : (n : NetData) → wiring_fits (wiring_of (net_of n)) ≡ true → Rising n
 rising n w =

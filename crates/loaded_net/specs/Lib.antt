@@ -1,4 +1,4 @@
-pub mod Places
+pub mod Locations
 pub mod Runs
 pub mod LoadFaults
 pub mod Nets

@@ -2,7 +2,7 @@
 ghost use Rattle.std.specs.Prelude.{◌≡◌, ◌==◌, ◌&&◌, IsTrue, map, option_and_then, option_map, slice_get};
 ghost use Rattle.std.specs.List.{find};
 ghost use Rattle.cocoon_num.specs.Lists.{ascend};
-ghost use Rattle.loaded_net.specs.Places.{place_of};
+ghost use Rattle.loaded_net.specs.Locations.{location_of};
 ghost use Rattle.p4_ir.specs.Wiring.{pairs_ascend};
 
 use p4_ir::{HostPort, Link, SwitchFiles};
@@ -39,7 +39,7 @@ pub(crate) fn switch_place(switches: &[SwitchFiles], number: u16) -> Option<usiz
 
 /// What is linked to a port, where links ascend.
 pub(crate) fn link_at(links: &[Link], switch: u16, port: u16) -> Option<&Link>
-    requires { IsTrue (pairs_ascend (map place_of links.now)) }
+    requires { IsTrue (pairs_ascend (map location_of links.now)) }
     ensures { option_map (λ l. l.now) result
         ≡ find (λ (l : Link). (l.switch == switch) && (l.port == port)) links.now }
 {

@@ -1,4 +1,4 @@
--- Token indexes but for the first.
+-- Token indices but for the first.
 use Rattle.std.proofs.Common.{◌≡◌, ℕ, ◌||◌, Bool, true, false, List, [], ◌∷◌, ◌++◌, map, drop, length, Option, Some, None, is_some, refl, sym, ap, ap₂, subst, ◌∙◌, take_all, le_refl}
 use Rattle.std.specs.Prelude.{option_map, option_to_list, filter_map, flat_map}
 use Rattle.std.specs.List.{cons_option}

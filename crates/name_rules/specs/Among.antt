@@ -31,7 +31,7 @@ repeated_fields h = repeated [] (param_names h.fields)
 abbrev pub function_names : List Decl → List Name
 function_names ds = map (λ (f : FunctionDecl). f.name) (filter_map as_function ds)
 
--- a role, if it is the sink
+-- the token index of a role, if it is the sink
 abbrev pub unless_other : (sink : Name) → Name → List ℕ
 unless_other sink r = unless_named (not (same_name r.text sink.text)) r
 
@@ -66,7 +66,7 @@ abbrev pub any_at : List ℕ → Bool
 any_at [] = false
 any_at (at ∷ ats) = true
 
--- token indexes but for the first, or all, where one was found before
+-- token indices but for the first, or all, where one was found before
 abbrev pub later : (found : Bool) → List ℕ → List ℕ
 later true ats = ats
 later false ats = drop 1 ats

@@ -13,7 +13,7 @@ abbrev pub delivery_of : Delivery → spec.Delivery
 delivery_of d = record { host = d.host; choices = d.choices; bytes = d.bytes }
 
 -- No host has the number, or its packet's runs within n visits are more than may be made; the count is that of the first run too
--- many. Want of memory is told of any packet.
+-- many. Out of memory is told of any packet.
 abbrev pub RunStops : NetData → (a : ℕ) → (bytes : List ℕ) → (n : ℕ) → RunFault → Type 0
 RunStops net a bytes n NoSuchHost = has_number a (host_numbers net.hosts) ≡ false
 RunStops net a bytes n (Copies count) = (count ≡ suc most_runs) × (most_runs < runs net a bytes n)

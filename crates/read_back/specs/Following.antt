@@ -234,7 +234,7 @@ Joins n first second r =
 -- ---- choices
 
 abbrev mutual
-  -- the token indexes of the choices in a statement
+  -- the token indices of the choices in a statement
   pub choices_of : Stmt → List ℕ
   choices_of (if_ at e a b) = choices_in a ++ choices_in b
   choices_of (havoc_var at x w) = at ∷ []

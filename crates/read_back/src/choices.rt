@@ -6,7 +6,7 @@ ghost use Rattle.read_back.specs.Following.{choices_in, choices_of};
 use cocoon_num::NoMemory;
 use cocoon_syntax::{Stmt, StmtKind};
 
-/// Adds the token indexes of the choices in some statements.
+/// Adds the token indices of the choices in some statements.
 #[cycle(choices)]
 pub(crate) fn note_block(choices: &mut Vec<u32>, stmts: &[Stmt]) -> Result<(), NoMemory>
     ensures { OnOk result (choices.new.items ≡

@@ -2,8 +2,9 @@
 use cocoon_num::NoMemory;
 use declarations::FunId;
 
-/// Why definitions are refused. A place is the token index of an entry's name. The variants stand in the order in which
-/// their faults are looked for; docs/LANGUAGE.md has an example of each.
+/// Why definitions are refused. Faults of entries hold the token index of the entry's name. The
+/// variants stand in the order in which their faults are looked for; docs/LANGUAGE.md has an example
+/// of each.
 #[derive(Clone, Copy, Drop)]
 pub enum DefsFault {
     /// The name is no function that is defined at run time.

@@ -217,7 +217,8 @@ fn is_literal_entry(entry: &Entry) -> bool
     }
 }
 
-/// The place of the first entry of these functions that is not so. The functions of all entries are the design's.
+/// The token index of the first entry of these functions that is not so. The functions of all
+/// entries are the design's.
 pub(crate) fn first_other(
     checked: &Checked,
     functions: &FunctionSet,

@@ -22,11 +22,11 @@ fails_if rule fails at f = (rank f.rule == rank rule) && (fails && (f.at == at))
 abbrev pub held_if : Bool → Option Fault → Fault → Bool
 held_if tested held f = tested && is_held held f
 
--- those of a rule at some token indexes
+-- those of a rule at some token indices
 abbrev pub fails_among : Rule → List ℕ → Fault → Bool
 fails_among rule ats f = (rank f.rule == rank rule) && has_number f.at ats
 
--- the token indexes at which a rule of the phase fails at an expression, its parts aside
+-- the token indices at which a rule of the phase fails at an expression, its parts aside
 abbrev pub expr_fails : Rule → ExprSite → List ℕ
 expr_fails too_wide site = wide_in_expr site
 expr_fails wrong_width site = wrong_in_expr site
@@ -50,7 +50,7 @@ in_exprs s es f = list_any (λ e. in_expr s e f) es
 
 -- ---- statements
 
--- the token indexes at which a rule of the phase fails at a statement itself
+-- the token indices at which a rule of the phase fails at a statement itself
 abbrev pub stmt_fails : Rule → StmtSite → List ℕ
 stmt_fails too_wide site = wide_params (bound_by site.s)
 stmt_fails wrong_width site = wrong_in_stmt site
@@ -80,7 +80,7 @@ in_block s ended b f = list_any (λ site. with_exprs site f) (stmts_in s ended b
 abbrev pub no_ports : Decl → List ℕ
 no_ports d = flat_map (λ (s : SwitchDecl). unless (not (s.ports == 0)) s.at) (option_to_list (as_switch d))
 
--- the token indexes at which a rule of the phase fails at a declaration itself
+-- the token indices at which a rule of the phase fails at a declaration itself
 abbrev pub decl_fails : Rule → DeclSite → List ℕ
 decl_fails zero_count site = no_ports site.decl
 decl_fails too_wide site = wide_params (params_of site.decl) ++ wide_result site

@@ -46,7 +46,7 @@ module _ {A : Type 0} (p : A → Bool) where
   any-or q [] = refl
   any-or q (x ∷ xs) = ap (λ b. (p x || q x) || b) (any-or q xs) ∙ swap_middle (p x) (q x) (list_any p xs) (list_any q xs)
 
--- ---- faults of a rule at some token indexes
+-- ---- faults of a rule at some token indices
 
 number-append : (n : ℕ) (xs ys : List ℕ) → has_number n (xs ++ ys) ≡ (has_number n xs || has_number n ys)
 number-append n xs ys = any-append (λ m. n == m) xs ys

@@ -3,14 +3,14 @@ use Rattle.std.specs.List.{find}
 use Rattle.p4_ir.specs.NetOf.{end_of}
 use Rattle.p4_ir.specs.Wiring.{pairs_ascend}
 use Rattle.p4_ir.specs.declared.network.Link.{Link}
-use Rattle.loaded_net.specs.Places.{place_of}
+use Rattle.loaded_net.specs.Locations.{location_of}
 use Rattle.loaded_net.proofs.Wired.{linked, rising}
 use Rattle.loaded_net.proofs.net.Net.link.Goals as goal
 
 pub link_at-requires : goal.link_at-requires
 link_at-requires c =
     let n = c.args.self.now in
-    ap (λ ls. pairs_ascend (map place_of ls)) c.items.ensures ∙ (rising n.parts n.wired).links
+    ap (λ ls. pairs_ascend (map location_of ls)) c.items.ensures ∙ (rising n.parts n.wired).links
 
 pub returns-in-Some : goal.returns-in-Some
 returns-in-Some c =

@@ -2,5 +2,5 @@
 use Rattle.std.specs.Prelude.{ℕ}
 use Rattle.p4_ir.specs.declared.network.Link.{Link}
 
-abbrev pub place_of : Link → ℕ × ℕ
-place_of l = (l.switch, l.port)
+abbrev pub location_of : Link → ℕ × ℕ
+location_of l = (l.switch, l.port)
