@@ -12,7 +12,7 @@ use Rattle.std.proofs.lemmas.Option.{slice_get_within}
 use Rattle.bv_terms.specs.declared.node.Node.{Node}
 use Rattle.bv_terms.specs.declared.node.Node.TheVariants.{Constant, Input, Apply, Not, Binary, Slice, Pick}
 use Rattle.bv_terms.specs.TermTrees.{Term, constant, width, IsTerm, IsWidth}
-use Rattle.bv_terms.specs.Arenas.{parts, made_of, nth, with_node, node_width, term_at, width_at, count_input, inputs_in, IsArena, IsAppended, KeepsTerms, IsKept, IsInputTerm, CanFollow}
+use Rattle.bv_terms.specs.Arenas.{parts, made_of, nth, with_node, node_width, term_at, width_at, count_input, inputs_in, IsArena, IsAppended, KeepsTerms, IsKept, IsInputTerm, CanFollow, GrowsBy}
 use Rattle.bv_terms.proofs.NodeFacts.{made-same, made-is-term, node-width}
 
 -- ---- the terms of a list of nodes
@@ -184,6 +184,17 @@ pub pushed-kept : {E : Type 0} (r : Result ℕ E) (old ns ns' : List Node) (n : 
     → KeepsTerms old ns'
 pushed-kept (Err e) old ns ns' n ws ws' v is refused = subst (λ os. KeepsTerms os ns') v (subst (KeepsTerms ns) (sym refused.0) (kept-none ns))
 pushed-kept (Ok id) old ns ns' n ws ws' v is refused = subst (λ os. KeepsTerms os ns') v (subst (KeepsTerms ns) (sym is) (kept-terms ns n))
+
+pub pushed-grows : {E : Type 0} (r : Result ℕ E) (old ns ns' : List Node) (n : Node) (ws ws' : List ℕ) → ns ≡ old → count_input 0 n ≡ 0
+    → OnOk r (ns' ≡ ns ++ n ∷ []) → OnErr r ((ns' ≡ ns) × (ws' ≡ ws)) → GrowsBy 1 old ns'
+pushed-grows (Err e) old ns ns' n ws ws' v z is refused = record {
+  inputs = ap inputs_in (refused.0 ∙ v);
+  terms = omega (arith, ap length refused.0, ap length v);
+}
+pushed-grows (Ok id) old ns ns' n ws ws' v z is refused = record {
+  inputs = ap inputs_in is ∙ one-more ns n ∙ uncounted (inputs_in ns) n z ∙ ap inputs_in v;
+  terms = omega (arith, ap length is, ap length v, length-append ns (n ∷ []));
+}
 
 pub pushed-refused : {E : Type 0} (r : Result ℕ E) (old ns ns' : List Node) (ws ws' : List ℕ) → ns ≡ old → OnErr r ((ns' ≡ ns) × (ws' ≡ ws)) → OnErr r (ns' ≡ old)
 pushed-refused (Err e) old ns ns' ws ws' v refused = refused.0 ∙ v

@@ -1,5 +1,5 @@
 -- Terms that are rebuilt over others.
-use Rattle.std.proofs.Common.{◌≡◌, ℕ, ◌-◌, ◌<◌, ◌≤◌, Bool, List, [], ◌∷◌, ◌++◌, length, map, Option, Some, None, slice_get, slice_index, refl, ap, sym, ◌∙◌, subst, arith, get_or, zero, suc, length-append, append_assoc, take, ◌==◌, true, inl, inr, ◌≢◌, slice_set, drop, replicate, if◌then◌else◌}
+use Rattle.std.proofs.Common.{◌≡◌, ℕ, ◌-◌, ◌+◌, ◌<◌, ◌≤◌, Bool, List, [], ◌∷◌, ◌++◌, length, map, Option, Some, None, slice_get, slice_index, refl, ap, sym, ◌∙◌, subst, arith, get_or, zero, suc, length-append, append_assoc, take, ◌==◌, true, inl, inr, ◌≢◌, slice_set, drop, replicate, if◌then◌else◌}
 use Rattle.std.specs.List.{All, AllByRecursion, AllZip, fold}
 use Rattle.std.specs.Option.{option_map, unwrap_or, option_and_then}
 use Rattle.std.proofs.lemmas.List.Elements.{recursion_from_All, All-from_recursion}
@@ -10,7 +10,7 @@ use Rattle.std.proofs.lemmas.Option.{slice_get_within, slice_get-get_or}
 use Rattle.bv_terms.specs.declared.node.Node.{Node}
 use Rattle.bv_terms.specs.declared.node.Node.TheVariants.{Constant, Input, Apply, Not, Binary, Slice, Pick}
 use Rattle.bv_terms.specs.TermTrees.{Term, input, apply, not_, slice, width, joined_width, OperandsFit, IsTerm}
-use Rattle.bv_terms.specs.Arenas.{parts, args_of, made_of, term_at, width_at, node_width, inputs_in, WidthsFit, IsArena, IsAppended, KeepsTerms, CanFollow, count_input}
+use Rattle.bv_terms.specs.Arenas.{parts, args_of, made_of, term_at, width_at, node_width, inputs_in, WidthsFit, IsArena, IsAppended, KeepsTerms, CanFollow, count_input, GrowsBy}
 use Rattle.bv_terms.specs.Replacements.{Replacing, replaced, replaced_args, beside, HasWidthOf}
 use Rattle.bv_terms.specs.Needed.{AreNeeded, IsMarked}
 use Rattle.bv_terms.specs.Rebuilt.{with_parts, in_place_of, IsRebuilt, CanRebuild, IsTable, IsReplaced, AreReplaced}
@@ -148,6 +148,15 @@ pub keeps-both : (first second third : List Node) → KeepsTerms first second �
 keeps-both first second third k l = record {
   grown = (k.grown.0 ++ l.grown.0, l.grown.1 ∙ ap (λ ns. ns ++ l.grown.0) k.grown.1 ∙ append_assoc first k.grown.0 l.grown.0);
   terms = λ j h. l.terms j (let g = grown-length first second k in omega arith) ∙ k.terms j h;
+}
+
+pub grows-none : (ns : List Node) (most : ℕ) → GrowsBy most ns ns
+grows-none ns most = record { inputs = refl; terms = omega arith }
+
+pub grows-both : (first second third : List Node) (k l most : ℕ) → GrowsBy k first second → GrowsBy l second third → k + l ≤ most → GrowsBy most first third
+grows-both first second third k l most g h few = record {
+  inputs = h.inputs ∙ g.inputs;
+  terms = (let a = g.terms in let b = h.terms in omega arith);
 }
 
 get-kept : {A : Type 0} (xs ys : List A) (k : ℕ) → k < length xs → slice_get (xs ++ ys) k ≡ slice_get xs k

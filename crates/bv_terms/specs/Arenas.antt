@@ -78,6 +78,11 @@ pub record KeepsTerms (old new : List Node) : Type 0 where
   pub grown : (more : List Node) × (new ≡ old ++ more)
   pub terms : (k : ℕ) → k < length old → term_at new k ≡ term_at old k
 
+-- there is no new input, and there are at most so many more terms
+pub record GrowsBy (most : ℕ) (old new : List Node) : Type 0 where
+  pub inputs : inputs_in new ≡ inputs_in old
+  pub terms : length new ≤ length old + most
+
 -- the input is the term under this number
 abbrev pub IsInputTerm : List Node → ℕ → ℕ → Type 0
 IsInputTerm nodes i k = (w : ℕ) × (slice_get nodes k ≡ Some (Input i w))

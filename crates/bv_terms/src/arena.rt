@@ -1,7 +1,7 @@
 //! Terms under numbers.
 ghost use Rattle.std.specs.Prelude.{◌≡◌, ◌≤◌, ◌<◌, ◌+◌, ◌^◌, ◌++◌, [], ◌∷◌, All, IfOk, OnOk, OnErr, Ok, Err, Some, length, slice_get};
 ghost use Rattle.bv_terms.specs.TermTrees.{IsWidth, OperandsFit, joined_width};
-ghost use Rattle.bv_terms.specs.Arenas.{CanFollow, IsAppended, IsArena, IsInputTerm, KeepsTerms, count_input, inputs_in, node_width, width_at};
+ghost use Rattle.bv_terms.specs.Arenas.{CanFollow, GrowsBy, IsAppended, IsArena, IsInputTerm, KeepsTerms, count_input, inputs_in, node_width, width_at};
 
 use crate::node::{FunId, InputId, Node, TermId, TermOp};
 use cocoon_num::{Bits, List, NoMemory};
@@ -84,6 +84,7 @@ impl Terms {
         requires no_input { count_input 0 node ≡ 0 }
         ensures added { IfOk result (λ id. IsAppended self.old self.new node id) }
         ensures kept { KeepsTerms self.old self.new }
+        ensures few { GrowsBy 1 self.old self.new }
         ensures refused { OnErr result (self.new ≡ self.old) }
     {
         push(&mut self.nodes, &mut self.widths, node, width)

@@ -1,8 +1,8 @@
 //! Terms in place of inputs.
-ghost use Rattle.std.specs.Prelude.{◌≡◌, ◌<◌, ◌^◌, All, IfOk, IsTrue, Some, length, map, slice_get, slice_index};
+ghost use Rattle.std.specs.Prelude.{◌≡◌, ◌<◌, ◌^◌, ◌+◌, All, IfOk, IsTrue, Some, length, map, slice_get, slice_index};
 ghost use Rattle.std.specs.List.{AllZip};
 ghost use Rattle.bv_terms.specs.declared.node.Node.{Node as NodeOf};
-ghost use Rattle.bv_terms.specs.Arenas.{KeepsTerms, inputs_in, parts, term_at};
+ghost use Rattle.bv_terms.specs.Arenas.{GrowsBy, KeepsTerms, inputs_in, parts, term_at};
 ghost use Rattle.bv_terms.specs.Replacements.{HasWidthOf, beside, replaced};
 ghost use Rattle.bv_terms.specs.Rebuilt.{CanRebuild, IsRebuilt, IsTable, in_place_of, with_parts};
 
@@ -96,6 +96,7 @@ impl Terms {
             → slice_get self.old (length ids.now) ≡ Some node
             → IsRebuilt self.old self.new table.now ids.now (length ids.now) node id) }
         ensures kept { KeepsTerms self.old self.new }
+        ensures few { GrowsBy 1 self.old self.new }
     {
         let own = ids.len() as TermId;
         if !needed {
@@ -108,7 +109,8 @@ impl Terms {
         self.append(node, self.width(own))
     }
 
-    /// The term in which each of these inputs is replaced by the term beside it.
+    /// The term in which each of these inputs is replaced by the term beside it. At most as many terms are put in as stand up
+    /// to this one, and none is an input.
     pub fn substitute(
         &mut self,
         alloc: Global,
@@ -124,6 +126,7 @@ impl Terms {
         ensures term { IfOk result (λ new. term_at self.new new
             ≡ replaced (beside from.now (map (term_at self.old) to.now)) (term_at self.old id)) }
         ensures kept { KeepsTerms self.old self.new }
+        ensures few { GrowsBy (id + 1) self.old self.new }
     {
         let marks = self.needed(alloc, id)?;
         let table = self.table(alloc, from, to)?;

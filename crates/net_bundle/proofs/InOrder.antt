@@ -2,7 +2,7 @@
 use Rattle.std.proofs.Common.{◌≡◌, ℕ, zero, suc, ◌+◌, ◌≤◌, ◌<◌, List, [], ◌∷◌, Option, Some, length, map, take, drop, slice_get, slice_index_or, refl, sym, ap, ◌∙◌, subst, inl, inr, arith, ◌⊎◌}
 use Rattle.std.proofs.lemmas.List.{drop_more}
 use Rattle.cocoon_io.specs.Files.{Files}
-use Rattle.cocoon_io.specs.Calls.{with_file}
+use Rattle.cocoon_io.specs.Calls.{with_file, Rose}
 use Rattle.cocoon_io.specs.declared.folder.FolderFault.{FolderFault}
 use Rattle.cocoon_io.specs.declared.folder.FolderFault.TheVariants as folder_fault
 use Rattle.net_bundle.specs.declared.fault.BundleFault.{BundleFault}
@@ -11,7 +11,7 @@ use Rattle.net_bundle.specs.declared.file.BundleFile.{BundleFile}
 use Rattle.net_bundle.specs.declared.make.MadeFile.{MadeFile}
 use Rattle.net_bundle.specs.Bundle as spec
 use Rattle.net_bundle.specs.NetFileOf.{made_of}
-use Rattle.net_bundle.specs.Writing.{with_files, SomeWritten, StopsAt, most_of, AllFit, FirstOver, NotWritten}
+use Rattle.net_bundle.specs.Writing.{with_files, SomeWritten, StopsAt, most_of, AllFit, FirstOver, NotWritten, WriteFaultRose}
 
 -- ---- from an index on
 
@@ -69,6 +69,12 @@ one_stops out f was is fault r a left (inl e) p q =
     subst (NotWritten out (f ∷ []) was is) (sym (p e)) (a, refl, record { index = 0; at = f; at_index = refl; of_file = refl; left = left })
 one_stops out f was is fault r a (inl left) (inr e) p q = subst (NotWritten out (f ∷ []) was is) (sym (q e)) (inl left)
 one_stops out f was is fault r a (inr left) (inr e) p q = subst (NotWritten out (f ∷ []) was is) (sym (q e)) (inr (a, (1, left)))
+
+pub one_counted : (last : Option ℕ) (old new : ℕ) (file : BundleFile) (fault : FolderFault) (r : BundleFault)
+    → (fault ≡ folder_fault.Failed → Rose last old new) → (fault ≡ folder_fault.NoMemory → new ≡ old) → (fault ≡ folder_fault.Failed) ⊎ (fault ≡ folder_fault.NoMemory)
+    → (fault ≡ folder_fault.Failed → r ≡ Folder file folder_fault.Failed) → (fault ≡ folder_fault.NoMemory → r ≡ NoMemory) → WriteFaultRose last old new r
+one_counted last old new file fault r rose same (inl e) p q = subst (WriteFaultRose last old new) (sym (p e)) (rose e)
+one_counted last old new file fault r rose same (inr e) p q = subst (WriteFaultRose last old new) (sym (q e)) (same e)
 
 -- the same of that file among others, of which those before it were put in
 some_more : (out : List ℕ) (fs : List spec.MadeFile) (i : ℕ) (f : spec.MadeFile) (was before is : Option Files) → slice_get fs i ≡ Some f

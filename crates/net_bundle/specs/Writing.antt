@@ -58,10 +58,10 @@ NotWritten out fs was is (Limit file) = FirstOver fs file × (is ≡ was)
 NotWritten out fs was is (Folder file fault) = AllFit fs × (fault ≡ Failed) × StopsAt out fs file was is
 NotWritten out fs was is NoMemory = (is ≡ was) ⊎ (AllFit fs × SomeWritten out fs was is)
 
--- A fault of the folder comes only where the count of write faults rose.
+-- Where the folder failed, its count of failed writes rose; any other fault leaves the count.
 abbrev pub WriteFaultRose : Option ℕ → (old new : ℕ) → BundleFault → Type 0
 WriteFaultRose last old new (Folder file fault) = Rose last old new
-WriteFaultRose last old new _ = Unit {0}
+WriteFaultRose last old new _ = new ≡ old
 
 -- A fault of the folder is about the file of its last call that failed.
 abbrev pub NamesFailure : (List ℕ → Type 0) → (out : List ℕ) → BundleFault → Type 0

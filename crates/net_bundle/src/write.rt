@@ -53,6 +53,7 @@ fn write_file<F: Folder>(
         (made_of made.now ∷ []) (F.content folder.old) (F.content folder.new)) }
     ensures failed { IfErr result (WriteFaultRose F.last_write_fault
         (F.write_faults folder.old) (F.write_faults folder.new)) }
+    ensures counted { OnOk result (F.write_faults folder.new ≡ F.write_faults folder.old) }
     ensures named { IfErr result (NamesFailure (F.last_failure folder.new) out.now) }
     ensures reads { F.read_faults folder.new ≡ F.read_faults folder.old }
     ensures writes { F.write_faults folder.old ≤ F.write_faults folder.new }
@@ -78,6 +79,7 @@ fn write_files<F: Folder>(
         (map made_of files.now) (F.content folder.old) (F.content folder.new)) }
     ensures failed { IfErr result (WriteFaultRose F.last_write_fault
         (F.write_faults folder.old) (F.write_faults folder.new)) }
+    ensures counted { OnOk result (F.write_faults folder.new ≡ F.write_faults folder.old) }
     ensures named { IfErr result (NamesFailure (F.last_failure folder.new) out.now) }
     ensures reads { F.read_faults folder.new ≡ F.read_faults folder.old }
     ensures writes { F.write_faults folder.old ≤ F.write_faults folder.new }
@@ -122,6 +124,7 @@ pub fn write_bundle<F: Folder>(
         (F.content folder.old) (F.content folder.new)) }
     ensures failed { IfErr result (WriteFaultRose F.last_write_fault
         (F.write_faults folder.old) (F.write_faults folder.new)) }
+    ensures counted { OnOk result (F.write_faults folder.new ≡ F.write_faults folder.old) }
     ensures named { IfErr result (NamesFailure (F.last_failure folder.new) out.now) }
     ensures reads { F.read_faults folder.new ≡ F.read_faults folder.old }
     ensures writes { F.write_faults folder.old ≤ F.write_faults folder.new }

@@ -1,5 +1,5 @@
 //! The fields of a packet, whose numbers lie one after another in the order of declaration.
-ghost use Rattle.std.specs.Prelude.{◌≡◌, ◌<◌, if◌then◌else◌, IfSome, length, map, None, option_map, Some};
+ghost use Rattle.std.specs.Prelude.{◌≡◌, ◌<◌, false, if◌then◌else◌, IfSome, length, map, None, option_map, Some};
 ghost use Rattle.cocoon_num.specs.PacketForms.{FieldsFit};
 ghost use Rattle.cocoon_resolve.specs.Readers.{all_widths};
 ghost use Rattle.cocoon_syntax.specs.TreeOf.{header_of, param_of};
@@ -115,6 +115,7 @@ pub fn write_field(
         ≡ written (map header_of headers.now)
         (packet_of (map header_of headers.now) numbers.old.items)
         header.now field.now number }
+    ensures same { result ≡ false → numbers.new.items ≡ numbers.old.items }
 {
     let Some(place) = place_of(headers, numbers, header, field) else {
         return false;

@@ -1,4 +1,4 @@
-use Rattle.std.proofs.Common.{◌∙◌, map, arith, rules}
+use Rattle.std.proofs.Common.{◌∙◌, map, rules}
 use Rattle.net_bundle.specs.NetFileOf.{made_of}
 use Rattle.net_bundle.specs.Writing.{NotWritten}
 use Rattle.net_bundle.proofs.InOrder.{got, fits_one, put_here, stops}
@@ -21,5 +21,5 @@ loop-made-preserved g c = record {
   content = put_here c.args.out.now (map made_of c.args.files.now) c.loop-made.made-index (made_of c.made-item.result) _ _ _ (got c.args.files.now c.loop-made.made-index c.made-item.result c.loop-made-test.true c.made-item.is)
       c.loop-made.invariant.content c.in_ok-write_file.ensures.written;
   reads = c.write_file.ensures.reads ∙ c.loop-made.invariant.reads;
-  writes = omega (arith, c.write_file.ensures.writes, c.loop-made.invariant.writes);
+  writes = c.in_ok-write_file.ensures.counted ∙ c.loop-made.invariant.writes;
 }

@@ -1,7 +1,7 @@
 use Rattle.std.proofs.Common.{[], ◌∷◌, length, ap, sym, subst, arith, length-append}
 use Rattle.bv_terms.specs.Needed.{AreNeeded}
 use Rattle.bv_terms.specs.Rebuilt.{IsTable}
-use Rattle.bv_terms.proofs.ReplaceFacts.{keeps-none, keeps-both, grown-length, can-step, replaced-step, whole-replaced}
+use Rattle.bv_terms.proofs.ReplaceFacts.{grows-none, grows-both, keeps-none, keeps-both, grown-length, can-step, replaced-step, whole-replaced}
 use Rattle.bv_terms.proofs.arena.Terms.substitute.Goals as goal
 
 pub loop-needed-init : goal.loop-needed-init
@@ -14,6 +14,7 @@ loop-needed-init c = record {
     keeps = keeps-none c.args.self.now;
     done = λ k l. absurd (omega (arith, ap length c.in_ok-ids.ensures.items));
   };
+  grown = grows-none c.args.self.now 0;
 }
 
 pub rebuild-requires-clause-there : goal.rebuild-requires-clause-there
@@ -51,6 +52,7 @@ loop-needed-preserved c = record {
       (subst (IsTable c.args.self.now c.args.from.now c.args.to.now) (sym c.deref.ensures.value) c.in_ok-table.ensures)
       c.requires.terms c.requires.widths c.loop-needed.invariant.count c.loop-needed-test.true c.deref-in-loop-needed.ensures.value c.in_ok-push.ensures.items
       c.rebuild.ensures.kept c.in_ok-next.ensures.rebuilt;
+  grown = grows-both c.args.self.now c.loop-needed.self c.rebuild.new.self c.loop-needed.needed-index 1 _ c.loop-needed.invariant.grown c.rebuild.ensures.few (omega arith);
 }
 
 pub index-requires : goal.index-requires
@@ -60,8 +62,20 @@ index-requires c =
     let l = c.loop-needed-test.false in
     omega (arith, c.loop-needed.ids.ok.0)
 
+pub returns-in_err-next-clause-few : goal.returns-in_err-next-clause-few
+returns-in_err-next-clause-few c =
+    let n = c.loop-needed.invariant.rebuilt.needed.count in
+    let l = c.loop-needed-test.true in
+    grows-both c.args.self.now c.loop-needed.self c.rebuild.new.self c.loop-needed.needed-index 1 _ c.loop-needed.invariant.grown c.rebuild.ensures.few (omega arith)
+
 pub returns-in_err-next-clause-kept : goal.returns-in_err-next-clause-kept
 returns-in_err-next-clause-kept c = keeps-both c.args.self.now c.loop-needed.self c.rebuild.new.self c.loop-needed.invariant.rebuilt.keeps c.rebuild.ensures.kept
+
+pub returns-in_err-push-clause-few : goal.returns-in_err-push-clause-few
+returns-in_err-push-clause-few c =
+    let n = c.loop-needed.invariant.rebuilt.needed.count in
+    let l = c.loop-needed-test.true in
+    grows-both c.args.self.now c.loop-needed.self c.rebuild.new.self c.loop-needed.needed-index 1 _ c.loop-needed.invariant.grown c.rebuild.ensures.few (omega arith)
 
 pub returns-in_err-push-clause-kept : goal.returns-in_err-push-clause-kept
 returns-in_err-push-clause-kept c = keeps-both c.args.self.now c.loop-needed.self c.rebuild.new.self c.loop-needed.invariant.rebuilt.keeps c.rebuild.ensures.kept
@@ -78,3 +92,11 @@ returns-clause-term c =
 
 pub returns-clause-kept : goal.returns-clause-kept
 returns-clause-kept c = c.loop-needed.invariant.rebuilt.keeps
+
+pub returns-clause-few : goal.returns-clause-few
+returns-clause-few c =
+    let n = c.loop-needed.invariant.rebuilt.needed.count in
+    let e = c.loop-needed.invariant.count in
+    let l = c.loop-needed-test.false in
+    grows-both c.args.self.now c.loop-needed.self c.loop-needed.self c.loop-needed.needed-index 0 _ c.loop-needed.invariant.grown
+    (grows-none c.loop-needed.self 0) (omega (arith, c.loop-needed.ids.ok.0))
