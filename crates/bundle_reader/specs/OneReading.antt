@@ -7,7 +7,7 @@ use Rattle.bundle_reader.specs.Readings.{IsFirstFault, ReadsAs}
 use Rattle.bundle_reader.specs.declared.fault.ReadFault.{ReadFault}
 use Rattle.bundle_reader.specs.declared.fault.ReadFault.TheVariants.{Folder, NoMemory}
 
--- it is about what stands in the files: no failed call, no want of memory
+-- it is about what stands in the files: not a failed call, and not out of memory
 abbrev pub IsOfFiles : ReadFault → Type 0
 IsOfFiles (Folder file Failed) = ⊥
 IsOfFiles NoMemory = ⊥

@@ -35,7 +35,7 @@ pub fn old_new_or_refused()
 {}
 
 /// The files of a folder give, under a name, one network at most, have one first fault at most, and never both. A failed call
-/// of the folder and want of memory are no faults of the files.
+/// of the folder and out of memory are no faults of the files.
 pub fn one_reading()
     ensures { (files : Files) (out : List ℕ) → OneReading files out }
 {

@@ -15,7 +15,7 @@ use Rattle.loaded_net.specs.Runs.{runs_in, runs_of}
 use Rattle.loaded_net.specs.declared.loading.NetFault.{NetFault}
 use Rattle.loaded_net.specs.declared.loading.NetFault.TheVariants as faults
 
--- a fault that is no want of memory is a fault of rows
+-- a fault other than out of memory is a fault of rows
 pub fault_is : (told : LoadFault) (number : ℕ) → (told ≢ NoMemory) → (first : Option Fault) → IsFault told first
     → (fault : Fault) × (fault_of told ≡ Some fault) × (told_at number first ≡ Some (number, fault))
 fault_is NoMemory number other first h = absurd (other refl)

@@ -15,7 +15,7 @@ abbrev pub first_load_fault : List SwitchFiles → Option (ℕ × Fault)
 first_load_fault [] = None
 first_load_fault (f ∷ fs) = or_else (told_at f.number (load_fault f.program f.rows)) (first_load_fault fs)
 
--- a fault tells the first; want of memory, which no fault of rows is here, is told of any
+-- a fault tells the first; out of memory, which no fault of rows is here, is told of any
 abbrev pub TellsFirst : NetFault → Option (ℕ × Fault) → Type 0
 TellsFirst (Load number told) first = (fault : Fault) × (fault_of told ≡ Some fault) × (first ≡ Some (number, fault))
 TellsFirst NoMemory first = Unit {0}

@@ -6,7 +6,7 @@ use cocoon_num::{NoMemory, Text};
 use std::alloc::Global;
 use std::marker::Model;
 
-/// What was printed so far. After a want of memory nothing more is printed.
+/// What was printed so far. Once it is out of memory, nothing more is printed.
 #[derive(Drop)]
 pub struct Printer {
     alloc: Global,
