@@ -19,7 +19,7 @@ pub enum Answer {
     Spent(Log),
 }
 
-/// Searches through at most so many conflicts.
+/// Searches until it has an answer or has met this many conflicts.
 pub fn solve(alloc: Global, cnf: &Cnf, conflicts: u64) -> Result<Answer, NoMemory>
     requires named { WellNamed cnf.now }
     requires some { 1 ≤ conflicts }

@@ -38,7 +38,7 @@ Refutes known trues (hint ∷ hints) = (clause : List ℤ) × (slice_get known h
 abbrev pub known : Cnf → (so_far : List Step) → List (List ℤ)
 known cnf so_far = map literals cnf.clauses ++ map (λ s. literals s.clause) so_far
 
--- the clause names variables from 1 to `vars`, below 2^31, and none twice, so it has no repeated and no opposite literals
+-- the clause names variables from 1 to `vars`, and none twice, so it has no repeated and no opposite literals
 pub record IsProper (vars : ℕ) (clause : List ℤ) : Type 0 where
   pub named : All (Names vars) clause
   pub distinct : IsTrue (no_repeats (map variable clause))

@@ -324,7 +324,7 @@ pub fn count_tables(alloc: Global, scope: &Scope<'_>, stmts: &[Stmt]) -> Result<
 }
 
 /// How large the code of a body is: its tables and the parts of its expressions, each of which is a byte of the text at least.
-/// Time and want of memory are as of `count_tables`.
+/// The time, and when there is no memory, are as of `count_tables`.
 pub fn code_size(alloc: Global, scope: &Scope<'_>, stmts: &[Stmt]) -> Result<u64, NoMemory>
     requires { SeesFunctions scope.now }
     ensures { IfOk result (λ n. n ≡ spec.all_parts

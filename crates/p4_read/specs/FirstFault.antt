@@ -31,7 +31,7 @@ pub record FirstKind (i : ℕ) (ks : List TokenKind) : Type 0 where
   pub shallow : IsTrue (is_shallow p4_bounds ks)
   pub first : first_of (kind_faults tree) ≡ Some i
 
--- it is the first fault; want of memory is told of any text
+-- it is the first fault; out of memory is told of any text
 abbrev pub IsFirstFault : List ℕ → P4Fault → Type 0
 IsFirstFault text (Lex at) = FaultAt text at
 IsFirstFault text (Unexpected i) = OfTokens text (λ ks. UnexpectedAt p4_bounds BeginsP4 ks i)

@@ -11,7 +11,7 @@ fault_of (RowShape table row) = Some (faults.row_shape table row)
 fault_of (GroupShape index) = Some (faults.group_shape index)
 fault_of NoMemory = None
 
--- it is the first fault; want of memory is told of any rows
+-- it is the first fault; out of memory is told of any rows
 abbrev pub IsFault : LoadFault → Option faults.Fault → Type 0
 IsFault NoMemory first = Unit {0}
 IsFault (MissingTable number) first = first ≡ Some (faults.missing_table number)

@@ -225,7 +225,8 @@ fn covers_one(trail: &Trail, chains: &Chains, known: &Known, first: Lit) -> bool
 fn is_covered(trail: &Trail, known: &Known, number: usize) -> bool
     requires named { AllNamed (room trail.now) (clauses_of known.now) }
     requires within { number < length (clauses_of known.now) }
-    ensures { result ≡ contains (trues trail.now) (slice_index_or (clauses_of known.now) number []) }
+    ensures { result
+        ≡ contains (trues trail.now) (slice_index_or (clauses_of known.now) number []) }
 {
     match known.clause(number) {
         Some(clause) => are_true(trail, clause),
