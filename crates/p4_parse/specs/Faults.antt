@@ -9,7 +9,7 @@ use Rattle.p4_parse.specs.declared.fault.ParseFault.TheVariants as fault
 use Rattle.p4_parse.specs.declared.fault.Stop.{Stop}
 use Rattle.p4_parse.specs.declared.fault.Stop.TheVariants as stop
 
--- it is the first fault of these tokens; want of memory is told of any
+-- it is the first fault of these tokens; out of memory is told of any
 abbrev pub IsFirstFault : List Kind → ParseFault → Type 0
 IsFirstFault ks (fault.Unexpected i) = first.Unexpected p4_bounds BeginsP4 ks i
 IsFirstFault ks (fault.TooDeep i) = first.TooDeep p4_bounds BeginsP4 ks i

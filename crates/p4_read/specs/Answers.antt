@@ -10,7 +10,7 @@ pub data Answer : Type 0 where
   a_program : (program : Program) → Answer
   a_fault : (fault : P4Fault) → Answer
 
--- want of memory says nothing of a text
+-- out of memory says nothing of a text
 abbrev pub Answers : List ℕ → Answer → Type 0
 Answers text (a_program p) = P4Reads text p
 Answers text (a_fault NoMemory) = ⊥

@@ -9,7 +9,7 @@ abbrev pub first_of : List ℕ → Option ℕ
 first_of [] = None
 first_of (i ∷ is) = Some i
 
--- it is the first; want of memory is told of any text
+-- it is the first; out of memory is told of any text
 abbrev pub IsFirstKind : ProgramText → KindFault → Type 0
 IsFirstKind t (Kind i) = first_of (kind_faults t) ≡ Some i
 IsFirstKind t NoMemory = Unit {0}
