@@ -27,7 +27,7 @@ full_both (x ∷ xs) ys h k = by (is_said x.tokens) h (λ e. full_both xs ys e k
     by true h k = k h
     by false h k = absurd cc
 
--- ---- places
+-- ---- token indices
 
 abbrev count : List Piece → ℕ
 count xs = length (flat_map (λ (x : Piece). x.tokens) xs)

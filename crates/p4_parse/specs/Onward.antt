@@ -1,5 +1,5 @@
--- Phrases one after the other, as many as there are, or none: from the goals before them to those after. Clauses of `decls`,
--- `tables`, `lines`, `controls` and `program` cite it.
+-- Phrases one after the other, as many as there are, or none: from the goals before them to those after. Clauses of `lines`,
+-- `tables` and `program` cite it.
 use Rattle.std.specs.Prelude.{◌≡◌, ℕ, ◌≤◌, List, [], ◌++◌, length, drop, Result, Ok, Err}
 use Rattle.cocoon_num.specs.Tokens.{Kind}
 use Rattle.p4_texts.specs.Machine.{Goals, stuck}

@@ -1,4 +1,4 @@
--- Fixed pieces of texts. Clauses of `pieces`, `lines`, `controls` and `program` cite it.
+-- Fixed pieces of texts. Clauses of `source`, `pieces` and `lines` cite it.
 use Rattle.std.specs.Prelude.{◌==◌, ◌&&◌, Bool, true, false, List, ℕ, Option, Some, None, codes}
 use Rattle.cocoon_num.specs.Names.{same_name}
 use Rattle.cocoon_num.specs.Tokens.{Kind}

@@ -54,7 +54,8 @@ fn line(alloc: Global, source: &Source, pos: usize, begin: &Source) -> Result<(T
     requires within { pos ≤ length source.now }
     requires some { 0 < length (without_finish begin.now) }
     ensures { Phrase
-        (line_goals (without_finish begin.now)) (line_tokens (without_finish begin.now)) source.now pos result }
+        (line_goals (without_finish begin.now)) (line_tokens (without_finish begin.now))
+        source.now pos result }
 {
     let name = expect_all(source, pos, begin)?;
     line_end(alloc, source, name)
@@ -70,7 +71,8 @@ pub fn lines(
 ) -> Result<(Vec<Text>, usize), Stop>
     requires { pos ≤ length source.now }
     ensures is { Several
-        (machine.lines count (a_line (piece_text begin))) (lines_tokens (piece_tokens begin)) source.now pos result }
+        (machine.lines count (a_line (piece_text begin))) (lines_tokens (piece_tokens begin))
+        source.now pos result }
     ensures count { IfOk result (λ r. length r.0.items ≡ count) }
 {
     let tokens = lexed(alloc, begin)?;

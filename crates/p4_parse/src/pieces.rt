@@ -70,7 +70,8 @@ pub fn lexed(alloc: Global, piece: Piece) -> Result<Vec<Token>, Stop>
 pub fn expect_all(source: &Source, pos: usize, piece: &Source) -> Result<usize, Stop>
     requires within { pos ≤ length source.now }
     requires some { 0 < length (without_finish piece.now) }
-    ensures { Fixed (fixed (without_finish piece.now)) (without_finish piece.now) source.now pos result }
+    ensures { Fixed (fixed (without_finish piece.now)) (without_finish piece.now) source.now pos
+        result }
 {
     let mut next = pos;
     let mut index = 0;

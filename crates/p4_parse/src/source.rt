@@ -146,7 +146,8 @@ impl<'a> Source<'a> {
     /// Demands this mark at a token index, and gives the next index.
     pub fn expect(&self, pos: usize, mark: Mark) -> Result<usize, Stop>
         requires { pos ≤ length self.now }
-        ensures { Fixed (the_mark (mark_text mark) ∷ []) (the_kind (mark_text mark) ∷ []) self.now pos result }
+        ensures { Fixed (the_mark (mark_text mark) ∷ []) (the_kind (mark_text mark) ∷ []) self.now pos
+            result }
     {
         if self.is_mark(pos, mark) {
             Ok(pos + 1)
@@ -216,7 +217,8 @@ impl<'a> Source<'a> {
     /// Demands a number with a width at a token index.
     pub fn bits(&self, pos: usize) -> Result<(Bits, usize), Stop>
         requires { pos ≤ length self.now }
-        ensures { Phrase (any_literal ∷ []) (λ (b : CodeBits) ks. literal b.width b.value ∷ ks) self.now pos result }
+        ensures { Phrase (any_literal ∷ []) (λ (b : CodeBits) ks. literal b.width b.value ∷ ks)
+            self.now pos result }
     {
         match self.literal(pos) {
             Some(bits) => Ok((bits, pos + 1)),

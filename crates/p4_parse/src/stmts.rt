@@ -235,7 +235,8 @@ fn after_meta(
 ) -> Result<(WrittenStmt, usize), Stop>
     requires within { pos ≤ length source.now }
     requires meta { same_name (codes "m") name ≡ true }
-    ensures { TailAt (machine.after_meta second ∷ []) (after_names name second) source.now pos result }
+    ensures { TailAt (machine.after_meta second ∷ []) (after_names name second) source.now pos
+        result }
 {
     if stands_after(source, pos, Mark::OpenParen, &second, "apply") {
         let end = call(source, pos)?;

@@ -15,7 +15,7 @@ use crate::fault::{ParseFault, Stop};
 use crate::program::program;
 use crate::source::Source;
 use p4_lex::Token;
-use p4_texts::texts::reading;
+use p4_texts::reader_laws::reading;
 use p4_written::WrittenProgram;
 use std::alloc::Global;
 

@@ -25,13 +25,13 @@ use Rattle.p4_read.proofs.FirstFaults.{first_deep}
 use Rattle.p4_read.proofs.Prefixes.{shallow_before, take_shallow}
 
 -- where the reader is stuck
-record Place (ks bad : List Token-kind) : Type 0 where
+record StuckAt (ks bad : List Token-kind) : Type 0 where
   at : ℕ
   within : at ≤ length ks
   is : bad ≡ drop at ks
 
-place : (ks bad : List Token-kind) → stuck whole_text ks ≡ Some bad → Place ks bad
-place ks bad h =
+stuck_at : (ks bad : List Token-kind) → stuck whole_text ks ≡ Some bad → StuckAt ks bad
+stuck_at ks bad h =
     let r = text_stuck ks bad h in
     let long : length ks ≡ length r.before + length bad = ap length r.is ∙ length-append r.before bad in
     record { at = length r.before; within = omega (arith, long); is = sym (ap (drop (length r.before)) r.is ∙ drop-append_seam r.before bad) }
@@ -52,7 +52,7 @@ by_shallow : ReadsWhere → (text : List ℕ) (ts : List Token) → lex p4_lexic
 by_shallow law text ts e s None h = let t = the_reading.tree (kinds ts) h in by_faults law text ts e s t.0 t.1 (kind_faults t.0) refl
 by_shallow law text ts e s (Some bad) h =
     let ks = kinds ts in
-    let p = place ks bad h in
+    let p = stuck_at ks bad h in
     let stops : stuck whole_text ks ≡ Some (drop p.at ks) = h ∙ ap (λ z. Some z) p.is in
     let ended : Ended ks = (lexed_lasts text ts e).ended in
     let within : p.at < length ks = the_reading.within ks p.at ended p.within stops in
@@ -65,7 +65,7 @@ by_deep text ts e d p None h = absurd (the_reading.not_before (kinds ts) d (lexe
 by_deep text ts e d p (Some bad) h =
     let ks = kinds ts in
     let us = take (suc d) ks in
-    let q = place us bad h in
+    let q = stuck_at us bad h in
     let stops : stuck whole_text us ≡ Some (drop q.at us) = h ∙ ap (λ z. Some z) q.is in
     let long : length us ≡ suc d = length-take-le (suc d) ks (let w = p.within in omega arith) in
     elim (cases_lt q.at (suc d)) [

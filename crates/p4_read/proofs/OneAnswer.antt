@@ -121,8 +121,8 @@ one_of text a b (of_tokens x) (of_bytes j y e) = absurd (ok_or_err (lex p4_lexic
 one_of text a b (of_bytes i x d) (of_tokens y) = absurd (ok_or_err (lex p4_lexicon text) y.tokens x.0 y.tokens_are x.1)
 one_of text a b (of_bytes i x d) (of_bytes j y e) =
     let same = err_same (lex p4_lexicon text) x.0 y.0 x.1 y.1 in
-    let place : i ≡ j = sym x.2 ∙ ap fault_offset same ∙ y.2 in
-    d ∙ ap (λ n. a_fault (Lex n)) place ∙ sym e
+    let offset : i ≡ j = sym x.2 ∙ ap fault_offset same ∙ y.2 in
+    d ∙ ap (λ n. a_fault (Lex n)) offset ∙ sym e
 
 pub the_answer : Stands → (text : List ℕ) (a b : Answer) → Answers text a → Answers text b → a ≡ b
 the_answer law text a b x y = one_of text a b (said law text a x) (said law text b y)

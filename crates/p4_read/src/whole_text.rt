@@ -7,10 +7,10 @@ ghost use Rattle.p4_read.specs.FirstFault.{IsFirstFault};
 use crate::fault::P4Fault;
 use p4_ir::Program;
 use p4_lex::lex;
-use p4_names::texts::reads_where_it_stands;
+use p4_names::program_laws::reads_where_it_stands;
 use p4_parse::parse;
 use p4_resolve::resolve;
-use p4_texts::texts::tokens_end;
+use p4_texts::reader_laws::tokens_end;
 use std::alloc::Global;
 
 /// The program that a text is, or its first fault. Bytes and tokens are counted from 0.

@@ -15,7 +15,7 @@ use p4_ir::P4Header;
 use p4_kinds::bytes::is_same;
 use p4_written::WrittenMember;
 
-/// The bytes from this place on.
+/// The bytes from this index on.
 fn rest_from(name: &[u8], from: usize) -> &[u8]
     requires { from ≤ length name.now }
     ensures { result.now ≡ drop from name.now }

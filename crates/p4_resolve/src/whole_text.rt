@@ -19,7 +19,7 @@ use crate::lines::{lines, members};
 use crate::pieces::after;
 use crate::scope::Scope;
 use p4_ir::{Control, Program};
-use p4_names::texts::faults_are_tokens;
+use p4_names::program_laws::faults_are_tokens;
 use p4_written::WrittenProgram;
 use std::alloc::Global;
 use std::collections::BTreeSet;

@@ -1,5 +1,6 @@
+-- Cited by the laws of `reader_laws`, and by private clauses of p4_parse.
 -- A plain reader of tokens from left to right, with what is still to come. Each token is taken by the first of the
--- goals, which leaves goals of its own. The laws of `texts` cite it, and private clauses of p4_read.
+-- goals, which leaves goals of its own.
 use Rattle.std.specs.Prelude.{ℕ, zero, suc, ◌==◌, ◌&&◌, Bool, true, false, List, [], ◌∷◌, ◌++◌, map, if◌then◌else◌, Option, Some, None, codes}
 use Rattle.cocoon_num.specs.Names.{same_name}
 use Rattle.cocoon_num.specs.Tokens.{Kind, a_name, keyword, plain, literal, mark, finish}

@@ -1,5 +1,5 @@
--- What the plain reader says of the tokens of a text. The laws of `texts` cite it, and private clauses of the code that
--- follows the reader.
+-- Cited by the laws of `reader_laws`, by the clauses of `parse`, and by private clauses of the code that follows the reader.
+-- What the plain reader says of the tokens of a text.
 use Rattle.std.specs.Prelude.{◌≡◌, ℕ, suc, ◌+◌, ◌<◌, ◌≤◌, Bool, true, false, List, [], ◌∷◌, length, take, drop, Some, None, IsTrue}
 use Rattle.cocoon_num.specs.Tokens.{Kind, Token, finish, is_shallow, kinds}
 use Rattle.cocoon_num.specs.FirstFaults.{TooDeep, Unexpected}

@@ -1,5 +1,5 @@
 use Rattle.p4_names.proofs.SaidWhole.{text_said}
-use Rattle.p4_names.proofs.texts.no_fault_tokens.Goals as goal
+use Rattle.p4_names.proofs.program_laws.no_fault_tokens.Goals as goal
 
 pub returns : goal.returns
 returns c = text_said

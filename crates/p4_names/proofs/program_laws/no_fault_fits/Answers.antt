@@ -1,5 +1,5 @@
 use Rattle.p4_names.proofs.Fits.{rules_kept, text_kept}
-use Rattle.p4_names.proofs.texts.no_fault_fits.Goals as goal
+use Rattle.p4_names.proofs.program_laws.no_fault_fits.Goals as goal
 
 pub returns : goal.returns
 returns c = λ t e. rules_kept t (text_kept t e)

@@ -11,13 +11,13 @@ ghost use Rattle.p4_names.specs.ReadText.{StandsFor};
 ghost use Rattle.p4_names.specs.TextOf.{text_of_program};
 ghost use Rattle.p4_texts.specs.Written.{Lines, ProgramText, text_tokens};
 
-/// The pieces of a text are all its tokens, so a fault's place counts the tokens before it.
+/// The pieces of a text are all its tokens, so a fault's token index counts the tokens before it.
 pub fn pieces_are_the_text()
     ensures { (t : ProgramText)
         → flat_map (λ (x : Piece). x.tokens) (pieces t) ≡ text_tokens t }
 {}
 
-/// The place of a fault is that of a token.
+/// The token index of a fault is that of a token of the text.
 pub fn faults_are_tokens()
     ensures { (t : ProgramText)
         → each (λ i. nat_lt i (length (text_tokens t))) (kind_faults t) ≡ true }
