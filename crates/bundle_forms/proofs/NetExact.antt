@@ -103,7 +103,7 @@ kept_complete k h = rw (digest_exact.complete k.digest h) refl
 kept_exact : Exact form.kept_form digest_data form.kept_fits
 kept_exact = record { sound = kept_sound; complete = kept_complete }
 
--- ---- places
+-- ---- locations
 
 abbrev small : ℕ → Bool
 small n = nat_lt n (2 ^ 16)
@@ -111,26 +111,26 @@ small n = nat_lt n (2 ^ 16)
 abbrev wide : ℕ → Bool
 wide n = nat_lt n (2 ^ 64)
 
-abbrev place_small : ℕ × ℕ → Bool
-place_small p = small p.0 && small p.1
+abbrev location_small : ℕ × ℕ → Bool
+location_small p = small p.0 && small p.1
 
-abbrev place_made : ℕ → ℕ → ℕ × ℕ
-place_made s p = (s, p)
+abbrev location_made : ℕ → ℕ → ℕ × ℕ
+location_made s p = (s, p)
 
-record PlaceIs (a b : Data) (place : ℕ × ℕ) : Type 0 where
-  switch : a ≡ number_data place.0
-  port : b ≡ number_data place.1
-  fits : place_small place ≡ true
+record LocationIs (a b : Data) (location : ℕ × ℕ) : Type 0 where
+  switch : a ≡ number_data location.0
+  port : b ≡ number_data location.1
+  fits : location_small location ≡ true
 
-place_sound : (a b : Data) (place : ℕ × ℕ) → both_of place_made (number_form (2 ^ 16) a) (number_form (2 ^ 16) b) ≡ Some place → PlaceIs a b place
-place_sound a b place h =
-    let parts = both_parts place_made _ _ place h in
+location_sound : (a b : Data) (location : ℕ × ℕ) → both_of location_made (number_form (2 ^ 16) a) (number_form (2 ^ 16) b) ≡ Some location → LocationIs a b location
+location_sound a b location h =
+    let parts = both_parts location_made _ _ location h in
     let switch = (number_exact (2 ^ 16)).sound a parts.0 parts.2 in
     let port = (number_exact (2 ^ 16)).sound b parts.1 parts.3 in
-    subst (λ p. PlaceIs a b p) parts.4 (record { switch = switch.0; port = port.0; fits = and_from (small parts.0) (small parts.1) switch.1 port.1 })
+    subst (λ p. LocationIs a b p) parts.4 (record { switch = switch.0; port = port.0; fits = and_from (small parts.0) (small parts.1) switch.1 port.1 })
 
-place_complete : (s p : ℕ) → place_small (s, p) ≡ true → both_of place_made (number_form (2 ^ 16) (number_data s)) (number_form (2 ^ 16) (number_data p)) ≡ Some (s, p)
-place_complete s p h =
+location_complete : (s p : ℕ) → location_small (s, p) ≡ true → both_of location_made (number_form (2 ^ 16) (number_data s)) (number_form (2 ^ 16) (number_data p)) ≡ Some (s, p)
+location_complete s p h =
     let parts = and_parts (small s) (small p) h in
     rw ((number_exact (2 ^ 16)).complete s parts.0, (number_exact (2 ^ 16)).complete p parts.1) refl
 
@@ -156,7 +156,7 @@ three_items d h =
 
 abbrev attach_small : Option (ℕ × ℕ) → Bool
 attach_small None = true
-attach_small (Some at) = place_small at
+attach_small (Some at) = location_small at
 
 abbrev host_small : HostPort → Bool
 host_small h = wide h.host && attach_small h.attach
@@ -165,7 +165,7 @@ abbrev alone : ℕ → HostPort
 alone h = record { host = h; attach = None }
 
 abbrev attached : ℕ → ℕ × ℕ → HostPort
-attached h place = record { host = h; attach = Some place }
+attached h location = record { host = h; attach = Some location }
 
 if_either : {A : Type 0} (b c : Bool) (o p : Option A) (x : A) → (if b then o else (if c then p else None)) ≡ Some x → ((b ≡ true) × (o ≡ Some x)) ⊎ ((c ≡ true) × (p ≡ Some x))
 if_either true c o p x h = inl (refl, h)
@@ -180,14 +180,14 @@ alone_here a x h =
 three_same : (a b c x y z : Data) → a ≡ x → b ≡ y → c ≡ z → these (a ∷ b ∷ c ∷ []) ≡ these (x ∷ y ∷ z ∷ [])
 three_same a b c x y z h i j = cc
 
-attached_here : (a b c : Data) (x : HostPort) → both_of attached (number_form (2 ^ 64) a) (both_of place_made (number_form (2 ^ 16) b) (number_form (2 ^ 16) c)) ≡ Some x
+attached_here : (a b c : Data) (x : HostPort) → both_of attached (number_form (2 ^ 64) a) (both_of location_made (number_form (2 ^ 16) b) (number_form (2 ^ 16) c)) ≡ Some x
     → (these (a ∷ b ∷ c ∷ []) ≡ host_data x) × (host_small x ≡ true)
 attached_here a b c x h =
     let parts = both_parts attached _ _ x h in
     let host = (number_exact (2 ^ 64)).sound a parts.0 parts.2 in
-    let place = place_sound b c parts.1 parts.3 in (
-      three_same _ _ _ _ _ _ host.0 place.switch place.port ∙ ap host_data parts.4,
-      subst (λ y. host_small y ≡ true) parts.4 (and_from (wide parts.0) (place_small parts.1) host.1 place.fits),
+    let location = location_sound b c parts.1 parts.3 in (
+      three_same _ _ _ _ _ _ host.0 location.switch location.port ∙ ap host_data parts.4,
+      subst (λ y. host_small y ≡ true) parts.4 (and_from (wide parts.0) (location_small parts.1) host.1 location.fits),
     )
 
 host_sound : (d : Data) (x : HostPort) → form.host_form d ≡ Some x → (d ≡ host_data x) × (host_small x ≡ true)
@@ -198,13 +198,13 @@ host_sound d x h = elim (if_either (has_items 1 d) (has_items 3 d) _ _ x h) [
       (items.1 ∙ found.0, found.1)
   | inr has ↦
       let items = three_items d has.0 in
-      let found = attached_here items.0 items.1 items.2 x (subst (λ y. both_of attached (item_form (number_form (2 ^ 64)) 0 y) (form.place_form 1 y) ≡ Some x) items.3 has.1) in
+      let found = attached_here items.0 items.1 items.2 x (subst (λ y. both_of attached (item_form (number_form (2 ^ 64)) 0 y) (form.location_form 1 y) ≡ Some x) items.3 has.1) in
       (items.3 ∙ found.0, found.1)
 ]
 
 host_made : (h : ℕ) (at : Option (ℕ × ℕ)) → wide h ≡ true → attach_small at ≡ true → form.host_form (host_data (record { host = h; attach = at })) ≡ Some (record { host = h; attach = at })
 host_made h None w s = rw ((number_exact (2 ^ 64)).complete h w) refl
-host_made h (Some at) w s = rw ((number_exact (2 ^ 64)).complete h w, place_complete at.0 at.1 s) refl
+host_made h (Some at) w s = rw ((number_exact (2 ^ 64)).complete h w, location_complete at.0 at.1 s) refl
 
 host_complete : (x : HostPort) → host_small x ≡ true → form.host_form (host_data x) ≡ Some x
 host_complete x h = let parts = and_parts (wide x.host) (attach_small x.attach) h in host_made x.host x.attach parts.0 parts.1
@@ -249,12 +249,12 @@ five_items d h =
 
 abbrev end_small : LinkEnd → Bool
 end_small (to_host h) = wide h
-end_small (to_switch s p) = place_small (s, p)
+end_small (to_switch s p) = location_small (s, p)
 
 abbrev link_small : Link → Bool
-link_small l = place_small (l.switch, l.port) && end_small l.to
+link_small l = location_small (l.switch, l.port) && end_small l.to
 
--- a link from a place that two values give
+-- a link from a location that two values give
 abbrev link_from : Data → Data → LinkEnd → Data
 link_from a b (to_host h) = these (a ∷ b ∷ string (codes "host") ∷ number_data h ∷ [])
 link_from a b (to_switch s p) = these (a ∷ b ∷ string (codes "switch") ∷ number_data s ∷ number_data p ∷ [])
@@ -268,8 +268,8 @@ text_is text (string s) h = ap string ((bytes_eq-Decides s text).0 h)
 text_is text (array ds) h = absurd cc
 text_is text (object ms) h = absurd cc
 
-abbrev place_end : ℕ × ℕ → LinkEnd
-place_end place = to_switch place.0 place.1
+abbrev location_end : ℕ × ℕ → LinkEnd
+location_end location = to_switch location.0 location.1
 
 abbrev EndIs : Data → LinkEnd → Type 0
 EndIs d e = (a b : Data) × (d ≡ link_from a b e) × (end_small e ≡ true)
@@ -291,23 +291,23 @@ end_sound d e h = elim (if_either (has_items 4 d && form.has_text (codes "host")
       let tests = and_parts (has_items 5 d) (form.has_text (codes "switch") 2 d) has.0 in
       let items = five_items d tests.0 in
       let text = text_is (codes "switch") items.2 (subst (λ y. form.has_text (codes "switch") 2 y ≡ true) items.5 tests.1) in
-      let parts = map_parts place_end _ e (subst (λ y. option_map place_end (form.place_form 3 y) ≡ Some e) items.5 has.1) in
-      let place = place_sound items.3 items.4 parts.0 parts.1 in (
+      let parts = map_parts location_end _ e (subst (λ y. option_map location_end (form.location_form 3 y) ≡ Some e) items.5 has.1) in
+      let location = location_sound items.3 items.4 parts.0 parts.1 in (
         items.0,
         items.1,
-        items.5 ∙ ap₂ (λ x y. these (items.0 ∷ items.1 ∷ x ∷ y ∷ items.4 ∷ [])) text place.switch
-            ∙ ap (λ y. these (items.0 ∷ items.1 ∷ string (codes "switch") ∷ number_data parts.0.0 ∷ y ∷ [])) place.port ∙ ap (link_from items.0 items.1) parts.2,
-        subst (λ x. end_small x ≡ true) parts.2 place.fits,
+        items.5 ∙ ap₂ (λ x y. these (items.0 ∷ items.1 ∷ x ∷ y ∷ items.4 ∷ [])) text location.switch
+            ∙ ap (λ y. these (items.0 ∷ items.1 ∷ string (codes "switch") ∷ number_data parts.0.0 ∷ y ∷ [])) location.port ∙ ap (link_from items.0 items.1) parts.2,
+        subst (λ x. end_small x ≡ true) parts.2 location.fits,
       )
 ]
 
 abbrev link_made : ℕ × ℕ → LinkEnd → Link
-link_made place to = record { switch = place.0; port = place.1; to = to }
+link_made location to = record { switch = location.0; port = location.1; to = to }
 
--- the place of a link
-first_place : (a b : Data) (e : LinkEnd) → form.place_form 0 (link_from a b e) ≡ both_of place_made (number_form (2 ^ 16) a) (number_form (2 ^ 16) b)
-first_place a b (to_host h) = refl
-first_place a b (to_switch s p) = refl
+-- the location of a link
+first_location : (a b : Data) (e : LinkEnd) → form.location_form 0 (link_from a b e) ≡ both_of location_made (number_form (2 ^ 16) a) (number_form (2 ^ 16) b)
+first_location a b (to_host h) = refl
+first_location a b (to_switch s p) = refl
 
 link_data_from : (s p : ℕ) (e : LinkEnd) → link_from (number_data s) (number_data p) e ≡ link_data (record { switch = s; port = p; to = e })
 link_data_from s p (to_host h) = refl
@@ -315,26 +315,26 @@ link_data_from s p (to_switch t q) = refl
 
 link_sound : (d : Data) (l : Link) → form.link_form d ≡ Some l → (d ≡ link_data l) × (link_small l ≡ true)
 link_sound d l h =
-    let parts = both_parts link_made (form.place_form 0 d) (form.end_form d) l h in
+    let parts = both_parts link_made (form.location_form 0 d) (form.end_form d) l h in
     let end = end_sound d parts.1 parts.3 in
-    let there = sym (first_place end.0 end.1 parts.1) ∙ sym (ap (form.place_form 0) end.2) ∙ parts.2 in
-    let place = place_sound end.0 end.1 parts.0 there in (
-      end.2 ∙ ap₂ (λ x y. link_from x y parts.1) place.switch place.port ∙ link_data_from parts.0.0 parts.0.1 parts.1 ∙ ap link_data parts.4,
-      subst (λ x. link_small x ≡ true) parts.4 (and_from (place_small parts.0) (end_small parts.1) place.fits end.3),
+    let there = sym (first_location end.0 end.1 parts.1) ∙ sym (ap (form.location_form 0) end.2) ∙ parts.2 in
+    let location = location_sound end.0 end.1 parts.0 there in (
+      end.2 ∙ ap₂ (λ x y. link_from x y parts.1) location.switch location.port ∙ link_data_from parts.0.0 parts.0.1 parts.1 ∙ ap link_data parts.4,
+      subst (λ x. link_small x ≡ true) parts.4 (and_from (location_small parts.0) (end_small parts.1) location.fits end.3),
     )
 
 end_made : (a b : Data) (e : LinkEnd) → end_small e ≡ true → form.end_form (link_from a b e) ≡ Some e
 end_made a b (to_host h) s = rw ((number_exact (2 ^ 64)).complete h s) refl
-end_made a b (to_switch t q) s = rw (place_complete t q s) refl
+end_made a b (to_switch t q) s = rw (location_complete t q s) refl
 
-link_built : (s p : ℕ) (e : LinkEnd) → place_small (s, p) ≡ true → end_small e ≡ true
+link_built : (s p : ℕ) (e : LinkEnd) → location_small (s, p) ≡ true → end_small e ≡ true
     → form.link_form (link_from (number_data s) (number_data p) e) ≡ Some (record { switch = s; port = p; to = e })
 link_built s p e h i =
-    ap₂ (both_of link_made) (first_place (number_data s) (number_data p) e ∙ place_complete s p h) (end_made (number_data s) (number_data p) e i)
+    ap₂ (both_of link_made) (first_location (number_data s) (number_data p) e ∙ location_complete s p h) (end_made (number_data s) (number_data p) e i)
 
 link_complete : (l : Link) → link_small l ≡ true → form.link_form (link_data l) ≡ Some l
 link_complete l h =
-    let parts = and_parts (place_small (l.switch, l.port)) (end_small l.to) h in
+    let parts = and_parts (location_small (l.switch, l.port)) (end_small l.to) h in
     ap form.link_form (sym (link_data_from l.switch l.port l.to)) ∙ link_built l.switch l.port l.to parts.0 parts.1
 
 link_exact : Exact form.link_form link_data link_small
@@ -342,7 +342,7 @@ link_exact = record { sound = link_sound; complete = link_complete }
 
 -- ---- the wires
 
--- a host fits where its numbers do and its place is known
+-- a host fits where its numbers do and its location is known
 attach_both : (f : NetFile) (h : ℕ) (at : Option (ℕ × ℕ)) → wide h ≡ true → form.host_fits (Some f.ports) (Some f.switches) (record { host = h; attach = at }) ≡ true
     → wire.host_fits (file_wiring f) (record { host = h; attach = at }) ≡ true
 attach_both f h None w i = and_from (wide h) true w refl
@@ -351,9 +351,9 @@ attach_both f h (Some at) w i = and_from (wide h) (wire.is_location (file_wiring
 host_both : (f : NetFile) (x : HostPort) → host_small x ≡ true → form.host_fits (Some f.ports) (Some f.switches) x ≡ true → wire.host_fits (file_wiring f) x ≡ true
 host_both f x s i = attach_both f x.host x.attach (and_parts (wide x.host) (attach_small x.attach) s).0 i
 
--- a place of the network has small numbers
-place_within : (ports : ℕ) (switches : List ℕ) (s p : ℕ) → small ports ≡ true → each small switches ≡ true → (has_number s switches && nat_lt p ports) ≡ true → place_small (s, p) ≡ true
-place_within ports switches s p h i j =
+-- a location of the network has small numbers
+location_within : (ports : ℕ) (switches : List ℕ) (s p : ℕ) → small ports ≡ true → each small switches ≡ true → (has_number s switches && nat_lt p ports) ≡ true → location_small (s, p) ≡ true
+location_within ports switches s p h i j =
     let parts = and_parts (has_number s switches) (nat_lt p ports) j in
     let most : ports < 2 ^ 16 = ltb-true ports (2 ^ 16) h in
     let less : p < ports = ltb-true p ports parts.1 in
@@ -364,7 +364,7 @@ attach_within : (f : NetFile) (h : ℕ) (at : Option (ℕ × ℕ)) → small f.p
 attach_within f h None i j k = (k, refl)
 attach_within f h (Some at) i j k =
     let parts = and_parts (wide h) (wire.is_location (file_wiring f) at.0 at.1) k in
-    (and_from (wide h) (place_small at) parts.0 (place_within f.ports f.switches at.0 at.1 i j parts.1), parts.1)
+    (and_from (wide h) (location_small at) parts.0 (location_within f.ports f.switches at.0 at.1 i j parts.1), parts.1)
 
 host_within : (f : NetFile) → small f.ports ≡ true → each small f.switches ≡ true → (x : HostPort) → wire.host_fits (file_wiring f) x ≡ true
     → (host_small x ≡ true) × (form.host_fits (Some f.ports) (Some f.switches) x ≡ true)
@@ -386,12 +386,12 @@ host_numbers_small f (x ∷ xs) h =
 
 end_within : (f : NetFile) → small f.ports ≡ true → each small f.switches ≡ true → each wide (wire.host_numbers f.hosts) ≡ true → (e : LinkEnd) → wire.end_fits (file_wiring f) e ≡ true → end_small e ≡ true
 end_within f i j w (to_host h) k = among wide h (wire.host_numbers f.hosts) k w
-end_within f i j w (to_switch s p) k = place_within f.ports f.switches s p i j k
+end_within f i j w (to_switch s p) k = location_within f.ports f.switches s p i j k
 
 link_within : (f : NetFile) → small f.ports ≡ true → each small f.switches ≡ true → each wide (wire.host_numbers f.hosts) ≡ true → (l : Link) → wire.link_fits (file_wiring f) l ≡ true → link_small l ≡ true
 link_within f i j w l k =
     let parts = and_parts (wire.is_location (file_wiring f) l.switch l.port) (wire.end_fits (file_wiring f) l.to) k in
-    and_from (place_small (l.switch, l.port)) (end_small l.to) (place_within f.ports f.switches l.switch l.port i j parts.0) (end_within f i j w l.to parts.1)
+    and_from (location_small (l.switch, l.port)) (end_small l.to) (location_within f.ports f.switches l.switch l.port i j parts.0) (end_within f i j w l.to parts.1)
 
 -- ---- the file
 

@@ -9,7 +9,7 @@ use Rattle.p4_ir.specs.P4Tree.{KeyRow, TableRows, Group, RowsFile}
 use Rattle.p4_ir.specs.Loading.{row_numbers_fit, table_numbers_fit, group_numbers_fit, rows_file_fits}
 use Rattle.net_bundle.specs.NetJson.{number_data, array_data, these, key_data, row_data, table_data, group_data, rows_data}
 use Rattle.bundle_forms.specs.Forms.{number_form, list_form, has_items, item_form, has_keys, member_form, both_of}
-use Rattle.bundle_forms.specs.RowsForm.{group_form, pair_form, row_keys, row_of, row_form, table_keys, table_of, table_form, rows_keys, rows_members, rows_form}
+use Rattle.bundle_forms.specs.RowsForm.{group_form, pair_form, row_keys, row_made, row_form, table_keys, table_made, table_form, rows_keys, rows_members, rows_form}
 use Rattle.bundle_forms.proofs.Exact.{Exact, if_parts, both_parts, number_exact, list_exact, two_items, object_has, last_key, next_key}
 
 abbrev pub small : ℕ → Bool
@@ -139,14 +139,14 @@ row_fits_all r h i j k = and_from _ _ (and_from _ _ (and_from _ _ (eq-eqb _ _ h)
 abbrev row_object : Data → Data → Data
 row_object a b = object (member (codes "key") a (member (codes "value") b no_members))
 
-row_here : (a b : Data) (r : KeyRow) → both_of row_of (list_form pair_form a) (number_form (2 ^ 64) b) ≡ Some r → (row_object a b ≡ row_data r) × (row_numbers_fit r ≡ true)
+row_here : (a b : Data) (r : KeyRow) → both_of row_made (list_form pair_form a) (number_form (2 ^ 64) b) ≡ Some r → (row_object a b ≡ row_data r) × (row_numbers_fit r ≡ true)
 row_here a b r h =
-    let parts = both_parts row_of _ _ r h in
+    let parts = both_parts row_made _ _ r h in
     let pairs = pairs_exact.sound a parts.0 parts.2 in
     let result = (number_exact (2 ^ 64)).sound b parts.1 parts.3 in
     let fit = row_fits_as parts.0 pairs.1 in (
       ap₂ row_object (pairs.0 ∙ ap array (key_of_pairs parts.0)) result.0 ∙ ap row_data parts.4,
-      subst (λ x. row_numbers_fit x ≡ true) parts.4 (row_fits_all (row_of parts.0 parts.1) fit.0 fit.1 fit.2 result.1),
+      subst (λ x. row_numbers_fit x ≡ true) parts.4 (row_fits_all (row_made parts.0 parts.1) fit.0 fit.1 fit.2 result.1),
     )
 
 -- an object of two keys
@@ -161,7 +161,7 @@ row_sound : (d : Data) (r : KeyRow) → row_form d ≡ Some r → (d ≡ row_dat
 row_sound d r h =
     let has = if_parts (has_keys row_keys d) _ r h in
     let members = two_members (codes "key") (codes "value") d has.0 in
-    let inside = subst (λ x. both_of row_of (member_form (list_form pair_form) (codes "key") x) (member_form (number_form (2 ^ 64)) (codes "value") x) ≡ Some r) members.2 has.1 in
+    let inside = subst (λ x. both_of row_made (member_form (list_form pair_form) (codes "key") x) (member_form (number_form (2 ^ 64)) (codes "value") x) ≡ Some r) members.2 has.1 in
     let found = row_here members.0 members.1 r inside in
     (members.2 ∙ found.0, found.1)
 
@@ -172,7 +172,7 @@ row_parts r h =
     let values = and_parts (length r.values == length r.masks) (each small r.values) masks.0 in
     (eqb-true _ _ values.0, values.1, masks.1, whole.1)
 
-row_again : (a b : Data) (ps : List (ℕ × ℕ)) (n : ℕ) → list_form pair_form a ≡ Some ps → number_form (2 ^ 64) b ≡ Some n → row_form (row_object a b) ≡ Some (row_of ps n)
+row_again : (a b : Data) (ps : List (ℕ × ℕ)) (n : ℕ) → list_form pair_form a ≡ Some ps → number_form (2 ^ 64) b ≡ Some n → row_form (row_object a b) ≡ Some (row_made ps n)
 row_again a b ps n h i = rw (h, i) refl
 
 row_complete : (r : KeyRow) → row_numbers_fit r ≡ true → row_form (row_data r) ≡ Some r
@@ -202,14 +202,14 @@ three_same : (a b c x y z : Data) → a ≡ x → b ≡ y → c ≡ z → table_
 three_same a b c x y z h i j = cc
 
 table_here : (a b c : Data) (t : TableRows)
-    → both_of table_of (number_form (2 ^ 64) a) (both_of rows_made (list_form row_form b) (number_form (2 ^ 32) c)) ≡ Some t → (table_object a b c ≡ table_data t) × (table_numbers_fit t ≡ true)
+    → both_of table_made (number_form (2 ^ 64) a) (both_of rows_made (list_form row_form b) (number_form (2 ^ 32) c)) ≡ Some t → (table_object a b c ≡ table_data t) × (table_numbers_fit t ≡ true)
 table_here a b c t h =
-    let parts = both_parts table_of _ _ t h in
+    let parts = both_parts table_made _ _ t h in
     let rest = both_parts rows_made _ _ parts.1 parts.3 in
     let default = (number_exact (2 ^ 64)).sound a parts.0 parts.2 in
     let rows = rows_exact_list.sound b rest.0 rest.2 in
     let number = (number_exact (2 ^ 32)).sound c rest.1 rest.3 in
-    let made : table_of parts.0 (rest.0, rest.1) ≡ t = ap (table_of parts.0) rest.4 ∙ parts.4 in (
+    let made : table_made parts.0 (rest.0, rest.1) ≡ t = ap (table_made parts.0) rest.4 ∙ parts.4 in (
       three_same _ _ _ _ _ _ default.0 rows.0 number.0 ∙ ap table_data made,
       subst (λ x. table_numbers_fit x ≡ true) made (and_from _ _ (and_from _ _ number.1 default.1) rows.1),
     )
@@ -231,12 +231,12 @@ table_sound d t h =
     let has = if_parts (has_keys table_keys d) _ t h in
     let members = three_members (codes "default") (codes "rows") (codes "table") d has.0 in
     let inside =
-    subst (λ x. both_of table_of (member_form (number_form (2 ^ 64)) (codes "default") x) (both_of rows_made (member_form (list_form row_form) (codes "rows") x) (member_form (number_form (2 ^ 32)) (codes "table") x)) ≡ Some t) members.3 has.1 in
+    subst (λ x. both_of table_made (member_form (number_form (2 ^ 64)) (codes "default") x) (both_of rows_made (member_form (list_form row_form) (codes "rows") x) (member_form (number_form (2 ^ 32)) (codes "table") x)) ≡ Some t) members.3 has.1 in
     let found = table_here members.0 members.1 members.2 t inside in
     (members.3 ∙ found.0, found.1)
 
 table_again : (a b c : Data) (n : ℕ) (rows : List KeyRow) (m : ℕ) → number_form (2 ^ 64) a ≡ Some n → list_form row_form b ≡ Some rows → number_form (2 ^ 32) c ≡ Some m
-    → table_form (table_object a b c) ≡ Some (table_of n (rows, m))
+    → table_form (table_object a b c) ≡ Some (table_made n (rows, m))
 table_again a b c n rows m h i j = rw (h, i, j) refl
 
 table_complete : (t : TableRows) → table_numbers_fit t ≡ true → table_form (table_data t) ≡ Some t

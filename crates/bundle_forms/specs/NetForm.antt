@@ -35,8 +35,8 @@ kept_form d =
     else None
 
 -- a switch, and a port after it
-abbrev pub place_form : ℕ → Data → Option (ℕ × ℕ)
-place_form i d = both_of (λ s p. (s, p)) (item_form (number_form (2 ^ 16)) i d) (item_form (number_form (2 ^ 16)) (i + 1) d)
+abbrev pub location_form : ℕ → Data → Option (ℕ × ℕ)
+location_form i d = both_of (λ s p. (s, p)) (item_form (number_form (2 ^ 16)) i d) (item_form (number_form (2 ^ 16)) (i + 1) d)
 
 -- [HOST,SWITCH,PORT], or [HOST] without an attachment
 abbrev pub host_form : Data → Option HostPort
@@ -44,7 +44,7 @@ host_form d =
     if has_items 1 d
     then option_map (λ h. record { host = h; attach = None }) (item_form (number_form (2 ^ 64)) 0 d)
     else (if has_items 3 d
-    then both_of (λ h place. record { host = h; attach = Some place }) (item_form (number_form (2 ^ 64)) 0 d) (place_form 1 d)
+    then both_of (λ h location. record { host = h; attach = Some location }) (item_form (number_form (2 ^ 64)) 0 d) (location_form 1 d)
     else None)
 
 -- the item at this index is this text
@@ -56,12 +56,12 @@ end_form d =
     if has_items 4 d && has_text (codes "host") 2 d
     then option_map (λ h. to_host h) (item_form (number_form (2 ^ 64)) 3 d)
     else (if has_items 5 d && has_text (codes "switch") 2 d
-    then option_map (λ place. to_switch place.0 place.1) (place_form 3 d)
+    then option_map (λ location. to_switch location.0 location.1) (location_form 3 d)
     else None)
 
 -- [SWITCH,PORT,"host",HOST] or [SWITCH,PORT,"switch",SWITCH,PORT]
 abbrev pub link_form : Data → Option Link
-link_form d = both_of (λ place to. record { switch = place.0; port = place.1; to = to }) (place_form 0 d) (end_form d)
+link_form d = both_of (λ location to. record { switch = location.0; port = location.1; to = to }) (location_form 0 d) (end_form d)
 
 -- ---- the rules of lists
 
@@ -79,22 +79,22 @@ abbrev pub files_fit : Option (List ℕ) → List KeptDigest → Bool
 files_fit switches files = where_known (λ ss. are_names (file_names ss) files) switches
 
 -- a port of a switch of the network, as far as both are known
-abbrev pub place_fits : Option ℕ → Option (List ℕ) → ℕ × ℕ → Bool
-place_fits ports switches place = where_known (has_number place.0) switches && where_known (nat_lt place.1) ports
+abbrev pub location_fits : Option ℕ → Option (List ℕ) → ℕ × ℕ → Bool
+location_fits ports switches location = where_known (has_number location.0) switches && where_known (nat_lt location.1) ports
 
 abbrev pub host_fits : Option ℕ → Option (List ℕ) → HostPort → Bool
-host_fits ports switches h = where_known (place_fits ports switches) h.attach
+host_fits ports switches h = where_known (location_fits ports switches) h.attach
 
 abbrev pub hosts_fit : Option ℕ → Option (List ℕ) → List HostPort → Bool
 hosts_fit ports switches hosts = each (host_fits ports switches) hosts && ascend (host_numbers hosts)
 
 -- `hosts` are the numbers of the hosts
 abbrev pub end_fits : Option ℕ → Option (List ℕ) → (hosts : Option (List ℕ)) → LinkEnd → Bool
-end_fits ports switches hosts (to_switch s p) = place_fits ports switches (s, p)
+end_fits ports switches hosts (to_switch s p) = location_fits ports switches (s, p)
 end_fits ports switches hosts (to_host h) = where_known (has_number h) hosts
 
 abbrev pub link_fits : Option ℕ → Option (List ℕ) → (hosts : Option (List ℕ)) → Link → Bool
-link_fits ports switches hosts l = place_fits ports switches (l.switch, l.port) && end_fits ports switches hosts l.to
+link_fits ports switches hosts l = location_fits ports switches (l.switch, l.port) && end_fits ports switches hosts l.to
 
 abbrev pub links_fit : Option ℕ → Option (List ℕ) → (hosts : Option (List ℕ)) → List Link → Bool
 links_fit ports switches hosts links =

@@ -22,27 +22,27 @@ pair_form d =
 abbrev pub row_keys : List (List ℕ)
 row_keys = codes "key" ∷ codes "value" ∷ []
 
-abbrev pub row_of : List (ℕ × ℕ) → ℕ → KeyRow
-row_of pairs result = record { values = map (λ p. p.0) pairs; masks = map (λ p. p.1) pairs; result = result }
+abbrev pub row_made : List (ℕ × ℕ) → ℕ → KeyRow
+row_made pairs result = record { values = map (λ p. p.0) pairs; masks = map (λ p. p.1) pairs; result = result }
 
 -- {"key":[[VALUE,MASK]],"value":V}
 abbrev pub row_form : Data → Option KeyRow
 row_form d =
     if has_keys row_keys d
-    then both_of row_of (member_form (list_form pair_form) (codes "key") d) (member_form (number_form (2 ^ 64)) (codes "value") d)
+    then both_of row_made (member_form (list_form pair_form) (codes "key") d) (member_form (number_form (2 ^ 64)) (codes "value") d)
     else None
 
 abbrev pub table_keys : List (List ℕ)
 table_keys = codes "default" ∷ codes "rows" ∷ codes "table" ∷ []
 
-abbrev pub table_of : ℕ → List KeyRow × ℕ → TableRows
-table_of default rest = record { number = rest.1; otherwise = default; rows = rest.0 }
+abbrev pub table_made : ℕ → List KeyRow × ℕ → TableRows
+table_made default rest = record { number = rest.1; otherwise = default; rows = rest.0 }
 
 -- {"default":V,"rows":[ROW],"table":NUMBER}
 abbrev pub table_form : Data → Option TableRows
 table_form d =
     if has_keys table_keys d
-    then both_of table_of (member_form (number_form (2 ^ 64)) (codes "default") d)
+    then both_of table_made (member_form (number_form (2 ^ 64)) (codes "default") d)
     (both_of (λ rows number. (rows, number)) (member_form (list_form row_form) (codes "rows") d) (member_form (number_form (2 ^ 32)) (codes "table") d))
     else None
 

@@ -1,7 +1,7 @@
 //! Ascending lists of numbers, and whether a number is in one.
 ghost use Rattle.std.specs.Prelude.{◌≡◌, ◌∷◌, ◌&&◌, IsTrue, List, Option, nat_lt, option_map};
 ghost use Rattle.cocoon_num.specs.Lists.{ascend, has_number};
-ghost use Rattle.bundle_forms.specs.NetForm.{place_fits, where_known};
+ghost use Rattle.bundle_forms.specs.NetForm.{location_fits, where_known};
 
 /// Whether the numbers ascend, each once.
 pub(crate) fn ascends(numbers: &[u64]) -> bool
@@ -57,7 +57,7 @@ fn is_below(ports: Option<u16>, port: u16) -> bool
 }
 
 /// Whether this is a port of a switch of the network, as far as both are known.
-pub(crate) fn is_place(
+pub(crate) fn is_location(
     ports: Option<u16>,
     switches: &Option<Vec<u64>>,
     switch: u16,
@@ -65,7 +65,7 @@ pub(crate) fn is_place(
 ) -> bool
     requires { IsTrue (where_known ascend (option_map (λ list. list.items) switches.now)) }
     ensures { result
-        ≡ place_fits ports (option_map (λ list. list.items) switches.now) (switch, port) }
+        ≡ location_fits ports (option_map (λ list. list.items) switches.now) (switch, port) }
 {
     let there = may_have(switches, switch as u64);
     let below = is_below(ports, port);

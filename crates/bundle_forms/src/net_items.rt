@@ -107,9 +107,9 @@ impl FromJson for KeptDigest {
 }
 
 /// The switch at this index, and the port after it.
-fn place(alloc: Global, value: &Value, index: usize) -> Result<Option<(u16, u16)>, NoMemory>
+fn location(alloc: Global, value: &Value, index: usize) -> Result<Option<(u16, u16)>, NoMemory>
     requires { index < 2 ^ 32 }
-    ensures { IfOk result (λ read. read ≡ spec.place_form index (view value.now)) }
+    ensures { IfOk result (λ read. read ≡ spec.location_form index (view value.now)) }
 {
     let switch = item::<u16>(alloc, value, index)?;
     let port = item::<u16>(alloc, value, index + 1)?;
@@ -138,7 +138,7 @@ impl FromJson for HostPort {
         if !has_items(value, 3) {
             return Ok(None);
         }
-        let attach = place(alloc, value, 1)?;
+        let attach = location(alloc, value, 1)?;
         match (host, attach) {
             (Some(host), Some(attach)) => Ok(Some(HostPort {
                 host,
@@ -172,7 +172,7 @@ fn end(alloc: Global, value: &Value) -> Result<Option<LinkEnd>, NoMemory>
         };
     }
     if has_items(value, 5) && has_text(value, 2, "switch") {
-        return match place(alloc, value, 3)? {
+        return match location(alloc, value, 3)? {
             Some((switch, port)) => Ok(Some(LinkEnd::Switch(switch, port))),
             None => Ok(None),
         };
@@ -189,7 +189,7 @@ impl FromJson for Link {
 
     /// `[SWITCH,PORT,"host",HOST]` or `[SWITCH,PORT,"switch",SWITCH,PORT]`
     fn from_json(alloc: Global, value: &Value) -> Result<Option<Link>, NoMemory> {
-        let from = place(alloc, value, 0)?;
+        let from = location(alloc, value, 0)?;
         let to = end(alloc, value)?;
         match (from, to) {
             (Some((switch, port)), Some(to)) => Ok(Some(Link { switch, port, to })),

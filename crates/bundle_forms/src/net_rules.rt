@@ -7,7 +7,7 @@ ghost use Rattle.p4_ir.specs.Wiring.{host_numbers, pairs_ascend};
 ghost use Rattle.net_bundle.specs.NetFileOf.{kept_of};
 ghost use Rattle.bundle_forms.specs.NetForm as spec;
 
-use crate::known::{is_place, may_have};
+use crate::known::{is_location, may_have};
 use cocoon_num::NoMemory;
 use net_bundle::BundleFile;
 use net_bundle::net_json::KeptDigest;
@@ -76,7 +76,7 @@ fn host_fits(ports: Option<u16>, switches: &Option<Vec<u64>>, host: HostPort) ->
         (host_port_of host) }
 {
     match host.attach {
-        Some((switch, port)) => is_place(ports, switches, switch, port),
+        Some((switch, port)) => is_location(ports, switches, switch, port),
         None => true,
     }
 }
@@ -115,7 +115,7 @@ fn end_fits(
         (option_map (λ list. list.items) hosts.now) (end_of end) }
 {
     match end {
-        LinkEnd::Switch(switch, port) => is_place(ports, switches, switch, port),
+        LinkEnd::Switch(switch, port) => is_location(ports, switches, switch, port),
         LinkEnd::Host(host) => may_have(hosts, host),
     }
 }
@@ -132,7 +132,7 @@ fn link_fits(
     ensures { result ≡ spec.link_fits ports (option_map (λ list. list.items) switches.now)
         (option_map (λ list. list.items) hosts.now) (link_of link) }
 {
-    let from = is_place(ports, switches, link.switch, link.port);
+    let from = is_location(ports, switches, link.switch, link.port);
     let to = end_fits(ports, switches, hosts, link.to);
     from && to
 }

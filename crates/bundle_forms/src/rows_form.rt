@@ -71,7 +71,7 @@ impl FromJson for Masked {
 /// The row of these values and masks.
 fn row(alloc: Global, pairs: &[Masked], value: u64) -> Result<KeyRow, NoMemory>
     ensures { IfOk result (λ row. key_row_of row
-        ≡ spec.row_of (map (λ p. (p.value, p.mask)) pairs.now) value) }
+        ≡ spec.row_made (map (λ p. (p.value, p.mask)) pairs.now) value) }
 {
     let mut values = Vec::new(alloc);
     let mut masks = Vec::new(alloc);

@@ -11,7 +11,7 @@ use Rattle.cocoon_resolve.specs.Readers.{field_widths, HasRole}
 use Rattle.text_lines.specs.Lines.{Line, parts_of}
 use Rattle.text_lines.specs.Numbers.{list_of}
 use Rattle.case_file.specs.Agrees.{CanRun, IsAt}
-use Rattle.case_file.specs.Cases.{all_fit, fields_in, line_at, location_in, may_act, or_line}
+use Rattle.case_file.specs.Cases.{all_fit_widths, fields_in, line_at, location_in, may_act, or_line}
 use Rattle.case_file.specs.declared.case.Case.{Case}
 
 -- a line that was read is of its form
@@ -20,12 +20,12 @@ of_form number None x e = cc
 of_form number (Some y) x e = cc
 
 abbrev line_in : {A : Type 0} → (List (List ℕ) → Option A) → ℕ → Option Line → Result A ℕ
-line_in form count o = elim o [ None ↦ Err (count + 1) | Some line ↦ or_line line.number (form (parts_of line.content)) ]
+line_in form count o = elim o [ None ↦ Err (count + 1) | Some line ↦ or_line line.number (form (parts_of line.bytes)) ]
 
 at_parts : {A : Type 0} (form : List (List ℕ) → Option A) (o : Option Line) (count : ℕ) (x : A) → line_in form count o ≡ Ok x
     → (parts : List (List ℕ)) × (form parts ≡ Some x)
 at_parts form None count x e = absurd (cc)
-at_parts form (Some line) count x e = (parts_of line.content, of_form line.number (form (parts_of line.content)) x e)
+at_parts form (Some line) count x e = (parts_of line.bytes, of_form line.number (form (parts_of line.bytes)) x e)
 
 -- ---- the role
 
@@ -51,25 +51,25 @@ both : (a b : Bool) → (a && b) ≡ true → (a ≡ true) × (b ≡ true)
 both true b e = (refl, e)
 both false b e = absurd (cc)
 
-all_fit_fields : (ws ns : List ℕ) → all_fit ws ns ≡ true → FieldsFit ws ns
-all_fit_fields [] [] e = tt
-all_fit_fields [] (n ∷ ns) e = absurd (cc)
-all_fit_fields (w ∷ ws) [] e = absurd (cc)
-all_fit_fields (w ∷ ws) (n ∷ ns) e =
-    let parts = both (fits_width w n) (all_fit ws ns) e in
+fit_fields : (ws ns : List ℕ) → all_fit_widths ws ns ≡ true → FieldsFit ws ns
+fit_fields [] [] e = tt
+fit_fields [] (n ∷ ns) e = absurd (cc)
+fit_fields (w ∷ ws) [] e = absurd (cc)
+fit_fields (w ∷ ws) (n ∷ ns) e =
+    let parts = both (fits_width w n) (all_fit_widths ws ns) e in
     let first = parts.0 in
-    (grind (arith, nat_tests, first), all_fit_fields ws ns parts.1)
+    (grind (arith, nat_tests, first), fit_fields ws ns parts.1)
 
 fields_fit : (d : Design) (parts : List (List ℕ)) (ns : List ℕ) → fields_in d parts ≡ Some ns → FieldsFit (field_widths d) ns
 fields_fit d parts ns e = from (list_of parts) e
   where
-    kept : (b : Bool) (ms : List ℕ) → all_fit (field_widths d) ms ≡ b → kept_if b ms ≡ Some ns → FieldsFit (field_widths d) ns
-    kept true ms p q = let same : ms ≡ ns = cc in subst (FieldsFit (field_widths d)) same (all_fit_fields (field_widths d) ms p)
+    kept : (b : Bool) (ms : List ℕ) → all_fit_widths (field_widths d) ms ≡ b → kept_if b ms ≡ Some ns → FieldsFit (field_widths d) ns
+    kept true ms p q = let same : ms ≡ ns = cc in subst (FieldsFit (field_widths d)) same (fit_fields (field_widths d) ms p)
     kept false ms p q = absurd (cc)
 
-    from : (o : Option (List ℕ)) → option_and_then (λ fields. kept_if (all_fit (field_widths d) fields) fields) o ≡ Some ns → FieldsFit (field_widths d) ns
+    from : (o : Option (List ℕ)) → option_and_then (λ fields. kept_if (all_fit_widths (field_widths d) fields) fields) o ≡ Some ns → FieldsFit (field_widths d) ns
     from None e = absurd (cc)
-    from (Some ms) e = kept (all_fit (field_widths d) ms) ms refl e
+    from (Some ms) e = kept (all_fit_widths (field_widths d) ms) ms refl e
 
 pub can_run : (level : ℕ) (d : Design) (lines : List Line) (count : ℕ) (c : Case) (at : Loc) (fields : List ℕ) → line_at (location_in level d) 0 lines count ≡ Ok at → line_at (fields_in d) 1 lines count ≡ Ok fields
     → IsAt d c.role c.values.items at → c.fields.items ≡ fields → CanRun level d c

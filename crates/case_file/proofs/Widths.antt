@@ -4,7 +4,7 @@ use Rattle.std.proofs.Math.Nat.{mod-eq_of_lt, pow-le-pow_right}
 use Rattle.std.proofs.Math.Pow.{pow-lt}
 use Rattle.std.proofs.lemmas.Bool.Decides.{nat_tests}
 use Rattle.cocoon_num.specs.Values.{fits_width}
-use Rattle.case_file.specs.Cases.{all_fit}
+use Rattle.case_file.specs.Cases.{all_fit_widths}
 
 -- one, shifted by a width
 pub shifted_one : (w : ℕ) → w < 64 → 1 * 2 ^ w % 2 ^ 64 ≡ 2 ^ w
@@ -19,7 +19,7 @@ wide_fits w n l h =
     grind (arith, nat_tests)
 
 -- as many numbers as widths fit, or none do
-pub uneven : (ws ns : List ℕ) → length ws ≢ length ns → false ≡ all_fit ws ns
+pub uneven : (ws ns : List ℕ) → length ws ≢ length ns → false ≡ all_fit_widths ws ns
 uneven [] [] h = absurd (h refl)
 uneven [] (n ∷ ns) h = refl
 uneven (w ∷ ws) [] h = refl

@@ -17,16 +17,16 @@ pub record Case : Type 0 where
   pub choices : List ℕ
 
 -- as many numbers as widths, and each fits its own
-abbrev pub all_fit : (widths : List ℕ) → List ℕ → Bool
-all_fit [] [] = true
-all_fit (w ∷ ws) (n ∷ ns) = fits_width w n && all_fit ws ns
-all_fit ws ns = false
+abbrev pub all_fit_widths : (widths : List ℕ) → List ℕ → Bool
+all_fit_widths [] [] = true
+all_fit_widths (w ∷ ws) (n ∷ ns) = fits_width w n && all_fit_widths ws ns
+all_fit_widths ws ns = false
 
 -- ---- the forms of the three lines, by their parts
 
 -- these are values of the role, which is not the sink: it has a body
 abbrev pub may_act : Role → List ℕ → Bool
-may_act role values = is_some role.body && all_fit (widths_of role.params) values
+may_act role values = is_some role.body && all_fit_widths (widths_of role.params) values
 
 -- a name of a role that is there at this level, and its values
 abbrev pub location_in : (level : ℕ) → Design → List (List ℕ) → Option Loc
@@ -38,7 +38,7 @@ location_in level d (name ∷ parts) =
 
 -- the values of all fields of the design
 abbrev pub fields_in : Design → List (List ℕ) → Option (List ℕ)
-fields_in d parts = option_and_then (λ fields. kept_if (all_fit (field_widths d) fields) fields) (list_of parts)
+fields_in d parts = option_and_then (λ fields. kept_if (all_fit_widths (field_widths d) fields) fields) (list_of parts)
 
 -- ---- the three lines
 
@@ -53,7 +53,7 @@ abbrev pub line_at : {A : Type 0} → (List (List ℕ) → Option A) → (index 
 line_at form index lines count =
     elim (slice_get lines index) [
       | None ↦ Err (count + 1)
-      | Some line ↦ or_line line.number (form (parts_of line.content))
+      | Some line ↦ or_line line.number (form (parts_of line.bytes))
     ]
 
 -- the number of the line of this index, where there is one

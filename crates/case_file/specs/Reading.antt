@@ -16,10 +16,10 @@ use Rattle.case_file.specs.declared.case.CaseFault.TheVariants.{Form, NoMemory}
 use Rattle.case_file.specs.declared.lines.Location.{Location}
 
 -- the answer of the code is that of the definitions, where there was memory
-abbrev pub Reads : {X Y : Type 0} → (Y → X → Type 0) → Result X ℕ → Result Y CaseFault → Type 0
-Reads R answer (Ok y) = (x : _) × (answer ≡ Ok x) × R y x
-Reads R answer (Err (Form line)) = answer ≡ Err line
-Reads R answer (Err NoMemory) = Unit {0}
+abbrev pub AnswersAs : {X Y : Type 0} → (Y → X → Type 0) → Result X ℕ → Result Y CaseFault → Type 0
+AnswersAs R answer (Ok y) = (x : _) × (answer ≡ Ok x) × R y x
+AnswersAs R answer (Err (Form line)) = answer ≡ Err line
+AnswersAs R answer (Err NoMemory) = Unit {0}
 
 abbrev pub AreNumbers : Vec ℕ Global → List ℕ → Type 0
 AreNumbers v ns = v.items ≡ ns

@@ -3,7 +3,7 @@ ghost use Rattle.std.specs.Prelude.{◌≡◌, map};
 ghost use Rattle.cocoon_num.specs.Values.{fits_width};
 ghost use Rattle.cocoon_syntax.specs.TreeOf.{param_of};
 ghost use Rattle.cocoon_types.specs.Design.{widths_of};
-ghost use Rattle.case_file.specs.Cases.{all_fit};
+ghost use Rattle.case_file.specs.Cases.{all_fit_widths};
 
 use cocoon_syntax::Param;
 
@@ -16,7 +16,7 @@ fn fits(width: u32, number: u64) -> bool
 
 /// Whether the values are as many as the parameters, and each fits.
 pub fn values_fit(params: &[Param], values: &[u64]) -> bool
-    ensures { result ≡ all_fit (widths_of (map param_of params.now)) values.now }
+    ensures { result ≡ all_fit_widths (widths_of (map param_of params.now)) values.now }
 {
     if params.len() != values.len() {
         return false;
@@ -31,7 +31,7 @@ pub fn values_fit(params: &[Param], values: &[u64]) -> bool
 
 /// Whether the numbers are as many as the widths, and each fits.
 pub fn fields_fit(widths: &[u8], fields: &[u64]) -> bool
-    ensures { result ≡ all_fit widths.now fields.now }
+    ensures { result ≡ all_fit_widths widths.now fields.now }
 {
     if widths.len() != fields.len() {
         return false;

@@ -5,7 +5,7 @@ ghost use Rattle.text_lines.specs.LineOf.{line_of};
 ghost use Rattle.text_lines.specs.Numbers.{list_of};
 ghost use Rattle.case_file.specs.Agrees.{CanRun, IsCaseOf, IsFaultOf};
 ghost use Rattle.case_file.specs.Cases as spec;
-ghost use Rattle.case_file.specs.Reading.{ActsAs, AreNumbers, IsLocation, LineIs, Locates, NoLine, Reads};
+ghost use Rattle.case_file.specs.Reading.{ActsAs, AnswersAs, AreNumbers, IsLocation, LineIs, Locates, NoLine};
 
 use crate::case::{Case, CaseFault};
 use crate::fit::{fields_fit, values_fit};
@@ -93,37 +93,37 @@ fn first_line(
     lines: &Lines<'_>,
 ) -> Result<Location, CaseFault>
     requires { lines.now.count < 2 ^ 64 - 1 }
-    ensures { Reads (IsLocation (design_of checked.now))
+    ensures { AnswersAs (IsLocation (design_of checked.now))
         (spec.line_at (spec.location_in level (design_of checked.now)) 0
         (map line_of lines.now.filled.items) lines.now.count)
         result }
 {
     let line = line_at(lines, 0)?;
-    let parts = split_parts(alloc, line.content)?;
+    let parts = split_parts(alloc, line.bytes)?;
     location_in(alloc, checked, level, &parts)?.ok_or(CaseFault::Form(line.number))
 }
 
 /// The second line: the values of all fields.
 fn second_line(alloc: Global, checked: &Checked, lines: &Lines<'_>) -> Result<Vec<u64>, CaseFault>
     requires { lines.now.count < 2 ^ 64 - 1 }
-    ensures { Reads AreNumbers
+    ensures { AnswersAs AreNumbers
         (spec.line_at (spec.fields_in (design_of checked.now)) 1
         (map line_of lines.now.filled.items) lines.now.count)
         result }
 {
     let line = line_at(lines, 1)?;
-    let parts = split_parts(alloc, line.content)?;
+    let parts = split_parts(alloc, line.bytes)?;
     fields_in(alloc, checked, &parts)?.ok_or(CaseFault::Form(line.number))
 }
 
 /// The third line: the choices.
 fn third_line(alloc: Global, lines: &Lines<'_>) -> Result<Vec<u64>, CaseFault>
     requires { lines.now.count < 2 ^ 64 - 1 }
-    ensures { Reads AreNumbers
+    ensures { AnswersAs AreNumbers
         (spec.line_at list_of 2 (map line_of lines.now.filled.items) lines.now.count) result }
 {
     let line = line_at(lines, 2)?;
-    let parts = split_parts(alloc, line.content)?;
+    let parts = split_parts(alloc, line.bytes)?;
     read_list(alloc, &parts)?.ok_or(CaseFault::Form(line.number))
 }
 

@@ -11,7 +11,7 @@ use Rattle.cocoon_num.specs.Names.{same_name}
 use Rattle.command_line.specs.Command.{Command, compile}
 use Rattle.command_line.specs.Syntax.{app_with, cocoon_app, compile_app, step_app}
 use Rattle.command_line.specs.Words.{command, command_by, command_of, compile_of, forward_of, step_of, subcommand_by, unless_refused}
-use Rattle.command_line.proofs.Staying.{Grows, new_app, old_app, stays}
+use Rattle.command_line.proofs.Staying.{Grows, stays}
 
 -- ---- the command lines as they are built
 

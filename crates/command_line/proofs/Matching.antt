@@ -11,7 +11,7 @@ use Rattle.clap.specs.declared.parser.ArgMatches.{ArgMatches}
 use Rattle.clap.proofs.WalkLemmas.{first_value-rows}
 use Rattle.command_line.specs.Names.{is_file_name}
 use Rattle.command_line.specs.Syntax.{cocoon_app, required_argument, with_arguments}
-use Rattle.command_line.specs.Words.{argument_name, name_of, subcommand, subcommand_by, unless_refused}
+use Rattle.command_line.specs.Words.{argument_name, word_name, subcommand, subcommand_by, unless_refused}
 
 -- ---- the command line
 
@@ -94,13 +94,13 @@ if_false false x y e = refl
 
 -- the word at a argument, which is a name, which is not, or which is not there
 pub is_name : (m : ArgMatches) (argument word : Text) → Some word ≡ first_value (found_of m) argument → is_file_name word ≡ true → Some word ≡ argument_name argument (rows_of (found_of m))
-is_name m argument word e h = sym (if_true (is_file_name word) (Some word) None h) ∙ ap (option_and_then name_of) (e ∙ first_value-rows (found_of m) argument)
+is_name m argument word e h = sym (if_true (is_file_name word) (Some word) None h) ∙ ap (option_and_then word_name) (e ∙ first_value-rows (found_of m) argument)
 
 pub is_other : (m : ArgMatches) (argument word : Text) → Some word ≡ first_value (found_of m) argument → is_file_name word ≡ false → None ≡ argument_name argument (rows_of (found_of m))
-is_other m argument word e h = sym (if_false (is_file_name word) (Some word) None h) ∙ ap (option_and_then name_of) (e ∙ first_value-rows (found_of m) argument)
+is_other m argument word e h = sym (if_false (is_file_name word) (Some word) None h) ∙ ap (option_and_then word_name) (e ∙ first_value-rows (found_of m) argument)
 
 pub is_absent : (m : ArgMatches) (argument : Text) → None ≡ first_value (found_of m) argument → None ≡ argument_name argument (rows_of (found_of m))
-is_absent m argument e = ap (option_and_then name_of) (e ∙ first_value-rows (found_of m) argument)
+is_absent m argument e = ap (option_and_then word_name) (e ∙ first_value-rows (found_of m) argument)
 
 -- ---- the subcommand
 

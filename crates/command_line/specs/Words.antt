@@ -11,12 +11,12 @@ use Rattle.command_line.specs.Names.{is_file_name}
 use Rattle.command_line.specs.Syntax.{case_argument, cocoon_app, design_argument, defs_argument, hops_argument, level_argument, out_argument, packets_argument}
 
 -- a word that is a name
-abbrev pub name_of : Text → Option (List ℕ)
-name_of word = if is_file_name word then Some word else None
+abbrev pub word_name : Text → Option (List ℕ)
+word_name word = if is_file_name word then Some word else None
 
 -- the name for an argument, by what `clap` matched
 abbrev pub argument_name : Text → List Row → Option (List ℕ)
-argument_name argument rows = option_and_then name_of (first_of argument rows)
+argument_name argument rows = option_and_then word_name (first_of argument rows)
 
 -- `compile` with names that are all there
 abbrev pub with_names : Option (List ℕ) → Option (List ℕ) → Option (List ℕ) → Option Command
@@ -38,12 +38,12 @@ abbrev pub highest_level : ℕ
 highest_level = 16
 
 -- a word that is a number
-abbrev pub number_of : Text → Option ℕ
-number_of word = if nat_le (length word) most_digits then decimal_value word else None
+abbrev pub word_number : Text → Option ℕ
+word_number word = if nat_le (length word) most_digits then decimal_value word else None
 
 -- one that is none above this
 abbrev pub number_up_to : (most : ℕ) → Text → Option ℕ
-number_up_to most word = option_and_then (λ n. kept_if (nat_le n most) n) (number_of word)
+number_up_to most word = option_and_then (λ n. kept_if (nat_le n most) n) (word_number word)
 
 -- the number of a level, by what `clap` matched
 abbrev pub level_in : List Row → Option ℕ

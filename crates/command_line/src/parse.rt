@@ -4,7 +4,7 @@ ghost use Rattle.clap.specs.Words.{found_of, rows_of, subcommand_rows_of};
 ghost use Rattle.command_line.specs.Command as spec;
 ghost use Rattle.command_line.specs.Names.{is_file_name, is_name_byte};
 ghost use Rattle.command_line.specs.Stands.{stands_for};
-ghost use Rattle.command_line.specs.Words.{argument_name, command, command_of, compile_of, forward_of, hops_in, level_in, number_between, number_of, number_up_to, step_of, subcommand};
+ghost use Rattle.command_line.specs.Words.{argument_name, command, command_of, compile_of, forward_of, hops_in, level_in, number_between, word_number, number_up_to, step_of, subcommand};
 
 use crate::command::{Command, Compile, Forward, Step};
 use crate::syntax::{CASE, DEFS, DESIGN, HOPS, LEVEL, OUT, PACKETS, cocoon_app};
@@ -82,7 +82,7 @@ fn compile_of<'w>(matches: &ArgMatches<'w>) -> Option<Compile<'w>>
 
 /// The number that a word is, of one to seven decimal digits.
 fn number(word: &str) -> Option<u128>
-    ensures { result ≡ number_of word.now }
+    ensures { result ≡ word_number word.now }
 {
     if word.len() <= MOST_DIGITS {
         decimal_value(word.as_bytes())

@@ -41,7 +41,7 @@ pub fn read(data: Data<'_>, name: &str, out: &mut Printer) -> Option<Vec<u8>> {
 }
 
 /// Puts bytes under a name.
-pub fn place(folder: &mut HonestFolder, name: &str, bytes: &[u8], out: &mut Printer) {
+pub fn store_file(folder: &mut HonestFolder, name: &str, bytes: &[u8], out: &mut Printer) {
     if folder.place_file(name, bytes).is_err() {
         out.lose();
     }
@@ -55,7 +55,7 @@ fn place_data(
     out: &mut Printer,
 ) {
     if let Some(bytes) = read(data, from, out) {
-        place(folder, name, &bytes, out);
+        store_file(folder, name, &bytes, out);
     }
 }
 
@@ -77,7 +77,7 @@ fn edit(
     if !edited.is_whole() {
         out.lose();
     }
-    place(folder, name, edited.text().as_bytes(), out);
+    store_file(folder, name, edited.text().as_bytes(), out);
 }
 
 /// The number that a field is; 0 where it is empty.
@@ -131,7 +131,7 @@ fn follow(data: Data<'_>, files: &mut CaseFiles, cut: &str, out: &mut Printer) {
     let count = count_fields(cut);
     match (line.word, count) {
         ("file", 3) => place_data(data, &mut files.before, (name, old), out),
-        ("text", 3) => place(&mut files.before, name, old.as_bytes(), out),
+        ("text", 3) => store_file(&mut files.before, name, old.as_bytes(), out),
         ("edit", 4) => edit(alloc, &mut files.before, (name, old, new), out),
         ("repeat", 5 | 6) => repeat(alloc, &mut files.before, line, out),
         ("after", 3) => place_data(data, &mut files.after, (name, old), out),

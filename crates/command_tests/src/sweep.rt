@@ -1,7 +1,7 @@
 //! A case that runs once for each byte of a file.
 use crate::attempt::{Case, Wanted, try_once};
 use crate::fields::{LINE, last_line, line_of};
-use crate::lines::{CaseFiles, Data, place, read, report};
+use crate::lines::{CaseFiles, Data, read, report, store_file};
 use case_files::Printer;
 use cocoon_num::NoMemory;
 use std::alloc::Global;
@@ -72,7 +72,7 @@ fn try_at(
     out: &mut Printer,
 ) {
     match swept(alloc, sweep, bytes, offset) {
-        Ok(text) => place(&mut files.before, sweep.file, &text, out),
+        Ok(text) => store_file(&mut files.before, sweep.file, &text, out),
         Err(NoMemory) => out.lose(),
     }
     let before = out.text().len();

@@ -1,4 +1,4 @@
--- What is noted of lists of token indexes, item by item.
+-- What is noted of lists of token indices, item by item.
 use Rattle.std.proofs.Common.{◌≡◌, ℕ, suc, ◌+◌, ◌<◌, Bool, true, false, List, [], ◌∷◌, ◌++◌, map, take, length, get_or, not, Option, Some, None, is_some, if◌then◌else◌, refl, sym, ap, subst, ◌∙◌, append_assoc, append-nil, arith, length-take}
 use Rattle.std.specs.Prelude.{flat_map, filter_map, filter, option_to_list, option_map}
 use Rattle.std.specs.Option.{is_none}

@@ -1,4 +1,4 @@
--- Of one rule's token indexes the least comes first: noting it alone is noting all.
+-- Of one rule's token indices the least comes first: noting it alone is noting all.
 use Rattle.std.proofs.Common.{◌≡◌, ℕ, ◌==◌, ◌≤◌, ◌&&◌, ◌||◌, Bool, true, false, nat_lt, List, Option, Some, None, refl, sym, ap, subst, ◌∙◌, inl, inr, arith, eqb-true, rules}
 use Rattle.std.proofs.lemmas.Bool.Decides.{nat_tests}
 use Rattle.cocoon_num.specs.Lists.{has_number}
@@ -29,12 +29,12 @@ picked ns n h f e = both (rank f.rule == rank hidden_choice) (has_number f.at ns
 same-number : (n : ℕ) → (n == n) ≡ true
 same-number n = search rules
 
--- a place and the ranks after it
+-- a token index and a rank come after others
 abbrev after : (at rank other : ℕ) → ℕ → Bool
-after at r place s = nat_lt at place || ((at == place) && nat_lt r s)
+after at r index s = nat_lt at index || ((at == index) && nat_lt r s)
 
-late : (n m r place s : ℕ) → n ≤ m → after n r place s ≡ false → after m r place s ≡ false
-late n m r place s l h = grind (arith, nat_tests)
+late : (n m r index s : ℕ) → n ≤ m → after n r index s ≡ false → after m r index s ≡ false
+late n m r index s l h = grind (arith, nat_tests)
 
 by_phase : (before same p q : Bool) → (p ≡ false → q ≡ false) → before || (same && p) ≡ false → before || (same && q) ≡ false
 by_phase true same p q f h = h

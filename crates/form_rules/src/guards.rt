@@ -17,8 +17,8 @@ ghost use Rattle.form_rules.specs.Guards.{call_of, function_by, fits_by, host_gu
 ghost use Rattle.form_rules.specs.Parts.{where_named};
 
 use crate::declared::{first_declared, host_roles};
+use crate::same_trees::{is_binary, is_named};
 use crate::switches::PORT_WIDTH;
-use crate::trees::{is_binary, is_named};
 use cocoon_syntax::{BinaryOp, Design, Expr, ExprKind, Param, Role};
 use cocoon_types::{Noted, TypeRule};
 use declarations::Declarations;

@@ -8,7 +8,7 @@ mod guards;
 mod hidden;
 mod refined;
 mod roles;
+mod same_trees;
 mod switches;
-mod trees;
 
 pub use forms::note_forms;

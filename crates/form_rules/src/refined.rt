@@ -11,7 +11,7 @@ ghost use Rattle.declarations.specs.Declares.{Declares};
 ghost use Rattle.fault_notes.specs.Among.{among};
 ghost use Rattle.form_rules.specs.Parts.{changed};
 
-use crate::trees::{is_same, same_params};
+use crate::same_trees::{is_same, same_params};
 use cocoon_num::NoMemory;
 use cocoon_syntax::{Decl, Design, Refine, Role};
 use cocoon_types::{Noted, TypeRule};

@@ -9,7 +9,7 @@ ghost use Rattle.fault_notes.specs.Among.{among};
 ghost use Rattle.form_rules.specs.Parts.{bodiless, host_faults};
 
 use crate::declared::host_roles;
-use crate::trees::{is_named, is_truth, same_params};
+use crate::same_trees::{is_named, is_truth, same_params};
 use cocoon_syntax::{Design, HostDecl, Role};
 use cocoon_types::{Noted, TypeRule};
 use declarations::Declarations;

@@ -12,7 +12,7 @@ ghost use Rattle.declarations.specs.Declares.{Declares};
 ghost use Rattle.fault_notes.specs.Among.{among};
 ghost use Rattle.form_rules.specs.Parts.{not_two_ports, where_named};
 
-use crate::trees::is_named;
+use crate::same_trees::is_named;
 use cocoon_syntax::{Design, Param, Role};
 use cocoon_types::{Noted, TypeRule};
 use declarations::Declarations;

@@ -40,7 +40,7 @@ impl<'r> Subject for Cases<'r> {
             "text" => put_text(self.rt, rest, given),
             "edit" => put_edited(self.rt, &base, rest, given),
             "printed" => put_file(self.rt, rest, given),
-            "fronts" => put_swept(self.rt, base.text(), Sweep::Front, rest, given),
+            "prefixes" => put_swept(self.rt, base.text(), Sweep::Prefix, rest, given),
             "replaced" => put_replaced(self.rt, base.text(), rest, given),
             _ => given.put("no question"),
         }

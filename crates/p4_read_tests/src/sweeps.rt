@@ -7,7 +7,7 @@ use std::alloc::Global;
 #[derive(Clone, Copy, Drop)]
 pub enum Sweep<'a> {
     /// It ends before the byte.
-    Front,
+    Prefix,
     /// This piece comes for the byte.
     Replaced(&'a str),
 }

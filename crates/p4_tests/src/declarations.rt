@@ -26,7 +26,7 @@ fn field(alloc: Global, word: &str) -> Option<P4Field> {
     Some(P4Field { name, width })
 }
 
-/// The indexes `KEY,KEY`; none where the word is empty.
+/// The indices `KEY,KEY`; none where the word is empty.
 fn keys(alloc: Global, word: &str) -> Option<Vec<u32>> {
     let mut keys = Vec::new(alloc);
     if word.is_empty() {

@@ -18,13 +18,13 @@ mod literals;
 mod networks;
 mod packets;
 mod printed;
+mod program_words;
 mod row_words;
 mod second_switch;
 mod shorthand;
 mod statements;
 mod timed;
 mod visits;
-mod words;
 
 use bundles::write_case;
 use case_files::{Printer, Subject, first_word, input, print, sole_word, try_words};

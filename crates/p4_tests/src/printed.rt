@@ -1,6 +1,6 @@
 //! Whether programs are well kinded, and what is printed of them.
+use crate::program_words::program_of;
 use crate::shorthand::put_expanded;
-use crate::words::program_of;
 use case_files::{Printer, file, first_word, last_line};
 use cocoon_num::NoMemory;
 use p4_emit::emit;

@@ -30,7 +30,7 @@ all_known : (hosts : List ℕ) (lines : List Line) (ps : List Packet) → all_ju
 all_known hosts [] ps h = let same : ◌≡◌ {A = List Packet} [] ps = cc in subst (AllKnown hosts) same tt
 all_known hosts (line ∷ lines) ps h =
     first_known hosts (judged hosts line) (all_judged hosts lines) ps
-    (λ p e. host_of hosts line.number (packet_of (parts_of line.content)) p e) (λ qs e. all_known hosts lines qs e) h
+    (λ p e. host_of hosts line.number (packet_of (parts_of line.bytes)) p e) (λ qs e. all_known hosts lines qs e) h
 
 -- the same of a loop at its end
 pub known_at_end : (hosts : List ℕ) (items : List code.Line) (i : ℕ) (ps : List Packet) → length items ≤ i → joined ps (all_judged hosts (map line_of (drop i items))) ≡ all_judged hosts (map line_of items) → AllKnown hosts ps

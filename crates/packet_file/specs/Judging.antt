@@ -9,9 +9,9 @@ abbrev pub packet_in : Packet → spec.Packet
 packet_in p = record { host = p.host; bytes = p.bytes.items }
 
 -- the answer of the code stands for this one, where there was memory
-abbrev pub Reads : {X Y : Type 0} → (Y → X) → Result X PacketFault → Result Y PacketFault → Type 0
-Reads stands answer (Ok y) = answer ≡ Ok (stands y)
-Reads stands answer (Err fault) = (fault ≡ NoMemory) ⊎ (answer ≡ Err fault)
+abbrev pub AnswersAs : {X Y : Type 0} → (Y → X) → Result X PacketFault → Result Y PacketFault → Type 0
+AnswersAs stands answer (Ok y) = answer ≡ Ok (stands y)
+AnswersAs stands answer (Err fault) = (fault ≡ NoMemory) ⊎ (answer ≡ Err fault)
 
 -- these packets and those of an answer, or its fault
 abbrev pub joined : List spec.Packet → Result (List spec.Packet) PacketFault

@@ -4,7 +4,7 @@ use Rattle.std.specs.Prelude.{◌≡◌, ℕ, ◌+◌, ◌*◌, ◌==◌, nat_lt
 use Rattle.cocoon_num.specs.Lists.{has_number}
 use Rattle.cocoon_num.specs.Tokens.{hex_digit}
 use Rattle.text_lines.specs.Lines.{Line, filled_lines, parts_of}
-use Rattle.text_lines.specs.Numbers.{number_of}
+use Rattle.text_lines.specs.Numbers.{part_number}
 use Rattle.packet_file.specs.declared.packet.PacketFault.{PacketFault}
 use Rattle.packet_file.specs.declared.packet.PacketFault.TheVariants.{Form, TooLong, NoSuchHost}
 
@@ -44,7 +44,7 @@ bytes_of (digit ∷ digits) =
 abbrev pub both_of : (host bytes : List ℕ) → Option Packet
 both_of host bytes =
     option_and_then (λ h. option_map (λ bs. record { host = h; bytes = bs }) (bytes_of bytes))
-    (number_of host)
+    (part_number host)
 
 -- a host, and the bytes of a packet
 abbrev pub packet_of : List (List ℕ) → Option Packet
@@ -62,7 +62,7 @@ judged_at hosts number (Some packet) =
     else Err (NoSuchHost number)
 
 abbrev pub judged : (hosts : List ℕ) → Line → Result Packet PacketFault
-judged hosts line = judged_at hosts line.number (packet_of (parts_of line.content))
+judged hosts line = judged_at hosts line.number (packet_of (parts_of line.bytes))
 
 -- a packet before others, or the first fault
 abbrev pub before : Result Packet PacketFault → Result (List Packet) PacketFault

@@ -2,7 +2,7 @@
 ghost use Rattle.std.specs.Prelude.{◌≡◌, ◌⊎◌, IfErr, IfOk, map, option_map, Result, Ok, Err};
 ghost use Rattle.loaded_net.specs.Nets.{net_in};
 ghost use Rattle.p4_ir.specs.Wiring.{host_numbers};
-ghost use Rattle.packet_file.specs.Judging.{packet_in, Reads};
+ghost use Rattle.packet_file.specs.Judging.{AnswersAs, packet_in};
 ghost use Rattle.packet_file.specs.Packets as spec;
 ghost use Rattle.packet_file.specs.Packets.{AllKnown, judged, packet_of, packets_in};
 ghost use Rattle.text_lines.specs.LineOf.{line_of};
@@ -44,9 +44,10 @@ fn read_parts(alloc: Global, parts: &[&[u8]]) -> Result<Option<Packet>, NoMemory
 
 /// The packet of a line, if it is not too long and its host is one of the network.
 fn read_line(alloc: Global, net: &Net, line: Line<'_>) -> Result<Packet, PacketFault>
-    ensures { Reads packet_in (judged (host_numbers (net_in net.now).hosts) (line_of line.entry)) result }
+    ensures { AnswersAs packet_in
+        (judged (host_numbers (net_in net.now).hosts) (line_of line.entry)) result }
 {
-    let parts = split_parts(alloc, line.content)?;
+    let parts = split_parts(alloc, line.bytes)?;
     let Some(packet) = read_parts(alloc, &parts)? else {
         return Err(PacketFault::Form(line.number));
     };
@@ -67,7 +68,7 @@ fn read_line(alloc: Global, net: &Net, line: Line<'_>) -> Result<Packet, PacketF
 /// host.
 #[tactic(auto, unfolding(crate::specs::Packets::packets_in))]
 pub fn read_packets(alloc: Global, net: &Net, text: &[u8]) -> Result<Vec<Packet>, PacketFault>
-    ensures reads { Reads (λ v. map packet_in v.items)
+    ensures reads { AnswersAs (λ v. map packet_in v.items)
         (packets_in (host_numbers (net_in net.now).hosts) text.now) result }
     ensures known { IfOk result (λ v.
         AllKnown (host_numbers (net_in net.now).hosts) (map packet_in v.items)) }

@@ -28,8 +28,8 @@ impl Known {
     }
 
     fn set(&mut self, variable: u32, value: bool) {
-        if let Some(place) = self.values.get_mut(variable as usize) {
-            *place = Some(value);
+        if let Some(slot) = self.values.get_mut(variable as usize) {
+            *slot = Some(value);
         }
     }
 

@@ -6,6 +6,7 @@
 #![tactic(auto)]
 
 mod building;
+mod dimacs_texts;
 mod drafts;
 mod evaluating;
 mod extending;
@@ -14,13 +15,12 @@ mod known;
 mod lists;
 mod reading;
 mod searching;
-mod texts;
 mod values;
 
 use case_files::{Printer, Subject, first_word, try_words};
+use dimacs_texts::{Kind, put_searches, put_texts};
 use goals::{put_inputs, put_size, put_solutions};
 use std::process::ExitCode;
-use texts::{Kind, put_searches, put_texts};
 use values::put_values;
 
 /// The cases, with the machine that has their files of data.

@@ -3,7 +3,7 @@ use Rattle.std.specs.Prelude.{◌≡◌, ◌++◌, map, ℕ, suc, ◌+◌, ◌<�
 use Rattle.std.proofs.Common.{ap, sym, ◌∙◌, arith, take_all}
 use Rattle.std.specs.Borrow.{Bor}
 use Rattle.cocoon_num.specs.Tokens.{leading}
-use Rattle.text_lines.specs.Lines.{contents, parts_of, longer_first}
+use Rattle.text_lines.specs.Lines.{line_bytes, parts_of, longer_first}
 
 -- how many bytes come before the first one that is `stop`
 abbrev pub before : ℕ → List ℕ → ℕ
@@ -11,26 +11,26 @@ before stop bs = length (leading (λ b. not (b == stop)) bs)
 
 -- ---- lines
 
-ended_line : (b : ℕ) (bs : List ℕ) (e : Bool) → (b == 10) ≡ e → (bs ≡ [] → ⊥) → contents bs ≡ take (before 10 bs) bs ∷ contents (drop (suc (before 10 bs)) bs)
-    → contents (b ∷ bs) ≡ take (before 10 (b ∷ bs)) (b ∷ bs) ∷ contents (drop (suc (before 10 (b ∷ bs))) (b ∷ bs))
+ended_line : (b : ℕ) (bs : List ℕ) (e : Bool) → (b == 10) ≡ e → (bs ≡ [] → ⊥) → line_bytes bs ≡ take (before 10 bs) bs ∷ line_bytes (drop (suc (before 10 bs)) bs)
+    → line_bytes (b ∷ bs) ≡ take (before 10 (b ∷ bs)) (b ∷ bs) ∷ line_bytes (drop (suc (before 10 (b ∷ bs))) (b ∷ bs))
 ended_line b bs true e some h = rw e refl
 ended_line b bs false e some h = rw e (ap (longer_first b) h)
 
-last_byte : (b : ℕ) (e : Bool) → (b == 10) ≡ e → contents (b ∷ []) ≡ take (before 10 (b ∷ [])) (b ∷ []) ∷ contents (drop (suc (before 10 (b ∷ []))) (b ∷ []))
+last_byte : (b : ℕ) (e : Bool) → (b == 10) ≡ e → line_bytes (b ∷ []) ≡ take (before 10 (b ∷ [])) (b ∷ []) ∷ line_bytes (drop (suc (before 10 (b ∷ []))) (b ∷ []))
 last_byte b true e = rw e refl
 last_byte b false e = rw e refl
 
-first_content : (b : ℕ) (bs : List ℕ) → contents (b ∷ bs) ≡ take (before 10 (b ∷ bs)) (b ∷ bs) ∷ contents (drop (suc (before 10 (b ∷ bs))) (b ∷ bs))
-first_content b [] = last_byte b (b == 10) refl
-first_content b (x ∷ xs) = ended_line b (x ∷ xs) (b == 10) refl (λ e. cc) (first_content x xs)
+first_line : (b : ℕ) (bs : List ℕ) → line_bytes (b ∷ bs) ≡ take (before 10 (b ∷ bs)) (b ∷ bs) ∷ line_bytes (drop (suc (before 10 (b ∷ bs))) (b ∷ bs))
+first_line b [] = last_byte b (b == 10) refl
+first_line b (x ∷ xs) = ended_line b (x ∷ xs) (b == 10) refl (λ e. cc) (first_line x xs)
 
-pub line_splits : (bs : List ℕ) (n : ℕ) → 0 < length bs → n ≡ before 10 bs → contents bs ≡ take n bs ∷ contents (drop (n + 1) bs)
+pub line_splits : (bs : List ℕ) (n : ℕ) → 0 < length bs → n ≡ before 10 bs → line_bytes bs ≡ take n bs ∷ line_bytes (drop (n + 1) bs)
 line_splits [] n h e = absurd (omega (arith, h))
 line_splits (b ∷ bs) n h e =
     let more : suc (before 10 (b ∷ bs)) ≡ n + 1 = omega (arith, e) in
-    first_content b bs
-    ∙ ap (λ k. take k (b ∷ bs) ∷ contents (drop (suc (before 10 (b ∷ bs))) (b ∷ bs))) (sym e)
-    ∙ ap (λ k. take n (b ∷ bs) ∷ contents (drop k (b ∷ bs))) more
+    first_line b bs
+    ∙ ap (λ k. take k (b ∷ bs) ∷ line_bytes (drop (suc (before 10 (b ∷ bs))) (b ∷ bs))) (sym e)
+    ∙ ap (λ k. take n (b ∷ bs) ∷ line_bytes (drop k (b ∷ bs))) more
 
 -- ---- parts
 

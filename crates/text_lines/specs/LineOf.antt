@@ -3,4 +3,4 @@ use Rattle.text_lines.specs.Lines.{Line as line}
 use Rattle.text_lines.specs.declared.lines.Line.{Line}
 
 abbrev pub line_of : Line → line
-line_of l = record { number = l.number; content = l.content.now }
+line_of l = record { number = l.number; bytes = l.bytes.now }

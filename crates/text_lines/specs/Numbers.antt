@@ -8,8 +8,8 @@ abbrev pub most_digits : ℕ
 most_digits = 20
 
 -- the number that a part is, of one digit to so many, below 2^64
-abbrev pub number_of : List ℕ → Option ℕ
-number_of part =
+abbrev pub part_number : List ℕ → Option ℕ
+part_number part =
     if nat_le (length part) most_digits
     then option_and_then (λ n. kept_if (nat_lt n (2 ^ 64)) n) (decimal_value part)
     else None
@@ -18,7 +18,7 @@ number_of part =
 abbrev pub numbers_of : List (List ℕ) → Option (List ℕ)
 numbers_of [] = Some []
 numbers_of (part ∷ parts) =
-    option_and_then (λ n. option_map (λ ns. n ∷ ns) (numbers_of parts)) (number_of part)
+    option_and_then (λ n. option_map (λ ns. n ∷ ns) (numbers_of parts)) (part_number part)
 
 -- the parts are the one part `-`
 abbrev pub is_dash : List (List ℕ) → Bool

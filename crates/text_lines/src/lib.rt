@@ -2,11 +2,11 @@
 //! a line has to say is the business of who reads the file.
 #![tactic(auto)]
 
+pub mod line_parts;
 pub mod lines;
 pub mod numbers;
-pub mod parts;
 mod pieces;
 
+pub use line_parts::split_parts;
 pub use lines::{Line, Lines, split_lines};
 pub use numbers::{decimal_value, read_list, read_number, read_numbers};
-pub use parts::split_parts;

@@ -1,7 +1,7 @@
 //! The lines of a file.
 ghost use Rattle.std.specs.Prelude.{◌≡◌, ◌∷◌, ◌<◌, ◌≤◌, IfOk, length, map};
 ghost use Rattle.text_lines.specs.LineOf.{line_of};
-ghost use Rattle.text_lines.specs.Lines.{contents, filled_lines, line_count};
+ghost use Rattle.text_lines.specs.Lines.{line_bytes, filled_lines, line_count};
 
 use crate::pieces::{behind, len_before, prefix};
 use cocoon_num::NoMemory;
@@ -15,7 +15,7 @@ pub struct Line<'t> {
     /// Its number among all lines of the file, from 1.
     pub number: u64,
     /// Its bytes, without the line feed that ends it.
-    pub content: &'t [u8],
+    pub bytes: &'t [u8],
 }
 
 /// The lines of a file.
@@ -30,7 +30,7 @@ pub struct Lines<'t> {
 /// What stands in the first line of some bytes, and the bytes behind it.
 fn split_line(text: &[u8]) -> (&[u8], &[u8])
     requires { 0 < length text.now }
-    ensures lines { contents text.now ≡ result.0.now ∷ contents result.1.now }
+    ensures lines { line_bytes text.now ≡ result.0.now ∷ line_bytes result.1.now }
     ensures fewer { length result.1.now < length text.now }
 {
     let len = len_before(text, LINE_FEED);
@@ -47,12 +47,12 @@ pub fn split_lines<'t>(alloc: Global, text: &'t [u8]) -> Result<Lines<'t>, NoMem
     let mut count = 0;
     let mut rest = text;
     while !rest.is_empty() {
-        let (content, after) = split_line(rest);
+        let (bytes, after) = split_line(rest);
         count += 1;
-        if !content.is_empty() {
+        if !bytes.is_empty() {
             filled.push(Line {
                 number: count,
-                content,
+                bytes,
             })?;
         }
         rest = after;

@@ -2,7 +2,7 @@
 ghost use Rattle.std.specs.Prelude.{◌≡◌, ◌<◌, ◌≤◌, IfOk, length, map, option_map};
 ghost use Rattle.cocoon_num.specs.Names.{same_name};
 ghost use Rattle.cocoon_num.specs.Tokens as tokens;
-ghost use Rattle.text_lines.specs.Numbers.{is_dash, list_of, number_of, numbers_of};
+ghost use Rattle.text_lines.specs.Numbers.{is_dash, list_of, part_number, numbers_of};
 
 use cocoon_num::NoMemory;
 use std::alloc::Global;
@@ -37,7 +37,7 @@ pub fn decimal_value(digits: &[u8]) -> Option<u128>
 
 /// The number that a part is: 1 to 20 decimal digits, below 2^64. Leading zeros count as digits.
 pub fn read_number(part: &[u8]) -> Option<u64>
-    ensures { result ≡ number_of part.now }
+    ensures { result ≡ part_number part.now }
 {
     if part.len() > MOST_DIGITS {
         return None;

@@ -9,11 +9,11 @@ use std::alloc::Global;
 const SPACE: u8 = b' ';
 
 /// The parts of what stands in a line. Where two spaces stand side by side, or one at an end, there is an empty part.
-pub fn split_parts<'t>(alloc: Global, content: &'t [u8]) -> Result<Vec<&'t [u8]>, NoMemory>
-    ensures { IfOk result (λ v. map (λ part. part.now) v.items ≡ parts_of content.now) }
+pub fn split_parts<'t>(alloc: Global, line: &'t [u8]) -> Result<Vec<&'t [u8]>, NoMemory>
+    ensures { IfOk result (λ v. map (λ part. part.now) v.items ≡ parts_of line.now) }
 {
     let mut parts = Vec::new(alloc);
-    let mut rest = content;
+    let mut rest = line;
     loop {
         let len = len_before(rest, SPACE);
         parts.push(prefix(rest, len))?;

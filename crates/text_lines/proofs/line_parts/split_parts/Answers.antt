@@ -1,7 +1,7 @@
 use Rattle.std.proofs.Common.{rules, ◌∙◌, ◌+◌, ◌∷◌, [], ap, append-nil, drop, map, sym}
 use Rattle.text_lines.specs.Lines.{parts_of}
 use Rattle.text_lines.proofs.Splitting.{last_part, one_more, part_splits}
-use Rattle.text_lines.proofs.parts.split_parts.Goals as goal
+use Rattle.text_lines.proofs.line_parts.split_parts.Goals as goal
 
 pub returns-then-len-rest : goal.returns-then-len-rest
 returns-then-len-rest c =

@@ -1,4 +1,4 @@
-//! Expressions and parameters that are the same as trees, token indexes aside.
+//! Expressions and parameters that are the same as trees, token indices aside.
 ghost use Rattle.std.specs.Prelude.{◌≡◌, ◌==◌, ◌&&◌, map};
 ghost use Rattle.cocoon_num.specs.Names.{same_name};
 ghost use Rattle.cocoon_num.specs.Reads.{operator};

@@ -3,7 +3,7 @@ use Rattle.std.proofs.lemmas.List.{drop_all}
 use Rattle.cocoon_syntax.specs.TreeOf.{expr_of, exprs_of}
 use Rattle.cocoon_types.specs.SameTrees.{same_exprs}
 use Rattle.form_rules.proofs.CallTrees.{none_left}
-use Rattle.form_rules.proofs.trees.+same.Goals as goal
+use Rattle.form_rules.proofs.same_trees.+same.Goals as goal
 
 pub are_same-returns : goal.are_same-returns
 are_same-returns t c =
