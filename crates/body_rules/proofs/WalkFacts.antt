@@ -12,7 +12,7 @@ use Rattle.cocoon_types.specs.FirstFault.{Fault}
 use Rattle.cocoon_types.specs.Noting.{Notes, NotingLaws}
 use Rattle.cocoon_types.specs.Rules.{not_switch_form, not_wire, last_choice, fork_form}
 use Rattle.declarations.specs.NameNumbers.{index_of, number_of}
-use Rattle.declarations.specs.declared.name_table.NameTable.{NameTable}
+use Rattle.name_table.specs.declared.table.NameTable.{NameTable}
 use Rattle.fault_notes.specs.Among.{among}
 use Rattle.body_rules.specs.declared.stmts.Asked.{Asked}
 use Rattle.body_rules.specs.Stmts.{stmts_in}

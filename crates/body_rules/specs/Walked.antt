@@ -11,7 +11,7 @@ use Rattle.cocoon_types.specs.FormRules.{is_wire}
 use Rattle.cocoon_types.specs.Noting.{Notes}
 use Rattle.cocoon_types.specs.RuleParts.{unless, stmt_at}
 use Rattle.cocoon_types.specs.Rules.{not_switch_form, not_wire, last_choice, fork_form}
-use Rattle.declarations.specs.declared.name_table.NameTable.{NameTable}
+use Rattle.name_table.specs.declared.table.NameTable.{NameTable}
 use Rattle.declarations.specs.NameNumbers.{Numbers}
 use Rattle.fault_notes.specs.Among.{among}
 use Rattle.body_rules.specs.Stmts.{stmts_in, fields_at, may_have, sends_own, forks_well}

@@ -1,4 +1,4 @@
-pub mod NameFacts
+pub use Rattle.name_table.proofs.NameFacts
 pub mod PlaceFacts
 pub mod LatestFacts
 pub mod RoleFacts

@@ -1,3 +1,3 @@
-pub mod NameNumbers
+pub use Rattle.name_table.specs.NameNumbers
 pub mod Places
 pub mod Declares

@@ -1,16 +1,22 @@
 //! What the declarations of a design declare.
-ghost use Rattle.std.specs.Prelude.{◌≡◌, [], ◌∷◌, ◌++◌, List, IfOk, OnOk, map};
+ghost use Rattle.std.specs.Prelude.{◌≡◌, ◌+◌, [], ◌∷◌, ◌++◌, List, IfOk, OnOk, map};
 ghost use Rattle.cocoon_syntax.specs.TreeOf.{decl_of, design_of, refine_of};
 ghost use Rattle.declarations.specs.Places.{Placed, placed, placed_blocks, placed_from};
 ghost use Rattle.declarations.specs.Declares.{Holds};
 
 use crate::function_table::FunctionTable;
-use crate::name_table::next_number;
 use crate::place::Place;
 use crate::role_table::RoleTable;
 use cocoon_num::NoMemory;
 use cocoon_syntax::{Decl, Design, Refine};
 use std::alloc::Global;
+
+/// The next number.
+fn next_number(number: u32) -> Result<u32, NoMemory>
+    ensures { IfOk result (λ next. next ≡ number + 1) }
+{
+    number.checked_add(1).ok_or(NoMemory)
+}
 
 /// The functions and the roles, and where hosts and switches are declared first.
 #[derive(Drop)]

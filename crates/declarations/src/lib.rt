@@ -8,7 +8,6 @@
 mod decl_table;
 mod function_table;
 mod header_table;
-pub mod name_table;
 mod place;
 mod role_table;
 pub mod tables;

@@ -10,7 +10,7 @@ use Rattle.cocoon_types.specs.RuleParts.{unless_named, has_name, repeated, param
 use Rattle.cocoon_types.specs.FirstFault.{Fault}
 use Rattle.fault_notes.specs.Among.{among}
 use Rattle.declarations.specs.NameNumbers.{Numbers}
-use Rattle.declarations.specs.declared.name_table.NameTable.{NameTable}
+use Rattle.name_table.specs.declared.table.NameTable.{NameTable}
 
 -- a table of these names
 abbrev pub Seen : NameTable → List Name → Type 0

@@ -12,3 +12,4 @@ pub mod NumberFacts
 pub mod ControlFacts
 pub mod PartFacts
 pub mod TableFacts
+pub mod CountFacts

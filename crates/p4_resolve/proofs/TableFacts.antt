@@ -16,8 +16,8 @@ use Rattle.p4_names.specs.Meant.{number_in, program_of_text, table_meant}
 use Rattle.p4_texts.specs.Written.{ProgramText, TableText, each_then, key_then, keys_then}
 use Rattle.p4_written.specs.TreeOf.{keys_of, table_of}
 use Rattle.p4_written.specs.declared.WrittenTable.{WrittenTable}
-use Rattle.declarations.proofs.NameFacts.{same-true}
-use Rattle.declarations.proofs.TableFacts.{taken}
+use Rattle.name_table.proofs.NameFacts.{same-true}
+use Rattle.p4_resolve.proofs.ScopeFacts.{taken}
 use Rattle.p4_resolve.specs.Controls.{IsBefore, TablesKeep, action_names, table_numbers}
 use Rattle.p4_resolve.specs.Judged.{Rest, Sees, Stops, StopsBy, index}
 use Rattle.p4_resolve.specs.Numbered.{is_small}

@@ -9,7 +9,8 @@ use Rattle.p4_names.specs.Meant.{control_meant, header_meant, meta_meant, names_
 use Rattle.p4_texts.specs.Written.{ControlText, ProgramText, TableText}
 use Rattle.p4_resolve.specs.Judged.{Passes, Sees}
 use Rattle.p4_resolve.specs.Numbered.{is_small}
-use Rattle.p4_resolve.specs.Scopes.{EachHolds, Holds, member_names}
+use Rattle.name_table.specs.NameNumbers.{Numbers}
+use Rattle.p4_resolve.specs.Scopes.{EachNumbers, member_names}
 use Rattle.p4_resolve.specs.declared.controls.Before.{Before}
 use Rattle.p4_resolve.specs.declared.scope.Scope.{Scope}
 
@@ -17,9 +18,9 @@ use Rattle.p4_resolve.specs.declared.scope.Scope.{Scope}
 pub record KnowsText (s : Scope) (t : ProgramText) : Type 0 where
   pub program_headers : map header_of s.program.headers ≡ map header_meant t.headers
   pub program_meta : map field_of s.program.meta ≡ map meta_meant t.rest.meta
-  pub meta : Holds s.meta (names_of t.rest.meta)
-  pub headers : Holds s.headers (member_names t.rest.members)
-  pub fields : EachHolds s.fields.items t.headers
+  pub meta : Numbers s.meta (names_of t.rest.meta)
+  pub headers : Numbers s.headers (member_names t.rest.members)
+  pub fields : EachNumbers s.fields.items t.headers
 
 abbrev pub action_names : List TableText → List (List ℕ)
 action_names ks = map (λ (k : TableText). k.action) ks

@@ -1,17 +1,18 @@
 //! What the names of a text stand for. They are put into tables once.
-ghost use Rattle.std.specs.Prelude.{◌≡◌, ◌∷◌, ◌++◌, [], IfOk, List as Items, OnOk, map, option_map, slice_get, true, ℕ};
+ghost use Rattle.std.specs.Prelude.{◌≡◌, ◌<◌, ◌^◌, IfOk, List as Items, length, map, option_map, slice_get, true, ℕ};
 ghost use Rattle.p4_ir.specs.P4Kinds as rules;
 ghost use Rattle.p4_ir.specs.Program as ir;
 ghost use Rattle.p4_ir.specs.P4Kinds.{Within};
 ghost use Rattle.p4_kinds.specs.Typed.{sort_of};
 ghost use Rattle.p4_names.specs.Meant as meant;
 ghost use Rattle.p4_resolve.specs.Controls.{KnowsText};
-ghost use Rattle.p4_resolve.specs.Scopes.{EachHolds, Holds, Knows, member_names};
-ghost use Rattle.p4_texts.specs.Written.{ProgramText};
+ghost use Rattle.name_table.specs.NameNumbers.{Numbers};
+ghost use Rattle.p4_resolve.specs.Scopes.{EachFew, EachNumbers, Knows, member_names};
+ghost use Rattle.p4_texts.specs.Written.{ProgramText, text_tokens};
 ghost use Rattle.p4_written.specs.TreeOf.{field_of, header_of, member_of, text_of};
 
 use cocoon_num::{List, NoMemory};
-use declarations::NameTable;
+use name_table::NameTable;
 use p4_ir::{Control, P4Field, P4Header, Program};
 use p4_kinds::exprs::{field_sort, meta_sort};
 use p4_kinds::sort::Sort;
@@ -19,64 +20,39 @@ use p4_written::{WrittenField, WrittenHeader, WrittenMember, WrittenProgram};
 use std::alloc::Global;
 use std::collections::BTreeSet;
 
-/// Names, and how many there are.
-#[derive(Drop)]
-pub(crate) struct Names {
-    table: NameTable,
-    count: u32,
-}
-
-impl Names {
-    fn new(alloc: Global) -> Names
-        ensures { Holds result [] }
-    {
-        Names {
-            table: NameTable::new(alloc),
-            count: 0,
-        }
-    }
-
-    fn append(&mut self, alloc: Global, name: &[u8]) -> Result<(), NoMemory>
-        ensures { (names : Items (Items ℕ)) → Holds self.old names
-            → OnOk result (Holds self.new (names ++ name.now ∷ [])) }
-    {
-        let count = self.count.checked_add(1).ok_or(NoMemory)?;
-        self.table.append(alloc, name)?;
-        self.count = count;
-        Ok(())
-    }
-
-    /// The place of the first that is this name, and else how many there are.
-    pub fn place(&self, name: &[u8]) -> u32
-        ensures { (names : Items (Items ℕ)) → Holds self.now names
-            → result ≡ meant.place_in names name.now }
-    {
-        self.table.number(name).unwrap_or(self.count)
-    }
-}
-
-fn field_names(alloc: Global, fields: &[WrittenField]) -> Result<Names, NoMemory>
-    ensures { IfOk result (λ names. Holds names (meant.names_of (map field_of fields.now))) }
+/// The place of the first that is this name, and else how many there are.
+pub(crate) fn place(names: &NameTable, name: &[u8]) -> u32
+    ensures { (all : Items (Items ℕ)) → Numbers names.now all
+        → result ≡ meant.place_in all name.now }
 {
-    let mut names = Names::new(alloc);
+    names.number(name).unwrap_or(names.count())
+}
+
+fn field_names(alloc: Global, fields: &[WrittenField]) -> Result<NameTable, NoMemory>
+    requires few { length fields.now < 2 ^ 32 }
+    ensures { IfOk result (λ names. Numbers names (meant.names_of (map field_of fields.now))) }
+{
+    let mut names = NameTable::new(alloc);
     for field in fields {
-        names.append(alloc, field.name.bytes())?;
+        names.add(alloc, field.name.bytes())?;
     }
     Ok(names)
 }
 
-fn names_of_members(alloc: Global, members: &[WrittenMember]) -> Result<Names, NoMemory>
-    ensures { IfOk result (λ names. Holds names (member_names (map member_of members.now))) }
+fn names_of_members(alloc: Global, members: &[WrittenMember]) -> Result<NameTable, NoMemory>
+    requires few { length members.now < 2 ^ 32 }
+    ensures { IfOk result (λ names. Numbers names (member_names (map member_of members.now))) }
 {
-    let mut names = Names::new(alloc);
+    let mut names = NameTable::new(alloc);
     for member in members {
-        names.append(alloc, member.name.bytes())?;
+        names.add(alloc, member.name.bytes())?;
     }
     Ok(names)
 }
 
-fn names_of_headers(alloc: Global, headers: &[WrittenHeader]) -> Result<Vec<Names>, NoMemory>
-    ensures { IfOk result (λ names. EachHolds names.items (map header_of headers.now)) }
+fn names_of_headers(alloc: Global, headers: &[WrittenHeader]) -> Result<Vec<NameTable>, NoMemory>
+    requires few { EachFew (map header_of headers.now) }
+    ensures { IfOk result (λ names. EachNumbers names.items (map header_of headers.now)) }
 {
     let mut names = Vec::new(alloc);
     for header in headers {
@@ -85,7 +61,7 @@ fn names_of_headers(alloc: Global, headers: &[WrittenHeader]) -> Result<Vec<Name
     Ok(names)
 }
 
-fn names_at(names: &Vec<Names>, index: u32) -> Option<&Names>
+fn names_at(names: &Vec<NameTable>, index: u32) -> Option<&NameTable>
     ensures { option_map (λ found. found.now) result ≡ slice_get names.now.items index }
 {
     names.get(index as usize)
@@ -95,9 +71,9 @@ fn names_at(names: &Vec<Names>, index: u32) -> Option<&Names>
 #[derive(Drop)]
 pub(crate) struct Scope {
     pub program: Program,
-    pub meta: Names,
-    headers: Names,
-    fields: Vec<Names>,
+    pub meta: NameTable,
+    headers: NameTable,
+    fields: Vec<NameTable>,
     pub in_ingress: bool,
     pub tables: BTreeSet<u32>,
 }
@@ -133,6 +109,7 @@ impl Scope {
         headers: Vec<P4Header>,
         meta: Vec<P4Field>,
     ) -> Result<Scope, NoMemory>
+        requires few { length (text_tokens (text_of text.now)) < 2 ^ 32 }
         ensures known { map ir.header_of headers.items
             ≡ map meant.header_meant (text_of text.now).headers
             → map ir.field_of meta.items ≡ map meant.meta_meant (text_of text.now).rest.meta
@@ -180,7 +157,7 @@ impl Scope {
         ensures { (t : ProgramText) (c : Within) → Knows self.now t c
             → result ≡ meant.meta_at t name.now }
     {
-        self.meta.place(name)
+        place(&self.meta, name)
     }
 
     /// The number of a header.
@@ -188,7 +165,7 @@ impl Scope {
         ensures { (t : ProgramText) (c : Within) → Knows self.now t c
             → result ≡ meant.header_at t name.now }
     {
-        self.headers.place(name)
+        place(&self.headers, name)
     }
 
     /// The number of a field of this header.
@@ -197,7 +174,7 @@ impl Scope {
             → result ≡ meant.field_at t header name.now }
     {
         match names_at(&self.fields, header) {
-            Some(names) => names.place(name),
+            Some(names) => place(names, name),
             None => 0,
         }
     }

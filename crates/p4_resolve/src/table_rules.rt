@@ -14,7 +14,7 @@ ghost use Rattle.p4_written.specs.TreeOf.{table_of};
 
 use crate::numbers::{is_numbered, is_with, number_of, tail};
 use crate::pieces::after;
-use crate::scope::Scope;
+use crate::scope::{Scope, place};
 use cocoon_num::{List, NoMemory, Text};
 use p4_ir::{P4Field, Table};
 use p4_kinds::bytes::is_same;
@@ -49,7 +49,7 @@ pub(crate) fn action_fits(
 {
     let action = table.action.bytes();
     let is_new = is_new(alloc, actions, action)?;
-    let result = scope.meta.place(table.result.bytes());
+    let result = place(&scope.meta, table.result.bytes());
     let is_wide = has_width(scope.program.meta.items(), result, table.width);
     Ok(is_numbered(b'a', action) && is_new && is_wide)
 }
@@ -61,7 +61,7 @@ fn key_indices(alloc: Global, scope: &Scope, keys: &[Text]) -> Result<Vec<u32>, 
 {
     let mut made = Vec::new(alloc);
     for key in keys {
-        made.push(scope.meta.place(key.bytes()))?;
+        made.push(place(&scope.meta, key.bytes()))?;
     }
     Ok(made)
 }
@@ -77,7 +77,7 @@ fn declared(
         → IfOk result (λ made. ir.table_of made ≡ meant.table_meant t (table_of table.now)) }
 {
     let keys = key_indices(alloc, scope, table.keys.items())?;
-    let result = scope.meta.place(table.result.bytes());
+    let result = place(&scope.meta, table.result.bytes());
     let exact = table.exact && !table.keys.items().is_empty();
     let keys = List::from(keys);
     Ok(Table {

@@ -26,6 +26,7 @@ use std::collections::BTreeSet;
 
 /// The headers, the lines that name them and the meta fields, up to the first table.
 fn declarations(alloc: Global, text: &WrittenProgram) -> Result<(Scope, u32), KindFault>
+    requires few { length (text_tokens (text_of text.now)) < 2 ^ 32 }
     ensures keeps { IfOk result (λ made. Declared (text_of text.now) made.0 made.1) }
     ensures stops { IfErr result (StopsBy 0 (pieces (text_of text.now))) }
 {

@@ -1,8 +1,8 @@
 use Rattle.std.proofs.Common.{map, take}
 use Rattle.p4_names.specs.Meant.{names_of}
 use Rattle.p4_written.specs.TreeOf.{field_of}
-use Rattle.p4_resolve.specs.Scopes.{Holds}
+use Rattle.name_table.specs.NameNumbers.{Numbers}
 use Rattle.p4_resolve.proofs.scope.field_names.Given as goal
 
 abbrev pub invariant-loop-field : goal.invariant-loop-field
-invariant-loop-field l = Holds l.names (names_of (map field_of (take l.field-index l.fields)))
+invariant-loop-field l = Numbers l.names (names_of (map field_of (take l.field-index l.fields)))

@@ -4,7 +4,7 @@ use Rattle.std.specs.Ordering.{nat_cmp}
 use Rattle.std.specs.Cmp.Lexicographic.{slice_cmp}
 use Rattle.std.specs.BTreeMap.{get_by}
 use Rattle.cocoon_num.specs.Names.{same_name}
-use Rattle.declarations.specs.declared.name_table.NameTable.{NameTable}
+use Rattle.name_table.specs.declared.table.NameTable.{NameTable}
 
 -- the index of the first of some names that is x
 abbrev pub index_of : List ℕ → List (List ℕ) → Option ℕ

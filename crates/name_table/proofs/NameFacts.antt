@@ -10,8 +10,8 @@ use Rattle.std.specs.BTreeMap.{get_by, is_at, UpdatesBy}
 use Rattle.std.proofs.lemmas.Map.Text.{is_eq-slice_cmp}
 use Rattle.cocoon_num.specs.Tree.{Name}
 use Rattle.cocoon_num.specs.Names.{same_name, named}
-use Rattle.declarations.specs.declared.name_table.NameTable.{NameTable}
-use Rattle.declarations.specs.NameNumbers.{index_of, number_of, Numbers}
+use Rattle.name_table.specs.declared.table.NameTable.{NameTable}
+use Rattle.name_table.specs.NameNumbers.{index_of, number_of, Numbers}
 
 or-none : {A : Type 0} (o : Option A) → option_or o None ≡ o
 or-none None = refl
