@@ -1,15 +1,15 @@
 -- What the weight of a hinted clause means for the hints after it, and which clauses are known.
-use Rattle.std.proofs.Common.{◌≡◌, ℕ, zero, suc, ◌+◌, ◌<◌, ◌==◌, ◌&&◌, ◌||◌, ℤ, true, List, [], ◌∷◌, ◌++◌, length, get_or, map, take, drop, Some, None, refl, sym, ap, ◌∙◌, subst, arith, inl, inr}
+use Rattle.std.proofs.Common.{◌≡◌, ℕ, zero, suc, ◌+◌, ◌-◌, ◌<◌, ◌==◌, ◌&&◌, ◌||◌, ℤ, Bool, true, IsTrue, List, [], ◌∷◌, ◌++◌, length, get_or, map, take, drop, Some, None, refl, sym, ap, ◌∙◌, subst, arith, inl, inr}
 use Rattle.std.specs.Prelude.{◌↔◌, slice_get}
 use Rattle.std.specs.List.{All}
 use Rattle.std.proofs.lemmas.Bool.{both_ways, and_parts, or_cases, false≢true, eqb-true, eq-eqb, cases_eq}
 use Rattle.std.proofs.lemmas.Bool.Decides.{Decides-int_eq}
-use Rattle.std.proofs.lemmas.List.{drop_all, length-drop, map-append, take_more}
+use Rattle.std.proofs.lemmas.List.{drop_all, length-drop, length-map, map-append, nil_from_length, take_more}
 use Rattle.std.proofs.lemmas.List.Elements.{All-append, All-cons, All-head, All-map, All-nil, All-tail}
 use Rattle.std.proofs.lemmas.Option.{get_or_from_slice_get, none-some, same_Some, slice_get_read, slice_get_within}
 use Rattle.cocoon_num.specs.Lists.{each}
 use Rattle.cnf_core.specs.Clauses.{literals}
-use Rattle.cnf_core.specs.Deriving.{Derived, Follows, Refutes, forces, has_no_value, is_conflict, is_false, known}
+use Rattle.cnf_core.specs.Deriving.{Derived, EndsEmpty, Follows, Refutes, forces, has_no_value, is_conflict, is_false, known}
 use Rattle.cnf_core.specs.Literals.{Names, has_literal, same}
 use Rattle.cnf_core.specs.Satisfying.{WellNamed}
 use Rattle.cnf_core.specs.Trails.{WeighsAs}
@@ -74,6 +74,17 @@ last-hint hs i h e = drop_all (i + 1) hs (omega (arith, eqb-true (i + 1) (length
 
 pub hint-last : (hs : List ℕ) (i : ℕ) → i < length hs → drop (i + 1) hs ≡ [] → (i + 1 == length hs) ≡ true
 hint-last hs i h e = eq-eqb (i + 1) (length hs) (omega (arith, h, length-drop (i + 1) hs, ap length e))
+
+-- ---- the last step
+
+-- the last clause is empty where it has no literals
+pub ends-here : (steps : List Step) (s : Step) (lits : List Lit) (b : Bool) → slice_get steps (length steps - 1) ≡ Some s → lits ≡ s.clause.lits
+    → b ≡ (length lits == 0) → IsTrue b ↔ EndsEmpty steps
+ends-here steps s lits b at same is =
+    let count : length (literals s.clause) ≡ length lits = length-map s.clause.lits (λ (l : Lit). l.number) ∙ ap length (sym same) in (
+      λ t. (s, at, nil_from_length (literals s.clause) (count ∙ eqb-true (length lits) 0 (sym is ∙ t))),
+      λ e. is ∙ eq-eqb (length lits) 0 (sym count ∙ ap length (subst (λ x. literals x.clause ≡ []) (same_Some e.0 s (sym e.1 ∙ at)) e.2)),
+    )
 
 -- ---- the clauses that are known
 

@@ -2,6 +2,7 @@ use Rattle.std.proofs.Common.{◌≡◌, ◌+◌, ◌<◌, ◌∙◌, List, ap, 
 use Rattle.cnf_core.specs.Deriving.{EachDerived, EndsEmpty}
 use Rattle.cnf_core.specs.Licensing.{BringsNew}
 use Rattle.cnf_core.specs.declared.log.Step.{Step}
+use Rattle.cdcl.specs.States.{RanAs}
 use Rattle.cdcl.proofs.answer.solve.Goals as goal
 
 pub returns-then-is_empty : goal.returns-then-is_empty
@@ -28,3 +29,15 @@ returns c =
       derived = subst (EachDerived cnf) (sym log) sound.derived;
       new = subst each_new (sym log) (λ k lt. sound.new k (omega (arith, lt, count)));
     }
+
+pub loop-alloc-preserved : goal.loop-alloc-preserved
+loop-alloc-preserved c = record {
+  sound = c.in_ok-learn.ensures.sound;
+  within = omega (arith, c.in_ok-learn.ensures.one, ap length c.in_ok-conflict.ensures.steps, c.loop-alloc-test.true, c.len.ensures, c.loop-alloc.search.steps.ok.0);
+}
+
+pub learn-requires-clause-conflict : goal.learn-requires-clause-conflict
+learn-requires-clause-conflict c = subst (RanAs c.args.cnf.now c.run.new.self) c.in-Some.is c.in_ok-conflict.ensures.ran
+
+pub refute-requires-clause-conflict : goal.refute-requires-clause-conflict
+refute-requires-clause-conflict c = subst (RanAs c.args.cnf.now c.run.new.self) c.in-Some.is c.in_ok-conflict.ensures.ran

@@ -4,7 +4,7 @@ use Rattle.cnf_core.specs.Clauses.{literals}
 use Rattle.cnf_core.specs.Literals.{Names}
 use Rattle.cnf_core.specs.TrailViews.{room, trues}
 use Rattle.proof_check.specs.KnownClauses.{clauses_of}
-use Rattle.proof_check.proofs.Hinting.{at-some, hint-weighs}
+use Rattle.proof_check.proofs.Hinting.{at-some, hint-none, hint-weighs}
 use Rattle.proof_check.proofs.step.weigh.Goals as goal
 
 pub returns-in-Some : goal.returns-in-Some
@@ -14,3 +14,6 @@ returns-in-Some c =
     let clause = literals c.in-Some.clause.now in
     hint-weighs vars cs (trues c.args.trail.now) c.args.hint clause (sym c.in-Some.ensures)
     (at-some (All (Names vars)) cs c.args.hint clause c.requires (sym c.in-Some.ensures)) c.weigh.result c.weigh.ensures
+
+pub returns-in-None : goal.returns-in-None
+returns-in-None c = hint-none (room c.args.trail.now) (clauses_of c.args.known.now) (trues c.args.trail.now) c.args.hint (sym c.in-None.ensures)

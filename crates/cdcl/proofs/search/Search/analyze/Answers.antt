@@ -71,3 +71,18 @@ loop-analysis-smaller c =
     let a = c.loop-analysis.analysis in
     let h = c.loop-analysis.invariant.analyzed in
     omega (arith, c.loop-analysis-test.true, a.counted, count-below a.floor a.marks.items (length (trues c.args.self.now.trail)) c.loop-analysis.top h.sized h.below)
+
+pub loop-analysis-preserved : goal.loop-analysis-preserved
+loop-analysis-preserved c = record {
+  within = omega (arith, c.loop-analysis.invariant.within);
+  analyzed = c.in_ok-resolve.ensures.after;
+  at_floor = c.in_ok-resolve.ensures.floor ∙ c.loop-analysis.invariant.at_floor;
+  enough = omega (arith, c.in_ok-resolve.ensures.count, c.loop-analysis-test.true);
+}
+
+pub returns : goal.returns
+returns c = record {
+  at_floor = c.loop-analysis.invariant.at_floor;
+  exact = omega (arith, c.loop-analysis.invariant.enough, c.loop-analysis-test.false);
+  analyzed = (c.loop-analysis.top, c.loop-analysis.invariant.analyzed);
+}

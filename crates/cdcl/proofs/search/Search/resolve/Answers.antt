@@ -6,7 +6,7 @@ use Rattle.cnf_core.specs.TrailViews.{room, trues}
 use Rattle.cdcl.specs.Marks.{Shows}
 use Rattle.cdcl.specs.Searching.{IsForcedBy}
 use Rattle.cdcl.specs.States.{clauses_of}
-use Rattle.cdcl.proofs.Conflicts.{below-reason, shows-reason}
+use Rattle.cdcl.proofs.Conflicts.{below-reason, below-skip, shows-reason, shows-skip}
 use Rattle.cdcl.proofs.search.Search.resolve.Goals as goal
 
 pub returns-clause-after : goal.returns-clause-after
@@ -31,3 +31,15 @@ returns-clause-after c =
       shows = subst (Shows cs ts new.marks.items p) (sym (m.noted ∙ ap (λ hs. hs ++ n ∷ []) c.unmark.ensures.same.same_hints))
           (shows-reason cs ts s.trail.apart (room s.trail) s.trail.named p n old.hints.items old.marks.items unmarked new.marks.items c.requires.within within f c.unmark.ensures.marks f marks before.shows);
     }) c.take_clause.ensures
+
+pub returns-then-not-is_marked-clause-after : goal.returns-then-not-is_marked-clause-after
+returns-then-not-is_marked-clause-after c =
+    let cs = clauses_of c.args.cnf.now c.args.self.now in
+    let ts = trues c.args.self.now.trail in
+    let marks = c.args.analysis.now.marks.items in
+    let before = c.requires.before in
+    record {
+      sized = before.sized;
+      below = below-skip cs ts c.args.place marks (sym c.is_marked.ensures ∙ c.if-not-is_marked.true) before.below;
+      shows = shows-skip cs ts c.args.place c.args.analysis.now.hints.items marks before.shows;
+    }
