@@ -12,7 +12,7 @@ use cocoon_text::laws::{one_fault, trees_have_no_fault};
 use cocoon_types::first_faults::{first_or_well_formed, one_first_fault};
 use cocoon_types::limits::{one_first_over, within_is_not_over};
 use lower_p4::laws::one_lowering;
-use plain_parser::texts::{one_definitions_tree, one_tree};
+use plain_parser::text_laws::{one_definitions_tree, one_tree};
 
 /// By what is read of its files, a command has one outcome at most: the first step that refuses,
 /// with its status and its line, or its report. Of `forward` it is said where the content of the

@@ -1,9 +1,2 @@
-pub mod Blocks
-pub mod Chains
-pub mod Closings
 pub mod Depths
-pub mod Eventually
-pub mod Heads
-pub mod Refinements
-pub mod Rows
 pub mod WholeTexts

@@ -14,11 +14,11 @@ use Rattle.plain_parser.specs.Reading.{Fails, Ended, TokensOf, reach, Reading}
 use Rattle.plain_parser.specs.Reading as reading
 use Rattle.cocoon_parse.specs.Depth.{FirstDeep}
 use Rattle.cocoon_parse.specs.Faults.{fault_of, IsFirstFault, IndexFits}
-use Rattle.cocoon_parse.specs.Agrees.{AgreesDeep, kind_at, kinds_at}
+use Rattle.expr_parser.specs.Agrees.{AgreesDeep, kind_at, kinds_at}
 use Rattle.cocoon_parse.specs.declared.fault.ParseFault.{ParseFault}
 use Rattle.cocoon_parse.specs.declared.fault.ParseFault.TheVariants as fault
-use Rattle.cocoon_parse.specs.declared.fault.Stop.{Stop}
-use Rattle.cocoon_parse.specs.declared.fault.Stop.TheVariants as stops
+use Rattle.expr_parser.specs.declared.stop.Stop.{Stop}
+use Rattle.expr_parser.specs.declared.stop.Stop.TheVariants as stops
 
 pub kinds_are : (text : List ℕ) (tokens : List Token) → kinds (map (token_of text) tokens) ≡ kinds_at text tokens
 kinds_are text [] = refl

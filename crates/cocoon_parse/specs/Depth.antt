@@ -1,21 +1,10 @@
--- The first deep token of a text: too many brackets are open, or too many operators have come. Private clauses of `deep`,
--- `operators` and `whole_text` cite it.
+-- The first deep token of a text: too many brackets are open, or too many operators have come. Private clauses of `deep` and
+-- `whole_text` cite it.
 use Rattle.std.specs.Prelude.{ℕ, List, [], ◌∷◌, Option, codes}
-use Rattle.cocoon_num.specs.Tokens.{Kind, mark, keyword}
-use Rattle.cocoon_lex.specs.Kinds.{keyword_text, mark_text}
-use Rattle.cocoon_lex.specs.declared.token.Keyword.{Keyword}
-use Rattle.cocoon_lex.specs.declared.token.Mark.{Mark}
+use Rattle.cocoon_num.specs.Tokens.{Kind, mark}
 use Rattle.cocoon_lex.specs.declared.token.Token.{Token}
 use Rattle.plain_parser.specs.Reading as reading
-use Rattle.cocoon_parse.specs.Agrees.{kinds_at}
-
--- the kind of a mark
-abbrev pub mark_kind : Mark → Kind
-mark_kind m = mark (mark_text m)
-
--- the kind of a reserved word
-abbrev pub keyword_kind : Keyword → Kind
-keyword_kind w = keyword (keyword_text w)
+use Rattle.expr_parser.specs.Agrees.{kinds_at}
 
 -- the marks that open brackets
 abbrev pub opening : List Kind

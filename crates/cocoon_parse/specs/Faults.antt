@@ -5,8 +5,8 @@ use Rattle.cocoon_num.specs.Tokens.{Kind, language_bounds}
 use Rattle.cocoon_num.specs.FirstFaults as first_faults
 use Rattle.cocoon_parse.specs.declared.fault.ParseFault.{ParseFault}
 use Rattle.cocoon_parse.specs.declared.fault.ParseFault.TheVariants as fault
-use Rattle.cocoon_parse.specs.declared.fault.Stop.{Stop}
-use Rattle.cocoon_parse.specs.declared.fault.Stop.TheVariants as stop
+use Rattle.expr_parser.specs.declared.stop.Stop.{Stop}
+use Rattle.expr_parser.specs.declared.stop.Stop.TheVariants as stop
 
 -- a reading that stops past the first deep token has met no other fault
 abbrev pub fault_of : Option ℕ → Stop → ParseFault

@@ -1,4 +1,2 @@
 pub mod Depth
 pub mod Faults
-pub mod Phrases
-pub mod Agrees

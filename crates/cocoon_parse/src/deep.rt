@@ -2,7 +2,8 @@
 ghost use Rattle.std.specs.Prelude.{◌≡◌, ◌≤◌, ◌+◌, ℕ, List};
 ghost use Rattle.cocoon_num.specs.Tokens.{brackets_after, is_kind_of, language_bounds, operators_after};
 ghost use Rattle.cocoon_lex.specs.Kinds.{kind_of};
-ghost use Rattle.cocoon_parse.specs.Depth.{FirstDeep, closing, mark_kind, opening, restarting, keyword_kind};
+ghost use Rattle.expr_parser.specs.Agrees.{keyword_kind, mark_kind};
+ghost use Rattle.cocoon_parse.specs.Depth.{FirstDeep, closing, opening, restarting};
 
 use cocoon_lex::{Keyword, Mark, Token, TokenKind};
 

@@ -1,18 +1,10 @@
-//! The trees of texts of designs and of definitions, or the first fault of a text. A text is gone over
-//! once, from the left and with one token ahead; no more of it is read than up to the first token that
-//! is too deep.
+//! The trees of texts of designs and of definitions, or the first fault of a text. A text is gone
+//! over once, from the left and with one token ahead; no more of it is read than up to the first
+//! token that is too deep.
 #![tactic(auto)]
 
-mod cursor;
-mod decls;
 mod deep;
-mod defs;
-mod exprs;
 pub mod fault;
-mod joins;
-mod names;
-mod operators;
-mod stmts;
 pub mod whole_text;
 
 pub use fault::ParseFault;

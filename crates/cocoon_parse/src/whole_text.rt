@@ -10,15 +10,16 @@ ghost use Rattle.cocoon_parse.specs.Faults as spec;
 ghost use Rattle.cocoon_parse.specs.Faults.{IndexFits};
 ghost use Rattle.plain_parser.specs.Reading.{reach};
 
-use crate::cursor::Source;
-use crate::decls::design;
 use crate::deep::first_deep;
-use crate::defs::entries;
-use crate::fault::{ParseFault, Stop};
+use crate::fault::ParseFault;
 use cocoon_lex::Token;
 use cocoon_syntax::{DefsText, Design};
-use plain_parser::texts::{definitions, designs, tokens_end};
+use expr_parser::source::Source;
+use expr_parser::stop::Stop;
+use plain_parser::text_laws::{definitions, designs, tokens_end};
 use std::alloc::Global;
+use tree_parser::decls::design;
+use tree_parser::defs::entries;
 
 /// The tree of a text of a design with these tokens, or its first fault, at a token index.
 pub fn parse_design(alloc: Global, text: &[u8], tokens: &[Token]) -> Result<Design, ParseFault>

@@ -1,6 +1,6 @@
--- The parser as a plain program, which the laws of `texts` cite, and private clauses of all modules of cocoon_parse. It goes
--- from the left, with one token ahead. Each phrase has a function X_from, which reads it from a token index on. The number n
--- bounds how deep the calls nest.
+-- The parser as a plain program, which the laws of `text_laws` cite, and clauses of expr_parser and tree_parser. It goes from
+-- the left, with one token ahead. Each phrase has a function X_from, which reads it from a token index on. The number n bounds
+-- how deep the calls nest.
 use Rattle.std.specs.Prelude.{ℕ, zero, suc, ◌+◌, ◌&&◌, ◌||◌, Bool, true, false, List, [], ◌∷◌, slice_get, if◌then◌else◌, Option, Some, None, codes}
 use Rattle.cocoon_num.specs.Values.{Value, number, truth, flip, not_, BinaryOp, add, sub, bits_and, bits_or, bits_xor, concat, equal, unequal, less, less_equal, greater, greater_equal, and_, or_, implies}
 use Rattle.cocoon_num.specs.Tree.{Name, Expr, name, field, lit, true_or_false, call, unary, binary, slice, pick, Exprs, no_exprs, expr, Stmt, let_, set_field, if_, filter, havoc_var, havoc_field, assume, fork, send, Block, no_stmts, stmt, Param, ResultKind, of_width, of_truth, Decl, a_function, an_assumption, a_role, a_host, a_switch, Refine, HeaderDecl, Design, Pattern, literal as pattern_literal, masked, any, Entry, a_default, a_row, DefsText, token_index}

@@ -1,4 +1,5 @@
-//! The parser as a plain program over tokens, which stands in `specs/`, and what its readings say of texts.
+//! The parser as a plain program over tokens, which stands in `specs/`, and what its readings say of
+//! texts.
 #![tactic(auto)]
 
-pub mod texts;
+pub mod text_laws;

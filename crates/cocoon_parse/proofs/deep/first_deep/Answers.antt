@@ -1,7 +1,7 @@
 use Rattle.std.proofs.Common.{rules, arith, ◌≡◌, ◌+◌, ◌++◌, ◌∷◌, [], take, inl, inr, sym, subst}
 use Rattle.std.proofs.lemmas.List.{length-map, take_all}
 use Rattle.cocoon_num.specs.Tokens.{brackets_after, operators_after, language_bounds}
-use Rattle.cocoon_parse.specs.Agrees.{kind_at, kinds_at}
+use Rattle.expr_parser.specs.Agrees.{kind_at, kinds_at}
 use Rattle.cocoon_parse.proofs.Depths.{Shallow, is_shallow_yet, one_shallow, one_is_deep, taken_one}
 use Rattle.cocoon_parse.proofs.deep.first_deep.Goals.{then-brackets-gt-MOST_OPEN-via-then-brackets-gt-MOST_OPEN, then-brackets-gt-MOST_OPEN-via-else-brackets-gt-MOST_OPEN+then-operators-gt-MOST_OPERATORS}
 use Rattle.cocoon_parse.proofs.deep.first_deep.Goals as goal

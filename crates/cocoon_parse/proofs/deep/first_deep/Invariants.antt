@@ -1,5 +1,5 @@
 use Rattle.std.proofs.Common.{ℕ, List, take, ◌≤◌}
-use Rattle.cocoon_parse.specs.Agrees.{kinds_at}
+use Rattle.expr_parser.specs.Agrees.{kinds_at}
 use Rattle.cocoon_parse.proofs.Depths.{Shallow}
 use Rattle.cocoon_parse.proofs.deep.first_deep.Given as goal
 

@@ -5,7 +5,7 @@ use Rattle.cocoon_num.specs.Tokens.{kinds}
 use Rattle.cocoon_lex.specs.Kinds.{token_of}
 use Rattle.cocoon_syntax.specs.TreeOf.{entry_of}
 use Rattle.plain_parser.specs.PlainParser.{defs_from}
-use Rattle.cocoon_parse.specs.Agrees.{kind_at, kinds_at}
+use Rattle.expr_parser.specs.Agrees.{kind_at, kinds_at}
 use Rattle.cocoon_parse.specs.declared.fault.ParseFault.TheVariants.{Unexpected, TooDeep}
 use Rattle.cocoon_parse.proofs.WholeTexts.{Read, kinds_are, few_tokens, reach_few, definitions_read, whole_fault, fault_fits, is_unexpected, is_too_deep}
 use Rattle.cocoon_parse.proofs.whole_text.parse_defs.Goals as goal

@@ -1,0 +1,5 @@
+pub mod Blocks
+pub mod Closings
+pub mod Heads
+pub mod Refinements
+pub mod Rows
