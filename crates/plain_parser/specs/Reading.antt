@@ -41,8 +41,8 @@ abbrev pub is_past : Option ℕ → ℕ → Bool
 is_past None i = false
 is_past (Some d) i = nat_lt d i
 
--- what the answers of R say of the text whose tokens it reads: a tree is one that Holds of it, and the token at which R stops
--- is its first fault, or comes after the first deep one. That R answers at all it does not say
+-- what the answers of R say of the text whose tokens it reads: a tree is one of which Holds says that it is the text's; a token
+-- at which R stops is unexpected, or comes after the first deep one, which is then too deep. That R answers it does not say
 pub record Reading {A : Type 0} (R : List Kind → ℕ → Outcome A) (Holds : List Kind → A → Type 0) (Begins : List Kind → Type 0) : Type 0 where
   pub reads : (ts : List Kind) (deep : Option ℕ) → Ended ts → FirstDeep ts deep → (n : ℕ) (x : A) (j : ℕ) → R (reach deep ts) n ≡ good x j → Holds ts x × IsTrue (is_shallow language_bounds ts)
   pub unexpected : (ts : List Kind) (deep : Option ℕ) → Ended ts → FirstDeep ts deep → (i : ℕ) → Fails (R (reach deep ts)) i → is_past deep i ≡ false → Unexpected language_bounds Begins ts i
