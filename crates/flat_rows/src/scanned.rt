@@ -31,7 +31,8 @@ pub(crate) struct ScannedRows {
 /// Appends the tests of a row.
 fn push_tests(tests: &mut Vec<KeyTest>, values: &[u64], masks: &[u64]) -> Result<(), NoMemory>
     requires { length values.now ≡ length masks.now }
-    ensures { OnOk result (tests.new.items ≡ tests.old.items ++ spec.row_tests values.now masks.now) }
+    ensures { OnOk result
+        (tests.new.items ≡ tests.old.items ++ spec.row_tests values.now masks.now) }
 {
     for (index, mask) in masks.iter().enumerate() {
         tests.push(KeyTest {

@@ -64,7 +64,8 @@ fn compare_at(rows: &SortedRows, first: u64, keys: &[u32], meta: &[u64], row: us
     requires keys { All (λ key. key < length meta.now) keys.now }
     requires first { first ≡ get_or (asked rows.now meta.now keys.now) 0 0 }
     requires row { row < length rows.now.results.items }
-    ensures { result ≡ slice_cmp nat_cmp (values_at rows.now row) (asked rows.now meta.now keys.now) }
+    ensures { result
+        ≡ slice_cmp nat_cmp (values_at rows.now row) (asked rows.now meta.now keys.now) }
 {
     let at = row * keys.len();
     let found = compare_numbers(rows.values[at], first);
@@ -143,7 +144,8 @@ impl SortedRows {
         requires many { length keys.now ≡ length self.now.masks.items }
         requires keys { All (λ key. key < length meta.now) keys.now }
         ensures { result ≡ unwrap_or (found (pairs_of (length self.now.masks.items)
-            self.now.values.items self.now.results.items) (asked self.now meta.now keys.now)) default }
+            self.now.values.items self.now.results.items) (asked self.now meta.now keys.now))
+            default }
     {
         match search(self, keys, meta) {
             Some(row) => self.results[row],

@@ -37,5 +37,6 @@ pub struct Loaded {
         ≡ places_in (rows_of rows).tables (program_of program).ingress.tables },
     ghost egress_are: { egress_places.items
         ≡ places_in (rows_of rows).tables (program_of program).egress.tables },
-    ghost flats_are: { AreLaid (program_of program) (rows_of rows).tables flats.items } by { Prim.hlevel props },
+    ghost flats_are: { AreLaid (program_of program) (rows_of rows).tables
+        flats.items } by { Prim.hlevel props },
 }
