@@ -45,9 +45,9 @@ missing_step : (b : Bool) (n m : ℕ) (x y : Option ℕ) → (x ≡ Some n → y
 missing_step true n m x y ih h = ih h
 missing_step false n m x y ih h = h
 
-pub missing_front : (g : List ℕ) (xs ys : List P4Table) (n : ℕ) → first_missing g xs ≡ Some n → first_missing g (xs ++ ys) ≡ Some n
-missing_front g [] ys n h = absurd (cc)
-missing_front g (x ∷ xs) ys n h = missing_step (has_number x.number g) n x.number (first_missing g xs) (first_missing g (xs ++ ys)) (missing_front g xs ys n) h
+pub missing_in_prefix : (g : List ℕ) (xs ys : List P4Table) (n : ℕ) → first_missing g xs ≡ Some n → first_missing g (xs ++ ys) ≡ Some n
+missing_in_prefix g [] ys n h = absurd (cc)
+missing_in_prefix g (x ∷ xs) ys n h = missing_step (has_number x.number g) n x.number (first_missing g xs) (first_missing g (xs ++ ys)) (missing_in_prefix g xs ys n) h
 
 behind_step : (b : Bool) (m : ℕ) (x y z : Option ℕ) → (x ≡ None → y ≡ z) → (if b then x else Some m) ≡ None → (if b then y else Some m) ≡ z
 behind_step true m x y z ih h = ih h

@@ -3,8 +3,8 @@ pub mod FaultSteps
 pub mod FieldFacts
 pub mod GroupSteps
 pub mod HeaderParts
+pub mod LaidTables
 pub mod LoadLaws
-pub mod OrderFacts
 pub mod Sizes
 pub mod StmtSteps
 pub mod TableFacts

@@ -5,6 +5,7 @@ use Rattle.std.proofs.lemmas.Bool.{and_from, and_parts, eqb-true, eq-eqb, le-ltb
 use Rattle.std.proofs.lemmas.Option.{slice_get-get_or}
 use Rattle.cocoon_num.specs.Lists.{ascend, each, has_number, no_repeats}
 use Rattle.cocoon_num.specs.Rows.{all_fit}
+use Rattle.flat_rows.specs.Keyed.{HasKeys, keyed}
 use Rattle.p4_ir.specs.Loading.{all_tables, group_fits, keys_fit, key_fits, row_fits, rows_load, table_numbers, table_rows_fit}
 use Rattle.p4_ir.specs.NetOf.{key_row_of, table_rows_of}
 use Rattle.p4_ir.specs.Program.{table_of}
@@ -15,7 +16,6 @@ use Rattle.p4_ir.specs.declared.program.Table.{Table as CodeTable}
 use Rattle.p4_ir.specs.declared.rows.KeyRow.{KeyRow as CodeRow}
 use Rattle.p4_ir.specs.declared.rows.TableRows.{TableRows as CodeRows}
 use Rattle.p4_run.specs.Applying.{paired, set_by, TableFits}
-use Rattle.p4_run.specs.Keyed.{HasKeys, keyed}
 use Rattle.p4_run.specs.Places.{place_of, places_in}
 use Rattle.p4_run.specs.Running.{control_at, within_at}
 use Rattle.p4_run.specs.declared.running.Side.{Side}
@@ -56,14 +56,14 @@ pub found_passes : {A : Type 0} (f : A → Bool) (xs : List A) (x : A) → find 
 found_passes f [] x e = absurd (cc)
 found_passes f (y ∷ ys) x e = passes_step f x y (f y) (find f ys) refl (found_passes f ys x) e
 
-front_step : {A : Type 0} (x y : A) (b : Bool) (found more : Option A) → (found ≡ Some x → more ≡ Some x)
+prefix_step : {A : Type 0} (x y : A) (b : Bool) (found more : Option A) → (found ≡ Some x → more ≡ Some x)
     → (if b then Some y else found) ≡ Some x → (if b then Some y else more) ≡ Some x
-front_step x y true found more ih e = e
-front_step x y false found more ih e = ih e
+prefix_step x y true found more ih e = e
+prefix_step x y false found more ih e = ih e
 
-pub found_in_front : {A : Type 0} (f : A → Bool) (xs ys : List A) (x : A) → find f xs ≡ Some x → find f (xs ++ ys) ≡ Some x
-found_in_front f [] ys x e = absurd (cc)
-found_in_front f (y ∷ xs) ys x e = front_step x y (f y) (find f xs) (find f (xs ++ ys)) (found_in_front f xs ys x) e
+pub found_in_prefix : {A : Type 0} (f : A → Bool) (xs ys : List A) (x : A) → find f xs ≡ Some x → find f (xs ++ ys) ≡ Some x
+found_in_prefix f [] ys x e = absurd (cc)
+found_in_prefix f (y ∷ xs) ys x e = prefix_step x y (f y) (find f xs) (find f (xs ++ ys)) (found_in_prefix f xs ys x) e
 
 -- ---- numbers that ascend
 
@@ -107,12 +107,12 @@ none_step : (x : P4Table) (m n : ℕ) (b : Bool) (found : Option P4Table) → (m
 none_step x m n true found p l e = let same : m ≡ n = eqb-true m n p in absurd (omega arith)
 none_step x m n false found p l e = e
 
-not_in_front : (xs ys : List P4Table) (n : ℕ) → ascend (numbers_of xs ++ numbers_of ys) ≡ true → has_number n (numbers_of ys) ≡ true → table_numbered xs n ≡ None
-not_in_front [] ys n h e = refl
-not_in_front (x ∷ xs) ys n h e =
+not_in_prefix : (xs ys : List P4Table) (n : ℕ) → ascend (numbers_of xs ++ numbers_of ys) ≡ true → has_number n (numbers_of ys) ≡ true → table_numbered xs n ≡ None
+not_in_prefix [] ys n h e = refl
+not_in_prefix (x ∷ xs) ys n h e =
     none_step x x.number n (x.number == n) (table_numbered xs n) refl
     (ascend_below x.number (numbers_of xs ++ numbers_of ys) n h (has_behind (numbers_of xs) (numbers_of ys) n e))
-    (not_in_front xs ys n (ascend_rest x.number (numbers_of xs ++ numbers_of ys) h) e)
+    (not_in_prefix xs ys n (ascend_rest x.number (numbers_of xs ++ numbers_of ys) h) e)
 
 pub found_behind : (f : P4Table → Bool) (xs ys : List P4Table) → find f xs ≡ None → find f (xs ++ ys) ≡ find f ys
 found_behind f [] ys e = refl
@@ -170,10 +170,10 @@ loads_of p r h =
     record { tables = c.1; groups = a.1 }
 
 pub in_both : (p : Program) (side : Side) (n : ℕ) (t : P4Table) → Kinds p → table_numbered (control_at p side).tables n ≡ Some t → table_numbered (all_tables p) n ≡ Some t
-in_both p (Ingress port) n t k e = found_in_front (λ (u : P4Table). u.number == n) p.ingress.tables p.egress.tables t e
+in_both p (Ingress port) n t k e = found_in_prefix (λ (u : P4Table). u.number == n) p.ingress.tables p.egress.tables t e
 in_both p (Egress rid) n t k e =
     found_behind (λ (u : P4Table). u.number == n) p.ingress.tables p.egress.tables
-    (not_in_front p.ingress.tables p.egress.tables n k.ascending (found_has (λ (u : P4Table). u.number) p.egress.tables n t e))
+    (not_in_prefix p.ingress.tables p.egress.tables n k.ascending (found_has (λ (u : P4Table). u.number) p.egress.tables n t e))
     ∙ e
 
 control_fits : (p : Program) (side : Side) → Kinds p → each (table_fits p) (control_at p side).tables ≡ true
@@ -355,19 +355,19 @@ place_is (m ∷ ns) zero n h e = first_place m n (suc (place_of ns n)) (m == n) 
 place_is (m ∷ ns) (suc i) n h e =
     later_place m n (place_of ns n) i (m == n) refl (ascend_below m ns n h (has_at ns i n e)) (place_is ns i n (ascend_rest m ns h) e)
 
-ascend_front : (xs ys : List ℕ) → ascend (xs ++ ys) ≡ true → ascend xs ≡ true
-ascend_front [] ys h = refl
-ascend_front (x ∷ []) ys h = refl
-ascend_front (x ∷ y ∷ xs) ys h =
+ascend_prefix : (xs ys : List ℕ) → ascend (xs ++ ys) ≡ true → ascend xs ≡ true
+ascend_prefix [] ys h = refl
+ascend_prefix (x ∷ []) ys h = refl
+ascend_prefix (x ∷ y ∷ xs) ys h =
     let parts = and_parts (nat_lt x y) (ascend (y ∷ (xs ++ ys))) h in
-    and_from (nat_lt x y) (ascend (y ∷ xs)) parts.0 (ascend_front (y ∷ xs) ys parts.1)
+    and_from (nat_lt x y) (ascend (y ∷ xs)) parts.0 (ascend_prefix (y ∷ xs) ys parts.1)
 
 ascend_back : (xs ys : List ℕ) → ascend (xs ++ ys) ≡ true → ascend ys ≡ true
 ascend_back [] ys h = h
 ascend_back (x ∷ xs) ys h = ascend_back xs ys (ascend_rest x (xs ++ ys) h)
 
 pub control_ascends : (p : Program) (side : Side) → Kinds p → ascend (numbers_of (control_at p side).tables) ≡ true
-control_ascends p (Ingress port) k = ascend_front (numbers_of p.ingress.tables) (numbers_of p.egress.tables) k.ascending
+control_ascends p (Ingress port) k = ascend_prefix (numbers_of p.ingress.tables) (numbers_of p.egress.tables) k.ascending
 control_ascends p (Egress rid) k = ascend_back (numbers_of p.ingress.tables) (numbers_of p.egress.tables) k.ascending
 
 pub number_read : (tabs : List CodeTable) (i : ℕ) (x : CodeTable) → i < length tabs → x ≡ get_or tabs i x → slice_get (numbers_of (map table_of tabs)) i ≡ Some x.number

@@ -3,13 +3,11 @@ pub mod Bits
 pub mod FaultOf
 pub mod Faults
 pub mod Frames
-pub mod Keyed
+pub mod Laid
 pub mod Meant
-pub mod Orders
 pub mod Outcomes
 pub mod Places
 pub mod Running
 pub mod Sorted
-pub mod Spans
 pub mod States
 pub mod Visits

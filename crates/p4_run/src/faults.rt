@@ -68,7 +68,7 @@ pub(crate) fn table_of_either(program: &Program, number: u32) -> Option<&Table>
 }
 
 /// The first so many.
-fn front(tables: &[TableRows], count: usize) -> &[TableRows]
+fn prefix(tables: &[TableRows], count: usize) -> &[TableRows]
     requires { count ≤ length tables.now }
     ensures { result.now ≡ take count tables.now }
 {
@@ -95,7 +95,7 @@ fn unknown_table(program: &Program, tables: &[TableRows]) -> Option<u32>
         [] (map table_rows_of tables.now) }
 {
     for (index, table) in tables.iter().enumerate() {
-        if !is_new(program, front(tables, index), table.number) {
+        if !is_new(program, prefix(tables, index), table.number) {
             return Some(table.number);
         }
     }
@@ -136,13 +136,13 @@ pub(crate) fn fits_width(width: u8, number: u64) -> bool
 }
 
 /// Whether a number that fits a width in bits has all of them.
-pub(crate) fn is_full(width: u8, mask: u64) -> bool
+fn is_full(width: u8, mask: u64) -> bool
     ensures { result ≡ nat_le (2 ^ width) (mask + 1) }
 {
     width <= 64 && 1 << width <= u128::from(mask) + 1
 }
 
-pub(crate) fn meta_width(program: &Program, index: u32) -> u8
+fn meta_width(program: &Program, index: u32) -> u8
     ensures { result ≡ tree.meta_width (program_of program.now) index }
 {
     match program.meta.items().get(index as usize) {
@@ -221,7 +221,7 @@ fn unfit_row(program: &Program, rows: &TableRows) -> Option<usize>
 }
 
 /// A count as a number of a fault; there is no memory for more.
-pub(crate) fn number_of(index: usize) -> Result<u32, NoMemory>
+fn short_index(index: usize) -> Result<u32, NoMemory>
     ensures { IfOk result (λ number. number ≡ index) }
 {
     match u32::try_from(index) {
@@ -237,7 +237,7 @@ fn row_shape(program: &Program, tables: &[TableRows]) -> Result<Option<(u32, u32
 {
     for table in tables {
         if let Some(index) = unfit_row(program, table) {
-            return Ok(Some((table.number, number_of(index)?)));
+            return Ok(Some((table.number, short_index(index)?)));
         }
     }
     Ok(None)
@@ -319,7 +319,7 @@ pub(crate) fn load_fault(
         return Ok(Some(LoadFault::RowShape(table, row)));
     }
     match group_shape(alloc, rows.groups.items())? {
-        Some(index) => Ok(Some(LoadFault::GroupShape(number_of(index)?))),
+        Some(index) => Ok(Some(LoadFault::GroupShape(short_index(index)?))),
         None => Ok(None),
     }
 }

@@ -1,5 +1,5 @@
 //! A program with its rows, loaded.
-ghost use Rattle.std.specs.Prelude.{◌≡◌, IsTrue, map};
+ghost use Rattle.std.specs.Prelude.{◌≡◌, IsTrue};
 ghost use Rattle.packed_fields.specs.AtOnce.{bytes_in, widths_in};
 ghost use Rattle.p4_ir.specs.Loading.{rows_load};
 ghost use Rattle.p4_ir.specs.NetOf.{rows_of};
@@ -7,9 +7,10 @@ ghost use Rattle.p4_ir.specs.P4Kinds.{kinds_fit};
 ghost use Rattle.p4_ir.specs.P4Tree.{program_layout};
 ghost use Rattle.p4_ir.specs.Program.{program_of};
 ghost use Rattle.std.proofs.Props.{props};
-ghost use Rattle.p4_run.specs.Orders.{AreFirsts, AreOrders};
+ghost use Rattle.p4_run.specs.Laid.{AreLaid};
 ghost use Rattle.p4_run.specs.Places.{places_in, starts_from};
 
+use flat_rows::FlatRows;
 use p4_ir::{Program, RowsFile};
 
 /// A program with its rows, in which nothing but rows is left to be looked up.
@@ -25,10 +26,8 @@ pub struct Loaded {
     /// For each table of a control the index of its rows.
     pub(crate) ingress_places: Vec<usize>,
     pub(crate) egress_places: Vec<usize>,
-    /// For the rows of each table their order by values, where all are literal; else no index.
-    pub(crate) orders: Vec<Vec<u32>>,
-    /// For the rows of each table the first values of those in order.
-    pub(crate) firsts: Vec<Vec<u64>>,
+    /// The rows of each table, laid flat.
+    pub(crate) flats: Vec<FlatRows>,
     ghost kinds: { IsTrue (kinds_fit (program_of program)) },
     ghost loads: { IsTrue (rows_load (program_of program) (rows_of rows)) },
     ghost widths_are: { widths.items ≡ widths_in (program_layout (program_of program)) },
@@ -38,8 +37,5 @@ pub struct Loaded {
         ≡ places_in (rows_of rows).tables (program_of program).ingress.tables },
     ghost egress_are: { egress_places.items
         ≡ places_in (rows_of rows).tables (program_of program).egress.tables },
-    ghost orders_are: { AreOrders (program_of program) (rows_of rows).tables
-        (map (λ v. v.items) orders.items) } by { Prim.hlevel props },
-    ghost firsts_are: { AreFirsts (rows_of rows).tables (map (λ v. v.items) orders.items)
-        (map (λ v. v.items) firsts.items) } by { Prim.hlevel props },
+    ghost flats_are: { AreLaid (program_of program) (rows_of rows).tables flats.items } by { Prim.hlevel props },
 }

@@ -1,5 +1,5 @@
 //! Loading: the tests, and then what is resolved once.
-ghost use Rattle.std.specs.Prelude.{◌≡◌, IfErr, IfOk, IsTrue, map, None};
+ghost use Rattle.std.specs.Prelude.{◌≡◌, IfErr, IfOk, IsTrue, None};
 ghost use Rattle.p4_ir.specs.Loading.{rows_load};
 ghost use Rattle.p4_ir.specs.NetOf.{rows_of};
 ghost use Rattle.p4_ir.specs.P4Kinds.{kinds_fit};
@@ -7,31 +7,28 @@ ghost use Rattle.p4_ir.specs.Program.{program_of};
 ghost use Rattle.p4_ir.specs.WellKinded.{WellKinded};
 ghost use Rattle.p4_run.specs.FaultOf.{IsFault};
 ghost use Rattle.p4_run.specs.Faults as faults;
-ghost use Rattle.p4_run.specs.Orders.{AreFirsts, AreOrders};
+ghost use Rattle.p4_run.specs.Laid.{AreLaid};
 ghost use Rattle.p4_run.specs.Running.{program_in, rows_in};
 
 use crate::faults::{LoadFault, load_fault};
+use crate::laying::laid_tables;
 use crate::loaded::Loaded;
-use crate::orders::{all_firsts, all_orders};
 use crate::places::{FieldWidths, bit_count, field_widths, rows_places};
 use cocoon_num::NoMemory;
+use flat_rows::FlatRows;
 use p4_ir::{Program, RowsFile};
 use std::alloc::Global;
 
-/// A program with rows that load, and the orders of these with their first values.
+/// A program with rows that load, and these laid flat.
 fn placed(
     alloc: Global,
     program: Program,
     rows: RowsFile,
-    orders: Vec<Vec<u32>>,
-    firsts: Vec<Vec<u64>>,
+    flats: Vec<FlatRows>,
 ) -> Result<Loaded, NoMemory>
     requires kinds { IsTrue (kinds_fit (program_of program)) }
     requires loads { IsTrue (rows_load (program_of program) (rows_of rows)) }
-    requires orders { AreOrders (program_of program) (rows_of rows).tables
-        (map (λ v. v.items) orders.items) }
-    requires firsts { AreFirsts (rows_of rows).tables (map (λ v. v.items) orders.items)
-        (map (λ v. v.items) firsts.items) }
+    requires flats { AreLaid (program_of program) (rows_of rows).tables flats.items }
     ensures program { IfOk result (λ loaded. program_in loaded ≡ program_of program) }
     ensures rows { IfOk result (λ loaded. rows_in loaded ≡ rows_of rows) }
 {
@@ -48,8 +45,7 @@ fn placed(
         header_bytes,
         ingress_places,
         egress_places,
-        orders,
-        firsts,
+        flats,
     })
 }
 
@@ -60,9 +56,8 @@ fn resolved(alloc: Global, program: Program, rows: RowsFile) -> Result<Loaded, N
     ensures program { IfOk result (λ loaded. program_in loaded ≡ program_of program) }
     ensures rows { IfOk result (λ loaded. rows_in loaded ≡ rows_of rows) }
 {
-    let orders = all_orders(alloc, &program, rows.tables.items())?;
-    let firsts = all_firsts(alloc, rows.tables.items(), &orders)?;
-    placed(alloc, program, rows, orders, firsts)
+    let flats = laid_tables(alloc, &program, rows.tables.items())?;
+    placed(alloc, program, rows, flats)
 }
 
 impl Loaded {

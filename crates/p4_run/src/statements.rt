@@ -1,28 +1,27 @@
 //! Statements, run one after another.
-ghost use Rattle.std.specs.Prelude.{◌≡◌, ◌<◌, ◌^◌, IfSome, IsTrue, length, map, option_map, slice_set, Some};
+ghost use Rattle.std.specs.Prelude.{◌≡◌, ◌<◌, ◌^◌, IfSome, IsTrue, length, map, option_map, slice_get, slice_set, Some};
 ghost use Rattle.cocoon_num.specs.PacketForms.{FieldsFit};
 ghost use Rattle.cocoon_num.specs.Sorts.{bits_sort};
+ghost use Rattle.flat_rows.specs.Held.{Holds};
+ghost use Rattle.flat_rows.specs.Keyed.{keyed};
 ghost use Rattle.p4_ir.specs.NetOf.{key_row_of, table_rows_of};
 ghost use Rattle.p4_ir.specs.P4Tree as tree;
 ghost use Rattle.p4_ir.specs.P4Tree.{field_widths};
 ghost use Rattle.p4_ir.specs.P4Kinds.{block_fits, field_sort, meta_sort, stmt_fits};
 ghost use Rattle.p4_ir.specs.Program.{block_of, expr_of, stmt_of, table_of};
 ghost use Rattle.p4_ir.specs.Switch.{applied, p4_run, p4_run_all, proceeds, rows_numbered, set_in_header, table_numbered, table_result};
-ghost use Rattle.p4_run.specs.Keyed.{keyed};
-ghost use Rattle.p4_run.specs.Orders.{first_at, IsOrder};
 ghost use Rattle.p4_run.specs.Outcomes.{outcome_of};
 ghost use Rattle.p4_run.specs.Applying.{paired, set_by, TableFits};
 ghost use Rattle.p4_run.specs.Running.{control_at, layout_in, program_in, rows_in, running_at, within_at};
 ghost use Rattle.p4_run.specs.States.{Fit, state_in};
 
 use crate::loaded::Loaded;
-use crate::look::look;
-use crate::orders::{firsts_at, order_at, search};
 use crate::places::table_place;
 use crate::registers::Registers;
 use crate::running::{Side, places, tables};
 use crate::values::{number_in, truth_in};
 use cocoon_num::Bits;
+use flat_rows::FlatRows;
 use p4_ir::{P4Expr, P4Stmt, Table, TableRows};
 
 /// How statements end.
@@ -59,15 +58,21 @@ fn set_field(loaded: &Loaded, registers: &mut Registers, header: u32, field: u32
     registers.fields[index] = number.value as u64;
 }
 
-/// The table of a number, and its rows with their order and the first values in this.
-fn found(loaded: &Loaded, side: Side, number: u32) -> Option<(&Table, &TableRows, &[u32], &[u64])>
+/// The rows at a place, laid flat.
+fn flat_at(loaded: &Loaded, place: usize) -> &FlatRows
+    requires { place < length (rows_in loaded.now).tables }
+    ensures { slice_get loaded.now.flats.items place ≡ Some result.now }
+{
+    &loaded.flats[place]
+}
+
+/// The table of a number, and its rows, also laid flat.
+fn found(loaded: &Loaded, side: Side, number: u32) -> Option<(&Table, &TableRows, &FlatRows)>
     ensures found { option_map (λ f. (table_of f.0.now, table_rows_of f.1.now)) result
         ≡ paired (table_numbered (control_at (program_in loaded.now) side).tables number)
         (rows_numbered (rows_in loaded.now).tables number) }
-    ensures order { IfSome result (λ f. 0 < length f.2.now → IsOrder (program_in loaded.now)
-        (table_of f.0.now) (map key_row_of f.1.now.rows) f.2.now) }
-    ensures firsts { IfSome result (λ f.
-        f.3.now ≡ map (first_at (map key_row_of f.1.now.rows)) f.2.now) }
+    ensures laid { IfSome result (λ f.
+        Holds (length f.0.now.keys) f.2.now (table_rows_of f.1.now)) }
 {
     let tables = tables(loaded, side);
     let at = table_place(tables, number);
@@ -75,10 +80,7 @@ fn found(loaded: &Loaded, side: Side, number: u32) -> Option<(&Table, &TableRows
         Some(table) => {
             let place = places(loaded, side)[at];
             match loaded.rows.tables.items().get(place) {
-                Some(rows) => {
-                    let order = order_at(&loaded.orders, place);
-                    Some((table, rows, order, firsts_at(&loaded.firsts, place)))
-                }
+                Some(rows) => Some((table, rows, flat_at(loaded, place))),
                 None => None,
             }
         }
@@ -86,32 +88,17 @@ fn found(loaded: &Loaded, side: Side, number: u32) -> Option<(&Table, &TableRows
     }
 }
 
-/// The result of a table by the numbers in its keys: searched where there is an order, else looked at row by row.
-fn look_up(
-    loaded: &Loaded,
-    table: &Table,
-    rows: &TableRows,
-    order: &[u32],
-    firsts: &[u64],
-    meta: &[u64],
-) -> u64
+/// The result of a table by the numbers in its keys.
+fn look_up(loaded: &Loaded, table: &Table, rows: &TableRows, flat: &FlatRows, meta: &[u64]) -> u64
     requires meta { FieldsFit (field_widths (program_in loaded.now).meta) meta.now }
     requires table { TableFits (program_in loaded.now) (table_of table.now)
         (table_rows_of rows.now) }
-    requires order { 0 < length order.now → IsOrder (program_in loaded.now) (table_of table.now)
-        (map key_row_of rows.now.rows) order.now }
-    requires firsts { firsts.now ≡ map (first_at (map key_row_of rows.now.rows)) order.now }
+    requires laid { Holds (length table.now.keys) flat.now (table_rows_of rows.now) }
     ensures { result ≡ table_result (map key_row_of rows.now.rows) rows.now.default
         (keyed meta.now table.now.keys) }
 {
     let keys = table.keys.items();
-    if order.is_empty() {
-        return look(rows, keys, meta);
-    }
-    match search(order, firsts, rows.rows.items(), keys, meta) {
-        Some(row) => rows.rows.items()[row as usize].result,
-        None => rows.default,
-    }
+    flat.look(keys, meta)
 }
 
 /// Sets the result of a table by its rows.
@@ -120,21 +107,18 @@ fn set_result(
     registers: &mut Registers,
     table: &Table,
     rows: &TableRows,
-    order: &[u32],
-    firsts: &[u64],
+    flat: &FlatRows,
 )
     requires fit { Fit (program_in loaded.now) registers.old }
     requires table { TableFits (program_in loaded.now) (table_of table.now)
         (table_rows_of rows.now) }
-    requires order { 0 < length order.now → IsOrder (program_in loaded.now) (table_of table.now)
-        (map key_row_of rows.now.rows) order.now }
-    requires firsts { firsts.now ≡ map (first_at (map key_row_of rows.now.rows)) order.now }
+    requires laid { Holds (length table.now.keys) flat.now (table_rows_of rows.now) }
     ensures fit { Fit (program_in loaded.now) registers.new }
     ensures state { Some (state_in (layout_in loaded.now) registers.new)
         ≡ set_by (state_in (layout_in loaded.now) registers.old) (table_of table.now)
         (table_rows_of rows.now) }
 {
-    let result = look_up(loaded, table, rows, order, firsts, &registers.meta);
+    let result = look_up(loaded, table, rows, flat, &registers.meta);
     registers.meta[table.result as usize] = result;
 }
 
@@ -148,8 +132,8 @@ fn apply(loaded: &Loaded, side: Side, registers: &mut Registers, number: u32) ->
         (state_in (layout_in loaded.now) registers.old) number) }
 {
     match found(loaded, side, number) {
-        Some((table, rows, order, firsts)) => {
-            set_result(loaded, registers, table, rows, order, firsts);
+        Some((table, rows, flat)) => {
+            set_result(loaded, registers, table, rows, flat);
             Some(Way::Proceeds)
         }
         None => None,

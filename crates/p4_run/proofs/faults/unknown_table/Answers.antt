@@ -15,7 +15,7 @@ returns-then-not-is_new c =
     let i = c.loop-index.index in
     let t = c.index-tables-index.result in
     unknown_stops numbers tables i t (first_unknown numbers [] (map table_rows_of tables)) c.loop-index-test.true c.index-tables-index.is
-    (ap (λ xs. has_number t.number numbers && not (has_number t.number (table_numbers (map table_rows_of xs)))) (sym c.front.ensures) ∙ sym c.is_new.ensures ∙ c.if-not-is_new.true)
+    (ap (λ xs. has_number t.number numbers && not (has_number t.number (table_numbers (map table_rows_of xs)))) (sym c.prefix.ensures) ∙ sym c.is_new.ensures ∙ c.if-not-is_new.true)
     c.loop-index.invariant
 
 pub loop-index-preserved : goal.loop-index-preserved
@@ -25,5 +25,5 @@ loop-index-preserved c =
     let i = c.loop-index.index in
     let t = c.index-tables-index.result in
     unknown_goes numbers tables i t (first_unknown numbers [] (map table_rows_of tables)) c.loop-index-test.true c.index-tables-index.is
-    (ap (λ xs. has_number t.number numbers && not (has_number t.number (table_numbers (map table_rows_of xs)))) (sym c.front.ensures) ∙ sym c.is_new.ensures ∙ c.if-not-is_new.false)
+    (ap (λ xs. has_number t.number numbers && not (has_number t.number (table_numbers (map table_rows_of xs)))) (sym c.prefix.ensures) ∙ sym c.is_new.ensures ∙ c.if-not-is_new.false)
     c.loop-index.invariant

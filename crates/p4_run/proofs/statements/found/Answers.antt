@@ -1,10 +1,10 @@
-use Rattle.std.proofs.Common.{◌≡◌, ◌<◌, ◌==◌, ℕ, Vec, Global, Some, None, length, map, get_or, slice_get, IsTrue, sym, ap, subst, ◌∙◌}
+use Rattle.std.proofs.Common.{◌≡◌, ◌<◌, ◌==◌, Some, None, length, map, get_or, slice_get, IsTrue, sym, ap, subst, ◌∙◌}
 use Rattle.std.proofs.lemmas.Bool.{eqb-true, ltb-true}
+use Rattle.std.proofs.lemmas.List.{length-map}
 use Rattle.cocoon_num.specs.Lists.{ascend}
 use Rattle.p4_ir.specs.P4Kinds.{numbers_of}
 use Rattle.p4_ir.specs.Loading.{all_tables, table_numbers}
 use Rattle.p4_ir.specs.P4Tree.{TableRows}
-use Rattle.p4_run.specs.Orders.{first_at, IsOrder, order_at}
 use Rattle.p4_ir.specs.NetOf.{table_rows_of}
 use Rattle.p4_ir.specs.Program.{table_of}
 use Rattle.p4_ir.specs.Switch.{rows_numbered, table_numbered}
@@ -36,8 +36,8 @@ returns-in-Some-get-clause-found c =
     let rows_are : rows_numbered rows n ≡ Some (table_rows_of y) = rows_here all rows n place y all_is kept listed c.in-Some-get.ensures.lookup.1 in
     sym (λ i. paired (table_is i) (rows_are i))
 
-pub returns-in-Some-get-clause-order : goal.returns-in-Some-get-clause-order
-returns-in-Some-get-clause-order c =
+pub returns-in-Some-get-clause-laid : goal.returns-in-Some-get-clause-laid
+returns-in-Some-get-clause-laid c =
     let l = c.args.loaded.now in
     let p = program_in l in
     let rows = (rows_in l).tables in
@@ -59,27 +59,16 @@ returns-in-Some-get-clause-order c =
     ap (λ us. slice_get us place) (sym all_is) ∙ some_at table_rows_of all place y listed c.in-Some-get.ensures.lookup.1 in
     let is_n : y.number ≡ n = eqb-true y.number n (found_passes (λ (u : TableRows). u.number == n) rows (table_rows_of y) (rows_here all rows n place y all_is kept listed c.in-Some-get.ensures.lookup.1)) in
     let in_all : table_numbered (all_tables p) y.number ≡ Some (table_of x) = ap (table_numbered (all_tables p)) is_n ∙ in_both p c.args.side n (table_of x) (kinds_of p l.kinds) table_is in
-    let order_is : c.order_at-order.result.now ≡ order_at (map (λ (v : Vec ℕ Global). v.items) l.orders.items) place =
-    c.order_at-order.ensures ∙ ap (λ os. order_at (map (λ (v : Vec ℕ Global). v.items) os) place) c.deref.ensures.value in
-    subst (λ o. 0 < length o → IsOrder p (table_of x) (table_rows_of y).rows o) (sym order_is) (l.orders_are place (table_rows_of y) (table_of x) row_at in_all)
+    l.flats_are.hold place (table_rows_of y) c.flat_at.result.now row_at c.flat_at.ensures (table_of x) in_all
 
-pub returns-in-Some-get-clause-firsts : goal.returns-in-Some-get-clause-firsts
-returns-in-Some-get-clause-firsts c =
+pub flat_at-requires : goal.flat_at-requires
+flat_at-requires c =
     let l = c.args.loaded.now in
-    let p = program_in l in
-    let items = λ (v : Vec ℕ Global). v.items in
     let place = get_or c.places.result.now c.table_place-at.result 0 in
     let all = c.items.result.now in
     let all_is : map table_rows_of all ≡ (rows_in l).tables = ap (map table_rows_of) c.items.ensures in
-    let y = c.in-Some-get.rows.now in
     let listed : place < length all = ltb-true _ _ (sym c.in-Some-get.ensures.lookup.0) in
-    let row_at : slice_get (rows_in l).tables place ≡ Some (table_rows_of y) =
-    ap (λ us. slice_get us place) (sym all_is) ∙ some_at table_rows_of all place y listed c.in-Some-get.ensures.lookup.1 in
-    let order_is : c.order_at-order.result.now ≡ order_at (map items l.orders.items) place =
-    c.order_at-order.ensures ∙ ap (λ os. order_at (map items os) place) c.deref.ensures.value in
-    let firsts_are : c.firsts_at.result.now ≡ order_at (map items l.firsts.items) place =
-    c.firsts_at.ensures ∙ ap (λ os. order_at (map items os) place) c.deref-in-Some-get.ensures.value in
-    firsts_are ∙ l.firsts_are place (table_rows_of y) row_at ∙ ap (map (first_at (table_rows_of y).rows)) (sym order_is)
+    subst (λ us. place < length us) all_is (subst (λ k. place < k) (sym (length-map all table_rows_of)) listed)
 
 pub returns-in-None-get-clause-found : goal.returns-in-None-get-clause-found
 returns-in-None-get-clause-found c =

@@ -1,11 +1,11 @@
 use Rattle.std.proofs.Common.{All, ◌≡◌, ◌<◌, ◌^◌, Some, length, get_or, rules, sym, subst, ◌∙◌, arith}
 use Rattle.cocoon_num.specs.PacketForms.{FieldsFit}
 use Rattle.packed_fields.proofs.Packing.{fit_length}
+use Rattle.flat_rows.specs.Keyed.{keyed}
 use Rattle.p4_ir.specs.NetOf.{table_rows_of}
 use Rattle.p4_ir.specs.P4Tree.{field_widths, meta_width}
 use Rattle.p4_ir.specs.Program.{table_of}
 use Rattle.p4_ir.specs.Switch.{all_there, table_result}
-use Rattle.p4_run.specs.Keyed.{keyed}
 use Rattle.p4_run.specs.Running.{layout_in, program_in}
 use Rattle.p4_run.specs.States.{state_in}
 use Rattle.p4_run.proofs.HeaderParts.{fit_set}

@@ -1,0 +1,4 @@
+pub mod FirstFacts
+pub mod Halves
+pub mod PairFacts
+pub mod ScanFacts

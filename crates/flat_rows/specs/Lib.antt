@@ -1,0 +1,8 @@
+pub mod FirstResults
+pub mod Held
+pub mod Keyed
+pub mod Laid
+pub mod Pairs
+pub mod Scanned
+pub mod Searched
+pub mod Spans
