@@ -18,6 +18,7 @@ use p4_ir::{P4Expr, Program};
 use std::alloc::Global;
 
 /// What names are resolved in: a program, for each of its headers the index of its first field, and which control.
+#[derive(Drop)]
 pub struct Names<'p> {
     pub program: &'p Program,
     pub starts: &'p [usize],
