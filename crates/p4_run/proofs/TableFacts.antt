@@ -15,11 +15,9 @@ use Rattle.p4_ir.specs.Switch.{all_there, State, rows_numbered, table_numbered, 
 use Rattle.p4_ir.specs.declared.program.Table.{Table as CodeTable}
 use Rattle.p4_ir.specs.declared.rows.KeyRow.{KeyRow as CodeRow}
 use Rattle.p4_ir.specs.declared.rows.TableRows.{TableRows as CodeRows}
-use Rattle.p4_run.specs.Applying.{paired, set_by, TableFits}
-use Rattle.p4_run.specs.Places.{place_of, places_in}
-use Rattle.p4_run.specs.Running.{control_at, within_at}
-use Rattle.p4_run.specs.declared.running.Side.{Side}
-use Rattle.p4_run.specs.declared.running.Side.TheVariants.{Ingress, Egress}
+use Rattle.p4_code.specs.Running.{control_in, within_in}
+use Rattle.p4_steps.specs.Doing.{place_of}
+use Rattle.p4_run.proofs.TestSteps.{is_symmetric}
 
 some_is : {A : Type 0} (x y : A) → ◌≡◌ {A = Option A} (Some x) (Some y) → x ≡ y
 some_is x y h = cc
@@ -129,7 +127,7 @@ pub record Kinds (p : Program) : Type 0 where
   pub ingress_tables : each (table_fits p) p.ingress.tables ≡ true
   pub egress_tables : each (table_fits p) p.egress.tables ≡ true
   pub ascending : ascend (numbers_of p.ingress.tables ++ numbers_of p.egress.tables) ≡ true
-  pub body : (side : Side) → block_fits (within_at p side) (control_at p side).body ≡ true
+  pub body : (b : Bool) → block_fits (within_in p b) (control_in p b).body ≡ true
 
 pub kinds_of : (p : Program) → kinds_fit p ≡ true → Kinds p
 kinds_of p h =
@@ -149,12 +147,21 @@ kinds_of p h =
       body = body_of b.1 a.1;
     }
   where
-    body_of : block_fits (within_at p (Ingress 0)) p.ingress.body ≡ true → block_fits (within_at p (Egress 0)) p.egress.body ≡ true
-        → (side : Side) → block_fits (within_at p side) (control_at p side).body ≡ true
-    body_of x y (Ingress port) = x
-    body_of x y (Egress rid) = y
+    body_of : block_fits (within_in p true) p.ingress.body ≡ true → block_fits (within_in p false) p.egress.body ≡ true
+        → (b : Bool) → block_fits (within_in p b) (control_in p b).body ≡ true
+    body_of x y true = x
+    body_of x y false = y
+
+-- the rows fit the table, and the table fits the program
+pub record TableFits (p : Program) (t : P4Table) (r : TableRows) : Type 0 where
+  pub some : 0 < length t.keys
+  pub keys : each (λ i. nat_lt i (length p.meta)) t.keys ≡ true
+  pub result : t.result < length p.meta
+  pub rows : each (row_fits p t) r.rows ≡ true
+  pub otherwise : r.otherwise < 2 ^ meta_width p t.result
 
 pub record Loads (p : Program) (r : RowsFile) : Type 0 where
+  pub given : each (λ (t : P4Table). has_number t.number (table_numbers r.tables)) (all_tables p) ≡ true
   pub tables : each (λ (t : TableRows). table_rows_fit p (table_numbered (all_tables p) t.number) t) r.tables ≡ true
   pub groups : each group_fits r.groups ≡ true
 
@@ -167,32 +174,39 @@ loads_of p r h =
     let a = and_parts (once && given && fit && distinct) (each group_fits r.groups) h in
     let b = and_parts (once && given && fit) distinct a.0 in
     let c = and_parts (once && given) fit b.0 in
-    record { tables = c.1; groups = a.1 }
+    record { given = (and_parts once given c.0).1; tables = c.1; groups = a.1 }
 
-pub in_both : (p : Program) (side : Side) (n : ℕ) (t : P4Table) → Kinds p → table_numbered (control_at p side).tables n ≡ Some t → table_numbered (all_tables p) n ≡ Some t
-in_both p (Ingress port) n t k e = found_in_prefix (λ (u : P4Table). u.number == n) p.ingress.tables p.egress.tables t e
-in_both p (Egress rid) n t k e =
+pub in_both : (p : Program) (b : Bool) (n : ℕ) (t : P4Table) → Kinds p → table_numbered (control_in p b).tables n ≡ Some t → table_numbered (all_tables p) n ≡ Some t
+in_both p true n t k e = found_in_prefix (λ (u : P4Table). u.number == n) p.ingress.tables p.egress.tables t e
+in_both p false n t k e =
     found_behind (λ (u : P4Table). u.number == n) p.ingress.tables p.egress.tables
     (not_in_prefix p.ingress.tables p.egress.tables n k.ascending (found_has (λ (u : P4Table). u.number) p.egress.tables n t e))
     ∙ e
 
-control_fits : (p : Program) (side : Side) → Kinds p → each (table_fits p) (control_at p side).tables ≡ true
-control_fits p (Ingress port) k = k.ingress_tables
-control_fits p (Egress rid) k = k.egress_tables
+control_fits : (p : Program) (b : Bool) → Kinds p → each (table_fits p) (control_in p b).tables ≡ true
+control_fits p true k = k.ingress_tables
+control_fits p false k = k.egress_tables
 
-counted : (n : ℕ) → not (n == 0) ≡ true → 0 < n
+pub counted : (n : ℕ) → not (n == 0) ≡ true → 0 < n
 counted zero h = absurd (cc)
 counted (suc n) h = omega arith
 
-pub table_at : (p : Program) (rows : RowsFile) (side : Side) (n : ℕ) (t : P4Table) (r : TableRows) → kinds_fit p ≡ true → rows_load p rows ≡ true
-    → table_numbered (control_at p side).tables n ≡ Some t → rows_numbered rows.tables n ≡ Some r → TableFits p t r
-table_at p rows side n t r h k e f =
+-- the keys of a table that fits
+pub keys_parts : (p : Program) (t : P4Table) → table_fits p t ≡ true → (not (length t.keys == 0) ≡ true) × (each (λ i. nat_lt i (length p.meta)) t.keys ≡ true)
+keys_parts p t h =
+    let a = and_parts (not (length t.keys == 0) && each (λ i. nat_lt i (length p.meta)) t.keys && nat_lt t.result (length p.meta)) (nat_lt t.number (2 ^ 32 - 1)) h in
+    let b = and_parts (not (length t.keys == 0) && each (λ i. nat_lt i (length p.meta)) t.keys) (nat_lt t.result (length p.meta)) a.0 in
+    and_parts (not (length t.keys == 0)) (each (λ i. nat_lt i (length p.meta)) t.keys) b.0
+
+pub table_at : (p : Program) (rows : RowsFile) (b : Bool) (n : ℕ) (t : P4Table) (r : TableRows) → kinds_fit p ≡ true → rows_load p rows ≡ true
+    → table_numbered (control_in p b).tables n ≡ Some t → rows_numbered rows.tables n ≡ Some r → TableFits p t r
+table_at p rows b n t r h k e f =
     let kinds = kinds_of p h in
-    let own : table_fits p t ≡ true = each_found (table_fits p) (λ (u : P4Table). u.number == n) (control_at p side).tables t (control_fits p side kinds) e in
+    let own : table_fits p t ≡ true = each_found (table_fits p) (λ (u : P4Table). u.number == n) (control_in p b).tables t (control_fits p b kinds) e in
     let is_n : r.number ≡ n = eqb-true r.number n (found_passes (λ (u : TableRows). u.number == n) rows.tables r f) in
     let whole : table_rows_fit p (table_numbered (all_tables p) r.number) r ≡ true =
     each_found (λ (u : TableRows). table_rows_fit p (table_numbered (all_tables p) u.number) u) (λ (u : TableRows). u.number == n) rows.tables r (loads_of p rows k).tables f in
-    let same : table_numbered (all_tables p) r.number ≡ Some t = ap (table_numbered (all_tables p)) is_n ∙ in_both p side n t kinds e in
+    let same : table_numbered (all_tables p) r.number ≡ Some t = ap (table_numbered (all_tables p)) is_n ∙ in_both p b n t kinds e in
     let fits : table_rows_fit p (Some t) r ≡ true = ap (λ o. table_rows_fit p o r) (sym same) ∙ whole in
     let parts = and_parts (each (row_fits p t) r.rows) (nat_lt r.otherwise (2 ^ meta_width p t.result)) fits in
     let a = and_parts (not (length t.keys == 0) && each (λ i. nat_lt i (length p.meta)) t.keys && nat_lt t.result (length p.meta)) (nat_lt t.number (2 ^ 32 - 1)) own in
@@ -242,135 +256,32 @@ result_fits p t (r ∷ rows) otherwise xs h l =
     small_step (2 ^ meta_width p t.result) (all_fit r.values r.masks xs) r.result (table_result rows otherwise xs)
     (ltb-true r.result (2 ^ meta_width p t.result) own.1) (result_fits p t rows otherwise xs both.1 l)
 
--- the numbers in the keys are all there
-pub all_keyed : (meta ks : List ℕ) → All (λ i. i < length meta) ks → all_there meta ks ≡ Some (keyed meta ks)
-all_keyed meta [] h = refl
-all_keyed meta (k ∷ ks) h =
-    let first : slice_get meta k ≡ Some (get_or meta k 0) = slice_get-get_or meta k 0 (h zero 0 (omega arith)) in
-    let rest : all_there meta ks ≡ Some (keyed meta ks) = all_keyed meta ks (λ i d l. h (suc i) d (omega arith)) in
-    (λ i. option_and_then (λ n. option_map (λ more. n ∷ more) (rest i)) (first i))
-
 -- a group that is listed
 pub each_at : {A B : Type 0} (f : A → B) (test : B → Bool) (xs : List A) (i : ℕ) (x : A) → each test (map f xs) ≡ true → i < length xs → x ≡ get_or xs i x → test (f x) ≡ true
 each_at f test [] i x h l e = absurd (omega arith)
 each_at f test (y ∷ xs) zero x h l e = subst (λ z. test (f z) ≡ true) (sym e) (and_parts (test (f y)) (each test (map f xs)) h).0
 each_at f test (y ∷ xs) (suc i) x h l e = each_at f test xs i x (and_parts (test (f y)) (each test (map f xs)) h).1 (omega arith) e
 
--- ---- a table and its rows, as the code finds them
+-- ---- a number that tables, or their rows, have finds one
 
-pub none_at : {A B : Type 0} (f : A → B) (xs : List A) (i : ℕ) → false ≡ nat_lt i (length xs) → slice_get (map f xs) i ≡ None
-none_at f [] i e = refl
-none_at f (x ∷ xs) zero e = absurd (none_here (length xs) e)
-  where
-    none_here : (n : ℕ) → false ≡ nat_lt 0 (suc n) → ⊥
-    none_here n h = let l : suc n ≤ 0 = ltb-false 0 (suc n) (sym h) in omega arith
-none_at f (x ∷ xs) (suc i) e = none_at f xs i (earlier (length xs) i e)
-  where
-    earlier : (n i : ℕ) → false ≡ nat_lt (suc i) (suc n) → false ≡ nat_lt i n
-    earlier n i h = let l : suc n ≤ suc i = ltb-false (suc i) (suc n) (sym h) in sym (le-ltb i n (omega arith))
+rest_of : (a b : Bool) → a ≡ false → (a || b) ≡ true → b ≡ true
+rest_of true b e h = absurd (cc)
+rest_of false b e h = h
 
-pub some_at : {A B : Type 0} (f : A → B) (xs : List A) (i : ℕ) (x : A) → i < length xs → x ≡ get_or xs i x → slice_get (map f xs) i ≡ Some (f x)
-some_at f [] i x l e = absurd (omega arith)
-some_at f (y ∷ xs) zero x l e = ap (λ z. Some (f z)) (sym e)
-some_at f (y ∷ xs) (suc i) x l e = some_at f xs i x (omega arith) e
+is_turned : (m n : ℕ) → (m == n) ≡ false → (n == m) ≡ false
+is_turned m n h = is_symmetric n m ∙ h
 
-pub places_at : (rows : List TableRows) (ts : List P4Table) (i : ℕ) (t : P4Table) → slice_get ts i ≡ Some t → get_or (places_in rows ts) i 0 ≡ place_of (table_numbers rows) t.number
-places_at rows [] i t e = absurd (cc)
-places_at rows (u ∷ ts) zero t e = ap (λ (v : P4Table). place_of (table_numbers rows) v.number) (some_is u t e)
-places_at rows (u ∷ ts) (suc i) t e = places_at rows ts i t e
+numbered_step : {A : Type 0} (x : A) (m n : ℕ) (b : Bool) (found : Option A) (rest : Bool) → (m == n) ≡ b → (rest ≡ true → found ≡ None → ⊥) → ((n == m) || rest) ≡ true
+    → ◌≡◌ {A = Option A} (if b then Some x else found) None → ⊥
+numbered_step x m n true found rest p ih h e = cc
+numbered_step x m n false found rest p ih h e = ih (rest_of (n == m) rest (is_turned m n p) h) e
 
-pub table_here : (tabs : List CodeTable) (ts : List P4Table) (n at : ℕ) (x : CodeTable) → map table_of tabs ≡ ts → at ≡ place_of (numbers_of (map table_of tabs)) n
-    → at < length tabs → x ≡ get_or tabs at x → table_numbered ts n ≡ Some (table_of x)
-table_here tabs ts n at x e p l g =
-    ap (λ us. table_numbered us n) (sym e) ∙ found_at (λ (u : P4Table). u.number) (map table_of tabs) n ∙ ap (slice_get (map table_of tabs)) (sym p) ∙ some_at table_of tabs at x l g
+numbered_there : {A : Type 0} (f : A → ℕ) (xs : List A) (n : ℕ) → has_number n (map f xs) ≡ true → find (λ x. f x == n) xs ≡ None → ⊥
+numbered_there f [] n h e = cc
+numbered_there f (x ∷ xs) n h e = numbered_step x (f x) n (f x == n) (find (λ y. f y == n) xs) (has_number n (map f xs)) refl (numbered_there f xs n) h e
 
-pub no_table : (tabs : List CodeTable) (ts : List P4Table) (n at : ℕ) → map table_of tabs ≡ ts → at ≡ place_of (numbers_of (map table_of tabs)) n
-    → false ≡ nat_lt at (length tabs) → table_numbered ts n ≡ None
-no_table tabs ts n at e p l =
-    ap (λ us. table_numbered us n) (sym e) ∙ found_at (λ (u : P4Table). u.number) (map table_of tabs) n ∙ ap (slice_get (map table_of tabs)) (sym p) ∙ none_at table_of tabs at l
+pub table_found : (ts : List P4Table) (n : ℕ) → has_number n (numbers_of ts) ≡ true → table_numbered ts n ≡ None → ⊥
+table_found ts n h = numbered_there (λ (t : P4Table). t.number) ts n h
 
--- the place that was kept is that of the rows of the table's number
-pub place_kept : (tabs : List CodeTable) (ts : List P4Table) (rows : List TableRows) (places : List ℕ) (n at : ℕ) (x : CodeTable) → map table_of tabs ≡ ts
-    → at ≡ place_of (numbers_of (map table_of tabs)) n → at < length tabs → x ≡ get_or tabs at x → places ≡ places_in rows ts → get_or places at 0 ≡ place_of (table_numbers rows) n
-place_kept tabs ts rows places n at x e p l g k =
-    let here : slice_get ts at ≡ Some (table_of x) = ap (λ us. slice_get us at) (sym e) ∙ some_at table_of tabs at x l g in
-    let is_n : x.number ≡ n = eqb-true x.number n (found_passes (λ (u : P4Table). u.number == n) ts (table_of x) (table_here tabs ts n at x e p l g)) in
-    ap (λ ps. get_or ps at 0) k ∙ places_at rows ts at (table_of x) here ∙ ap (place_of (table_numbers rows)) is_n
-
-pub rows_here : (all : List CodeRows) (rows : List TableRows) (n place : ℕ) (y : CodeRows) → map table_rows_of all ≡ rows → place ≡ place_of (table_numbers rows) n
-    → place < length all → y ≡ get_or all place y → rows_numbered rows n ≡ Some (table_rows_of y)
-rows_here all rows n place y e p l g =
-    found_at (λ (u : TableRows). u.number) rows n ∙ ap (slice_get rows) (sym p) ∙ ap (λ us. slice_get us place) (sym e) ∙ some_at table_rows_of all place y l g
-
-pub no_rows_here : (all : List CodeRows) (rows : List TableRows) (n place : ℕ) → map table_rows_of all ≡ rows → place ≡ place_of (table_numbers rows) n
-    → false ≡ nat_lt place (length all) → rows_numbered rows n ≡ None
-no_rows_here all rows n place e p l =
-    found_at (λ (u : TableRows). u.number) rows n ∙ ap (slice_get rows) (sym p) ∙ ap (λ us. slice_get us place) (sym e) ∙ none_at table_rows_of all place l
-
--- ---- applying
-
-pub paired_parts : (o : Option P4Table) (q : Option TableRows) (t : P4Table) (r : TableRows) → Some (t, r) ≡ paired o q → (o ≡ Some t) × (q ≡ Some r)
-paired_parts None q t r e = absurd (cc)
-paired_parts (Some u) None t r e = absurd (cc)
-paired_parts (Some u) (Some v) t r e =
-    let same : ◌≡◌ {A = P4Table × TableRows} (t, r) (u, v) = some_is (t, r) (u, v) e in
-    (ap (λ (x : P4Table × TableRows). Some x.0) (sym same), ap (λ (x : P4Table × TableRows). Some x.1) (sym same))
-
-abbrev applied_by : State → Option P4Table → Option TableRows → Option State
-applied_by s o q = option_and_then (λ (t : P4Table). option_and_then (λ (r : TableRows). set_by s t r) q) o
-
-pub not_applied : (s : State) (o : Option P4Table) (q : Option TableRows) → None ≡ paired o q → option_and_then (λ (t : P4Table). option_and_then (λ (r : TableRows). set_by s t r) q) o ≡ None
-not_applied s None q e = refl
-not_applied s (Some t) None e = refl
-not_applied s (Some t) (Some r) e = absurd (cc)
-
-pub is_applied : (s : State) (o : Option P4Table) (q : Option TableRows) (t : P4Table) (r : TableRows) → o ≡ Some t → q ≡ Some r
-    → option_and_then (λ (u : P4Table). option_and_then (λ (v : TableRows). set_by s u v) q) o ≡ set_by s t r
-is_applied s o q t r e g = (λ i. applied_by s (e i) (g i))
-
-pub set_is : (s : State) (t : P4Table) (r : TableRows) (n : ℕ) (xs : List ℕ) → all_there s.meta t.keys ≡ Some xs → n ≡ table_result r.rows r.otherwise xs
-    → Some (record s { meta = slice_set s.meta t.result n }) ≡ set_by s t r
-set_is s t r n xs e g =
-    ap (λ k. Some (record s { meta = slice_set s.meta t.result k })) g
-    ∙ sym (ap (option_map (λ ys. record s { meta = slice_set s.meta t.result (table_result r.rows r.otherwise ys) })) e)
-
--- ---- places of numbers that ascend
-
-has_at : (ns : List ℕ) (i n : ℕ) → slice_get ns i ≡ Some n → has_number n ns ≡ true
-has_at [] i n e = absurd (cc)
-has_at (m ∷ ns) zero n e = or_left (n == m) (has_number n ns) (eq-eqb n m (sym (some_is m n e)))
-has_at (m ∷ ns) (suc i) n e = or_right (n == m) (has_number n ns) (has_at ns i n e)
-
-first_place : (m n k : ℕ) (b : Bool) → (m == n) ≡ b → m ≡ n → (if b then 0 else k) ≡ 0
-first_place m n k true p e = refl
-first_place m n k false p e = absurd (let bad : true ≡ false = sym (eq-eqb m n e) ∙ p in cc)
-
-later_place : (m n k i : ℕ) (b : Bool) → (m == n) ≡ b → m < n → k ≡ i → (if b then 0 else suc k) ≡ suc i
-later_place m n k i true p l e = absurd (let same : m ≡ n = eqb-true m n p in omega arith)
-later_place m n k i false p l e = ap suc e
-
-pub place_is : (ns : List ℕ) (i n : ℕ) → ascend ns ≡ true → slice_get ns i ≡ Some n → place_of ns n ≡ i
-place_is [] i n h e = absurd (cc)
-place_is (m ∷ ns) zero n h e = first_place m n (suc (place_of ns n)) (m == n) refl (some_is m n e)
-place_is (m ∷ ns) (suc i) n h e =
-    later_place m n (place_of ns n) i (m == n) refl (ascend_below m ns n h (has_at ns i n e)) (place_is ns i n (ascend_rest m ns h) e)
-
-ascend_prefix : (xs ys : List ℕ) → ascend (xs ++ ys) ≡ true → ascend xs ≡ true
-ascend_prefix [] ys h = refl
-ascend_prefix (x ∷ []) ys h = refl
-ascend_prefix (x ∷ y ∷ xs) ys h =
-    let parts = and_parts (nat_lt x y) (ascend (y ∷ (xs ++ ys))) h in
-    and_from (nat_lt x y) (ascend (y ∷ xs)) parts.0 (ascend_prefix (y ∷ xs) ys parts.1)
-
-ascend_back : (xs ys : List ℕ) → ascend (xs ++ ys) ≡ true → ascend ys ≡ true
-ascend_back [] ys h = h
-ascend_back (x ∷ xs) ys h = ascend_back xs ys (ascend_rest x (xs ++ ys) h)
-
-pub control_ascends : (p : Program) (side : Side) → Kinds p → ascend (numbers_of (control_at p side).tables) ≡ true
-control_ascends p (Ingress port) k = ascend_prefix (numbers_of p.ingress.tables) (numbers_of p.egress.tables) k.ascending
-control_ascends p (Egress rid) k = ascend_back (numbers_of p.ingress.tables) (numbers_of p.egress.tables) k.ascending
-
-pub number_read : (tabs : List CodeTable) (i : ℕ) (x : CodeTable) → i < length tabs → x ≡ get_or tabs i x → slice_get (numbers_of (map table_of tabs)) i ≡ Some x.number
-number_read [] i x l e = absurd (omega arith)
-number_read (t ∷ tabs) zero x l e = ap (λ (y : CodeTable). Some y.number) (sym e)
-number_read (t ∷ tabs) (suc i) x l e = number_read tabs i x (omega arith) e
+pub rows_found : (rs : List TableRows) (n : ℕ) → has_number n (table_numbers rs) ≡ true → rows_numbered rs n ≡ None → ⊥
+rows_found rs n h = numbered_there (λ (r : TableRows). r.number) rs n h

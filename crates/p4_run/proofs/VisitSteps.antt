@@ -1,5 +1,5 @@
 -- What ingress and egress leave, by how their statements end.
-use Rattle.std.proofs.Common.{◌≡◌, ℕ, suc, ◌<◌, ◌≤◌, Bool, false, if◌then◌else◌, IfSome, List, [], ◌∷◌, drop, get_or, length, replicate, take, Option, Some, None, option_map, option_and_then, refl, sym, ◌∙◌, ap}
+use Rattle.std.proofs.Common.{◌≡◌, ℕ, suc, ◌<◌, ◌≤◌, Bool, true, false, if◌then◌else◌, IfSome, List, [], ◌∷◌, drop, get_or, length, replicate, take, Option, Some, None, option_map, option_and_then, refl, sym, ◌∙◌, ap}
 use Rattle.std.proofs.lemmas.Bool.{le-ltb, lt-ltb}
 use Rattle.std.proofs.lemmas.List.{append-nil}
 use Rattle.cocoon_num.specs.PacketForms.{AllWhole, AreBytes, FieldsFit}
@@ -8,14 +8,10 @@ use Rattle.packed_fields.specs.AtOnce.{bytes_in, grouped, widths_in}
 use Rattle.packed_fields.proofs.Headers.{enter_flat, leave_flat}
 use Rattle.p4_ir.specs.P4Tree.{Program, program_layout, RowsFile}
 use Rattle.p4_ir.specs.Switch.{ingress_of, p4_run_all, state_of}
-use Rattle.p4_run.specs.Outcomes.{outcome_of}
-use Rattle.p4_run.specs.Running.{running_at}
-use Rattle.p4_run.specs.States.{state_in}
-use Rattle.p4_run.specs.declared.running.Side.TheVariants.{Ingress}
+use Rattle.p4_code.specs.Running.{running_in}
+use Rattle.p4_code.specs.States.{state_in}
+use Rattle.p4_code.specs.declared.registers.Registers.{Registers}
 use Rattle.p4_run.specs.Visits.{AreHeaders, ingress_left}
-use Rattle.p4_run.specs.declared.registers.Registers.{Registers}
-use Rattle.p4_run.specs.declared.statements.Way.{Way}
-use Rattle.p4_run.specs.declared.statements.Way.TheVariants.{Proceeds, Returned}
 
 pub are_bytes : (bs : List ℕ) → ((k : ℕ) → get_or bs k 0 < 256) → AreBytes bs
 are_bytes [] f = tt
@@ -41,31 +37,20 @@ long_left p rows port bytes fields w f l g =
     let e : enter layout bytes ≡ entered_if layout bytes false = enter_flat layout bytes w f ∙ ap (entered_if layout bytes) (le-ltb (length bytes) (bytes_in layout) l) in
     ap (option_and_then (λ entered. ingress_of p rows port entered.0)) e ∙ ap (λ ns. ingress_of p rows port (grouped layout ns)) (sym g)
 
--- ---- what is left
+-- ---- the bytes of the headers
 
-pub left_is : (layout : Layout) (way : Option Way) (r : Registers) → IfSome (option_map state_of (outcome_of layout way r)) (λ s. state_in layout r ≡ s)
-left_is layout None r = tt
-left_is layout (Some Proceeds) r = refl
-left_is layout (Some Returned) r = refl
-
-headers_of : (layout : Layout) (r : Registers) (bytes : List ℕ) → AllWhole layout → FieldsFit (widths_in layout) r.fields.items → bytes ≡ header_bytes (widths_in layout) r.fields.items
+pub headers_of : (layout : Layout) (r : Registers) (bytes : List ℕ) → AllWhole layout → FieldsFit (widths_in layout) r.fields.items → bytes ≡ header_bytes (widths_in layout) r.fields.items
     → bytes ≡ leave layout (grouped layout r.fields.items) []
 headers_of layout r bytes w f e =
     e ∙ sym (append-nil (header_bytes (widths_in layout) r.fields.items)) ∙ sym (leave_flat layout r.fields.items [] w f)
-
-pub headers_are : (layout : Layout) (way : Option Way) (r : Registers) (bytes : List ℕ) → AllWhole layout → FieldsFit (widths_in layout) r.fields.items → bytes ≡ header_bytes (widths_in layout) r.fields.items
-    → AreHeaders layout (option_map state_of (outcome_of layout way r)) bytes
-headers_are layout None r bytes w f e = tt
-headers_are layout (Some Proceeds) r bytes w f e = headers_of layout r bytes w f e
-headers_are layout (Some Returned) r bytes w f e = headers_of layout r bytes w f e
 
 -- ---- where ingress begins
 
 pub ingress_begins : (p : Program) (rows : RowsFile) (port : ℕ) (bytes : List ℕ) (r : Registers) → AllWhole (program_layout p) → AreBytes bytes → bytes_in (program_layout p) ≤ length bytes
     → r.fields.items ≡ header_fields (widths_in (program_layout p)) (take (bytes_in (program_layout p)) bytes) → r.meta.items ≡ replicate (length p.meta) 0
     → r.verdict ≡ 0 → r.egress_port ≡ 0 → r.group ≡ 0
-    → ingress_left p rows port bytes ≡ option_map state_of (p4_run_all (running_at p rows (Ingress port)) p.ingress.body (state_in (program_layout p) r))
+    → ingress_left p rows port bytes ≡ option_map state_of (p4_run_all (running_in p rows.tables true port) p.ingress.body (state_in (program_layout p) r))
 ingress_begins p rows port bytes r w f l g m v e o =
     long_left p rows port bytes r.fields.items w f l g
-    ∙ (λ i. option_map state_of (p4_run_all (running_at p rows (Ingress port)) p.ingress.body
+    ∙ (λ i. option_map state_of (p4_run_all (running_in p rows.tables true port) p.ingress.body
     (record { packet = grouped (program_layout p) r.fields.items; meta = sym m i; verdict = sym v i; egress_port = sym e i; group = sym o i })))

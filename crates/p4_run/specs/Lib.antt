@@ -1,13 +1,8 @@
-pub mod Applying
 pub mod Bits
 pub mod FaultOf
 pub mod Faults
 pub mod Frames
-pub mod Laid
-pub mod Meant
-pub mod Outcomes
-pub mod Places
 pub mod Running
-pub mod Sorted
+pub mod Runs
 pub mod States
 pub mod Visits

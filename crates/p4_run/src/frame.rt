@@ -1,16 +1,18 @@
 //! The memory that runs work in.
 ghost use Rattle.std.specs.Prelude.{◌≡◌, ◌↔◌, IfOk, IsTrue};
 ghost use Rattle.p4_ir.specs.P4Tree.{field_widths};
+ghost use Rattle.p4_code.specs.States.{Fit};
 ghost use Rattle.p4_run.specs.Frames.{Fits, headers_in};
 ghost use Rattle.p4_run.specs.Running.{program_in};
 ghost use Rattle.p4_run.specs.Frames as frames;
 ghost use Rattle.p4_run.specs.States as spec;
-ghost use Rattle.p4_run.specs.States.{Fit, fields_fit};
+ghost use Rattle.p4_run.specs.States.{fields_fit};
 
 use crate::faults::fits_width;
 use crate::loaded::Loaded;
-use crate::registers::{Registers, all_fit};
+use crate::registers::{all_fit, zero_registers};
 use cocoon_num::NoMemory;
+use p4_code::Registers;
 use std::alloc::Global;
 
 /// What a run works in: made once for a program, and used for packet after packet.
@@ -52,7 +54,7 @@ fn zeros(alloc: Global, loaded: &Loaded) -> Result<Registers, NoMemory>
 {
     let fields = loaded.widths.len();
     let meta = loaded.program.meta.items().len();
-    let made = Registers::new(alloc, fields, meta)?;
+    let made = zero_registers(alloc, fields, meta)?;
     Ok(made)
 }
 

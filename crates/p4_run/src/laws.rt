@@ -18,7 +18,8 @@ pub fn rows_without_fault_load()
 /// Where no copy is chosen, a visit ends as ingress says.
 pub fn ingress_is_a_visit()
     ensures { (p : Program) (rows : RowsFile) (tag port : ℕ) (bytes headers : List ℕ)
-        → AllWhole (program_layout p) → AreBytes bytes → length headers ≡ bytes_in (program_layout p)
+        → AllWhole (program_layout p) → AreBytes bytes
+        → length headers ≡ bytes_in (program_layout p)
         → AreHeaders (program_layout p) (ingress_left p rows port bytes) headers
         → switch_go p rows tag port bytes []
         ≡ departs (after_ingress (ingress_left p rows port bytes)) headers bytes }
@@ -27,7 +28,8 @@ pub fn ingress_is_a_visit()
 /// Where a copy is chosen, it ends as egress says after ingress, if it is one of a member of the group.
 pub fn egress_is_a_visit()
     ensures { (p : Program) (rows : RowsFile) (tag port rid : ℕ) (bytes headers : List ℕ)
-        → AllWhole (program_layout p) → AreBytes bytes → length headers ≡ bytes_in (program_layout p)
+        → AllWhole (program_layout p) → AreBytes bytes
+        → length headers ≡ bytes_in (program_layout p)
         → AreHeaders (program_layout p)
         (option_and_then (egress_of p rows rid) (ingress_left p rows port bytes)) headers
         → switch_go p rows tag port bytes (rid ∷ [])

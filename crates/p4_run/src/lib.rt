@@ -7,16 +7,11 @@ pub mod faults;
 pub mod frame;
 pub mod joining;
 pub mod laws;
-pub mod laying;
 pub mod loaded;
 pub mod loading;
-pub mod operators;
 pub mod places;
 pub mod registers;
-pub mod running;
-pub mod statements;
-pub mod value;
-pub mod values;
+pub mod tables;
 pub mod visits;
 
 pub use faults::LoadFault;

@@ -1,51 +1,101 @@
 //! Loading: the tests, and then what is resolved once.
-ghost use Rattle.std.specs.Prelude.{◌≡◌, IfErr, IfOk, IsTrue, None};
+ghost use Rattle.std.specs.Prelude.{◌≡◌, false, IfErr, IfOk, IsTrue, map, None, true};
 ghost use Rattle.p4_ir.specs.Loading.{rows_load};
 ghost use Rattle.p4_ir.specs.NetOf.{rows_of};
 ghost use Rattle.p4_ir.specs.P4Kinds.{kinds_fit};
+ghost use Rattle.p4_ir.specs.P4Tree.{program_layout};
 ghost use Rattle.p4_ir.specs.Program.{program_of};
 ghost use Rattle.p4_ir.specs.WellKinded.{WellKinded};
+ghost use Rattle.p4_code.specs.Places.{starts_from};
+ghost use Rattle.p4_steps.specs.Steps.{step_by, steps_by};
 ghost use Rattle.p4_run.specs.FaultOf.{IsFault};
 ghost use Rattle.p4_run.specs.Faults as faults;
-ghost use Rattle.p4_run.specs.Laid.{AreLaid};
 ghost use Rattle.p4_run.specs.Running.{program_in, rows_in};
+ghost use Rattle.p4_run.specs.Runs.{AreApplied, Runs};
 
 use crate::faults::{LoadFault, load_fault};
-use crate::laying::laid_tables;
 use crate::loaded::Loaded;
-use crate::places::{FieldWidths, bit_count, field_widths, rows_places};
+use crate::places::{FieldWidths, bit_count, field_widths};
+use crate::tables::tables_with;
 use cocoon_num::NoMemory;
-use flat_rows::FlatRows;
+use p4_code::Names;
 use p4_ir::{Program, RowsFile};
+use p4_steps::{Application, Step, all_stepped};
 use std::alloc::Global;
 
-/// A program with rows that load, and these laid flat.
+/// The statements of ingress.
+fn ingress_steps(
+    alloc: Global,
+    program: &Program,
+    rows: &RowsFile,
+    starts: &[usize],
+    tables: &[Application],
+) -> Result<Vec<Step>, NoMemory>
+    requires kinds { IsTrue (kinds_fit (program_of program.now)) }
+    requires loads { IsTrue (rows_load (program_of program.now) (rows_of rows.now)) }
+    requires starts { starts.now ≡ starts_from 0 (program_layout (program_of program.now)) }
+    requires tables { AreApplied (program_of program.now) (rows_of rows.now).tables tables.now }
+    ensures { IfOk result (λ steps. Runs (program_of program.now) (rows_of rows.now).tables true
+        tables.now (steps_by (map step_by steps.items))) }
+{
+    let names = Names {
+        program,
+        starts,
+        in_ingress: true,
+    };
+    let stmts = program.ingress.body.items();
+    all_stepped(alloc, &names, rows.tables.items(), tables, stmts)
+}
+
+/// The statements of egress.
+fn egress_steps(
+    alloc: Global,
+    program: &Program,
+    rows: &RowsFile,
+    starts: &[usize],
+    tables: &[Application],
+) -> Result<Vec<Step>, NoMemory>
+    requires kinds { IsTrue (kinds_fit (program_of program.now)) }
+    requires loads { IsTrue (rows_load (program_of program.now) (rows_of rows.now)) }
+    requires starts { starts.now ≡ starts_from 0 (program_layout (program_of program.now)) }
+    requires tables { AreApplied (program_of program.now) (rows_of rows.now).tables tables.now }
+    ensures { IfOk result (λ steps. Runs (program_of program.now) (rows_of rows.now).tables false
+        tables.now (steps_by (map step_by steps.items))) }
+{
+    let names = Names {
+        program,
+        starts,
+        in_ingress: false,
+    };
+    let stmts = program.egress.body.items();
+    all_stepped(alloc, &names, rows.tables.items(), tables, stmts)
+}
+
+/// A program with rows that load, and its tables.
 fn placed(
     alloc: Global,
     program: Program,
     rows: RowsFile,
-    flats: Vec<FlatRows>,
+    tables: Vec<Application>,
 ) -> Result<Loaded, NoMemory>
     requires kinds { IsTrue (kinds_fit (program_of program)) }
     requires loads { IsTrue (rows_load (program_of program) (rows_of rows)) }
-    requires flats { AreLaid (program_of program) (rows_of rows).tables flats.items }
+    requires tables { AreApplied (program_of program) (rows_of rows).tables tables.items }
     ensures program { IfOk result (λ loaded. program_in loaded ≡ program_of program) }
     ensures rows { IfOk result (λ loaded. rows_in loaded ≡ rows_of rows) }
 {
     let FieldWidths { widths, starts } = field_widths(alloc, program.headers.items())?;
     let header_bytes = bit_count(&widths)? / 8;
-    let tables = rows.tables.items();
-    let ingress_places = rows_places(alloc, program.ingress.tables.items(), tables)?;
-    let egress_places = rows_places(alloc, program.egress.tables.items(), tables)?;
+    let ingress = ingress_steps(alloc, &program, &rows, &starts, &tables)?;
+    let egress = egress_steps(alloc, &program, &rows, &starts, &tables)?;
     Ok(Loaded {
         program,
         rows,
         widths,
-        starts,
         header_bytes,
-        ingress_places,
-        egress_places,
-        flats,
+        tables,
+        ingress,
+        egress,
     })
 }
 
@@ -56,8 +106,8 @@ fn resolved(alloc: Global, program: Program, rows: RowsFile) -> Result<Loaded, N
     ensures program { IfOk result (λ loaded. program_in loaded ≡ program_of program) }
     ensures rows { IfOk result (λ loaded. rows_in loaded ≡ rows_of rows) }
 {
-    let flats = laid_tables(alloc, &program, rows.tables.items())?;
-    placed(alloc, program, rows, flats)
+    let tables = tables_with(alloc, &program, rows.tables.items())?;
+    placed(alloc, program, rows, tables)
 }
 
 impl Loaded {

@@ -1,4 +1,4 @@
-//! What a control works on: the numbers of the fields and of the meta fields, and what it has decided.
+//! Registers of a program: made, copied, and filled from bytes.
 ghost use Rattle.std.specs.Prelude.{◌≡◌, ◌*◌, IfOk, IsTrue, length, replicate};
 ghost use Rattle.cocoon_num.specs.Lists.{each};
 ghost use Rattle.cocoon_num.specs.PacketForms.{FieldsFit};
@@ -9,74 +9,64 @@ ghost use Rattle.p4_run.specs.States.{fields_fit};
 use crate::cutting::cut_into;
 use crate::faults::fits_width;
 use cocoon_num::NoMemory;
+use p4_code::Registers;
 use std::alloc::Global;
 
-/// The numbers of the fields, header by header, and of the meta fields; and what was decided last.
-#[derive(Drop)]
-pub(crate) struct Registers {
-    pub(crate) fields: Vec<u64>,
-    pub(crate) meta: Vec<u64>,
-    pub(crate) verdict: u8,
-    pub(crate) egress_port: u16,
-    pub(crate) group: u16,
+/// Registers of zeros, so many.
+pub(crate) fn zero_registers(
+    alloc: Global,
+    field_count: usize,
+    meta_count: usize,
+) -> Result<Registers, NoMemory>
+    ensures fields { IfOk result (λ r. r.fields.items ≡ replicate field_count 0) }
+    ensures meta { IfOk result (λ r. r.meta.items ≡ replicate meta_count 0) }
+{
+    let fields = vec![in alloc; 0; field_count]?;
+    let meta = vec![in alloc; 0; meta_count]?;
+    Ok(Registers {
+        fields,
+        meta,
+        verdict: 0,
+        egress_port: 0,
+        group: 0,
+        own: 0,
+    })
 }
 
-impl Registers {
-    /// Zeros, so many.
-    pub(crate) fn new(
-        alloc: Global,
-        field_count: usize,
-        meta_count: usize,
-    ) -> Result<Registers, NoMemory>
-        ensures fields { IfOk result (λ r. r.fields.items ≡ replicate field_count 0) }
-        ensures meta { IfOk result (λ r. r.meta.items ≡ replicate meta_count 0) }
-    {
-        let fields = vec![in alloc; 0; field_count]?;
-        let meta = vec![in alloc; 0; meta_count]?;
-        Ok(Registers {
-            fields,
-            meta,
-            verdict: 0,
-            egress_port: 0,
-            group: 0,
-        })
-    }
+/// Sets all to those of the other, which has as many.
+pub(crate) fn copy_from(registers: &mut Registers, other: &Registers)
+    requires fields { length registers.old.fields.items ≡ length other.now.fields.items }
+    requires meta { length registers.old.meta.items ≡ length other.now.meta.items }
+    ensures fields { registers.new.fields.items ≡ other.now.fields.items }
+    ensures meta { registers.new.meta.items ≡ other.now.meta.items }
+    ensures verdict { registers.new.verdict ≡ other.now.verdict }
+    ensures egress_port { registers.new.egress_port ≡ other.now.egress_port }
+    ensures group { registers.new.group ≡ other.now.group }
+{
+    registers.fields.copy_from_slice(&other.fields);
+    registers.meta.copy_from_slice(&other.meta);
+    registers.verdict = other.verdict;
+    registers.egress_port = other.egress_port;
+    registers.group = other.group;
+}
 
-    /// Sets all to those of the other, which has as many.
-    pub(crate) fn copy_from(&mut self, other: &Registers)
-        requires fields { length self.old.fields.items ≡ length other.now.fields.items }
-        requires meta { length self.old.meta.items ≡ length other.now.meta.items }
-        ensures fields { self.new.fields.items ≡ other.now.fields.items }
-        ensures meta { self.new.meta.items ≡ other.now.meta.items }
-        ensures verdict { self.new.verdict ≡ other.now.verdict }
-        ensures egress_port { self.new.egress_port ≡ other.now.egress_port }
-        ensures group { self.new.group ≡ other.now.group }
-    {
-        self.fields.copy_from_slice(&other.fields);
-        self.meta.copy_from_slice(&other.meta);
-        self.verdict = other.verdict;
-        self.egress_port = other.egress_port;
-        self.group = other.group;
-    }
-
-    /// Sets the fields to those that some bytes hold, and the meta fields to zeros; nothing is decided.
-    pub(crate) fn enter(&mut self, widths: &[u8], bytes: &[u8])
-        requires declared { IsTrue (each is_declared_width widths.now) }
-        requires long { total widths.now ≡ 8 * length bytes.now }
-        requires many { length self.old.fields.items ≡ length widths.now }
-        ensures fields { self.new.fields.items ≡ header_fields widths.now bytes.now }
-        ensures fits { FieldsFit widths.now self.new.fields.items }
-        ensures meta { self.new.meta.items ≡ replicate (length self.old.meta.items) 0 }
-        ensures verdict { self.new.verdict ≡ 0 }
-        ensures egress_port { self.new.egress_port ≡ 0 }
-        ensures group { self.new.group ≡ 0 }
-    {
-        cut_into(&mut self.fields, widths, bytes);
-        set_zero(&mut self.meta);
-        self.verdict = 0;
-        self.egress_port = 0;
-        self.group = 0;
-    }
+/// Sets the fields to those that some bytes hold, and the meta fields to zeros; nothing is decided.
+pub(crate) fn fill(registers: &mut Registers, widths: &[u8], bytes: &[u8])
+    requires declared { IsTrue (each is_declared_width widths.now) }
+    requires long { total widths.now ≡ 8 * length bytes.now }
+    requires many { length registers.old.fields.items ≡ length widths.now }
+    ensures fields { registers.new.fields.items ≡ header_fields widths.now bytes.now }
+    ensures fits { FieldsFit widths.now registers.new.fields.items }
+    ensures meta { registers.new.meta.items ≡ replicate (length registers.old.meta.items) 0 }
+    ensures verdict { registers.new.verdict ≡ 0 }
+    ensures egress_port { registers.new.egress_port ≡ 0 }
+    ensures group { registers.new.group ≡ 0 }
+{
+    cut_into(&mut registers.fields, widths, bytes);
+    set_zero(&mut registers.meta);
+    registers.verdict = 0;
+    registers.egress_port = 0;
+    registers.group = 0;
 }
 
 fn set_zero(numbers: &mut [u64])

@@ -1,23 +1,23 @@
 //! Visits: ingress, and egress for each member of a group.
-ghost use Rattle.std.specs.Prelude.{◌≡◌, ◌≤◌, IfSome, IsTrue, length, option_map, ℕ};
+ghost use Rattle.std.specs.Prelude.{◌≡◌, ◌<◌, ◌≤◌, ◌^◌, false, IfSome, IsTrue, length, option_map, Some, true};
 ghost use Rattle.cocoon_num.specs.Lists.{ascend};
 ghost use Rattle.cocoon_num.specs.Packets.{header_bytes, Layout};
 ghost use Rattle.packed_fields.specs.AtOnce.{bytes_in, widths_in};
 ghost use Rattle.p4_ir.specs.P4Tree.{RowsFile};
 ghost use Rattle.p4_ir.specs.Switch as switch;
 ghost use Rattle.p4_ir.specs.Switch.{egress_of, p4_run_all, state_of};
+ghost use Rattle.p4_code.specs.Running.{running_in};
+ghost use Rattle.p4_code.specs.States.{Fit, state_in};
 ghost use Rattle.p4_run.specs.Frames.{Fits, headers_in, left_in};
-ghost use Rattle.p4_run.specs.Outcomes.{outcome_of};
-ghost use Rattle.p4_run.specs.Running.{layout_in, program_in, rows_in, running_at};
-ghost use Rattle.p4_run.specs.States.{Fit, state_in};
+ghost use Rattle.p4_run.specs.Running.{layout_in, program_in, rows_in};
 ghost use Rattle.p4_run.specs.Visits.{after_egress, after_ingress, AreHeaders, ingress_left};
 
 use crate::frame::Frame;
 use crate::joining::join_into;
 use crate::loaded::Loaded;
-use crate::registers::Registers;
-use crate::running::Side;
-use crate::statements::{Way, run_all};
+use crate::registers::{copy_from, fill};
+use p4_code::Registers;
+use p4_steps::run_all;
 
 /// What follows a run.
 #[derive(Clone, Copy, Debug, Drop, PartialEq, Eq)]
@@ -30,13 +30,10 @@ pub enum Next {
     Copies(u16),
 }
 
-fn next_after_ingress(way: Option<Way>, registers: &Registers) -> Next
-    ensures { (layout : Layout) → result
-        ≡ after_ingress (option_map state_of (outcome_of layout way registers.now)) }
+/// What follows from what ingress left.
+fn next_after_ingress(registers: &Registers) -> Next
+    ensures { (layout : Layout) → result ≡ after_ingress (Some (state_in layout registers.now)) }
 {
-    if way.is_none() {
-        return Next::Drop;
-    }
     match registers.verdict {
         1 => Next::Port(registers.egress_port),
         2 => Next::Copies(registers.group),
@@ -44,42 +41,70 @@ fn next_after_ingress(way: Option<Way>, registers: &Registers) -> Next
     }
 }
 
-fn next_after_egress(way: Option<Way>, registers: &Registers) -> Next
-    ensures { (layout : Layout) → result
-        ≡ after_egress (option_map state_of (outcome_of layout way registers.now)) }
+/// What follows from what egress left.
+fn next_after_egress(registers: &Registers) -> Next
+    ensures { (layout : Layout) → result ≡ after_egress (Some (state_in layout registers.now)) }
 {
-    if way.is_none() || registers.verdict != 1 {
+    if registers.verdict != 1 {
         return Next::Drop;
     }
     Next::Port(registers.egress_port)
 }
 
 /// Sets the registers to what ingress begins with.
-fn enter(loaded: &Loaded, registers: &mut Registers, bytes: &[u8])
+fn enter(loaded: &Loaded, registers: &mut Registers, port: u16, bytes: &[u8])
     requires fit { Fit (program_in loaded.now) registers.old }
     requires long { loaded.now.header_bytes ≤ length bytes.now }
     ensures fit { Fit (program_in loaded.now) registers.new }
-    ensures left { (rows : RowsFile) (port : ℕ)
-        → ingress_left (program_in loaded.now) rows port bytes.now
-        ≡ option_map state_of (p4_run_all
-        (running_at (program_in loaded.now) rows (Side.Ingress port))
+    ensures own { registers.new.own ≡ port }
+    ensures left { (rows : RowsFile) → ingress_left (program_in loaded.now) rows port bytes.now
+        ≡ option_map state_of (p4_run_all (running_in (program_in loaded.now) rows.tables true port)
         (program_in loaded.now).ingress.body (state_in (layout_in loaded.now) registers.new)) }
 {
-    registers.enter(&loaded.widths, &bytes[..loaded.header_bytes]);
+    fill(registers, &loaded.widths, &bytes[..loaded.header_bytes]);
+    registers.own = u64::from(port);
+}
+
+/// Runs ingress.
+fn run_ingress(loaded: &Loaded, registers: &mut Registers)
+    requires fit { Fit (program_in loaded.now) registers.old }
+    requires own { registers.old.own < 2 ^ 16 }
+    ensures fit { Fit (program_in loaded.now) registers.new }
+    ensures left { option_map state_of (p4_run_all
+        (running_in (program_in loaded.now) (rows_in loaded.now).tables true registers.old.own)
+        (program_in loaded.now).ingress.body (state_in (layout_in loaded.now) registers.old))
+        ≡ Some (state_in (layout_in loaded.now) registers.new) }
+{
+    run_all(registers, &loaded.tables, &loaded.ingress);
+}
+
+/// Runs egress.
+fn run_egress(loaded: &Loaded, registers: &mut Registers)
+    requires fit { Fit (program_in loaded.now) registers.old }
+    requires own { registers.old.own < 2 ^ 64 }
+    ensures fit { Fit (program_in loaded.now) registers.new }
+    ensures left { option_map state_of (p4_run_all
+        (running_in (program_in loaded.now) (rows_in loaded.now).tables false registers.old.own)
+        (program_in loaded.now).egress.body (state_in (layout_in loaded.now) registers.old))
+        ≡ Some (state_in (layout_in loaded.now) registers.new) }
+{
+    run_all(registers, &loaded.tables, &loaded.egress);
 }
 
 /// Sets the registers to what egress begins with.
-fn start(loaded: &Loaded, registers: &mut Registers, left: &Registers)
+fn start(loaded: &Loaded, registers: &mut Registers, left: &Registers, rid: u64)
     requires fit { Fit (program_in loaded.now) registers.old }
     requires left { Fit (program_in loaded.now) left.now }
     ensures fit { Fit (program_in loaded.now) registers.new }
+    ensures own { registers.new.own ≡ rid }
     ensures state { let old = state_in (layout_in loaded.now) left.now in
         state_in (layout_in loaded.now) registers.new
         ≡ record old { verdict = 0; egress_port = 0 } }
 {
-    registers.copy_from(left);
+    copy_from(registers, left);
     registers.verdict = 0;
     registers.egress_port = 0;
+    registers.own = rid;
 }
 
 /// Sets the bytes to those of the headers.
@@ -109,11 +134,10 @@ impl Loaded {
         if bytes.len() < self.header_bytes {
             return Next::Drop;
         }
-        enter(self, &mut frame.left, bytes);
-        let stmts = self.program.ingress.body.items();
-        let way = run_all(self, Side::Ingress(port), &mut frame.left, stmts);
+        enter(self, &mut frame.left, port, bytes);
+        run_ingress(self, &mut frame.left);
         leave(self, &mut frame.bytes, &frame.left);
-        next_after_ingress(way, &frame.left)
+        next_after_ingress(&frame.left)
     }
 
     /// Runs egress for a member of a group, from what the last ingress left.
@@ -127,11 +151,10 @@ impl Loaded {
             (egress_of (program_in self.now) (rows_in self.now) rid (left_in self.now frame.old))
             (headers_in frame.new) }
     {
-        start(self, &mut frame.current, &frame.left);
-        let stmts = self.program.egress.body.items();
-        let way = run_all(self, Side::Egress(rid), &mut frame.current, stmts);
+        start(self, &mut frame.current, &frame.left, rid);
+        run_egress(self, &mut frame.current);
         leave(self, &mut frame.bytes, &frame.current);
-        next_after_egress(way, &frame.current)
+        next_after_egress(&frame.current)
     }
 
     /// The members of a group, ascending; none of a group that is not there.

@@ -1,7 +1,8 @@
 use Rattle.std.proofs.Common.{length, map, sym, ◌∙◌, ap}
 use Rattle.p4_ir.specs.P4Tree.{field_widths}
 use Rattle.p4_ir.specs.Program.{field_of}
-use Rattle.p4_run.proofs.WidthFacts.{fit_false, widths_counted}
+use Rattle.p4_code.proofs.WidthFacts.{widths_counted}
+use Rattle.p4_run.proofs.FitFacts.{fit_false}
 use Rattle.p4_run.proofs.frame.meta_fits.Goals as goal
 
 pub returns-then-fields-numbers : goal.returns-then-fields-numbers

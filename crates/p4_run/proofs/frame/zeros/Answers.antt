@@ -4,7 +4,7 @@ use Rattle.packed_fields.specs.AtOnce.{widths_in}
 use Rattle.p4_ir.specs.P4Tree.{field_widths}
 use Rattle.p4_ir.specs.Program.{field_of}
 use Rattle.p4_run.specs.Running.{layout_in}
-use Rattle.p4_run.proofs.WidthFacts.{widths_counted, zeros_fit}
+use Rattle.p4_code.proofs.WidthFacts.{widths_counted, zeros_fit}
 use Rattle.p4_run.proofs.frame.zeros.Goals as goal
 
 pub returns : goal.returns

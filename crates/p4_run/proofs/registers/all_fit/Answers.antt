@@ -1,5 +1,5 @@
 use Rattle.std.proofs.Common.{sym}
-use Rattle.p4_run.proofs.WidthFacts.{fit_false}
+use Rattle.p4_run.proofs.FitFacts.{fit_false}
 use Rattle.p4_run.proofs.registers.all_fit.Goals as goal
 
 pub returns-then-widths-numbers : goal.returns-then-widths-numbers

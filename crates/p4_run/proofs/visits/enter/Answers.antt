@@ -9,11 +9,12 @@ use Rattle.packed_fields.proofs.Packing.{fit_length}
 use Rattle.p4_ir.specs.P4Tree.{field_widths}
 use Rattle.p4_run.specs.Running.{layout_in, program_in}
 use Rattle.p4_run.proofs.VisitSteps.{are_bytes, ingress_begins}
-use Rattle.p4_run.proofs.WidthFacts.{declared_at, meta_counted, Widths, zeros_fit}
+use Rattle.p4_code.proofs.WidthFacts.{meta_counted, Widths, zeros_fit}
+use Rattle.p4_run.proofs.FitFacts.{declared_at}
 use Rattle.p4_run.proofs.visits.enter.Goals as goal
 
-pub enter-requires-clause-declared : goal.enter-requires-clause-declared
-enter-requires-clause-declared c =
+pub fill-requires-clause-declared : goal.fill-requires-clause-declared
+fill-requires-clause-declared c =
     let l = c.args.loaded.now in
     let p = program_in l in
     let ws = widths_in (layout_in l) in
@@ -22,8 +23,8 @@ enter-requires-clause-declared c =
     let widths : c.deref.result.now ≡ ws = c.deref.ensures.value ∙ l.widths_are in
     subst (λ xs. IsTrue (each is_declared_width xs)) (sym widths) w.fields
 
-pub enter-requires-clause-long : goal.enter-requires-clause-long
-enter-requires-clause-long c =
+pub fill-requires-clause-long : goal.fill-requires-clause-long
+fill-requires-clause-long c =
     let l = c.args.loaded.now in
     let p = program_in l in
     let ws = widths_in (layout_in l) in
@@ -37,8 +38,8 @@ enter-requires-clause-long c =
     let whole : total ws % 8 ≡ 0 = w.bytes in
     omega (arith, many, t, n, whole)
 
-pub enter-requires-clause-many : goal.enter-requires-clause-many
-enter-requires-clause-many c =
+pub fill-requires-clause-many : goal.fill-requires-clause-many
+fill-requires-clause-many c =
     let l = c.args.loaded.now in
     let p = program_in l in
     let ws = widths_in (layout_in l) in
@@ -55,9 +56,9 @@ returns-clause-fit c =
     let ms = field_widths p.meta in
     let w : Widths p = declared_at p l.kinds in
     let widths : c.deref.result.now ≡ ws = c.deref.ensures.value ∙ l.widths_are in
-    let meta : c.enter.new.self.meta.items ≡ replicate (length ms) 0 = c.enter.ensures.meta ∙ ap (λ n. replicate n 0) (sym (fit_length ms c.args.registers.now.meta.items c.requires.fit.meta)) in
+    let meta : c.fill.new.registers.meta.items ≡ replicate (length ms) 0 = c.fill.ensures.meta ∙ ap (λ n. replicate n 0) (sym (fit_length ms c.args.registers.now.meta.items c.requires.fit.meta)) in
     record {
-      fields = subst (λ xs. FieldsFit xs c.enter.new.self.fields.items) widths c.enter.ensures.fits;
+      fields = subst (λ xs. FieldsFit xs c.fill.new.registers.fields.items) widths c.fill.ensures.fits;
       meta = subst (FieldsFit ms) (sym meta) (zeros_fit ms);
     }
 
@@ -72,8 +73,8 @@ returns-clause-left c =
     let bytes = c.args.bytes.now in
     let all : AreBytes bytes = are_bytes bytes (λ k. omega (arith, c.type_inv.bytes k)) in
     let long : bytes_in (layout_in l) ≤ length bytes = subst (λ n. n ≤ length bytes) l.bytes_are c.requires.long in
-    let fields : c.enter.new.self.fields.items ≡ header_fields ws (take (bytes_in (layout_in l)) bytes) =
-    c.enter.ensures.fields ∙ (λ i. header_fields (widths i) (take (l.bytes_are i) bytes)) in
-    let meta : c.enter.new.self.meta.items ≡ replicate (length p.meta) 0 =
-    c.enter.ensures.meta ∙ ap (λ n. replicate n 0) (sym (fit_length ms c.args.registers.now.meta.items c.requires.fit.meta) ∙ meta_counted p.meta) in
-    λ rows port. ingress_begins p rows port bytes c.enter.new.self w.whole all long fields meta c.enter.ensures.verdict c.enter.ensures.egress_port c.enter.ensures.group
+    let fields : c.fill.new.registers.fields.items ≡ header_fields ws (take (bytes_in (layout_in l)) bytes) =
+    c.fill.ensures.fields ∙ (λ i. header_fields (widths i) (take (l.bytes_are i) bytes)) in
+    let meta : c.fill.new.registers.meta.items ≡ replicate (length p.meta) 0 =
+    c.fill.ensures.meta ∙ ap (λ n. replicate n 0) (sym (fit_length ms c.args.registers.now.meta.items c.requires.fit.meta) ∙ meta_counted p.meta) in
+    λ rows. ingress_begins p rows c.args.port bytes c.fill.new.registers w.whole all long fields meta c.fill.ensures.verdict c.fill.ensures.egress_port c.fill.ensures.group

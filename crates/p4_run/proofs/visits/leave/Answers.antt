@@ -3,7 +3,7 @@ use Rattle.cocoon_num.specs.Lists.{each}
 use Rattle.cocoon_num.specs.Packets.{total}
 use Rattle.cocoon_num.specs.Sorts.{is_declared_width}
 use Rattle.p4_run.specs.Running.{program_in}
-use Rattle.p4_run.proofs.WidthFacts.{declared_at}
+use Rattle.p4_run.proofs.FitFacts.{declared_at}
 use Rattle.p4_run.proofs.visits.leave.Goals as goal
 
 pub join_into-requires-clause-declared : goal.join_into-requires-clause-declared

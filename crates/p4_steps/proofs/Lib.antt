@@ -1,0 +1,3 @@
+pub mod DoingFacts
+pub mod Sizes
+pub mod StepFacts

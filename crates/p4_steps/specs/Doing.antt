@@ -1,0 +1,62 @@
+-- Cited by the clauses of stepping, and by what p4_run keeps: resolved statements do what statements of the definitions do.
+use Rattle.std.specs.Prelude.{All, ◌≡◌, ℕ, suc, ◌<◌, ◌^◌, ◌==◌, Bool, true, List, [], ◌∷◌, length, if◌then◌else◌, Some, slice_set}
+use Rattle.cocoon_num.specs.Lists.{has_number}
+use Rattle.cocoon_num.specs.Packets.{Layout}
+use Rattle.flat_rows.specs.Keyed.{keyed}
+use Rattle.p4_ir.specs.Loading.{table_numbers}
+use Rattle.p4_ir.specs.P4Kinds.{numbers_of}
+use Rattle.p4_ir.specs.P4Tree.{meta_width, P4Block, P4Stmt, P4Table, Program, program_layout, TableRows}
+use Rattle.p4_ir.specs.Switch.{Outcome, p4_run, p4_run_all, proceeds, returned, rows_numbered, table_numbered, table_result}
+use Rattle.p4_code.specs.Held.{Held}
+use Rattle.p4_code.specs.Running.{control_in, running_in}
+use Rattle.p4_code.specs.States.{state_at, Suits}
+use Rattle.p4_steps.specs.Steps.{applied_at, ended, goes_on, left, Ran, Steps}
+use Rattle.p4_steps.specs.declared.steps.Application.{Application}
+
+-- the index of a number, or how many there are
+abbrev pub place_of : List ℕ → ℕ → ℕ
+place_of [] n = 0
+place_of (m ∷ ms) n = if m == n then 0 else suc (place_of ms n)
+
+-- ---- tables
+
+-- the table of a number, with its rows, is there, and fits the program; at the place of its rows it is applied
+pub record IsTable (p : Program) (rows : List TableRows) (in_ingress : Bool) (tables : List Application) (n : ℕ) (t : P4Table) (r : TableRows) : Type 0 where
+  pub table : table_numbered (control_in p in_ingress).tables n ≡ Some t
+  pub rows_are : rows_numbered rows n ≡ Some r
+  pub keys : All (λ i. i < length p.meta) t.keys
+  pub small : (xs : List ℕ) → table_result r.rows r.otherwise xs < 2 ^ meta_width p t.result
+  pub applies : (meta : List ℕ) → length meta ≡ length p.meta
+      → applied_at tables (place_of (table_numbers rows) n) meta ≡ slice_set meta t.result (table_result r.rows r.otherwise (keyed meta t.keys))
+
+-- so it is with each table of a control
+abbrev pub AreTables : Program → List TableRows → Bool → List Application → Type 0
+AreTables p rows in_ingress tables =
+    (n : ℕ) → has_number n (numbers_of (control_in p in_ingress).tables) ≡ true → (t : P4Table) × (r : TableRows) × IsTable p rows in_ingress tables n t r
+
+-- ---- statements
+
+abbrev pub outcome_at : Layout → Ran → Outcome
+outcome_at layout (goes_on h) = proceeds (state_at layout h)
+outcome_at layout (ended h) = returned (state_at layout h)
+
+-- what is held fits as before, for the same number
+pub record Keeps (p : Program) (in_ingress : Bool) (h : Held) (o : Ran) : Type 0 where
+  pub suits : Suits p in_ingress (left o)
+  pub own : (left o).own ≡ h.own
+
+pub record Does (p : Program) (rows : List TableRows) (in_ingress : Bool) (tables : List Application) (s : P4Stmt) (f : Steps) : Type 0 where
+  pub outcome : (h : Held) → Suits p in_ingress h
+      → p4_run (running_in p rows in_ingress h.own) s (state_at (program_layout p) h) ≡ Some (outcome_at (program_layout p) (f tables h))
+  pub keeps : (h : Held) → Suits p in_ingress h → Keeps p in_ingress h (f tables h)
+
+pub record DoesAll (p : Program) (rows : List TableRows) (in_ingress : Bool) (tables : List Application) (block : P4Block) (f : Steps) : Type 0 where
+  pub outcome : (h : Held) → Suits p in_ingress h
+      → p4_run_all (running_in p rows in_ingress h.own) block (state_at (program_layout p) h) ≡ Some (outcome_at (program_layout p) (f tables h))
+  pub keeps : (h : Held) → Suits p in_ingress h → Keeps p in_ingress h (f tables h)
+
+-- each does what the statement at its place does
+abbrev pub EachDoes : Program → List TableRows → Bool → List Application → List P4Stmt → List Steps → Type 0
+EachDoes p rows in_ingress tables [] [] = Unit {0}
+EachDoes p rows in_ingress tables (s ∷ ss) (f ∷ fs) = Does p rows in_ingress tables s f × EachDoes p rows in_ingress tables ss fs
+EachDoes p rows in_ingress tables _ _ = ⊥

@@ -1,0 +1,99 @@
+//! Statements, resolved: of parts before the whole, down the tree.
+ghost use Rattle.std.specs.Prelude.{◌≡◌, IfOk, IsTrue, map};
+ghost use Rattle.p4_ir.specs.Loading.{table_numbers};
+ghost use Rattle.p4_ir.specs.NetOf.{table_rows_of};
+ghost use Rattle.p4_ir.specs.P4Kinds.{block_fits, stmt_fits};
+ghost use Rattle.p4_ir.specs.Program.{block_of, stmt_of};
+ghost use Rattle.p4_steps.specs.Doing.{AreTables, Does, DoesAll, place_of};
+ghost use Rattle.p4_code.specs.Resolving.{AreNames, program_at};
+ghost use Rattle.p4_code.specs.Running.{within_in};
+ghost use Rattle.p4_steps.specs.Steps.{step_by, steps_by};
+
+use crate::steps::{Application, Step};
+use cocoon_num::NoMemory;
+use p4_code::{Names, field_place, resolved_number, resolved_truth};
+use p4_ir::{P4Stmt, TableRows};
+use std::alloc::Global;
+
+/// The index of the rows of the table of a number, or how many tables there are.
+pub fn rows_place(rows: &[TableRows], number: u32) -> usize
+    ensures { result ≡ place_of (table_numbers (map table_rows_of rows.now)) number }
+{
+    for (index, table) in rows.iter().enumerate() {
+        if table.number == number {
+            return index;
+        }
+    }
+    rows.len()
+}
+
+/// A statement.
+#[cycle(step)]
+fn stepped(
+    alloc: Global,
+    names: &Names,
+    rows: &[TableRows],
+    tables: &[Application],
+    stmt: &P4Stmt,
+) -> Result<Step, NoMemory>
+    requires names { AreNames names.now }
+    requires tables { AreTables (program_at names.now) (map table_rows_of rows.now)
+        names.now.in_ingress tables.now }
+    requires kinds { IsTrue (stmt_fits (within_in (program_at names.now) names.now.in_ingress)
+        (stmt_of stmt.now)) }
+    ensures { IfOk result (λ step. Does (program_at names.now) (map table_rows_of rows.now)
+        names.now.in_ingress tables.now (stmt_of stmt.now) (step_by step)) }
+{
+    match stmt {
+        P4Stmt::SetMeta(index, value) => {
+            let code = resolved_number(alloc, names, value)?;
+            Ok(Step::SetMeta(*index as usize, code))
+        }
+        P4Stmt::SetField(header, field, value) => {
+            let place = field_place(names, *header, *field)?;
+            let code = resolved_number(alloc, names, value)?;
+            Ok(Step::SetField(place, code))
+        }
+        P4Stmt::Apply(number) => Ok(Step::Apply(rows_place(rows, *number))),
+        P4Stmt::If(condition, first) => {
+            let code = resolved_truth(alloc, names, condition)?;
+            let first = all_stepped(alloc, names, rows, tables, first)?;
+            Ok(Step::If(code, first))
+        }
+        P4Stmt::IfElse(condition, first, second) => {
+            let code = resolved_truth(alloc, names, condition)?;
+            let first = all_stepped(alloc, names, rows, tables, first)?;
+            let second = all_stepped(alloc, names, rows, tables, second)?;
+            Ok(Step::IfElse(code, first, second))
+        }
+        P4Stmt::Verdict(verdict) => Ok(Step::Verdict(*verdict)),
+        P4Stmt::EgressPort(value) => { Ok(Step::EgressPort(resolved_number(alloc, names, value)?)) }
+        P4Stmt::Group(value) => Ok(Step::Group(resolved_number(alloc, names, value)?)),
+        P4Stmt::Return => Ok(Step::Return),
+    }
+}
+
+/// Statements one after another. The tables are those of the rows, at the same places.
+#[cycle(step)]
+pub fn all_stepped(
+    alloc: Global,
+    names: &Names,
+    rows: &[TableRows],
+    tables: &[Application],
+    stmts: &[P4Stmt],
+) -> Result<Vec<Step>, NoMemory>
+    requires names { AreNames names.now }
+    requires tables { AreTables (program_at names.now) (map table_rows_of rows.now)
+        names.now.in_ingress tables.now }
+    requires kinds { IsTrue (block_fits (within_in (program_at names.now) names.now.in_ingress)
+        (block_of (map stmt_of stmts.now))) }
+    ensures { IfOk result (λ steps. DoesAll (program_at names.now) (map table_rows_of rows.now)
+        names.now.in_ingress tables.now (block_of (map stmt_of stmts.now))
+        (steps_by (map step_by steps.items))) }
+{
+    let mut steps = Vec::new(alloc);
+    for stmt in stmts {
+        steps.push(stepped(alloc, names, rows, tables, stmt)?)?;
+    }
+    Ok(steps)
+}

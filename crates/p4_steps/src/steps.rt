@@ -1,0 +1,36 @@
+//! Resolved statements.
+ghost use Rattle.std.specs.Prelude.{All, ◌≡◌, ◌<◌, length};
+ghost use Rattle.std.proofs.Props.{props};
+ghost use Rattle.flat_rows.specs.Held.{key_count};
+
+use flat_rows::FlatRows;
+use p4_code::{NumberCode, TruthCode};
+
+/// A table as it is applied: its rows, laid flat, and which meta fields are its keys and its result.
+#[derive(Drop)]
+pub struct Application {
+    pub(crate) rows: FlatRows,
+    pub(crate) keys: Vec<u32>,
+    pub(crate) result: usize,
+    /// How many meta fields there are.
+    pub(crate) meta_count: usize,
+    ghost some: { 0 < length keys.items },
+    ghost many: { length keys.items ≡ key_count rows },
+    ghost within: { All (λ key. key < meta_count) keys.items } by { Prim.hlevel props },
+}
+
+/// A statement, in which nothing but rows is left to be looked up.
+#[derive(Drop)]
+pub enum Step {
+    SetMeta(usize, NumberCode),
+    /// A field, by its index among those of all headers.
+    SetField(usize, NumberCode),
+    /// A table, by its index among those that are given.
+    Apply(usize),
+    If(TruthCode, Vec<Step>),
+    IfElse(TruthCode, Vec<Step>, Vec<Step>),
+    Verdict(u8),
+    EgressPort(NumberCode),
+    Group(NumberCode),
+    Return,
+}
