@@ -1,4 +1,4 @@
-use Rattle.std.proofs.Common.{◌+◌, ◌∙◌, arith, drop, subst, sym}
+use Rattle.std.proofs.Common.{◌+◌, arith, drop, subst, sym}
 use Rattle.std.proofs.lemmas.Bool.{false≢true}
 use Rattle.std.proofs.lemmas.List.{drop_all, drop_more}
 use Rattle.cnf_core.specs.Deriving.{Refutes}
@@ -34,24 +34,6 @@ push-requires-clause-named c = c.in-Forces.ensures.0
 
 pub push-requires-clause-no_value : goal.push-requires-clause-no_value
 push-requires-clause-no_value c = c.in-Forces.ensures.1
-
-pub loop-index-preserved : goal.loop-index-preserved
-loop-index-preserved c =
-    let hs = c.args.hints.now in
-    let i = c.loop-index.index in
-    let cs = clauses_of c.args.known.now in
-    let e = drop_more hs i 0 c.loop-index-test.true in
-    let pushed = c.in_ok-push-in-Forces.ensures.trues in
-    let on = c.in-Forces.ensures.2 (drop (i + 1) hs) in
-    record {
-      rest = (
-        λ r. c.loop-index.invariant.rest.0 (subst (Refutes cs (trues c.loop-index.trail)) (sym e)
-            (on.1 (subst (λ ts. Refutes cs ts (drop (i + 1) hs)) pushed r))),
-        λ r. subst (λ ts. Refutes cs ts (drop (i + 1) hs)) (sym pushed)
-            (on.0 (subst (Refutes cs (trues c.loop-index.trail)) e (c.loop-index.invariant.rest.1 r))),
-      );
-      same_room = c.in_ok-push-in-Forces.ensures.room ∙ c.loop-index.invariant.same_room;
-    }
 
 pub returns-clause-exact : goal.returns-clause-exact
 returns-clause-exact c =
