@@ -1,8 +1,8 @@
 -- Cited by private clauses of `limits` and `lowering`: the counts of a network, in three parts, and what is too large to be made.
 use Rattle.std.specs.Prelude.{ℕ, ◌==◌, nat_lt, Bool, not, ◌&&◌, List, [], ◌∷◌, map, length}
 use Rattle.cocoon_num.specs.declared.limit_name.LimitName.TheVariants as limit
+use Rattle.lower_body.specs.Counting.{role_size}
 use Rattle.lower_body.specs.Whole.{SwitchRole}
-use Rattle.lower_switch.specs.Parts.{role_size}
 use Rattle.lowered.specs.Counts.{Counted}
 use Rattle.lowered.specs.Groups.{ForkGroup}
 

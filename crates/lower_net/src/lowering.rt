@@ -6,7 +6,7 @@ ghost use Rattle.lower_net.specs.Limits.{too_large};
 ghost use Rattle.lower_net.specs.Refused.{IsRefused, Lowers};
 ghost use Rattle.lowered.specs.Roles.{net_parts};
 ghost use Rattle.lower_rows.specs.AllGroups.{fork_group_of};
-ghost use Rattle.lower_switch.specs.Parts.{parts_of, switch_role};
+ghost use Rattle.lower_switch.specs.NetDeclarations.{parts_of, switch_role};
 ghost use Rattle.lowered.specs.Counts.{FirstOver, counts, first_over, program_counts};
 ghost use Rattle.lowered.specs.Groups as spec;
 ghost use Rattle.lowered.specs.Network.{IsNetwork, network};

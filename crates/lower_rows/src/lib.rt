@@ -3,8 +3,8 @@
 
 mod args_table;
 mod first_rows;
+mod fork_args;
 mod forked;
-mod fronts;
 pub mod groups;
 mod keys;
 pub mod rows;

@@ -157,22 +157,22 @@ fn function_name(checked: &Checked, number: FunId) -> &[u8]
 }
 
 /// Its parameters but the last.
-fn front_params(checked: &Checked, number: FunId) -> &[Param]
+fn group_params(checked: &Checked, number: FunId) -> &[Param]
     ensures { map param_of result.now
-        ≡ lower.front_params (params_at (design_of checked.now) number) }
+        ≡ lower.params_before_last (params_at (design_of checked.now) number) }
 {
     match checked.names().function(checked.design(), number) {
-        Some(function) => front(&function.params),
+        Some(function) => params_before_last(&function.params),
         None => &[],
     }
 }
 
 /// All parameters but the last.
-fn front(params: &[Param]) -> &[Param]
-    ensures { map param_of result.now ≡ lower.front_params (map param_of params.now) }
+fn params_before_last(params: &[Param]) -> &[Param]
+    ensures { map param_of result.now ≡ lower.params_before_last (map param_of params.now) }
 {
     match params.split_last() {
-        Some((_, front)) => front,
+        Some((_, before)) => before,
         None => params,
     }
 }
@@ -209,7 +209,7 @@ fn made_rows(
         }
         Made::Group(table, function) => {
             let name = function_name(checked, *function);
-            let masks = all_ones(alloc, front_params(checked, *function))?;
+            let masks = all_ones(alloc, group_params(checked, *function))?;
             let rows = List::from(group_rows(alloc, &masks, groups, name)?);
             let number = table.number;
             tables.push(TableRows {

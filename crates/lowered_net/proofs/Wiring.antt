@@ -89,7 +89,7 @@ ascends_more s k e (l ∷ ls) h f = true_both (nat_lt s l.switch || ((s == l.swi
       (true_both (s == l.switch) (nat_lt k l.port) (ap (λ x. s == x) (sym same.0) ∙ same_self s) (lt-ltb k l.port (omega (arith, m))))
 ]) h
 
--- a port with or without a link in front
+-- a port with or without a link before
 record Ascends (s k : ℕ) (ls : List Link) : Type 0 where
   pairs : pairs_ascend (map place ls) ≡ true
   from : From s k ls
