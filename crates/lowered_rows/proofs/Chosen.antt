@@ -15,8 +15,8 @@ use Rattle.cocoon_types.specs.Design.{functions}
 use Rattle.cocoon_types.specs.Rules.{WellFormed}
 use Rattle.declarations.proofs.NameFacts.{index-append, same-refl, same-true}
 use Rattle.declarations.specs.NameNumbers.{firsts, index_of, with_name}
-use Rattle.lowered.specs.Groups.{ForkGroup, Grouped, ascending, fork_groups, before_last, group_number, groups_at, groups_of, last_of, members_at, number_from, table_groups, true_choice, where_members}
-use Rattle.lowered.specs.SwitchRows.{groups_from}
+use Rattle.lowered_rows.specs.Groups.{ForkGroup, Grouped, ascending, fork_groups, before_last, group_number, groups_at, groups_of, last_of, members_at, number_from, table_groups, true_choice, where_members}
+use Rattle.lowered_rows.specs.SwitchRows.{groups_from}
 use Rattle.lowered_rows.proofs.Found.{Tabled}
 use Rattle.p4_ir.specs.Switch.{members}
 use Rattle.runtime_defs.proofs.Distinct.{once, once-more, other-name, OnceAfter}

@@ -9,7 +9,7 @@ use Rattle.cocoon_num.specs.Values.{fits_width}
 use Rattle.cocoon_types.specs.Design.{widths_of}
 use Rattle.declarations.specs.NameNumbers.{firsts, index_of, with_name}
 use Rattle.lower_body.specs.Lower.{before_last_from, params_before_last}
-use Rattle.lowered.specs.Groups.{before_last, last_of}
+use Rattle.lowered_rows.specs.Groups.{before_last, last_of}
 use Rattle.lowered_rows.proofs.Found.{below-width, both-true}
 use Rattle.runtime_defs.specs.Fitting.{all_ones}
 use Rattle.runtime_defs.specs.Places.{all_fit_widths}

@@ -15,7 +15,7 @@ use Rattle.cocoon_types.specs.Rules.{WellFormed}
 use Rattle.cocoon_types.specs.Tables.{Table, default_of, row_of}
 use Rattle.declarations.proofs.NameFacts.{same-true}
 use Rattle.declarations.specs.NameNumbers.{firsts, index_of, with_name}
-use Rattle.lowered.specs.Groups.{ForkGroup, fork_groups, before_last, groups_at, groups_of, members_at, table_groups, where_members}
+use Rattle.lowered_rows.specs.Groups.{ForkGroup, fork_groups, before_last, groups_at, groups_of, members_at, table_groups, where_members}
 use Rattle.lowered_rows.specs.Totals.{rows_in}
 use Rattle.runtime_defs.proofs.Distinct.{once, once-more, other-name, OnceAfter}
 use Rattle.runtime_defs.specs.Bound.{IsBound, IsPlace, IsRow, row_count}

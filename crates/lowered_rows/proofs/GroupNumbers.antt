@@ -13,8 +13,8 @@ use Rattle.cocoon_types.specs.DefsRules.{fork_calls, runtime_named}
 use Rattle.cocoon_types.specs.Design.{functions, widths_of}
 use Rattle.cocoon_types.specs.Rules.{WellFormed}
 use Rattle.lower_body.specs.Lower.{params_before_last}
-use Rattle.lowered.specs.Groups.{ForkGroup, Grouped, fork_groups, before_last, groups_at, groups_of, members_at, number_from, table_groups, where_members}
-use Rattle.lowered.specs.SwitchRows.{rows_from}
+use Rattle.lowered_rows.specs.Groups.{ForkGroup, Grouped, fork_groups, before_last, groups_at, groups_of, members_at, number_from, table_groups, where_members}
+use Rattle.lowered_rows.specs.SwitchRows.{rows_from}
 use Rattle.lowered_rows.proofs.Exact.{each-first, EachFits, before-last-fits, ones-match}
 use Rattle.lowered_rows.proofs.Found.{only-one}
 use Rattle.p4_ir.specs.Switch.{table_result}

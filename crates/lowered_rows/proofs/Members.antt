@@ -21,9 +21,9 @@ use Rattle.cocoon_types.specs.Tables.{Defs}
 use Rattle.declarations.proofs.NameFacts.{same-refl, same-true}
 use Rattle.defs_text.specs.Fitting.{literal_functions}
 use Rattle.lower_body.specs.Lower.{Made}
-use Rattle.lowered.specs.Groups.{ascending, before_last, last_of, members_at, put_in, true_choice}
+use Rattle.lowered_rows.specs.Groups.{ascending, before_last, last_of, members_at, put_in, true_choice}
 use Rattle.lowered.specs.Serving.{GroupsServe, is_true, MembersFit}
-use Rattle.lowered.specs.SwitchRows.{switch_rows}
+use Rattle.lowered_rows.specs.SwitchRows.{switch_rows}
 use Rattle.lowered_rows.proofs.Chosen.{members-are}
 use Rattle.lowered_rows.proofs.Exact.{before-last-is, joined, last-is, ones-match}
 use Rattle.lowered_rows.proofs.Found.{gives, params-fit, Tabled, tabled, widths-fit}

@@ -13,7 +13,7 @@ use Rattle.cocoon_num.specs.declared.fun_table.FunTable.{FunTable}
 use Rattle.cocoon_types.specs.DefsRules.{fork_calls}
 use Rattle.cocoon_types.specs.Design.{functions, widths_of}
 use Rattle.cocoon_types.specs.Rules.{WellFormed}
-use Rattle.lowered.specs.Groups.{ForkGroup, Grouped, ascending, fork_groups, before_last, groups_at, groups_of, last_of, members_at, put_in, table_groups, true_choice, where_members}
+use Rattle.lowered_rows.specs.Groups.{ForkGroup, Grouped, ascending, fork_groups, before_last, groups_at, groups_of, last_of, members_at, put_in, table_groups, true_choice, where_members}
 use Rattle.lowered_rows.proofs.Found.{both-true}
 use Rattle.lowered_rows.proofs.Widths.{AllNarrow, IsNarrow, narrow-function, narrow-numbers}
 use Rattle.runtime_defs.specs.Fitting.{FitsDesign, FitsPlace, FitsRow, result_width}

@@ -10,7 +10,7 @@ use Rattle.lower_body.specs.Agrees.{Filling}
 use Rattle.lower_body.specs.Log.{Placed, widths_in}
 use Rattle.lower_body.specs.Lower.{Made, a_field, a_table, a_group, params_before_last, kind_width}
 use Rattle.runtime_defs.specs.Places.{Places}
-use Rattle.lowered.specs.Groups.{group_number}
+use Rattle.lowered_rows.specs.Groups.{group_number}
 
 -- the keys are meta fields of the widths of these parameters, where meta fields have these widths
 abbrev pub KeysAre : (widths keys : List ℕ) → List Param → Type 0
