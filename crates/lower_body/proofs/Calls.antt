@@ -12,7 +12,7 @@ use Rattle.cocoon_types.specs.Tables.{Defs, look_up}
 use Rattle.cocoon_types.specs.Val.{Env, bound, bind, value, apply_in, Context}
 use Rattle.p4_ir.specs.P4Tree.{P4Expr, field_widths, program_layout, apply_table}
 use Rattle.p4_ir.specs.Switch.{State, p4_value, all_there, Running, proceeds}
-use Rattle.lower_body.specs.Lower.{Counts, Lowered, FieldName, key_name, var_name, Callees, callees, lower_expr, lower_call, lower_group, by_group, front_params, sets, fields_from, numbers_from, past, variables_from, by_table, closed, after_args, kind_width, kept, read_back}
+use Rattle.lower_body.specs.Lower.{Counts, Lowered, FieldName, key_name, var_name, Callees, callees, lower_expr, lower_call, lower_group, by_group, params_before_last, sets, fields_from, numbers_from, past, variables_from, by_table, closed, after_args, kind_width, kept, read_back}
 use Rattle.lower_body.specs.Agrees.{run_list, Moves, Holds, ReadsAs, NumbersAt, Reaches, AllMade, Filling, Long, FitAll, GroupTakesIn, GroupsReach, EitherOf, TakesIn, Takes, IsOf, BodyFits, FunctionsFit, inner_context, CallsReach, Agree, code_of}
 use Rattle.lower_body.proofs.States.{put_here, run_both, made_first, made_second, moves_same, moves_both, long_moved, with_meta, set_moves}
 use Rattle.lower_body.proofs.Rises.{calls_rise}
@@ -202,13 +202,13 @@ body_reaches at fill headers earlier g d (Some x) fits f same es ns v n s low fi
     closed_reaches at fill (TakesIn earlier) (λ f ns. ⊥) (inner_context headers fill.defs earlier) (callees headers earlier []) g d x es ns v n s b.0 (b.1 v h) h low fit gives made long
 
 group_reaches : (at : Running) (fill : Filling) (d : FunctionDecl) (es : List P4Expr) (ns : List ℕ) (n : Counts) (s : State)
-    → 0 < n.field → FitAll (front_params d.params) ns → ((t : State) → Moves n.field s t → NumbersAt at t es ns)
+    → 0 < n.field → FitAll (params_before_last d.params) ns → ((t : State) → Moves n.field s t → NumbersAt at t es ns)
     → AllMade at fill (by_group d es n).made → Long at s
     → Reaches at n.field (by_group d es n).next.field (by_group d es n).code s (by_group d es n).expr (number 16 (fill.group d.name.text ns))
 group_reaches at fill d es ns n s low fit gives made long =
-    let ps : List Param = front_params d.params in
+    let ps : List Param = params_before_last d.params in
     let r : ℕ = past n.field ps in
-    let own = made_second at fill (fields_from (key_name n.app) 0 n.field (front_params d.params)) _ made in
+    let own = made_second at fill (fields_from (key_name n.app) 0 n.field (params_before_last d.params)) _ made in
     let a : SetsTo at n.field ps es ns s = sets_reach at fill (key_name n.app) 0 n.field n.field ps es ns s low fit (omega arith) gives (made_first at fill _ _ made) long in
     let inside : r < length a.after.meta = inside_meta at a.after r 16 (long_moved at n.field s a.after a.moves long) own.0 in
     record {
@@ -230,7 +230,7 @@ choose_group at fill false X Y A B v n s f g h m = g h m
 pub groups_reach : (at : Running) (fill : Filling) (headers : List HeaderDecl) (fs : List FunctionDecl) (port : List ℕ) → GroupsReach at fill (GroupTakesIn fs) (callees headers fs port)
 groups_reach at fill headers [] port f es ns n s low takes gives made long = absurd takes
 groups_reach at fill headers (d ∷ earlier) port f es ns n s low takes gives made long =
-    choose_group at fill (same_name f d.name.text) (by_group d es n) (lower_group earlier f es n) (FitAll (front_params d.params) ns) (GroupTakesIn earlier f ns) (number 16 (fill.group f ns)) n.field s
+    choose_group at fill (same_name f d.name.text) (by_group d es n) (lower_group earlier f es n) (FitAll (params_before_last d.params) ns) (GroupTakesIn earlier f ns) (number 16 (fill.group f ns)) n.field s
     (λ b fit m. rw (same_name_equal f d.name.text b) (group_reaches at fill d es ns n s low fit gives m long))
     (λ t m. groups_reach at fill headers earlier port f es ns n s low t gives m long) takes made
 

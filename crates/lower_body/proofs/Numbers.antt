@@ -5,7 +5,7 @@ use Rattle.std.proofs.lemmas.List.{append_assoc}
 use Rattle.cocoon_num.specs.Tree.{Param, Expr, name, Exprs, FunctionDecl, HeaderDecl, Stmt, Block, field, lit, true_or_false, call, unary, binary, slice, pick, no_exprs, expr, let_, set_field, if_, filter, havoc_var, havoc_field, assume, fork, send, no_stmts, stmt}
 use Rattle.cocoon_num.specs.Names.{same_name}
 use Rattle.p4_ir.specs.P4Tree.{P4Expr, p_meta}
-use Rattle.lower_body.specs.Lower.{Counts, FieldName, Made, a_field, a_table, a_group, Variable, Lowered, Callees, callees, lower_expr, lower_exprs, lower_call, lower_group, by_table, by_group, closed, fields_from, past, front_params, key_name, var_name, variables_from, after_args, kind_width, then_called}
+use Rattle.lower_body.specs.Lower.{Counts, FieldName, Made, a_field, a_table, a_group, Variable, Lowered, Callees, callees, lower_expr, lower_exprs, lower_call, lower_group, by_table, by_group, closed, fields_from, past, params_before_last, key_name, var_name, variables_from, after_args, kind_width, then_called}
 use Rattle.lower_body.specs.LowerBlock.{Site, forked, in_block, fork_args, fork_function, lower_stmt, lower_block}
 use Rattle.lower_body.specs.LowerSites.{LoweredSites, lower_site, lower_sites}
 use Rattle.lower_body.specs.Log.{Placed, NumberedTo, Grown, CallsGrow, FieldsAt, widths_in}
@@ -54,7 +54,7 @@ group_grows : (fs : List FunctionDecl) (f : List ℕ) (es : List P4Expr) (n : Co
 group_grows [] f es n = grown_none n
 group_grows (d ∷ earlier) f es n =
     either_grows (same_name f d.name.text) n (by_group d es n) (lower_group earlier f es n)
-    (record { placed = placed_both n.field n.app (past n.field (front_params d.params)) n.app _ _ (fields_from (key_name n.app) 0 n.field (front_params d.params)) _ (fields_placed (key_name n.app) 0 n.field n.app (front_params d.params)) (refl, (refl, (refl, refl))); site = refl })
+    (record { placed = placed_both n.field n.app (past n.field (params_before_last d.params)) n.app _ _ (fields_from (key_name n.app) 0 n.field (params_before_last d.params)) _ (fields_placed (key_name n.app) 0 n.field n.app (params_before_last d.params)) (refl, (refl, (refl, refl))); site = refl })
     (group_grows earlier f es n)
 
 abbrev lowered_by : List HeaderDecl → List FunctionDecl → FunctionDecl → List P4Expr → Counts → Option Expr → Lowered

@@ -4,7 +4,7 @@ use Rattle.std.proofs.Common.{arith}
 use Rattle.cocoon_num.specs.Tree.{Param, Expr, name, Exprs, FunctionDecl, HeaderDecl, Stmt, Block, field, lit, true_or_false, call, unary, binary, slice, pick, no_exprs, expr, let_, set_field, if_, filter, havoc_var, havoc_field, assume, fork, send, no_stmts, stmt}
 use Rattle.cocoon_num.specs.Names.{same_name}
 use Rattle.p4_ir.specs.P4Tree.{P4Expr}
-use Rattle.lower_body.specs.Lower.{Counts, Variable, Lowered, Callees, callees, lower_expr, lower_exprs, lower_call, lower_group, by_group, front_params, by_table, closed, past, variables_from, after_args}
+use Rattle.lower_body.specs.Lower.{Counts, Variable, Lowered, Callees, callees, lower_expr, lower_exprs, lower_call, lower_group, by_group, params_before_last, by_table, closed, past, variables_from, after_args}
 use Rattle.lower_body.specs.LowerBlock.{forked, in_block, fork_args, fork_function, lower_stmt, lower_block}
 use Rattle.lower_body.specs.Agrees.{CallsRise}
 
@@ -47,7 +47,7 @@ body_rises headers earlier g d es n (Some e) = omega (arith, past_rises n.field 
 group_rises : (fs : List FunctionDecl) (f : List ℕ) (es : List P4Expr) (n : Counts) → n.field ≤ (lower_group fs f es n).next.field
 group_rises [] f es n = omega arith
 group_rises (d ∷ earlier) f es n =
-    either_rises (same_name f d.name.text) n.field (by_group d es n) (lower_group earlier f es n) (omega (arith, past_rises n.field (front_params d.params))) (group_rises earlier f es n)
+    either_rises (same_name f d.name.text) n.field (by_group d es n) (lower_group earlier f es n) (omega (arith, past_rises n.field (params_before_last d.params))) (group_rises earlier f es n)
 
 call_rises : (headers : List HeaderDecl) (fs : List FunctionDecl) (f : List ℕ) (es : List P4Expr) (n : Counts) → n.field ≤ (lower_call headers fs f es n).next.field
 call_rises headers [] f es n = omega arith

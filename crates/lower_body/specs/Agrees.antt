@@ -10,7 +10,7 @@ use Rattle.cocoon_types.specs.Tables.{Defs, look_up}
 use Rattle.cocoon_types.specs.Val.{Env, bind, value, numbers, apply_in, Context}
 use Rattle.p4_ir.specs.P4Tree.{P4Expr, P4Stmt, TableRows, field_widths, program_layout}
 use Rattle.p4_ir.specs.Switch.{State, p4_value, p4_run, then_run, table_numbered, rows_numbered, table_result, Running, Outcome, proceeds}
-use Rattle.lower_body.specs.Lower.{Counts, Made, a_field, a_table, a_group, front_params, Variable, Callees}
+use Rattle.lower_body.specs.Lower.{Counts, Made, a_field, a_table, a_group, params_before_last, Variable, Callees}
 
 -- ---- code as a list
 
@@ -166,7 +166,7 @@ CallsReach at fill T context c =
 -- arguments that a fork's function takes before the choice
 abbrev pub GroupTakesIn : List FunctionDecl → List ℕ → List ℕ → Type 0
 GroupTakesIn [] f ns = ⊥
-GroupTakesIn (d ∷ earlier) f ns = EitherOf (same_name f d.name.text) (FitAll (front_params d.params) ns) (GroupTakesIn earlier f ns)
+GroupTakesIn (d ∷ earlier) f ns = EitherOf (same_name f d.name.text) (FitAll (params_before_last d.params) ns) (GroupTakesIn earlier f ns)
 
 -- a fork's table gives the number of the group
 abbrev pub GroupsReach : Running → Filling → (List ℕ → List ℕ → Type 0) → Callees → Type 0

@@ -6,3 +6,4 @@ pub mod Ends
 pub mod Log
 pub mod LowerSites
 pub mod Whole
+pub mod Counting

@@ -184,21 +184,21 @@ abbrev pub after_args : FunctionDecl → Counts → Counts
 after_args d n = record { app = n.app; var = past n.var d.params; field = past n.field d.params; site = n.site }
 
 -- all but the last, which stands for the fork's choice
-abbrev pub front_from : Param → List Param → List Param
-front_from p [] = []
-front_from p (q ∷ ps) = p ∷ front_from q ps
+abbrev pub before_last_from : Param → List Param → List Param
+before_last_from p [] = []
+before_last_from p (q ∷ ps) = p ∷ before_last_from q ps
 
-abbrev pub front_params : List Param → List Param
-front_params [] = []
-front_params (p ∷ ps) = front_from p ps
+abbrev pub params_before_last : List Param → List Param
+params_before_last [] = []
+params_before_last (p ∷ ps) = before_last_from p ps
 
 abbrev pub by_group : FunctionDecl → List P4Expr → Counts → Lowered
 by_group d es n = record {
   code = sets n.field es ++ (apply_table n.app ∷ []);
-  made = fields_from (key_name n.app) 0 n.field (front_params d.params) ++ (a_field (result_name n.app) (past n.field (front_params d.params)) 16
-      ∷ a_group (record { number = n.app; exact = true; keys = numbers_from n.field (front_params d.params); result = past n.field (front_params d.params) }) d.name.text (front_params d.params) ∷ []);
-  expr = p_meta (past n.field (front_params d.params));
-  next = record { app = suc n.app; var = n.var; field = suc (past n.field (front_params d.params)); site = n.site };
+  made = fields_from (key_name n.app) 0 n.field (params_before_last d.params) ++ (a_field (result_name n.app) (past n.field (params_before_last d.params)) 16
+      ∷ a_group (record { number = n.app; exact = true; keys = numbers_from n.field (params_before_last d.params); result = past n.field (params_before_last d.params) }) d.name.text (params_before_last d.params) ∷ []);
+  expr = p_meta (past n.field (params_before_last d.params));
+  next = record { app = suc n.app; var = n.var; field = suc (past n.field (params_before_last d.params)); site = n.site };
 }
 
 abbrev pub lower_group : List FunctionDecl → List ℕ → List P4Expr → Counts → Lowered

@@ -79,13 +79,13 @@ then_block a b = followed a (b a.vars a.next)
 
 -- ---- forks
 
-abbrev pub front_after : Expr → Exprs → Exprs
-front_after e no_exprs = no_exprs
-front_after e (expr x es) = expr e (front_after x es)
+abbrev pub before_last_after : Expr → Exprs → Exprs
+before_last_after e no_exprs = no_exprs
+before_last_after e (expr x es) = expr e (before_last_after x es)
 
-abbrev pub front : Exprs → Exprs
-front no_exprs = no_exprs
-front (expr e es) = front_after e es
+abbrev pub exprs_before_last : Exprs → Exprs
+exprs_before_last no_exprs = no_exprs
+exprs_before_last (expr e es) = before_last_after e es
 
 -- a fork's expression is a call over some arguments and the choice
 abbrev pub fork_function : Expr → List ℕ
@@ -93,7 +93,7 @@ fork_function (call at f es) = f.text
 fork_function _ = []
 
 abbrev pub fork_args : Expr → Exprs
-fork_args (call at f es) = front es
+fork_args (call at f es) = exprs_before_last es
 fork_args _ = no_exprs
 
 abbrev mutual

@@ -3,10 +3,9 @@ pub mod Readings
 pub mod Sizes
 pub mod Steps
 pub mod Found
-pub mod Fronts
+pub mod BeforeLast
 pub mod Forms
 pub mod BlockSteps
 pub mod Scoped
 pub mod SiteSteps
-pub mod Counted
 pub mod FoundCounts

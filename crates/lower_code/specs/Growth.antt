@@ -7,7 +7,7 @@ use Rattle.p4_ir.specs.P4Tree.{set_meta, apply_table}
 use Rattle.p4_ir.specs.Program.{expr_of, stmt_of, table_of}
 use Rattle.p4_ir.specs.declared.program.P4Expr.{P4Expr}
 use Rattle.p4_ir.specs.declared.program.P4Stmt.{P4Stmt}
-use Rattle.lower_body.specs.Lower.{site_name, key_name, result_name, var_name, a_field, a_table, a_group, front_params, fields_from, numbers_from, past, sets, kept, kind_width, read_back, Lowered, LoweredAll}
+use Rattle.lower_body.specs.Lower.{site_name, key_name, result_name, var_name, a_field, a_table, a_group, params_before_last, fields_from, numbers_from, past, sets, kept, kind_width, read_back, Lowered, LoweredAll}
 use Rattle.lower_body.specs.Lower as lower
 use Rattle.lower_code.specs.declared.made.Counts.{Counts}
 use Rattle.lower_code.specs.declared.made.FieldName.{FieldName}
@@ -35,7 +35,7 @@ params_at d f = elim (slice_get (functions d) f) [ Some g ↦ g.params | None �
 abbrev pub made_of : Design → Made → lower.Made
 made_of d (parts.Field f) = a_field (field_name_of f.name) f.number f.width
 made_of d (parts.Table t f) = a_table (table_of t) (text_at d f) (params_at d f)
-made_of d (parts.Group t f) = a_group (table_of t) (text_at d f) (front_params (params_at d f))
+made_of d (parts.Group t f) = a_group (table_of t) (text_at d f) (params_before_last (params_at d f))
 
 abbrev pub made_in : Design → List Made → List lower.Made
 made_in d ms = map (made_of d) ms

@@ -1,5 +1,4 @@
 pub mod Blocks
-pub mod Counting
 pub mod Growth
 pub mod Scopes
 pub mod Variables

@@ -8,7 +8,7 @@ use Rattle.cocoon_num.specs.Values.{BinaryOp, implies}
 use Rattle.p4_ir.specs.P4Tree.{P4Expr, p_binary}
 use Rattle.lower_body.specs.Lower.{Callees, Counts, Lowered, Variable, p_operation, after_args, by_table, callees, closed, lower_expr, variables_from}
 use Rattle.lower_body.specs.LowerBlock.{in_block}
-use Rattle.lower_code.specs.Counting.{call_count, expr_count}
+use Rattle.lower_body.specs.Counting.{call_count, expr_count}
 use Rattle.lower_code.specs.declared.functions.Scope.{Scope}
 
 -- the first functions of a design, so many, the last first

@@ -141,7 +141,7 @@ pub(crate) fn choice_parts<'d>(choice: &'d Expr) -> (&'d [u8], &'d [Expr])
         ≡ block.fork_args (tree.expr_of choice.now) }
 {
     match &choice.kind {
-        ExprKind::Call(function, args) => (function.text.bytes(), front(args)),
+        ExprKind::Call(function, args) => (function.text.bytes(), exprs_before_last(args)),
         ExprKind::Name(_) => (&[], &[]),
         ExprKind::Field(_, _) => (&[], &[]),
         ExprKind::Lit(_) => (&[], &[]),
@@ -154,12 +154,12 @@ pub(crate) fn choice_parts<'d>(choice: &'d Expr) -> (&'d [u8], &'d [Expr])
 }
 
 /// All arguments but the last.
-fn front(args: &[Expr]) -> &[Expr]
+fn exprs_before_last(args: &[Expr]) -> &[Expr]
     ensures { tree.exprs_of (map tree.expr_of result.now)
-        ≡ block.front (tree.exprs_of (map tree.expr_of args.now)) }
+        ≡ block.exprs_before_last (tree.exprs_of (map tree.expr_of args.now)) }
 {
     match args.split_last() {
-        Some((_, front)) => front,
+        Some((_, before)) => before,
         None => args,
     }
 }

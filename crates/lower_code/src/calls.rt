@@ -144,11 +144,11 @@ pub(crate) fn by_table(
 }
 
 /// All parameters but the last, which stands for the fork's choice.
-fn front(params: &[Param]) -> &[Param]
-    ensures { map param_of result.now ≡ lower.front_params (map param_of params.now) }
+fn params_before_last(params: &[Param]) -> &[Param]
+    ensures { map param_of result.now ≡ lower.params_before_last (map param_of params.now) }
 {
     match params.split_last() {
-        Some((_, front)) => front,
+        Some((_, before)) => before,
         None => params,
     }
 }
@@ -167,7 +167,15 @@ pub(crate) fn by_group(
         ≡ with_expr (so_far d to.old code.old.items) (lower.by_group (function_of function.now)
         (map expr_of args.items) (counts_of to.old.counts))) }
 {
-    let table = apply_table(alloc, to, code, front(&function.params), true, 16, args)?;
+    let table = apply_table(
+        alloc,
+        to,
+        code,
+        params_before_last(&function.params),
+        true,
+        16,
+        args,
+    )?;
     let result = table.result;
     to.made.push(Made::Group(table, number))?;
     Ok(P4Expr::Meta(result))

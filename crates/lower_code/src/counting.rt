@@ -5,7 +5,7 @@ ghost use Rattle.cocoon_num.specs.Tree.{FunctionDecl as Function};
 ghost use Rattle.cocoon_syntax.specs.TreeOf.{block_of, expr_of, exprs_of, stmt_of};
 ghost use Rattle.cocoon_types.specs.Design.{functions};
 ghost use Rattle.lower_body.specs.LowerBlock.{fork_args, fork_function};
-ghost use Rattle.lower_code.specs.Counting as spec;
+ghost use Rattle.lower_body.specs.Counting as spec;
 ghost use Rattle.lower_code.specs.Scopes.{called_count, design_in, function_count as spec_count, functions_in, KnowsCounts, SeesFunctions};
 
 use crate::blocks::choice_parts;
@@ -27,42 +27,49 @@ fn sum(a: u64, b: u64, c: u64) -> Result<u64, NoMemory>
     plus(a, plus(b, c)?)
 }
 
-/// The tables of an expression, with so many more for each of its parts.
+/// What each part of the arguments of a call counts, where the call counts so much.
+fn printed_part(part: u64, called: u64) -> u64
+    ensures { result ≡ spec.printed_part part called }
+{
+    if called == 0 { 0 } else { part }
+}
+
+/// The tables of an expression, with so many more for each of its own parts, and for each in the functions that it calls.
 #[cycle(count)]
 fn expr_count(
     scope: &Scope<'_>,
     known: &[Option<u64>],
     part: u64,
+    own: u64,
     expr: &Expr,
 ) -> Result<u64, NoMemory>
     requires functions { SeesFunctions scope.now }
     requires known { KnowsCounts part (design_in scope.now) known.now }
     ensures { IfOk result (λ n. n
-        ≡ spec.expr_count part (called_count part scope.now) (expr_of expr.now)) }
+        ≡ spec.expr_count own (called_count part scope.now) (expr_of expr.now)) }
 {
     match &expr.kind {
-        ExprKind::Name(_) => Ok(part),
-        ExprKind::Field(_, _) => Ok(part),
-        ExprKind::Lit(_) => Ok(part),
-        ExprKind::Truth(_) => Ok(part),
+        ExprKind::Name(_) => Ok(own),
+        ExprKind::Field(_, _) => Ok(own),
+        ExprKind::Lit(_) => Ok(own),
+        ExprKind::Truth(_) => Ok(own),
         ExprKind::Call(function, args) => {
-            let count = exprs_count(scope, known, part, args)?;
-            plus(
-                count,
-                call_count(scope, known, part, function.text.bytes())?,
-            )
+            let called = call_count(scope, known, part, function.text.bytes())?;
+            let shown = printed_part(own, called);
+            let count = exprs_count(scope, known, part, shown, args)?;
+            plus(count, called)
         }
-        ExprKind::Unary(_, a) => plus(part, expr_count(scope, known, part, a)?),
+        ExprKind::Unary(_, a) => plus(own, expr_count(scope, known, part, own, a)?),
         ExprKind::Binary(_, a, b) => {
-            let first = expr_count(scope, known, part, a)?;
-            sum(part, first, expr_count(scope, known, part, b)?)
+            let first = expr_count(scope, known, part, own, a)?;
+            sum(own, first, expr_count(scope, known, part, own, b)?)
         }
-        ExprKind::Slice(a, _, _) => plus(part, expr_count(scope, known, part, a)?),
+        ExprKind::Slice(a, _, _) => plus(own, expr_count(scope, known, part, own, a)?),
         ExprKind::Pick(condition, a, b) => {
-            let condition = expr_count(scope, known, part, condition)?;
-            let first = expr_count(scope, known, part, a)?;
-            let second = expr_count(scope, known, part, b)?;
-            plus(part, sum(condition, first, second)?)
+            let condition = expr_count(scope, known, part, own, condition)?;
+            let first = expr_count(scope, known, part, own, a)?;
+            let second = expr_count(scope, known, part, own, b)?;
+            plus(own, sum(condition, first, second)?)
         }
     }
 }
@@ -72,16 +79,17 @@ fn exprs_count(
     scope: &Scope<'_>,
     known: &[Option<u64>],
     part: u64,
+    own: u64,
     exprs: &[Expr],
 ) -> Result<u64, NoMemory>
     requires functions { SeesFunctions scope.now }
     requires known { KnowsCounts part (design_in scope.now) known.now }
     ensures { IfOk result (λ n. n
-        ≡ spec.exprs_count part (called_count part scope.now) (exprs_of (map expr_of exprs.now))) }
+        ≡ spec.exprs_count own (called_count part scope.now) (exprs_of (map expr_of exprs.now))) }
 {
     let mut count = 0;
     for expr in exprs {
-        count = plus(count, expr_count(scope, known, part, expr)?)?;
+        count = plus(count, expr_count(scope, known, part, own, expr)?)?;
     }
     Ok(count)
 }
@@ -150,7 +158,7 @@ fn body_count(
         port: &[],
         ..*scope
     };
-    plus(part, expr_count(&inner, known, part, body)?)
+    plus(part, expr_count(&inner, known, part, part, body)?)
 }
 
 /// Those of a call of each function that is seen. Each body is walked once, so the time is in proportion to the bodies.
@@ -193,12 +201,12 @@ fn choice_count(
     requires functions { SeesFunctions scope.now }
     requires known { KnowsCounts part (design_in scope.now) known.now }
     ensures { IfOk result (λ n. n
-        ≡ spec.exprs_count part (called_count part scope.now) (fork_args (expr_of choice.now))
+        ≡ spec.exprs_count 0 (called_count part scope.now) (fork_args (expr_of choice.now))
         + spec.group_count (functions_in scope.now scope.now.before)
         (fork_function (expr_of choice.now))) }
 {
     let (function, args) = choice_parts(choice);
-    let count = exprs_count(scope, known, part, args)?;
+    let count = exprs_count(scope, known, part, 0, args)?;
     plus(count, group_count(scope, function))
 }
 
@@ -215,22 +223,22 @@ fn stmt_count(
         ≡ spec.stmt_count part (functions_in scope.now scope.now.before) (stmt_of stmt.now)) }
 {
     match &stmt.kind {
-        StmtKind::Let(_, _, value) => expr_count(scope, known, part, value),
-        StmtKind::SetField(_, _, value) => expr_count(scope, known, part, value),
+        StmtKind::Let(_, _, value) => expr_count(scope, known, part, part, value),
+        StmtKind::SetField(_, _, value) => expr_count(scope, known, part, part, value),
         StmtKind::If(condition, first, second) => {
-            let count = expr_count(scope, known, part, condition)?;
+            let count = expr_count(scope, known, part, part, condition)?;
             let branch = block_count(scope, known, part, first)?;
             plus(
                 count,
                 plus(branch, block_count(scope, known, part, second)?)?,
             )
         }
-        StmtKind::Filter(condition) => expr_count(scope, known, part, condition),
+        StmtKind::Filter(condition) => expr_count(scope, known, part, part, condition),
         StmtKind::HavocVar(_, _) => Ok(0),
         StmtKind::HavocField(_, _) => Ok(0),
         StmtKind::Assume(_) => Ok(0),
         StmtKind::Fork(_, _, choice, _) => choice_count(scope, known, part, choice),
-        StmtKind::Send(_, args) => exprs_count(scope, known, part, args),
+        StmtKind::Send(_, args) => exprs_count(scope, known, part, 0, args),
     }
 }
 
@@ -323,8 +331,8 @@ pub fn count_tables(alloc: Global, scope: &Scope<'_>, stmts: &[Stmt]) -> Result<
     all_count(alloc, scope, 0, stmts)
 }
 
-/// How large the code of a body is: its tables and the parts of its expressions, each of which is a byte of the text at least.
-/// The time, and when there is no memory, are as of `count_tables`.
+/// How large the code of a body is at least: its tables and the parts of its expressions, of which the law of `lowered_size` says
+/// that the text of a program with this code has as many bytes. The time, and when there is no memory, are as of `count_tables`.
 pub fn code_size(alloc: Global, scope: &Scope<'_>, stmts: &[Stmt]) -> Result<u64, NoMemory>
     requires { SeesFunctions scope.now }
     ensures { IfOk result (λ n. n ≡ spec.all_parts

@@ -5,7 +5,7 @@ use Rattle.std.specs.Option.{option_or}
 use Rattle.cocoon_num.specs.Tree.{Design}
 use Rattle.cocoon_num.specs.declared.limit_name.LimitName.{LimitName}
 use Rattle.lower_body.specs.Whole.{SwitchRole}
-use Rattle.lowered.specs.Counts.{Counted, counts, first_over, program_counts}
+use Rattle.lowered_net.specs.Counts.{Counted, counts, first_over, program_counts}
 use Rattle.runtime_defs.specs.Places.{Places}
 use Rattle.lower_net.specs.Limits.{of_network}
 

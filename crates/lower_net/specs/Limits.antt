@@ -2,9 +2,9 @@
 use Rattle.std.specs.Prelude.{ℕ, ◌==◌, nat_lt, Bool, not, ◌&&◌, List, [], ◌∷◌, map, length}
 use Rattle.cocoon_num.specs.declared.limit_name.LimitName.TheVariants as limit
 use Rattle.lower_body.specs.Whole.{SwitchRole}
-use Rattle.lower_switch.specs.Parts.{role_size}
-use Rattle.lowered.specs.Counts.{Counted}
-use Rattle.lowered.specs.Groups.{ForkGroup}
+use Rattle.lower_body.specs.Counting.{role_size}
+use Rattle.lowered_net.specs.Counts.{Counted}
+use Rattle.lowered_rows.specs.Groups.{ForkGroup}
 
 abbrev pub of_network : (switches hosts : ℕ) → List Counted
 of_network switches hosts =

@@ -2,8 +2,8 @@
 use Rattle.std.specs.Prelude.{ℕ, Some, None, Result, Ok, Err}
 use Rattle.cocoon_num.specs.Tree.{Design}
 use Rattle.cocoon_num.specs.declared.limit_name.LimitName.{LimitName}
-use Rattle.lowered.specs.Counts.{FirstOver}
-use Rattle.lowered.specs.Network.{IsNetwork}
+use Rattle.lowered_net.specs.Counts.{FirstOver}
+use Rattle.lowered_net.specs.Network.{IsNetwork}
 use Rattle.p4_ir.specs.NetOf.{net_of}
 use Rattle.p4_ir.specs.declared.network.NetData.{NetData}
 use Rattle.runtime_defs.specs.Places.{Places}

@@ -2,7 +2,7 @@
 ghost use Rattle.std.specs.Prelude.{◌≡◌, map};
 ghost use Rattle.lower_net.specs.Limits.{of_groups, of_network, of_program};
 ghost use Rattle.lower_rows.specs.AllGroups.{fork_group_of};
-ghost use Rattle.lowered.specs.Counts as spec;
+ghost use Rattle.lowered_net.specs.Counts as spec;
 
 use cocoon_num::LimitName;
 use lower_rows::ForkGroup;

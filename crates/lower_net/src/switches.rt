@@ -3,9 +3,9 @@ ghost use Rattle.std.specs.Prelude.{◌≡◌, IfOk, length, map};
 ghost use Rattle.cocoon_syntax.specs.TreeOf.{design_of};
 ghost use Rattle.cocoon_types.specs.Design as design;
 ghost use Rattle.lower_rows.specs.AllGroups.{fork_group_of};
-ghost use Rattle.lower_switch.specs.Parts.{parts_of};
-ghost use Rattle.lowered.specs.Groups as spec;
-ghost use Rattle.lowered.specs.Network.{switch_files};
+ghost use Rattle.lower_switch.specs.NetDeclarations.{parts_of};
+ghost use Rattle.lowered_rows.specs.Groups as spec;
+ghost use Rattle.lowered_net.specs.Network.{switch_files};
 ghost use Rattle.p4_ir.specs.NetOf.{switch_of};
 
 use cocoon_num::NoMemory;

@@ -23,9 +23,9 @@ use Rattle.sound_types.specs.Defined.{HasDefinitions, HasTables}
 use Rattle.lower_body.specs.Log.{tables_in}
 use Rattle.lower_body.specs.Lower.{Made, a_field, a_group, a_table}
 use Rattle.lower_body.specs.Whole.{SwitchRole, role_lowered}
-use Rattle.lowered.specs.Counts.{Counted, FirstOver, counts, first_over}
-use Rattle.lowered.specs.Groups.{ForkGroup, fork_groups}
-use Rattle.lowered.specs.Network.{IsNetwork, switch_files}
+use Rattle.lowered_net.specs.Counts.{Counted, FirstOver, counts, first_over}
+use Rattle.lowered_rows.specs.Groups.{ForkGroup, fork_groups}
+use Rattle.lowered_net.specs.Network.{IsNetwork, switch_files}
 use Rattle.lowered.specs.Roles.{NetParts, net_parts}
 use Rattle.lowered.specs.SwitchProgram.{fields_in, switch_made}
 use Rattle.lower_p4.specs.Accepts.{Accepts, RunsProgram}

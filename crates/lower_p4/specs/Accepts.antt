@@ -8,7 +8,7 @@ use Rattle.cocoon_types.specs.Design.{last_level}
 use Rattle.p4_ir.specs.P4Tree.{Program}
 use Rattle.p4_ir.specs.NetTree.{NetData}
 use Rattle.runtime_defs.specs.Places.{Places}
-use Rattle.lowered.specs.Network.{IsNetwork}
+use Rattle.lowered_net.specs.Network.{IsNetwork}
 use Rattle.lowered.specs.Roles.{NetParts, net_parts}
 use Rattle.lowered.specs.SwitchProgram.{switch_program}
 use Rattle.lower_p4.specs.OfText.{AreOfText}

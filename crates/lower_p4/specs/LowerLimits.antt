@@ -3,7 +3,7 @@
 use Rattle.std.specs.Prelude.{ℕ, Some, None}
 use Rattle.cocoon_num.specs.Tree.{Design, DefsText}
 use Rattle.cocoon_num.specs.declared.limit_name.LimitName.{LimitName}
-use Rattle.lowered.specs.Counts.{FirstOver}
+use Rattle.lowered_net.specs.Counts.{FirstOver}
 use Rattle.runtime_defs.specs.Places.{Places}
 use Rattle.lower_p4.specs.OfText.{AreOfText}
 

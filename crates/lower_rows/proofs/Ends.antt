@@ -1,14 +1,14 @@
 -- The last number of a row, and those before it.
 use Rattle.std.proofs.Common.{◌≡◌, ℕ, List, [], ◌∷◌, ◌++◌, refl, ap}
-use Rattle.lowered.specs.Groups.{front_of, last_of}
+use Rattle.lowered_rows.specs.Groups.{before_last, last_of}
 
-front-from : (m : ℕ) (xs : List ℕ) (x : ℕ) → m ∷ xs ≡ front_of (m ∷ (xs ++ x ∷ []))
-front-from m [] x = refl
-front-from m (y ∷ xs) x = ap (λ (ys : List ℕ). m ∷ ys) (front-from y xs x)
+before-last-from : (m : ℕ) (xs : List ℕ) (x : ℕ) → m ∷ xs ≡ before_last (m ∷ (xs ++ x ∷ []))
+before-last-from m [] x = refl
+before-last-from m (y ∷ xs) x = ap (λ (ys : List ℕ). m ∷ ys) (before-last-from y xs x)
 
-pub front-is : (xs : List ℕ) (x : ℕ) → xs ≡ front_of (xs ++ x ∷ [])
-front-is [] x = refl
-front-is (y ∷ xs) x = front-from y xs x
+pub before-last-is : (xs : List ℕ) (x : ℕ) → xs ≡ before_last (xs ++ x ∷ [])
+before-last-is [] x = refl
+before-last-is (y ∷ xs) x = before-last-from y xs x
 
 last-from : (m : ℕ) (xs : List ℕ) (x : ℕ) → x ≡ last_of (m ∷ (xs ++ x ∷ []))
 last-from m [] x = refl

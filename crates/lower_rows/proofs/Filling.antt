@@ -13,7 +13,7 @@ use Rattle.cocoon_num.specs.Names.{same_name}
 use Rattle.cocoon_num.specs.declared.fun_table.FunRow.{FunRow}
 use Rattle.declarations.specs.NameNumbers.{index_of}
 use Rattle.declarations.proofs.NameFacts.{same-symm, same-true}
-use Rattle.lowered.specs.Groups.{ascending, front_of, last_of, put_in}
+use Rattle.lowered_rows.specs.Groups.{ascending, before_last, last_of, put_in}
 use Rattle.lower_rows.specs.Grouping.{keys_of, lists_of, no_members, put_at, with_choice}
 use Rattle.lower_rows.proofs.Distinct.{none-there}
 use Rattle.lower_rows.specs.Sets.{choice_by, members_by}
@@ -52,8 +52,8 @@ with-row test row ms = if test row.values then put_in (last_of row.values) ms el
 
 -- the members with one row more
 members-step : (test : List ℕ → Bool) (row : FunRow) (rows : List FunRow) (args : List ℕ)
-    → members_by test (row ∷ rows) args ≡ (if same_name args (front_of row.values) then with-row test row (members_by test rows args) else members_by test rows args)
-members-step test row rows args = step-in (test row.values) (last_of row.values) (same_name args (front_of row.values)) (flat_map (choice_by test args) rows)
+    → members_by test (row ∷ rows) args ≡ (if same_name args (before_last row.values) then with-row test row (members_by test rows args) else members_by test rows args)
+members-step test row rows args = step-in (test row.values) (last_of row.values) (same_name args (before_last row.values)) (flat_map (choice_by test args) rows)
 
 abbrev one-changed : List ℕ → (List ℕ → List ℕ) → (List ℕ → List ℕ) → List ℕ → List ℕ
 one-changed f g h n = if same_name n f then g (h n) else h n
@@ -120,22 +120,22 @@ choice-at i x true xs = put-changed i x xs
 choice-at i x false xs = unchanged i xs
 
 each-step : (test : List ℕ → Bool) (row : FunRow) (rows : List FunRow) (ns : List (List ℕ))
-    → map (members_by test (row ∷ rows)) ns ≡ map (one-changed (front_of row.values) (with-row test row) (members_by test rows)) ns
+    → map (members_by test (row ∷ rows)) ns ≡ map (one-changed (before_last row.values) (with-row test row) (members_by test rows)) ns
 each-step test row rows [] = refl
 each-step test row rows (n ∷ ns) = ap₂ (λ (x : List ℕ) (xs : List (List ℕ)). x ∷ xs) (members-step test row rows n) (each-step test row rows ns)
 
 -- the sets with one row more
 pub sets-step : (test : List ℕ → Bool) (row : FunRow) (rows : List FunRow) (ns : List (List ℕ)) → all_distinct ns ≡ true
-    → map (members_by test (row ∷ rows)) ns ≡ with_choice (index_of (front_of row.values) ns) (test row.values) (last_of row.values) (map (members_by test rows) ns)
-sets-step test row rows ns d = each-step test row rows ns ∙ by (index_of (front_of row.values) ns) refl
+    → map (members_by test (row ∷ rows)) ns ≡ with_choice (index_of (before_last row.values) ns) (test row.values) (last_of row.values) (map (members_by test rows) ns)
+sets-step test row rows ns d = each-step test row rows ns ∙ by (index_of (before_last row.values) ns) refl
   where
-    by : (o : Option ℕ) → index_of (front_of row.values) ns ≡ o
-        → map (one-changed (front_of row.values) (with-row test row) (members_by test rows)) ns ≡ with_choice (index_of (front_of row.values) ns) (test row.values) (last_of row.values) (map (members_by test rows) ns)
+    by : (o : Option ℕ) → index_of (before_last row.values) ns ≡ o
+        → map (one-changed (before_last row.values) (with-row test row) (members_by test rows)) ns ≡ with_choice (index_of (before_last row.values) ns) (test row.values) (last_of row.values) (map (members_by test rows) ns)
     by None e =
-        not-there (front_of row.values) (with-row test row) (members_by test rows) ns (none-there (front_of row.values) ns e)
+        not-there (before_last row.values) (with-row test row) (members_by test rows) ns (none-there (before_last row.values) ns e)
         ∙ ap (λ (o : Option ℕ). with_choice o (test row.values) (last_of row.values) (map (members_by test rows) ns)) (sym e)
     by (Some i) e =
-        one-there (front_of row.values) (with-row test row) (members_by test rows) ns i d e
+        one-there (before_last row.values) (with-row test row) (members_by test rows) ns i d e
         ∙ choice-at i (last_of row.values) (test row.values) (map (members_by test rows) ns)
         ∙ ap (λ (o : Option ℕ). with_choice o (test row.values) (last_of row.values) (map (members_by test rows) ns)) (sym e)
 
@@ -183,7 +183,7 @@ row-before rows i row h l e =
 
 -- one row more
 pub sets-more : (test : List ℕ → Bool) (rows : List FunRow) (i : ℕ) (row : FunRow) (ns : List (List ℕ)) (at : Option ℕ) (old new : List (List ℕ))
-    → 0 < i → i ≤ length rows → row ≡ get_or rows (i - 1) row → all_distinct ns ≡ true → at ≡ index_of (front_of row.values) ns
+    → 0 < i → i ≤ length rows → row ≡ get_or rows (i - 1) row → all_distinct ns ≡ true → at ≡ index_of (before_last row.values) ns
     → old ≡ map (members_by test (drop i rows)) ns → new ≡ with_choice at (test row.values) (last_of row.values) old
     → new ≡ map (members_by test (drop (i - 1) rows)) ns
 sets-more test rows i row ns at old new h l e d ha ho hn =

@@ -6,7 +6,7 @@ use Rattle.std.proofs.lemmas.List.{length-map, map-append}
 use Rattle.cocoon_num.specs.Names.{same_name}
 use Rattle.declarations.specs.NameNumbers.{index_of, with_name}
 use Rattle.declarations.proofs.NameFacts.{index-append, key_cmp, same-true, value-updated}
-use Rattle.lower_rows.specs.Numbered.{Holds, number_of}
+use Rattle.lower_rows.specs.Numbered.{Holds, held_index}
 use Rattle.lower_rows.specs.declared.args_table.ArgsTable.{ArgsTable}
 
 or-none : {A : Type 0} (o : Option A) → option_or o None ≡ o
@@ -25,7 +25,7 @@ more-names ns x o h = ap (λ (p : Option ℕ). if is_some p then ns else ns ++ x
 
 -- arguments that are not there
 pub args-new : (old : ArgsTable) (held : BTreeMap (Vec ℕ Global) ℕ) (lists : Vec (Vec ℕ Global) Global) (k v : Vec ℕ Global) (x : List ℕ) (at : ℕ) (ns : List (List ℕ))
-    → Holds old ns → number_of old x ≡ None → k.items ≡ x → v.items ≡ x → at ≡ length old.lists.items → UpdatesBy key_cmp (key_cmp k) old.held held (Some at)
+    → Holds old ns → held_index old x ≡ None → k.items ≡ x → v.items ≡ x → at ≡ length old.lists.items → UpdatesBy key_cmp (key_cmp k) old.held held (Some at)
     → lists.items ≡ old.lists.items ++ v ∷ []
     → Holds (record { held = held; lists = lists }) (with_name ns x)
 args-new old held lists k v x at ns h none same copy here up put = subst (λ l. Holds (record { held = held; lists = lists }) l) (sym (more-names ns x (index_of x ns) (sym (h.numbers x) ∙ none))) (record {
@@ -37,11 +37,11 @@ args-new old held lists k v x at ns h none same copy here up put = subst (λ l. 
     count = here ∙ sym (length-map old.lists.items items-of) ∙ ap length h.lists
 
     by : (y : List ℕ) (b : Bool) → same_name y x ≡ b
-        → cond (same_name y k.items) (Some at) (number_of old y) ≡ option_or (index_of y ns) (if same_name y x then Some (length ns) else None)
+        → cond (same_name y k.items) (Some at) (held_index old y) ≡ option_or (index_of y ns) (if same_name y x then Some (length ns) else None)
     by y true e =
-        ap₂ (λ z o. cond (same_name y z) (Some at) o) same (ap (number_of old) (same-true y x e) ∙ none)
+        ap₂ (λ z o. cond (same_name y z) (Some at) o) same (ap (held_index old) (same-true y x e) ∙ none)
         ∙ pick-same (same_name y x) at
-        ∙ ap₂ (λ n o. option_or o (if same_name y x then Some n else None)) count (sym none ∙ ap (number_of old) (sym (same-true y x e)) ∙ h.numbers y)
+        ∙ ap₂ (λ n o. option_or o (if same_name y x then Some n else None)) count (sym none ∙ ap (held_index old) (sym (same-true y x e)) ∙ h.numbers y)
     by y false e =
         ap₂ (λ z o. cond (same_name y z) (Some at) o) same (h.numbers y)
         ∙ ap (λ c. cond c (Some at) (index_of y ns)) e
@@ -49,6 +49,6 @@ args-new old held lists k v x at ns h none same copy here up put = subst (λ l. 
         ∙ ap (λ c. option_or (index_of y ns) (if c then Some (length ns) else None)) (sym e)
 
 -- arguments that are there
-pub args-old : (t : ArgsTable) (x : List ℕ) (ns : List (List ℕ)) → Holds t ns → is_some (number_of t x) ≡ true → Holds t (with_name ns x)
+pub args-old : (t : ArgsTable) (x : List ℕ) (ns : List (List ℕ)) → Holds t ns → is_some (held_index t x) ≡ true → Holds t (with_name ns x)
 args-old t x ns h some =
     subst (λ l. Holds t l) (sym (ap (λ (b : Bool). if b then ns else ns ++ x ∷ []) (ap is_some (sym (h.numbers x)) ∙ some))) h

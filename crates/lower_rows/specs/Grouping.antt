@@ -3,10 +3,10 @@ use Rattle.std.specs.Prelude.{◌≡◌, ℕ, zero, suc, Bool, List, [], ◌∷�
 use Rattle.std.specs.BTreeSet.{BTreeSet}
 use Rattle.std.specs.declared.alloc.Global.{Global}
 use Rattle.cocoon_num.specs.declared.fun_table.FunRow.{FunRow}
-use Rattle.lowered.specs.Groups.{front_of, last_of, put_in}
-use Rattle.lowered.specs.Groups as spec
+use Rattle.lowered_rows.specs.Groups.{before_last, last_of, put_in}
+use Rattle.lowered_rows.specs.Groups as spec
 use Rattle.lower_rows.specs.FirstRows.{is_some_true, said_by}
-use Rattle.lower_rows.specs.Numbered.{number_of}
+use Rattle.lower_rows.specs.Numbered.{held_index}
 use Rattle.lower_rows.specs.declared.args_table.ArgsTable.{ArgsTable}
 use Rattle.lower_rows.specs.declared.first_rows.FirstRows.{FirstRows}
 use Rattle.lower_rows.specs.declared.table_groups.Grouped.{Grouped}
@@ -38,8 +38,8 @@ said_true t x = is_some_true (said_by t x)
 
 -- the choice of the row is added to the set of its arguments
 abbrev pub AddsChoice : ArgsTable → FirstRows → FunRow → List (BTreeSet ℕ) → List (BTreeSet ℕ) → Type 0
-AddsChoice fronts first row old new =
-    keys_of new ≡ with_choice (number_of fronts (front_of row.values)) (said_true first row.values) (last_of row.values) (keys_of old)
+AddsChoice args first row old new =
+    keys_of new ≡ with_choice (held_index args (before_last row.values)) (said_true first row.values) (last_of row.values) (keys_of old)
 
 abbrev pub grouped_of : Grouped → spec.Grouped
 grouped_of g = record { args = g.args.items; members = g.members.items }

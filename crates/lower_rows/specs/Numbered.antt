@@ -7,10 +7,10 @@ use Rattle.declarations.specs.NameNumbers.{index_of}
 use Rattle.lower_rows.specs.declared.args_table.ArgsTable.{ArgsTable}
 
 -- the number that a table has for some arguments
-abbrev pub number_of : ArgsTable → List ℕ → Option ℕ
-number_of t x = get_by (λ k. slice_cmp nat_cmp x k.items) t.held
+abbrev pub held_index : ArgsTable → List ℕ → Option ℕ
+held_index t x = get_by (λ k. slice_cmp nat_cmp x k.items) t.held
 
 -- a table of these arguments: each has the index at which it stands first
 pub record Holds (t : ArgsTable) (ns : List (List ℕ)) : Type 0 where
-  pub numbers : (x : List ℕ) → number_of t x ≡ index_of x ns
+  pub numbers : (x : List ℕ) → held_index t x ≡ index_of x ns
   pub lists : map (λ v. v.items) t.lists.items ≡ ns

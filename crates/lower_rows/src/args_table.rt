@@ -1,7 +1,7 @@
 //! Numbers of lists of arguments, in the order in which they came first.
 ghost use Rattle.std.specs.Prelude.{◌≡◌, [], List, ℕ, OnOk, map};
 ghost use Rattle.declarations.specs.NameNumbers.{with_name};
-ghost use Rattle.lower_rows.specs.Numbered.{Holds, number_of};
+ghost use Rattle.lower_rows.specs.Numbered.{Holds, held_index};
 
 use cocoon_num::NoMemory;
 use std::alloc::Global;
@@ -26,7 +26,7 @@ impl ArgsTable {
 
     /// The number of some arguments.
     pub(crate) fn number(&self, args: &[u64]) -> Option<usize>
-        ensures { result ≡ number_of self.now args.now }
+        ensures { result ≡ held_index self.now args.now }
     {
         self.held.get(args).copied()
     }

@@ -1,10 +1,10 @@
-//! The rows of a switch's tables, and the groups of copies, as `lowered` says them.
+//! The rows of a switch's tables, and the groups of copies, as `lowered_rows` says them.
 #![tactic(auto)]
 
 mod args_table;
 mod first_rows;
+mod fork_args;
 mod forked;
-mod fronts;
 pub mod groups;
 mod keys;
 pub mod rows;

@@ -5,8 +5,8 @@ ghost use Rattle.cocoon_types.specs.Design.{widths_of};
 ghost use Rattle.defs_text.specs.Fitting as fitting;
 ghost use Rattle.lower_code.specs.Growth.{made_in, made_of, params_at, text_at};
 ghost use Rattle.lower_body.specs.Lower as lower;
-ghost use Rattle.lowered.specs.Groups.{fork_groups};
-ghost use Rattle.lowered.specs.SwitchRows as spec;
+ghost use Rattle.lowered_rows.specs.Groups.{fork_groups};
+ghost use Rattle.lowered_rows.specs.SwitchRows as spec;
 ghost use Rattle.lower_rows.specs.AllGroups.{fork_group_of};
 ghost use Rattle.p4_ir.specs.NetOf.{group_of, key_row_of, rows_of, table_rows_of};
 ghost use Rattle.runtime_defs.specs.Guards.{table_named};
@@ -157,22 +157,22 @@ fn function_name(checked: &Checked, number: FunId) -> &[u8]
 }
 
 /// Its parameters but the last.
-fn front_params(checked: &Checked, number: FunId) -> &[Param]
+fn group_params(checked: &Checked, number: FunId) -> &[Param]
     ensures { map param_of result.now
-        ≡ lower.front_params (params_at (design_of checked.now) number) }
+        ≡ lower.params_before_last (params_at (design_of checked.now) number) }
 {
     match checked.names().function(checked.design(), number) {
-        Some(function) => front(&function.params),
+        Some(function) => params_before_last(&function.params),
         None => &[],
     }
 }
 
 /// All parameters but the last.
-fn front(params: &[Param]) -> &[Param]
-    ensures { map param_of result.now ≡ lower.front_params (map param_of params.now) }
+fn params_before_last(params: &[Param]) -> &[Param]
+    ensures { map param_of result.now ≡ lower.params_before_last (map param_of params.now) }
 {
     match params.split_last() {
-        Some((_, front)) => front,
+        Some((_, before)) => before,
         None => params,
     }
 }
@@ -209,7 +209,7 @@ fn made_rows(
         }
         Made::Group(table, function) => {
             let name = function_name(checked, *function);
-            let masks = all_ones(alloc, front_params(checked, *function))?;
+            let masks = all_ones(alloc, group_params(checked, *function))?;
             let rows = List::from(group_rows(alloc, &masks, groups, name)?);
             let number = table.number;
             tables.push(TableRows {

@@ -1,15 +1,15 @@
 //! The groups of one table.
 ghost use Rattle.std.specs.Prelude.{◌≡◌, ◌++◌, All, [], IfOk, List, ℕ, length, map, OnOk, true};
 ghost use Rattle.cocoon_num.specs.Lists.{all_distinct};
-ghost use Rattle.lowered.specs.Groups as spec;
+ghost use Rattle.lowered_rows.specs.Groups as spec;
 ghost use Rattle.lower_rows.specs.Grouping.{AddsChoice, grouped_of, keys_of, lists_of, no_members, said_true};
 ghost use Rattle.lower_rows.specs.Numbered.{Holds};
-ghost use Rattle.lower_rows.specs.Sets.{grouped_with, IsDecided, members_by, row_fronts, true_first};
+ghost use Rattle.lower_rows.specs.Sets.{grouped_with, IsDecided, members_by, row_args, true_first};
 
 use crate::args_table::ArgsTable;
 use crate::first_rows::FirstRows;
-use crate::fronts::fronts;
-use crate::keys::{front, last};
+use crate::fork_args::fork_args;
+use crate::keys::{before_last, last};
 use cocoon_num::{FunRow, FunTable, NoMemory};
 use std::alloc::Global;
 use std::collections::BTreeSet;
@@ -35,16 +35,16 @@ fn empty_sets(alloc: Global, lists: &[Vec<u64>]) -> Result<Vec<BTreeSet<u64>>, N
 
 /// Adds the choice of a row to the set of its arguments, where its values are true.
 fn add_choice(
-    fronts: &ArgsTable,
+    args: &ArgsTable,
     first: &FirstRows,
     row: &FunRow,
     sets: &mut Vec<BTreeSet<u64>>,
 ) -> Result<(), NoMemory>
-    ensures { OnOk result (AddsChoice fronts.now first.now row.now sets.old.items sets.new.items) }
+    ensures { OnOk result (AddsChoice args.now first.now row.now sets.old.items sets.new.items) }
 {
     let values = row.values.items();
     if first.is_true(values) {
-        if let Some(number) = fronts.number(front(values)) {
+        if let Some(number) = args.number(before_last(values)) {
             if number < sets.len() {
                 sets[number].insert(last(values))?;
             }
@@ -56,19 +56,19 @@ fn add_choice(
 /// The members of the groups of some arguments, each in order.
 fn fill_sets(
     alloc: Global,
-    fronts: &ArgsTable,
+    args: &ArgsTable,
     first: &FirstRows,
     rows: &[FunRow],
 ) -> Result<Vec<BTreeSet<u64>>, NoMemory>
-    ensures { (ns : List (List ℕ)) → Holds fronts.now ns → all_distinct ns ≡ true
+    ensures { (ns : List (List ℕ)) → Holds args.now ns → all_distinct ns ≡ true
         → IfOk result (λ sets. keys_of sets.items
         ≡ map (members_by (said_true first.now) rows.now) ns) }
 {
-    let mut sets = empty_sets(alloc, &fronts.lists)?;
+    let mut sets = empty_sets(alloc, &args.lists)?;
     let mut at = rows.len();
     while at > 0 {
         at -= 1;
-        add_choice(fronts, first, &rows[at], &mut sets)?;
+        add_choice(args, first, &rows[at], &mut sets)?;
     }
     Ok(sets)
 }
@@ -132,9 +132,9 @@ pub(crate) fn table_groups(alloc: Global, table: &FunTable) -> Result<Vec<Groupe
     ensures { IfOk result (λ groups. map grouped_of groups.items ≡ spec.table_groups table.now) }
 {
     let rows = table.rows.items();
-    let fronts = fronts(alloc, rows)?;
+    let args = fork_args(alloc, rows)?;
     let first = FirstRows::of(alloc, rows)?;
-    let sets = fill_sets(alloc, &fronts, &first, rows)?;
+    let sets = fill_sets(alloc, &args, &first, rows)?;
     let members = all_members(alloc, sets)?;
-    with_members(alloc, &fronts.lists, &members)
+    with_members(alloc, &args.lists, &members)
 }

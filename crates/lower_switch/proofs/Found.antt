@@ -5,7 +5,7 @@ use Rattle.cocoon_num.specs.Tree.{Block, Design, HostDecl, Param, Role, SwitchDe
 use Rattle.cocoon_types.specs.Design.{functions, host_decl, last_level, role_at, switch_decl}
 use Rattle.lower_body.specs.Whole.{SwitchRole}
 use Rattle.lowered.specs.Roles.{ingress_role, net_parts, parts_with, role_of_two}
-use Rattle.lower_switch.specs.Parts.{IngressParts, into_of, parts_with_body, role_parts}
+use Rattle.lower_switch.specs.NetDeclarations.{IngressParts, into_of, parts_with_body, role_parts}
 
 -- the role of a design with these names and this body
 abbrev pub role-with : Design → IngressParts → SwitchRole

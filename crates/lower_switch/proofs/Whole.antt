@@ -13,8 +13,8 @@ use Rattle.lower_code.specs.Scopes.{callees_in, design_in, functions_before}
 use Rattle.lower_code.specs.declared.functions.Scope.{Scope}
 use Rattle.lowered.specs.SwitchProgram.{egress_lowered}
 use Rattle.lower_switch.specs.Halves.{egress_half, HalfParts, ingress_half, of_block, of_sites, SeesAll}
-use Rattle.lower_switch.specs.Parts.{switch_role}
-use Rattle.lower_switch.specs.declared.parts.Ingress.{Ingress}
+use Rattle.lower_switch.specs.NetDeclarations.{switch_role}
+use Rattle.lower_switch.specs.declared.net_declarations.Ingress.{Ingress}
 
 -- all functions of a design, the last first
 pub all-functions : (d : Design) (n : ℕ) → n ≡ length (functions d) → functions_before d n ≡ reverse (functions d)

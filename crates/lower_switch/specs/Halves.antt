@@ -15,7 +15,7 @@ use Rattle.lower_code.specs.Blocks.{site_of}
 use Rattle.lower_code.specs.Growth.{counts_of, made_in}
 use Rattle.lower_code.specs.Scopes.{design_in}
 use Rattle.lower_code.specs.declared.functions.Scope.{Scope}
-use Rattle.lower_switch.specs.declared.parts.Ingress.{Ingress}
+use Rattle.lower_switch.specs.declared.net_declarations.Ingress.{Ingress}
 use Rattle.lower_switch.specs.declared.program.Half.{Half}
 
 -- all functions of the design are seen, and the port is that of the role

@@ -2,12 +2,13 @@
 ghost use Rattle.std.specs.Prelude.{◌≡◌, IfOk, length, ℕ};
 ghost use Rattle.cocoon_syntax.specs.TreeOf.{design_of};
 ghost use Rattle.cocoon_types.specs.Design as design;
+ghost use Rattle.lower_body.specs.Counting.{role_size};
 ghost use Rattle.lower_body.specs.Log.{tables_in};
 ghost use Rattle.lower_body.specs.Whole.{role_lowered};
 ghost use Rattle.lowered.specs.SwitchProgram.{switch_made};
-ghost use Rattle.lower_switch.specs.Parts.{role_size, switch_role};
+ghost use Rattle.lower_switch.specs.NetDeclarations.{switch_role};
 
-use crate::parts::Ingress;
+use crate::net_declarations::Ingress;
 use cocoon_num::NoMemory;
 use cocoon_resolve::Checked;
 use lower_code::{Scope, code_size, count_forks, count_tables};
@@ -45,7 +46,8 @@ pub fn program_counts(
     Ok(ProgramCounts { tables, forks })
 }
 
-/// How large the code of a program is, where so many functions are all of the design's: the text has at least so many bytes.
+/// How large the code of a program is at least, where so many functions are all of the design's. That the text has as many
+/// bytes is the law `programs_are_long` of `lowered_size`.
 pub fn program_size(
     alloc: Global,
     checked: &Checked,

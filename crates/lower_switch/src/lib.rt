@@ -5,10 +5,10 @@ pub mod counts;
 mod fields;
 mod headers;
 pub mod laws;
-pub mod parts;
+pub mod net_declarations;
 pub mod program;
 mod tables;
 
 pub use counts::{ProgramCounts, program_counts, program_size};
-pub use parts::{Parts, find_parts};
+pub use net_declarations::{Parts, find_parts};
 pub use program::{SwitchCode, switch_code};

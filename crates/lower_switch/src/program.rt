@@ -10,13 +10,13 @@ ghost use Rattle.lower_code.specs.Growth.{counts_of, made_in};
 ghost use Rattle.lower_code.specs.Scopes.{callees_in, design_in, SeesFunctions};
 ghost use Rattle.lower_code.specs.Variables.{variables_of};
 ghost use Rattle.lower_switch.specs.Halves.{egress_half, half_of, ingress_half, program_with, SeesAll};
-ghost use Rattle.lower_switch.specs.Parts.{switch_role};
+ghost use Rattle.lower_switch.specs.NetDeclarations.{switch_role};
 ghost use Rattle.lowered.specs.SwitchProgram as spec;
 ghost use Rattle.p4_ir.specs.Program.{block_of, control_of, field_of, program_of, stmt_of};
 
 use crate::fields::{push_fields, site_field};
 use crate::headers::headers;
-use crate::parts::Ingress;
+use crate::net_declarations::Ingress;
 use crate::tables::tables;
 use cocoon_num::{List, NoMemory};
 use cocoon_resolve::Checked;

@@ -1,4 +1,4 @@
-//! The wires of a network, as `lowered` says them: where hosts are attached, and where links lead.
+//! The wires of a network, as `lowered_net` says them: where hosts are attached, and where links lead.
 #![tactic(auto)]
 
 mod ends;

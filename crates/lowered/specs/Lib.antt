@@ -1,11 +1,6 @@
 pub mod Roles
 pub mod SwitchProgram
-pub mod Groups
-pub mod SwitchRows
 pub mod Serving
 pub mod Departs
 pub mod Sends
-pub mod Wires
-pub mod Network
-pub mod Counts
 pub mod Delivers

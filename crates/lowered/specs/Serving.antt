@@ -8,7 +8,7 @@ use Rattle.cocoon_types.specs.Tables.{look_up}
 use Rattle.p4_ir.specs.P4Tree.{RowsFile, TableRows}
 use Rattle.p4_ir.specs.Switch.{members, rows_numbered, table_result}
 use Rattle.lower_body.specs.Agrees.{Filling, FitAll, code_of}
-use Rattle.lower_body.specs.Lower.{Made, a_field, a_table, a_group, front_params}
+use Rattle.lower_body.specs.Lower.{Made, a_field, a_table, a_group, params_before_last}
 
 -- the rows of a table give the values of its function, or the numbers of its groups
 abbrev pub Serves : Filling → RowsFile → Made → Type 0
@@ -38,5 +38,5 @@ GroupsServe fill rows f ps =
 -- and they fit the function's last parameter
 abbrev pub MembersFit : Filling → RowsFile → List ℕ → List Param → Type 0
 MembersFit fill rows f ps =
-    (ns : List ℕ) (x : ℕ) → FitAll (front_params ps) ns
+    (ns : List ℕ) (x : ℕ) → FitAll (params_before_last ps) ns
     → has_number x (members rows.groups (fill.group f ns)) ≡ true → FitAll ps (ns ++ (x ∷ []))

@@ -5,7 +5,7 @@ use Rattle.cocoon_num.specs.Tree.{Expr, name, field, lit, true_or_false, call, u
 use Rattle.p4_ir.specs.P4Tree.{P4Expr, p_meta, p_port, P4Stmt, set_meta, p_return}
 use Rattle.p4_kinds.specs.Flat.{operators_in as weight, FewOperators as Light, Flat}
 use Rattle.lower_body.specs.Lower.{Counts, Variable, Lowered, Callees, then_called, lower_expr, lower_exprs}
-use Rattle.lower_body.specs.LowerBlock.{Site, LoweredBlock, if_stmt, second_of, front_after, front, fork_function, fork_args, in_block, for_port, ports_kept, copy_code, forked, lower_stmt, lower_block}
+use Rattle.lower_body.specs.LowerBlock.{Site, LoweredBlock, if_stmt, second_of, before_last_after, exprs_before_last, fork_function, fork_args, in_block, for_port, ports_kept, copy_code, forked, lower_stmt, lower_block}
 use Rattle.lower_body.specs.LowerSites.{is_return, with_return, lower_site, lower_sites}
 use Rattle.tree_depth.specs.ShallowTrees.{operators_in, operators_in_all, ShallowStmt, ShallowBlock}
 use Rattle.lowered_depth.proofs.Expressions.{FlatCode, flat_append, AllLight, Atoms, CallsLight, expr_light, exprs_light, expr_flat, exprs_flat}
@@ -30,16 +30,16 @@ mutual
   block_within no_stmts n h = tt
   block_within (stmt s rest) n h = (stmt_within s n h.0, block_within rest n h.1)
 
-front_few : (es : Exprs) → operators_in_all (front es) ≤ operators_in_all es
-front_few no_exprs = omega arith
-front_few (expr e es) = after e es
+before_last_few : (es : Exprs) → operators_in_all (exprs_before_last es) ≤ operators_in_all es
+before_last_few no_exprs = omega arith
+before_last_few (expr e es) = after e es
   where
-    after : (e : Expr) (es : Exprs) → operators_in_all (front_after e es) ≤ operators_in e + operators_in_all es
+    after : (e : Expr) (es : Exprs) → operators_in_all (before_last_after e es) ≤ operators_in e + operators_in_all es
     after e no_exprs = omega arith
     after e (expr x es) = omega (arith, after x es)
 
 args_few : (e : Expr) → operators_in_all (fork_args e) ≤ operators_in e
-args_few (call at f es) = front_few es
+args_few (call at f es) = before_last_few es
 args_few (name at x) = omega arith
 args_few (field at h f) = omega arith
 args_few (lit at w n) = omega arith

@@ -10,8 +10,8 @@ use Rattle.cocoon_types.specs.Parts.{parts_of}
 use Rattle.cocoon_types.specs.Typing.{args_fit, function_named, result_sort, sorts_of, with_var}
 use Rattle.p4_ir.specs.P4Kinds.{Within, field_sort, meta_sort, p4_sort, stmt_fits}
 use Rattle.p4_ir.specs.P4Tree.{P4Expr, p_lit, p_truth, p_meta, p_port, p_unary, P4Stmt, set_meta, set_header, verdict, egress_port, group, p_return, p_if, p_then, p_done}
-use Rattle.lower_body.specs.Lower.{Callees, Counts, Lowered, LoweredAll, Made, a_field, Variable, front_from, front_params, lower_expr, lower_exprs, then_called, var_name, variable_expr, header_place, field_place}
-use Rattle.lower_body.specs.LowerBlock.{LoweredBlock, Site, copy_code, filter_code, for_port, forked, fork_args, fork_function, front_after, if_stmt, in_block, in_expr, in_exprs, in_stmt, lower_block, lower_stmt, ports_kept, send_code}
+use Rattle.lower_body.specs.Lower.{Callees, Counts, Lowered, LoweredAll, Made, a_field, Variable, before_last_from, params_before_last, lower_expr, lower_exprs, then_called, var_name, variable_expr, header_place, field_place}
+use Rattle.lower_body.specs.LowerBlock.{LoweredBlock, Site, copy_code, filter_code, for_port, forked, fork_args, fork_function, before_last_after, if_stmt, in_block, in_expr, in_exprs, in_stmt, lower_block, lower_stmt, ports_kept, send_code}
 use Rattle.lower_body.specs.LowerSites.{IsStill, PortOnly}
 use Rattle.lower_body.proofs.Settled.{stmt_vars}
 use Rattle.sound_types.specs.WellTyped.{HasType, IsTyped, IsTypedStmt, scope_at}
@@ -20,7 +20,7 @@ use Rattle.sound_types.proofs.Options.{both_true, true_both, if_there, same_text
 use Rattle.sound_types.proofs.Values.{AllFine}
 use Rattle.lowered_kinds.specs.WideLiterals.{wide_block, wide_expr, wide_exprs, wide_stmt}
 use Rattle.lowered_kinds.proofs.ExprKinds.{CallPiece, MadeOk, Piece, Ready, SortsAt, VarsOk, code_both, code_fits, code_one, has_of, kinded, kinded_all, lit_sort, made_left, made_right, same_of}
-use Rattle.lowered_types.proofs.Fitting.{Any, all_fine, front_fits, front_name, front_part, widths_args, widths_fine}
+use Rattle.lowered_types.proofs.Fitting.{Any, all_fine, before_last_fits, before_last_name, before_last_part, widths_args, widths_fine}
 use Rattle.lowered_types.proofs.ForkCalls.{EndsWith, IsForkCall}
 use Rattle.lowered_types.proofs.Formed.{Formed, FormedStmt, one_more}
 use Rattle.lowered_kinds.proofs.Logged.{Logged, declared_both, logged_both, logged_none, named_both}
@@ -145,7 +145,7 @@ unkept_read c out ps vars V port body same only unused wants read y w wanted is 
 pub record Stage (d : Design) (i : ℕ) (own exit : List ℕ) (c out : Within) (k : Callees) : Type 0 where
   pub ready : (ps : List Param) → Ready Any (scope_at d i ps true) c k
   pub groups : (f : List ℕ) (g : FunctionDecl) → named (λ (x : FunctionDecl). x.name) f (reverse (functions d)) ≡ Some g → (es : List P4Expr) (n : Counts)
-      → CallPiece c (widths_of (front_params g.params)) (bits_sort 16) es n (k.group f es n)
+      → CallPiece c (widths_of (params_before_last g.params)) (bits_sort 16) es n (k.group f es n)
   pub exits : (x : Role) → role_at i d exit ≡ Some x → widths_of x.params ≡ 16 ∷ 16 ∷ []
   pub found_same : (f : List ℕ) (g h : FunctionDecl) → named (λ (x : FunctionDecl). x.name) f (functions d) ≡ Some g → named (λ (x : FunctionDecl). x.name) f (reverse (functions d)) ≡ Some h → g ≡ h
   pub site_field : meta_sort c.program 0 ≡ Some (bits_sort 8)
@@ -188,9 +188,9 @@ send_fits c (a ∷ b ∷ []) h =
     code_one c (verdict 1) (egress_port b ∷ p_return ∷ []) refl (code_one c (egress_port b) (p_return ∷ []) (has_of (p4_sort c b) (bits_sort 16) h.1.0) refl)
 send_fits c (a ∷ b ∷ e ∷ es) h = absurd h.1.1
 
-front_wide : (e : Expr) (es : Exprs) → wide_exprs (expr e es) ≡ true → wide_exprs (front_after e es) ≡ true
-front_wide e no_exprs h = refl
-front_wide e (expr a es) h = let both = both_true (wide_expr e) (wide_exprs (expr a es)) h in true_both (wide_expr e) (wide_exprs (front_after a es)) both.0 (front_wide a es both.1)
+before_last_wide : (e : Expr) (es : Exprs) → wide_exprs (expr e es) ≡ true → wide_exprs (before_last_after e es) ≡ true
+before_last_wide e no_exprs h = refl
+before_last_wide e (expr a es) h = let both = both_true (wide_expr e) (wide_exprs (expr a es)) h in true_both (wide_expr e) (wide_exprs (before_last_after a es)) both.0 (before_last_wide a es both.1)
 
 -- the lowering of a fork's arguments, and of its group
 group_lowered : (d : Design) (i : ℕ) (own exit : List ℕ) (c out : Within) (k : Callees) (V : List ℕ → Type 0) → Stage d i own exit c out k → (ps : List Param) (vars : List Variable) (x : Name) (w : ℕ) (e : Expr)
@@ -207,15 +207,15 @@ group_lowered d i own exit c out k V g ps vars x w e calls h wide wanted n r is 
     by_args at f u named_is [] are (expr b es) fit ends fine wides wants a ais z zis = absurd (cc)
     by_args at f u named_is (p ∷ rest) are (expr b es) fit ends fine wides wants a ais z zis =
         let s = scope_at d i ps true in
-        let args : Piece c ps vars V n a.made a.code a.next (SortsAt c (widths_of (front_from p rest)) a.exprs) =
-        subst (λ y. Piece c ps vars V n y.made y.code y.next (SortsAt c (widths_of (front_from p rest)) y.exprs)) (sym ais)
-        (kinded_all Any s c k V (g.ready ps) vars (front_after b es) (widths_of (front_from p rest)) (λ y j. fine y (front_part b es y j)) (front_wide b es wides) (front_fits x w s p rest b es ends fit) (λ y j. wants y (front_name b es y j)) n) in
-        let own : CallPiece c (widths_of (front_params u.params)) (bits_sort 16) a.exprs a.next z =
-        subst (CallPiece c (widths_of (front_params u.params)) (bits_sort 16) a.exprs a.next) (sym zis) (g.groups f.text u named_is a.exprs a.next) in record {
+        let args : Piece c ps vars V n a.made a.code a.next (SortsAt c (widths_of (before_last_from p rest)) a.exprs) =
+        subst (λ y. Piece c ps vars V n y.made y.code y.next (SortsAt c (widths_of (before_last_from p rest)) y.exprs)) (sym ais)
+        (kinded_all Any s c k V (g.ready ps) vars (before_last_after b es) (widths_of (before_last_from p rest)) (λ y j. fine y (before_last_part b es y j)) (before_last_wide b es wides) (before_last_fits x w s p rest b es ends fit) (λ y j. wants y (before_last_name b es y j)) n) in
+        let own : CallPiece c (widths_of (params_before_last u.params)) (bits_sort 16) a.exprs a.next z =
+        subst (CallPiece c (widths_of (params_before_last u.params)) (bits_sort 16) a.exprs a.next) (sym zis) (g.groups f.text u named_is a.exprs a.next) in record {
           logged = logged_both n a.next z.next a.made z.made args.logged own.logged;
           kinds = λ ok read.
               let p' = args.kinds (made_left c a.made z.made ok) read in
-              let q' = own.kinds (made_right c a.made z.made ok) (subst (λ ys. SortsAt c (widths_of (front_params ys)) a.exprs) (sym are) p'.1) in
+              let q' = own.kinds (made_right c a.made z.made ok) (subst (λ ys. SortsAt c (widths_of (params_before_last ys)) a.exprs) (sym are) p'.1) in
               (code_both c a.code z.code p'.0 q'.0, q'.1);
         }
 

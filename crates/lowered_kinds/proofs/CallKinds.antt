@@ -10,7 +10,7 @@ use Rattle.cocoon_types.specs.Design.{functions, widths_of}
 use Rattle.cocoon_types.specs.Typing.{result_sort}
 use Rattle.p4_ir.specs.P4Kinds.{Within, meta_sort, p4_sort}
 use Rattle.p4_ir.specs.P4Tree.{P4Expr, p_lit, p_meta, p_binary, P4Table, apply_table, set_meta}
-use Rattle.lower_body.specs.Lower.{Counts, FieldName, Lowered, Made, a_field, a_table, a_group, after_args, by_group, by_table, callees, closed, fields_from, front_params, kept, key_name, kind_width, lower_call, lower_expr, lower_group, numbers_from, past, read_back, result_name, sets, var_name, variable_expr, variables_from}
+use Rattle.lower_body.specs.Lower.{Counts, FieldName, Lowered, Made, a_field, a_table, a_group, after_args, by_group, by_table, callees, closed, fields_from, params_before_last, kept, key_name, kind_width, lower_call, lower_expr, lower_group, numbers_from, past, read_back, result_name, sets, var_name, variable_expr, variables_from}
 use Rattle.lowered_kinds.specs.WideLiterals.{if_some, wide_expr}
 use Rattle.sound_types.specs.WellTyped.{scope_at}
 use Rattle.sound_types.proofs.Functions.{AreTypedBodies, IsNameOf, IsTypedBody, NamesDiffer}
@@ -69,10 +69,10 @@ pub record IsDeclaredFunction (g : FunctionDecl) : Type 0 where
   pub params : ParamsDeclared g.params
   pub result : is_declared_width (kind_width g.result) ≡ true
 
-front_declared : (ps : List Param) → ParamsDeclared ps → ParamsDeclared (front_params ps)
-front_declared [] h = tt
-front_declared (p ∷ []) h = tt
-front_declared (p ∷ q ∷ ps) h = (h.0, front_declared (q ∷ ps) h.1)
+before_last_declared : (ps : List Param) → ParamsDeclared ps → ParamsDeclared (params_before_last ps)
+before_last_declared [] h = tt
+before_last_declared (p ∷ []) h = tt
+before_last_declared (p ∷ q ∷ ps) h = (h.0, before_last_declared (q ∷ ps) h.1)
 
 table_end : (c : Within) (n : ℕ) → has_number n c.tables ≡ true → code_fits c (apply_table n ∷ []) ≡ true
 table_end c n h = code_one c (apply_table n) [] h refl
@@ -95,15 +95,15 @@ by_table_piece c g d es n =
           );
     }
 
-by_group_piece : (c : Within) (g : FunctionDecl) → IsDeclaredFunction g → (es : List P4Expr) (n : Counts) → CallPiece c (widths_of (front_params g.params)) (bits_sort 16) es n (by_group g es n)
+by_group_piece : (c : Within) (g : FunctionDecl) → IsDeclaredFunction g → (es : List P4Expr) (n : Counts) → CallPiece c (widths_of (params_before_last g.params)) (bits_sort 16) es n (by_group g es n)
 by_group_piece c g d es n =
-    let ps = front_params g.params in
+    let ps = params_before_last g.params in
     let i = past n.field ps in
     let t : P4Table = record { number = n.app; exact = true; keys = numbers_from n.field ps; result = i } in
     let rest : List Made = a_field (result_name n.app) i 16 ∷ a_group t g.name.text ps ∷ [] in
     let first = fields_from (key_name n.app) 0 n.field ps in record {
       logged = record {
-        declared = declared_both first rest (fields_declared (key_name n.app) 0 n.field ps (front_declared g.params d.params)) (refl, tt);
+        declared = declared_both first rest (fields_declared (key_name n.app) 0 n.field ps (before_last_declared g.params d.params)) (refl, tt);
         names = keys_named n.app n.var 0 n.field ps rest (suc n.app) n.var (λ m. (refl, (refl, refl, refl)));
       };
       kinds = λ ok sorts.
@@ -118,14 +118,14 @@ either_piece c ws t es n false x y f g = g refl
 
 -- the group of the first function of the name
 pub group_piece : (c : Within) (fs : List FunctionDecl) (f : List ℕ) (g : FunctionDecl) → ((h : FunctionDecl) → In h fs → IsDeclaredFunction h) → named (λ (x : FunctionDecl). x.name) f fs ≡ Some g
-    → (es : List P4Expr) (n : Counts) → CallPiece c (widths_of (front_params g.params)) (bits_sort 16) es n (lower_group fs f es n)
+    → (es : List P4Expr) (n : Counts) → CallPiece c (widths_of (params_before_last g.params)) (bits_sort 16) es n (lower_group fs f es n)
 group_piece c [] f g d is es n = absurd (cc)
 group_piece c (h ∷ fs) f g d is es n = by_test (λ k. group_piece c fs f g (λ x i. d x (inr i)) k es n) (same_name f h.name.text) is
   where
-    by_test : (named (λ (x : FunctionDecl). x.name) f fs ≡ Some g → CallPiece c (widths_of (front_params g.params)) (bits_sort 16) es n (lower_group fs f es n)) → (b : Bool)
+    by_test : (named (λ (x : FunctionDecl). x.name) f fs ≡ Some g → CallPiece c (widths_of (params_before_last g.params)) (bits_sort 16) es n (lower_group fs f es n)) → (b : Bool)
         → cond b (Some h) (named (λ (x : FunctionDecl). x.name) f fs) ≡ Some g
-        → CallPiece c (widths_of (front_params g.params)) (bits_sort 16) es n (if b then by_group h es n else lower_group fs f es n)
-    by_test rest true k = subst (λ x. CallPiece c (widths_of (front_params x.params)) (bits_sort 16) es n (by_group h es n)) (some_same h g k) (by_group_piece c h (d h (inl refl)) es n)
+        → CallPiece c (widths_of (params_before_last g.params)) (bits_sort 16) es n (if b then by_group h es n else lower_group fs f es n)
+    by_test rest true k = subst (λ x. CallPiece c (widths_of (params_before_last x.params)) (bits_sort 16) es n (by_group h es n)) (some_same h g k) (by_group_piece c h (d h (inl refl)) es n)
     by_test rest false k = rest k
 
 -- ---- a call of a body

@@ -35,7 +35,7 @@ use Rattle.sound_types.proofs.Members.{In, all_at, in_filter, in_map, in_reverse
 use Rattle.sound_types.proofs.Options.{both_true, true_both, nil_left, nil_right, passes, same_self}
 use Rattle.lowered_types.proofs.Fitting.{Any}
 use Rattle.lowered_types.proofs.Formed.{Formed, any_in}
-use Rattle.lowered_types.proofs.Parts.{HasIngress, body_formed, exit_widths, into_are, parts_ingress, role_with}
+use Rattle.lowered_types.proofs.NetParts.{HasIngress, body_formed, exit_widths, into_are, parts_ingress, role_with}
 use Rattle.lowered_kinds.proofs.BlockKinds.{SmallSites, Stage, block_kinds}
 use Rattle.lowered_kinds.proofs.CallKinds.{FunctionsOk, all_calls, group_piece}
 use Rattle.lowered_kinds.proofs.ExprKinds.{CallPiece, MadeOk, VarsOk, code_fits, field_is, lit_sort}
@@ -43,7 +43,7 @@ use Rattle.lowered_kinds.proofs.Headers.{headers_fit, names_of, widths_ok}
 use Rattle.lowered_kinds.proofs.Logged.{AllDeclared, ParamsDeclared, logged_both}
 use Rattle.lowered_kinds.proofs.MetaNames.{meta_names_fit}
 use Rattle.lowered_kinds.proofs.SiteKinds.{sites_kinds}
-use Rattle.lowered_kinds.proofs.Tables.{forked_front, numbers_ascend, tables_both, tables_ok}
+use Rattle.lowered_kinds.proofs.Tables.{forked_before_last, numbers_ascend, tables_both, tables_ok}
 
 -- ---- functions of the design
 
@@ -232,8 +232,8 @@ program_kinds d w l wide params spelled parts g s fits log few_tables few_sites 
     let names = meta_names_fit ms b.next.app b.next.var logged.names few_made in
     let headers = headers_fit d w spelled in
     let size : length p.meta ≡ length ws = sym (length-map p.meta (λ (x : P4Field). x.width)) ∙ ap (λ xs. length (8 ∷ xs)) (widths_are ms) in
-    let fronts = forked_front d own exit g.body two formed (subst (λ ps. into_stmts d ≡ stmts_in (scope_at d i ps true) false g.body) g.params_are (into_are d parts g)) in
-    let tables = tables_ok d ok.differ params fronts p ws size 1 0 log.past_fields log.past_tables ms log.placed log.tables (omega (arith, few_tables)) in
+    let all_before_last = forked_before_last d own exit g.body two formed (subst (λ ps. into_stmts d ≡ stmts_in (scope_at d i ps true) false g.body) g.params_are (into_are d parts g)) in
+    let tables = tables_ok d ok.differ params all_before_last p ws size 1 0 log.past_fields log.past_tables ms log.placed log.tables (omega (arith, few_tables)) in
     let both : each (table_fits p) (tables_in a.made ++ tables_in b.made) ≡ true = ap (each (table_fits p)) (sym (tables_both a.made b.made)) ∙ tables in
     let rising : ascend (numbers_of (tables_in a.made) ++ numbers_of (tables_in b.made)) ≡ true =
     ap ascend (sym (map-append (λ (x : P4Table). x.number) (tables_in a.made) (tables_in b.made)) ∙ ap numbers_of (sym (tables_both a.made b.made))) ∙ numbers_ascend 1 log.past_fields log.past_tables ms log.placed in

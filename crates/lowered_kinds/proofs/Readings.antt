@@ -9,7 +9,7 @@ use Rattle.sound_types.proofs.Levels.{block_decls}
 use Rattle.sound_types.proofs.Members.{In, at_all, flat_in, in_either, in_filter}
 use Rattle.sound_types.proofs.Options.{true_both}
 use Rattle.lowered_kinds.proofs.Programs.{is_function}
-use Rattle.lowered_types.proofs.Parts.{taken_blocks}
+use Rattle.lowered_types.proofs.NetParts.{taken_blocks}
 use Rattle.lowered_kinds.proofs.WideTokens.{AllWide, tokens_wide, wide_there}
 
 -- ---- expressions

@@ -12,7 +12,7 @@ use Rattle.cocoon_types.specs.Typing.{Scope, with_var}
 use Rattle.p4_ir.specs.P4Kinds.{numbers_of, table_fits}
 use Rattle.p4_ir.specs.P4Tree.{P4Table, Program}
 use Rattle.lower_body.specs.Log.{Placed, tables_in}
-use Rattle.lower_body.specs.Lower.{Made, a_field, a_table, a_group, front_params}
+use Rattle.lower_body.specs.Lower.{Made, a_field, a_table, a_group, params_before_last}
 use Rattle.lowered_kinds.specs.WideLiterals.{has_params}
 use Rattle.lowered_rows.specs.Logs.{AllOf, KeysAre}
 use Rattle.sound_types.specs.WellTyped.{scope_at}
@@ -25,43 +25,43 @@ use Rattle.lowered_types.proofs.Formed.{Formed, FormedStmt, one_more}
 
 -- ---- the functions of forks have parameters before the choice
 
-abbrev pub HasFront : Design → List ℕ → Type 0
-HasFront d f = (g : FunctionDecl) × (named (λ (x : FunctionDecl). x.name) f (reverse (functions d)) ≡ Some g) × (0 < length (front_params g.params))
+abbrev pub HasBeforeLast : Design → List ℕ → Type 0
+HasBeforeLast d f = (g : FunctionDecl) × (named (λ (x : FunctionDecl). x.name) f (reverse (functions d)) ≡ Some g) × (0 < length (params_before_last g.params))
 
 abbrev fork_names : StmtSite → List (List ℕ)
 fork_names site = elim site.s [ fork at x w e b ↦ called e ∷ [] | _ ↦ [] ]
 
-fork_front : (d : Design) (x : List ℕ) (w : ℕ) (e : Expr) → IsForkCall (reverse (functions d)) x w e → HasFront d (called e)
-fork_front d x w e h = (h.function, subst (λ c. named (λ (y : FunctionDecl). y.name) (called c) (reverse (functions d)) ≡ Some h.function) (sym h.call_is) h.function_is, h.has_front)
+fork_before_last : (d : Design) (x : List ℕ) (w : ℕ) (e : Expr) → IsForkCall (reverse (functions d)) x w e → HasBeforeLast d (called e)
+fork_before_last d x w e h = (h.function, subst (λ c. named (λ (y : FunctionDecl). y.name) (called c) (reverse (functions d)) ≡ Some h.function) (sym h.call_is) h.function_is, h.has_before_last)
 
 mutual
-  stmt_front : (d : Design) (own exit : List ℕ) (inside : Bool) (s : Stmt) (ps : List Param) → FormedStmt (reverse (functions d)) own exit inside ps s → (a : Scope) (ended : Bool) (x : StmtSite) → In x (stmts_at a ended s)
-      → (f : List ℕ) → In f (fork_names x) → HasFront d f
-  stmt_front d own exit inside (let_ at y w e) ps h a ended x i f j = elim i [ inl k ↦ absurd (subst (λ z. In f (fork_names z)) k j) | inr k ↦ absurd k ]
-  stmt_front d own exit inside (set_field at y g e) ps h a ended x i f j = elim i [ inl k ↦ absurd (subst (λ z. In f (fork_names z)) k j) | inr k ↦ absurd k ]
-  stmt_front d own exit inside (if_ at e p q) ps h a ended x i f j = elim i [
+  stmt_before_last : (d : Design) (own exit : List ℕ) (inside : Bool) (s : Stmt) (ps : List Param) → FormedStmt (reverse (functions d)) own exit inside ps s → (a : Scope) (ended : Bool) (x : StmtSite) → In x (stmts_at a ended s)
+      → (f : List ℕ) → In f (fork_names x) → HasBeforeLast d f
+  stmt_before_last d own exit inside (let_ at y w e) ps h a ended x i f j = elim i [ inl k ↦ absurd (subst (λ z. In f (fork_names z)) k j) | inr k ↦ absurd k ]
+  stmt_before_last d own exit inside (set_field at y g e) ps h a ended x i f j = elim i [ inl k ↦ absurd (subst (λ z. In f (fork_names z)) k j) | inr k ↦ absurd k ]
+  stmt_before_last d own exit inside (if_ at e p q) ps h a ended x i f j = elim i [
     | inl k ↦ absurd (subst (λ z. In f (fork_names z)) k j)
     | inr k ↦ elim (in_either x (stmts_in a false p) (stmts_in a false q) k) [
-      | inl l ↦ block_front d own exit inside p ps h.0 a false x l f j
-      | inr l ↦ block_front d own exit inside q ps h.1 a false x l f j
+      | inl l ↦ block_before_last d own exit inside p ps h.0 a false x l f j
+      | inr l ↦ block_before_last d own exit inside q ps h.1 a false x l f j
     ]
   ]
-  stmt_front d own exit inside (filter at e) ps h a ended x i f j = elim i [ inl k ↦ absurd (subst (λ z. In f (fork_names z)) k j) | inr k ↦ absurd k ]
-  stmt_front d own exit inside (havoc_var at y w) ps h a ended x i f j = absurd h
-  stmt_front d own exit inside (havoc_field at y g) ps h a ended x i f j = absurd h
-  stmt_front d own exit inside (assume at e) ps h a ended x i f j = absurd h
-  stmt_front d own exit inside (fork at y w e b) ps h a ended x i f j = elim i [
-    | inl k ↦ elim (subst (λ z. In f (fork_names z)) k j) [ inl l ↦ subst (HasFront d) (sym l) (fork_front d y.text w e h.2) | inr l ↦ absurd l ]
-    | inr k ↦ block_front d own exit true b (one_more y w ps) h.3 (with_var y w a) false x k f j
+  stmt_before_last d own exit inside (filter at e) ps h a ended x i f j = elim i [ inl k ↦ absurd (subst (λ z. In f (fork_names z)) k j) | inr k ↦ absurd k ]
+  stmt_before_last d own exit inside (havoc_var at y w) ps h a ended x i f j = absurd h
+  stmt_before_last d own exit inside (havoc_field at y g) ps h a ended x i f j = absurd h
+  stmt_before_last d own exit inside (assume at e) ps h a ended x i f j = absurd h
+  stmt_before_last d own exit inside (fork at y w e b) ps h a ended x i f j = elim i [
+    | inl k ↦ elim (subst (λ z. In f (fork_names z)) k j) [ inl l ↦ subst (HasBeforeLast d) (sym l) (fork_before_last d y.text w e h.2) | inr l ↦ absurd l ]
+    | inr k ↦ block_before_last d own exit true b (one_more y w ps) h.3 (with_var y w a) false x k f j
   ]
-  stmt_front d own exit inside (send at r es) ps h a ended x i f j = elim i [ inl k ↦ absurd (subst (λ z. In f (fork_names z)) k j) | inr k ↦ absurd k ]
+  stmt_before_last d own exit inside (send at r es) ps h a ended x i f j = elim i [ inl k ↦ absurd (subst (λ z. In f (fork_names z)) k j) | inr k ↦ absurd k ]
 
-  block_front : (d : Design) (own exit : List ℕ) (inside : Bool) (b : Block) (ps : List Param) → Formed (reverse (functions d)) own exit inside ps b → (a : Scope) (ended : Bool) (x : StmtSite) → In x (stmts_in a ended b)
-      → (f : List ℕ) → In f (fork_names x) → HasFront d f
-  block_front d own exit inside no_stmts ps h a ended x i f j = absurd i
-  block_front d own exit inside (stmt first rest) ps h a ended x i f j = elim (in_either x (stmts_at a ended first) (stmts_in (after_stmt first a) (ended || stmt_ends first) rest) i) [
-    | inl k ↦ stmt_front d own exit inside first ps h.0 a ended x k f j
-    | inr k ↦ block_front d own exit inside rest (after_vars first ps) h.1 (after_stmt first a) (ended || stmt_ends first) x k f j
+  block_before_last : (d : Design) (own exit : List ℕ) (inside : Bool) (b : Block) (ps : List Param) → Formed (reverse (functions d)) own exit inside ps b → (a : Scope) (ended : Bool) (x : StmtSite) → In x (stmts_in a ended b)
+      → (f : List ℕ) → In f (fork_names x) → HasBeforeLast d f
+  block_before_last d own exit inside no_stmts ps h a ended x i f j = absurd i
+  block_before_last d own exit inside (stmt first rest) ps h a ended x i f j = elim (in_either x (stmts_at a ended first) (stmts_in (after_stmt first a) (ended || stmt_ends first) rest) i) [
+    | inl k ↦ stmt_before_last d own exit inside first ps h.0 a ended x k f j
+    | inr k ↦ block_before_last d own exit inside rest (after_vars first ps) h.1 (after_stmt first a) (ended || stmt_ends first) x k f j
   ]
 
 one_in : (f : List ℕ) (ys : List (List ℕ)) → is_one_of ys f ≡ true → In f ys
@@ -72,11 +72,11 @@ one_in f (y ∷ ys) h = by_test (one_in f ys) (same_name y f) refl
     by_test rest true is = inl (sym (same_text y f is))
     by_test rest false is = inr (rest (ap (λ b. b || is_one_of ys f) (sym is) ∙ h))
 
-pub forked_front : (d : Design) (own exit : List ℕ) (b : Block) (ps : List Param) → Formed (reverse (functions d)) own exit false ps b → into_stmts d ≡ stmts_in (scope_at d (last_level d) ps true) false b
-    → (f : List ℕ) → is_one_of (fork_calls d) f ≡ true → HasFront d f
-forked_front d own exit b ps h are f is =
+pub forked_before_last : (d : Design) (own exit : List ℕ) (b : Block) (ps : List Param) → Formed (reverse (functions d)) own exit false ps b → into_stmts d ≡ stmts_in (scope_at d (last_level d) ps true) false b
+    → (f : List ℕ) → is_one_of (fork_calls d) f ≡ true → HasBeforeLast d f
+forked_before_last d own exit b ps h are f is =
     let t = flat_in fork_names f (into_stmts d) (one_in f (fork_calls d) is) in
-    block_front d own exit false b ps h (scope_at d (last_level d) ps true) false t.0 (subst (In t.0) are t.1) f t.2
+    block_before_last d own exit false b ps h (scope_at d (last_level d) ps true) false t.0 (subst (In t.0) are t.1) f t.2
 
 -- ---- numbers
 
@@ -146,22 +146,22 @@ some_params g h = by_list g.params h
     by_list (p ∷ ps) k = omega arith
 
 -- all tables of a log
-pub tables_ok : (d : Design) → NamesDiffer d → has_params d ≡ true → ((f : List ℕ) → is_one_of (fork_calls d) f ≡ true → HasFront d f) → (p : Program) (ws : List ℕ) → length p.meta ≡ length ws
+pub tables_ok : (d : Design) → NamesDiffer d → has_params d ≡ true → ((f : List ℕ) → is_one_of (fork_calls d) f ≡ true → HasBeforeLast d f) → (p : Program) (ws : List ℕ) → length p.meta ≡ length ws
     → (i a j b : ℕ) (ms : List Made) → Placed i a ms j b → AllOf d ws ms → a + length (tables_in ms) ≤ 256 → each (table_fits p) (tables_in ms) ≡ true
-tables_ok d differ params fronts p ws size i a j b [] h of few = refl
-tables_ok d differ params fronts p ws size i a j b (a_field x k w ∷ ms) h of few = tables_ok d differ params fronts p ws size (suc i) a j b ms h.1 of.1 few
-tables_ok d differ params fronts p ws size i a j b (a_table t f ps ∷ ms) h of few =
+tables_ok d differ params all_before_last p ws size i a j b [] h of few = refl
+tables_ok d differ params all_before_last p ws size i a j b (a_field x k w ∷ ms) h of few = tables_ok d differ params all_before_last p ws size (suc i) a j b ms h.1 of.1 few
+tables_ok d differ params all_before_last p ws size i a j b (a_table t f ps ∷ ms) h of few =
     let g = of.0.function in
     let at = named_there (λ (x : FunctionDecl). x.name) f (functions d) g (runtime_is (named (λ (x : FunctionDecl). x.name) f (functions d)) g of.0.named) in
     let some : 0 < length ps = subst (λ qs. 0 < length qs) (sym of.0.params) (some_params g (all_at (λ (x : FunctionDecl). not (length x.params == 0)) (functions d) params g at.0)) in
     true_both (table_fits p t) (each (table_fits p) (tables_in ms)) (table_ok p ws size t ps _ of.0.keys some of.0.result (omega (arith, h.0, few)))
-    (tables_ok d differ params fronts p ws size i (suc a) j b ms h.1 of.1 (omega (arith, few)))
-tables_ok d differ params fronts p ws size i a j b (a_group t f ps ∷ ms) h of few =
+    (tables_ok d differ params all_before_last p ws size i (suc a) j b ms h.1 of.1 (omega (arith, few)))
+tables_ok d differ params all_before_last p ws size i a j b (a_group t f ps ∷ ms) h of few =
     let g = of.0.function in
     let at = named_there (λ (x : FunctionDecl). x.name) f (functions d) g (runtime_is (named (λ (x : FunctionDecl). x.name) f (functions d)) g of.0.named) in
-    let front = fronts f of.0.forked in
-    let there = named_there (λ (x : FunctionDecl). x.name) f (reverse (functions d)) front.0 front.1 in
-    let same : front.0 ≡ g = differ front.0 g (in_reverse front.0 (functions d) there.0) at.0 (sym there.1 ∙ at.1) in
-    let some : 0 < length ps = subst (λ qs. 0 < length qs) (sym of.0.params) (subst (λ (x : FunctionDecl). 0 < length (front_params x.params)) same front.2) in
+    let before_last = all_before_last f of.0.forked in
+    let there = named_there (λ (x : FunctionDecl). x.name) f (reverse (functions d)) before_last.0 before_last.1 in
+    let same : before_last.0 ≡ g = differ before_last.0 g (in_reverse before_last.0 (functions d) there.0) at.0 (sym there.1 ∙ at.1) in
+    let some : 0 < length ps = subst (λ qs. 0 < length qs) (sym of.0.params) (subst (λ (x : FunctionDecl). 0 < length (params_before_last x.params)) same before_last.2) in
     true_both (table_fits p t) (each (table_fits p) (tables_in ms)) (table_ok p ws size t ps 16 of.0.keys some of.0.result (omega (arith, h.0, few)))
-    (tables_ok d differ params fronts p ws size i (suc a) j b ms h.1 of.1 (omega (arith, few)))
+    (tables_ok d differ params all_before_last p ws size i (suc a) j b ms h.1 of.1 (omega (arith, few)))

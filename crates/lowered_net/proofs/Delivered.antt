@@ -11,7 +11,7 @@ use Rattle.cocoon_types.specs.Rules.{header_width}
 use Rattle.cocoon_types.specs.Tables.{Defs}
 use Rattle.cocoon_types.specs.Taken.{RunsAreTaken}
 use Rattle.lowered.specs.Delivers.{DeliversExactly}
-use Rattle.lowered.specs.Network.{IsNetwork}
+use Rattle.lowered_net.specs.Network.{IsNetwork}
 use Rattle.lowered_net.specs.Followed.{AreFollowed}
 use Rattle.p4_ir.specs.NetFits.{wiring_of}
 use Rattle.p4_ir.specs.NetTree.{NetData}

@@ -6,8 +6,8 @@ use Rattle.std.proofs.lemmas.Bool.Decides.{nat_tests}
 use Rattle.cocoon_num.specs.Lists.{has_number}
 use Rattle.p4_ir.specs.NetRuns.{attach_at, link_at, switch_at}
 use Rattle.p4_ir.specs.NetTree.{HostPort, Link, LinkEnd, SwitchFiles}
-use Rattle.lowered.specs.Network.{numbers_from}
-use Rattle.lowered.specs.Wires.{link_with}
+use Rattle.lowered_net.specs.Network.{numbers_from}
+use Rattle.lowered_net.specs.Wires.{link_with}
 use Rattle.lowered_net.proofs.Members.{In, flat_in, in_flat}
 use Rattle.lowered_net.proofs.Options.{both_true, same_self}
 

@@ -16,9 +16,9 @@ use Rattle.p4_ir.specs.NetRuns.{NetGo, Onward, Visits, attach_at, link_at, switc
 use Rattle.p4_ir.specs.NetTree.{LinkEnd, NetData, SwitchFiles, to_host, to_switch}
 use Rattle.p4_ir.specs.Switch.{switch_go}
 use Rattle.lowered.specs.Departs.{departure}
-use Rattle.lowered.specs.Network.{HasNumbers, network, switch_files}
+use Rattle.lowered_net.specs.Network.{HasNumbers, network, switch_files}
 use Rattle.lowered.specs.Roles.{NetParts}
-use Rattle.lowered.specs.Wires.{as_end, as_port, exit_at, led}
+use Rattle.lowered_net.specs.Wires.{as_end, as_port, exit_at, led}
 use Rattle.runtime_defs.specs.Places.{Places}
 use Rattle.lowered_net.specs.Ingress.{IngressIs}
 use Rattle.lowered_net.specs.Followed.{AreFollowed, body_departs, bytes_depart, into_at}

@@ -30,8 +30,8 @@ use Rattle.role_values.specs.Worlds.{world_by}
 use Rattle.runtime_defs.specs.Guards.{host_function, host_table, is_true_at, switch_table, table_named}
 use Rattle.runtime_defs.specs.Places.{Places, all_fit_widths}
 use Rattle.sound_types.specs.Ends.{LocFits}
-use Rattle.lowered.specs.Network.{HasNumbers}
-use Rattle.lowered.specs.Wires.{as_end, as_port, idle, last_world, led, one_number, two_numbers}
+use Rattle.lowered_net.specs.Network.{HasNumbers}
+use Rattle.lowered_net.specs.Wires.{as_end, as_port, idle, last_world, led, one_number, two_numbers}
 use Rattle.lowered_net.specs.Followed.{into_at}
 use Rattle.lowered_net.specs.WiresLead.{MayReach, carried}
 use Rattle.lowered_net.proofs.Calls.{IsTrueFor, call_true}

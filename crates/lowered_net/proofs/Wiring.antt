@@ -11,9 +11,9 @@ use Rattle.cocoon_types.specs.Taken.{guard_at}
 use Rattle.p4_ir.specs.NetFits.{switch_numbers, wiring_of}
 use Rattle.p4_ir.specs.NetTree.{Link, LinkEnd, to_host, to_switch}
 use Rattle.p4_ir.specs.Wiring.{Wiring, attach_fits, end_fits, host_fits, host_numbers, is_location, link_fits, pairs_ascend, wiring_fits}
-use Rattle.lowered.specs.Network.{HasNumbers, network, numbers_from, switch_files}
+use Rattle.lowered_net.specs.Network.{HasNumbers, network, numbers_from, switch_files}
 use Rattle.lowered.specs.Roles.{NetParts}
-use Rattle.lowered.specs.Wires.{as_end, as_port, exit_at, last_world, led, link_with}
+use Rattle.lowered_net.specs.Wires.{as_end, as_port, exit_at, last_world, led, link_with}
 use Rattle.runtime_defs.specs.Guards.{is_true_at, host_table, switch_table}
 use Rattle.runtime_defs.specs.Places.{Places}
 use Rattle.lowered_net.specs.Ingress.{IngressIs}
@@ -89,7 +89,7 @@ ascends_more s k e (l ∷ ls) h f = true_both (nat_lt s l.switch || ((s == l.swi
       (true_both (s == l.switch) (nat_lt k l.port) (ap (λ x. s == x) (sym same.0) ∙ same_self s) (lt-ltb k l.port (omega (arith, m))))
 ]) h
 
--- a port with or without a link in front
+-- a port with or without a link before
 record Ascends (s k : ℕ) (ls : List Link) : Type 0 where
   pairs : pairs_ascend (map place ls) ≡ true
   from : From s k ls

@@ -17,7 +17,7 @@ use Rattle.lower_body.specs.Whole.{SwitchRole, role_env}
 use Rattle.lowered.specs.Departs.{departs, departure}
 use Rattle.lowered.specs.Roles.{NetParts}
 use Rattle.lowered.specs.SwitchProgram.{switch_made, switch_program}
-use Rattle.lowered.specs.SwitchRows.{switch_rows}
+use Rattle.lowered_rows.specs.SwitchRows.{switch_rows}
 use Rattle.runtime_defs.specs.Places.{Places}
 
 -- a port of a switch, as a location of the ingress role

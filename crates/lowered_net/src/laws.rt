@@ -6,7 +6,7 @@ ghost use Rattle.cocoon_types.specs.Design.{functions, host_decl, last_level, sw
 ghost use Rattle.cocoon_types.specs.Rules.{WellFormed};
 ghost use Rattle.cocoon_types.specs.Tables.{Defs};
 ghost use Rattle.lowered.specs.Delivers.{DeliversExactly, DeliversWithin};
-ghost use Rattle.lowered.specs.Network.{IsNetwork};
+ghost use Rattle.lowered_net.specs.Network.{IsNetwork};
 ghost use Rattle.lowered.specs.Roles.{NetParts, net_parts};
 ghost use Rattle.lowered_net.specs.Followed.{AreFollowed};
 ghost use Rattle.lowered_net.specs.Ingress.{IngressIs};

@@ -15,8 +15,8 @@ use Rattle.cocoon_types.specs.Design.{functions}
 use Rattle.cocoon_types.specs.Rules.{WellFormed}
 use Rattle.declarations.proofs.NameFacts.{index-append, same-refl, same-true}
 use Rattle.declarations.specs.NameNumbers.{firsts, index_of, with_name}
-use Rattle.lowered.specs.Groups.{ForkGroup, Grouped, ascending, fork_groups, front_of, group_number, groups_at, groups_of, last_of, members_at, number_from, table_groups, true_choice, where_members}
-use Rattle.lowered.specs.SwitchRows.{groups_from}
+use Rattle.lowered_rows.specs.Groups.{ForkGroup, Grouped, ascending, fork_groups, before_last, group_number, groups_at, groups_of, last_of, members_at, number_from, table_groups, true_choice, where_members}
+use Rattle.lowered_rows.specs.SwitchRows.{groups_from}
 use Rattle.lowered_rows.proofs.Found.{Tabled}
 use Rattle.p4_ir.specs.Switch.{members}
 use Rattle.runtime_defs.proofs.Distinct.{once, once-more, other-name, OnceAfter}
@@ -187,14 +187,14 @@ or-both : (a b : Bool) → (a || b) ≡ false → (a ≡ false) × (b ≡ false)
 or-both true b h = absurd cc
 or-both false b h = (refl, h)
 
-no-choice : (t : FunTable) (ns : List ℕ) (rows : List FunRow) → stands ns (map (λ (row : FunRow). front_of row.values) rows) ≡ false → flat_map (true_choice t ns) rows ≡ []
+no-choice : (t : FunTable) (ns : List ℕ) (rows : List FunRow) → stands ns (map (λ (row : FunRow). before_last row.values) rows) ≡ false → flat_map (true_choice t ns) rows ≡ []
 no-choice t ns [] h = refl
 no-choice t ns (row ∷ rows) h =
-    let both = or-both (same_name ns (front_of row.values)) (stands ns (map (λ (r : FunRow). front_of r.values) rows)) (sym (stands-cons ns (front_of row.values) _) ∙ h) in
+    let both = or-both (same_name ns (before_last row.values)) (stands ns (map (λ (r : FunRow). before_last r.values) rows)) (sym (stands-cons ns (before_last row.values) _) ∙ h) in
     ap₂ (◌++◌) (ap (λ b. if b && ((looked t row.values).value == 1) then last_of row.values ∷ [] else []) both.0) (no-choice t ns rows both.1)
 
-no-members : (t : FunTable) (ns : List ℕ) → stands ns (firsts (map (λ (row : FunRow). front_of row.values) t.rows)) ≡ false → members_at t ns ≡ []
-no-members t ns h = ap ascending (no-choice t ns t.rows (sym (stands-first ns (map (λ (row : FunRow). front_of row.values) t.rows)) ∙ h))
+no-members : (t : FunTable) (ns : List ℕ) → stands ns (firsts (map (λ (row : FunRow). before_last row.values) t.rows)) ≡ false → members_at t ns ≡ []
+no-members t ns h = ap ascending (no-choice t ns t.rows (sym (stands-first ns (map (λ (row : FunRow). before_last row.values) t.rows)) ∙ h))
 
 abbrev groups-over : FunTable → List (List ℕ) → List Grouped
 groups-over t lists = flat_map (λ args. where_members args (members_at t args)) lists
@@ -232,10 +232,10 @@ held-some t ns m ms (a ∷ lists) h s = some-at t ns a m ms lists h (held-some t
 held-members : (t : FunTable) (ns : List ℕ) → held (table_groups t) ns ≡ members_at t ns
 held-members t ns = by (members_at t ns) refl
   where
-    fronts : List (List ℕ)
-    fronts = firsts (map (λ (row : FunRow). front_of row.values) t.rows)
+    all_before_last : List (List ℕ)
+    all_before_last = firsts (map (λ (row : FunRow). before_last row.values) t.rows)
 
-    there : (m : ℕ) (ms : List ℕ) → members_at t ns ≡ m ∷ ms → (b : Bool) → stands ns fronts ≡ b → stands ns fronts ≡ true
+    there : (m : ℕ) (ms : List ℕ) → members_at t ns ≡ m ∷ ms → (b : Bool) → stands ns all_before_last ≡ b → stands ns all_before_last ≡ true
     there m ms e true s = s
     there m ms e false s = absurd (clash (sym e ∙ no-members t ns s))
       where
@@ -243,8 +243,8 @@ held-members t ns = by (members_at t ns) refl
         clash k = cc
 
     by : (ms : List ℕ) → members_at t ns ≡ ms → held (table_groups t) ns ≡ members_at t ns
-    by [] e = held-none t ns fronts e ∙ sym e
-    by (m ∷ ms) e = held-some t ns m ms fronts e (there m ms e (stands ns fronts) refl) ∙ sym e
+    by [] e = held-none t ns all_before_last e ∙ sym e
+    by (m ∷ ms) e = held-some t ns m ms all_before_last e (there m ms e (stands ns all_before_last) refl) ∙ sym e
 
 -- the members of the group of a function at some arguments are those of its table there
 pub members-are : (d : Design) (places : Places) (f ns : List ℕ) (g : FunctionDecl) → WellFormed d → is_one_of (fork_calls d) f ≡ true → (t : Tabled d places f g)

@@ -8,8 +8,8 @@ use Rattle.cocoon_num.specs.Tree.{Param}
 use Rattle.cocoon_num.specs.Values.{fits_width}
 use Rattle.cocoon_types.specs.Design.{widths_of}
 use Rattle.declarations.specs.NameNumbers.{firsts, index_of, with_name}
-use Rattle.lower_body.specs.Lower.{front_from, front_params}
-use Rattle.lowered.specs.Groups.{front_of, last_of}
+use Rattle.lower_body.specs.Lower.{before_last_from, params_before_last}
+use Rattle.lowered_rows.specs.Groups.{before_last, last_of}
 use Rattle.lowered_rows.proofs.Found.{below-width, both-true}
 use Rattle.runtime_defs.specs.Fitting.{all_ones}
 use Rattle.runtime_defs.specs.Places.{all_fit_widths}
@@ -31,37 +31,37 @@ ones-match (w ∷ ws) (v ∷ vs) (x ∷ xs) f h =
 
 -- ---- all but the last
 
-front-fits-from : (p : Param) (ps : List Param) (v : ℕ) (vs : List ℕ) → all_fit_widths (widths_of (p ∷ ps)) (v ∷ vs) ≡ true → all_fit_widths (widths_of (front_from p ps)) (front_of (v ∷ vs)) ≡ true
-front-fits-from p [] v [] h = refl
-front-fits-from p [] v (u ∷ vs) h = absurd (both-false (fits_width p.width v) h)
+before-last-fits-from : (p : Param) (ps : List Param) (v : ℕ) (vs : List ℕ) → all_fit_widths (widths_of (p ∷ ps)) (v ∷ vs) ≡ true → all_fit_widths (widths_of (before_last_from p ps)) (before_last (v ∷ vs)) ≡ true
+before-last-fits-from p [] v [] h = refl
+before-last-fits-from p [] v (u ∷ vs) h = absurd (both-false (fits_width p.width v) h)
   where
     both-false : (b : Bool) → (b && false) ≡ true → ⊥
     both-false true k = cc
     both-false false k = cc
-front-fits-from p (q ∷ ps) v [] h = absurd (both-false (fits_width p.width v) h)
+before-last-fits-from p (q ∷ ps) v [] h = absurd (both-false (fits_width p.width v) h)
   where
     both-false : (b : Bool) → (b && false) ≡ true → ⊥
     both-false true k = cc
     both-false false k = cc
-front-fits-from p (q ∷ ps) v (u ∷ vs) h =
+before-last-fits-from p (q ∷ ps) v (u ∷ vs) h =
     let hs = both-true (fits_width p.width v) (all_fit_widths (widths_of (q ∷ ps)) (u ∷ vs)) h in
-    ap₂ (◌&&◌) hs.0 (front-fits-from q ps u vs hs.1)
+    ap₂ (◌&&◌) hs.0 (before-last-fits-from q ps u vs hs.1)
 
-pub front-fits : (ps : List Param) (vs : List ℕ) → all_fit_widths (widths_of ps) vs ≡ true → all_fit_widths (widths_of (front_params ps)) (front_of vs) ≡ true
-front-fits [] [] h = refl
-front-fits [] (v ∷ vs) h = absurd cc
-front-fits (p ∷ ps) [] h = absurd cc
-front-fits (p ∷ ps) (v ∷ vs) h = front-fits-from p ps v vs h
+pub before-last-fits : (ps : List Param) (vs : List ℕ) → all_fit_widths (widths_of ps) vs ≡ true → all_fit_widths (widths_of (params_before_last ps)) (before_last vs) ≡ true
+before-last-fits [] [] h = refl
+before-last-fits [] (v ∷ vs) h = absurd cc
+before-last-fits (p ∷ ps) [] h = absurd cc
+before-last-fits (p ∷ ps) (v ∷ vs) h = before-last-fits-from p ps v vs h
 
 -- a list is all but its last, and its last
-pub joined : (v : ℕ) (vs : List ℕ) → front_of (v ∷ vs) ++ (last_of (v ∷ vs) ∷ []) ≡ v ∷ vs
+pub joined : (v : ℕ) (vs : List ℕ) → before_last (v ∷ vs) ++ (last_of (v ∷ vs) ∷ []) ≡ v ∷ vs
 joined v [] = refl
 joined v (u ∷ vs) = ap (λ l. v ∷ l) (joined u vs)
 
-pub front-is : (ns : List ℕ) (x : ℕ) → front_of (ns ++ (x ∷ [])) ≡ ns
-front-is [] x = refl
-front-is (n ∷ []) x = refl
-front-is (n ∷ m ∷ ns) x = ap (λ l. n ∷ l) (front-is (m ∷ ns) x)
+pub before-last-is : (ns : List ℕ) (x : ℕ) → before_last (ns ++ (x ∷ [])) ≡ ns
+before-last-is [] x = refl
+before-last-is (n ∷ []) x = refl
+before-last-is (n ∷ m ∷ ns) x = ap (λ l. n ∷ l) (before-last-is (m ∷ ns) x)
 
 pub last-is : (ns : List ℕ) (x : ℕ) → last_of (ns ++ (x ∷ [])) ≡ x
 last-is [] x = refl

@@ -15,7 +15,7 @@ use Rattle.cocoon_types.specs.Rules.{WellFormed}
 use Rattle.cocoon_types.specs.Tables.{Table, default_of, row_of}
 use Rattle.declarations.proofs.NameFacts.{same-true}
 use Rattle.declarations.specs.NameNumbers.{firsts, index_of, with_name}
-use Rattle.lowered.specs.Groups.{ForkGroup, fork_groups, front_of, groups_at, groups_of, members_at, table_groups, where_members}
+use Rattle.lowered_rows.specs.Groups.{ForkGroup, fork_groups, before_last, groups_at, groups_of, members_at, table_groups, where_members}
 use Rattle.lowered_rows.specs.Totals.{rows_in}
 use Rattle.runtime_defs.proofs.Distinct.{once, once-more, other-name, OnceAfter}
 use Rattle.runtime_defs.specs.Bound.{IsBound, IsPlace, IsRow, row_count}
@@ -48,10 +48,10 @@ over-count t (a ∷ lists) =
 
 table-count : (t : FunTable) → length (table_groups t) ≤ length t.rows
 table-count t =
-    let fronts = map (λ (row : FunRow). front_of row.values) t.rows in
-    let l = over-count t (firsts fronts) in
-    let m = fold-count [] fronts in
-    let n = length-map t.rows (λ (row : FunRow). front_of row.values) in
+    let all_before_last = map (λ (row : FunRow). before_last row.values) t.rows in
+    let l = over-count t (firsts all_before_last) in
+    let m = fold-count [] all_before_last in
+    let n = length-map t.rows (λ (row : FunRow). before_last row.values) in
     omega (arith, l, m, n)
 
 place-count : (f : FunctionDecl) (o : Option FunTable) (places : Places) (n : ℕ) → n ≤ rows_in places → (b : Bool) → length (if b then groups_at f o else []) + n ≤ rows_in (o ∷ places)

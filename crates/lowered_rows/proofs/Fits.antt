@@ -13,9 +13,9 @@ use Rattle.cocoon_num.specs.declared.fun_table.FunRow.{FunRow}
 use Rattle.cocoon_types.specs.Design.{widths_of}
 use Rattle.cocoon_types.specs.Rules.{WellFormed}
 use Rattle.lower_body.specs.Log.{Placed, tables_in}
-use Rattle.lower_body.specs.Lower.{Made, a_field, a_table, a_group, front_from, front_params}
-use Rattle.lowered.specs.Groups.{ForkGroup, fork_groups}
-use Rattle.lowered.specs.SwitchRows.{function_rows, groups_from, key_row, made_rows, masked, rows_from, switch_rows}
+use Rattle.lower_body.specs.Lower.{Made, a_field, a_table, a_group, before_last_from, params_before_last}
+use Rattle.lowered_rows.specs.Groups.{ForkGroup, fork_groups}
+use Rattle.lowered_rows.specs.SwitchRows.{function_rows, groups_from, key_row, made_rows, masked, rows_from, switch_rows}
 use Rattle.lowered_rows.proofs.Found.{below-width, both-true, number-fits, Tabled, tabled}
 use Rattle.lowered_rows.proofs.GroupNumbers.{groups-fit, GroupsFit}
 use Rattle.lowered_rows.proofs.Loads.{table-number, tables-run}
@@ -94,13 +94,13 @@ function-fits d places widths w t f ps z held l =
 
 -- ---- rows of forks
 
-narrow-front-from : (p : Param) (ps : List Param) → AllNarrow (widths_of (p ∷ ps)) → AllNarrow (widths_of (front_from p ps))
-narrow-front-from p [] n = tt
-narrow-front-from p (q ∷ ps) n = (n.0, narrow-front-from q ps n.1)
+narrow-before-last-from : (p : Param) (ps : List Param) → AllNarrow (widths_of (p ∷ ps)) → AllNarrow (widths_of (before_last_from p ps))
+narrow-before-last-from p [] n = tt
+narrow-before-last-from p (q ∷ ps) n = (n.0, narrow-before-last-from q ps n.1)
 
-narrow-front : (ps : List Param) → AllNarrow (widths_of ps) → AllNarrow (widths_of (front_params ps))
-narrow-front [] n = tt
-narrow-front (p ∷ ps) n = narrow-front-from p ps n
+narrow-before-last : (ps : List Param) → AllNarrow (widths_of ps) → AllNarrow (widths_of (params_before_last ps))
+narrow-before-last [] n = tt
+narrow-before-last (p ∷ ps) n = narrow-before-last-from p ps n
 
 ones-fit : (ws : List ℕ) → all_fit_widths ws (all_ones ws) ≡ true
 ones-fit [] = refl
@@ -129,7 +129,7 @@ group-fits d places widths w t f ps z few held l =
     let table : Tabled d places f g = tabled d places f g z held.named in
     let narrow = narrow-function d w table.number g table.there in
     and-three (nat_lt t.number (2 ^ 32)) true (each row_numbers_fit (rows_from (all_ones (widths_of ps)) 1 (fork_groups d places) f)) (number-fits 32 t.number l) refl
-    (groups-rows-fit (widths_of ps) f 1 (fork_groups d places) (subst (λ qs. AllNarrow (widths_of qs)) (sym held.params) (narrow-front g.params narrow.params))
+    (groups-rows-fit (widths_of ps) f 1 (fork_groups d places) (subst (λ qs. AllNarrow (widths_of qs)) (sym held.params) (narrow-before-last g.params narrow.params))
     (subst (λ qs. GroupsFit (widths_of qs) f (fork_groups d places)) (sym held.params) (groups-fit d places f g w z held.named)) (omega (arith, few)))
 
 -- ---- all rows

@@ -12,10 +12,10 @@ use Rattle.cocoon_num.specs.declared.fun_table.FunTable.{FunTable}
 use Rattle.cocoon_types.specs.DefsRules.{fork_calls, runtime_named}
 use Rattle.cocoon_types.specs.Design.{functions, widths_of}
 use Rattle.cocoon_types.specs.Rules.{WellFormed}
-use Rattle.lower_body.specs.Lower.{front_params}
-use Rattle.lowered.specs.Groups.{ForkGroup, Grouped, fork_groups, front_of, groups_at, groups_of, members_at, number_from, table_groups, where_members}
-use Rattle.lowered.specs.SwitchRows.{rows_from}
-use Rattle.lowered_rows.proofs.Exact.{each-first, EachFits, front-fits, ones-match}
+use Rattle.lower_body.specs.Lower.{params_before_last}
+use Rattle.lowered_rows.specs.Groups.{ForkGroup, Grouped, fork_groups, before_last, groups_at, groups_of, members_at, number_from, table_groups, where_members}
+use Rattle.lowered_rows.specs.SwitchRows.{rows_from}
+use Rattle.lowered_rows.proofs.Exact.{each-first, EachFits, before-last-fits, ones-match}
 use Rattle.lowered_rows.proofs.Found.{only-one}
 use Rattle.p4_ir.specs.Switch.{table_result}
 use Rattle.runtime_defs.specs.Fitting.{all_ones, FitsDesign, FitsPlace, FitsRow, result_width}
@@ -55,18 +55,18 @@ named-groups : (ws f f' : List ℕ) (gs : List Grouped) → GroupedFit ws (same_
 named-groups ws f f' [] h = tt
 named-groups ws f f' (g ∷ gs) h = (h.0, named-groups ws f f' gs h.1)
 
-fronts-fit : (g : FunctionDecl) (ws : List ℕ) (r : ℕ) (rows : List FunRow) → ws ≡ widths_of g.params → All (FitsRow ws r) rows → EachFits (widths_of (front_params g.params)) (map (λ (row : FunRow). front_of row.values) rows)
-fronts-fit g ws r [] e f = tt
-fronts-fit g ws r (row ∷ rows) e f =
-    (front-fits g.params row.values (ap (λ us. all_fit_widths us row.values) (sym e) ∙ (All-head (FitsRow ws r) row rows f).values_fit), fronts-fit g ws r rows e (All-tail (FitsRow ws r) row rows f))
+each-before-last-fits : (g : FunctionDecl) (ws : List ℕ) (r : ℕ) (rows : List FunRow) → ws ≡ widths_of g.params → All (FitsRow ws r) rows → EachFits (widths_of (params_before_last g.params)) (map (λ (row : FunRow). before_last row.values) rows)
+each-before-last-fits g ws r [] e f = tt
+each-before-last-fits g ws r (row ∷ rows) e f =
+    (before-last-fits g.params row.values (ap (λ us. all_fit_widths us row.values) (sym e) ∙ (All-head (FitsRow ws r) row rows f).values_fit), each-before-last-fits g ws r rows e (All-tail (FitsRow ws r) row rows f))
 
-place-groups : (f : List ℕ) (g h : FunctionDecl) (o : Option FunTable) → FitsPlace h o → (same_name f h.name.text ≡ true → h ≡ g) → GroupsFit (widths_of (front_params g.params)) f (groups_at h o)
+place-groups : (f : List ℕ) (g h : FunctionDecl) (o : Option FunTable) → FitsPlace h o → (same_name f h.name.text ≡ true → h ≡ g) → GroupsFit (widths_of (params_before_last g.params)) f (groups_at h o)
 place-groups f g h None z one = tt
 place-groups f g h (Some t) z one =
-    named-groups (widths_of (front_params g.params)) f h.name.text (table_groups t)
-    (all-grouped (widths_of (front_params g.params)) (same_name f h.name.text ≡ true) t _
-    (λ s. each-first (widths_of (front_params g.params)) (map (λ (row : FunRow). front_of row.values) t.rows)
-    (fronts-fit g t.widths (result_width h.result) t.rows (z.1.widths_are ∙ ap (λ (x : FunctionDecl). widths_of x.params) (one s)) z.1.rows_fit)))
+    named-groups (widths_of (params_before_last g.params)) f h.name.text (table_groups t)
+    (all-grouped (widths_of (params_before_last g.params)) (same_name f h.name.text ≡ true) t _
+    (λ s. each-first (widths_of (params_before_last g.params)) (map (λ (row : FunRow). before_last row.values) t.rows)
+    (each-before-last-fits g t.widths (result_width h.result) t.rows (z.1.widths_are ∙ ap (λ (x : FunctionDecl). widths_of x.params) (one s)) z.1.rows_fit)))
 
 -- ---- all functions
 
@@ -75,15 +75,15 @@ either-groups ws f true gs h = h
 either-groups ws f false gs h = tt
 
 all-groups : (forked : List (List ℕ)) (f : List ℕ) (g : FunctionDecl) (fs : List FunctionDecl) (places : Places) → AllZip FitsPlace fs places
-    → ((k : ℕ) (h : FunctionDecl) → slice_get fs k ≡ Some h → same_name f h.name.text ≡ true → h ≡ g) → GroupsFit (widths_of (front_params g.params)) f (groups_of forked fs places)
+    → ((k : ℕ) (h : FunctionDecl) → slice_get fs k ≡ Some h → same_name f h.name.text ≡ true → h ≡ g) → GroupsFit (widths_of (params_before_last g.params)) f (groups_of forked fs places)
 all-groups forked f g [] places z one = tt
 all-groups forked f g (h ∷ fs) [] z one = absurd z
 all-groups forked f g (h ∷ fs) (t ∷ places) z one =
-    groups-both (widths_of (front_params g.params)) f (if is_one_of forked h.name.text then groups_at h t else []) (groups_of forked fs places)
-    (either-groups (widths_of (front_params g.params)) f (is_one_of forked h.name.text) (groups_at h t) (place-groups f g h t z.0 (λ s. one 0 h refl s)))
+    groups-both (widths_of (params_before_last g.params)) f (if is_one_of forked h.name.text then groups_at h t else []) (groups_of forked fs places)
+    (either-groups (widths_of (params_before_last g.params)) f (is_one_of forked h.name.text) (groups_at h t) (place-groups f g h t z.0 (λ s. one 0 h refl s)))
     (all-groups forked f g fs places z.1 (λ k x there s. one (suc k) x there s))
 
-pub groups-fit : (d : Design) (places : Places) (f : List ℕ) (g : FunctionDecl) → WellFormed d → FitsDesign d places → runtime_named d f ≡ Some g → GroupsFit (widths_of (front_params g.params)) f (fork_groups d places)
+pub groups-fit : (d : Design) (places : Places) (f : List ℕ) (g : FunctionDecl) → WellFormed d → FitsDesign d places → runtime_named d f ≡ Some g → GroupsFit (widths_of (params_before_last g.params)) f (fork_groups d places)
 groups-fit d places f g w z r = all-groups (fork_calls d) f g (functions d) places z.places (only-one d w f g r)
 
 -- ---- numbers

@@ -16,9 +16,9 @@ use Rattle.cocoon_types.specs.Rules.{WellFormed}
 use Rattle.lower_body.specs.Log.{Placed, tables_in, widths_in}
 use Rattle.lower_body.specs.Lower.{Made, a_field, a_table, a_group, kind_width}
 use Rattle.lower_body.specs.Whole.{SwitchRole, role_lowered}
-use Rattle.lowered.specs.Groups.{ForkGroup, fork_groups}
+use Rattle.lowered_rows.specs.Groups.{ForkGroup, fork_groups}
 use Rattle.lowered.specs.SwitchProgram.{egress_lowered, fields_in, switch_made, switch_program}
-use Rattle.lowered.specs.SwitchRows.{function_rows, groups_from, key_row, made_rows, masked, rows_from, switch_rows}
+use Rattle.lowered_rows.specs.SwitchRows.{function_rows, groups_from, key_row, made_rows, masked, rows_from, switch_rows}
 use Rattle.lowered_rows.proofs.Found.{below-width, both-true, number-fits, Tabled, tabled}
 use Rattle.lowered_rows.proofs.GroupNumbers.{groups-fit, GroupsFit}
 use Rattle.lowered_rows.proofs.Ordered.{found-at, no-repeats, Runs}

@@ -12,7 +12,7 @@ use Rattle.cocoon_num.specs.declared.bits.Bits.{Bits}
 use Rattle.cocoon_num.specs.declared.fun_table.FunRow.{FunRow}
 use Rattle.cocoon_num.specs.declared.fun_table.FunTable.{FunTable}
 use Rattle.lower_body.specs.Agrees.{code_of}
-use Rattle.lowered.specs.SwitchRows.{key_row, masked}
+use Rattle.lowered_rows.specs.SwitchRows.{key_row, masked}
 use Rattle.lowered_rows.proofs.Found.{both-true}
 use Rattle.p4_ir.specs.Switch.{table_result}
 use Rattle.runtime_defs.specs.Fitting.{FitsRow, result_width}

@@ -6,7 +6,7 @@ use Rattle.cocoon_num.specs.Tree.{Param, Expr, name, Exprs, FunctionDecl, Header
 use Rattle.cocoon_types.specs.DefsRules.{fork_calls, runtime_named}
 use Rattle.declarations.proofs.NameFacts.{same-true}
 use Rattle.lower_body.specs.Log.{FieldsAt, Placed}
-use Rattle.lower_body.specs.Lower.{Counts, FieldName, Made, a_field, a_table, a_group, Variable, Lowered, Callees, callees, lower_expr, lower_exprs, lower_call, lower_group, by_table, by_group, closed, fields_from, numbers_from, front_params, key_name, var_name, variables_from, after_args, kind_width, then_called}
+use Rattle.lower_body.specs.Lower.{Counts, FieldName, Made, a_field, a_table, a_group, Variable, Lowered, Callees, callees, lower_expr, lower_exprs, lower_call, lower_group, by_table, by_group, closed, fields_from, numbers_from, params_before_last, key_name, var_name, variables_from, after_args, kind_width, then_called}
 use Rattle.lower_body.specs.LowerBlock.{Site, forked, in_block, fork_args, fork_function, lower_stmt, lower_block}
 use Rattle.lower_body.specs.LowerSites.{LoweredSites, lower_site, lower_sites}
 use Rattle.lowered_rows.specs.Logs.{AllOf, KeysAre}
@@ -95,9 +95,9 @@ table-fine d widths g es n named at =
 
 group-fine : (d : Design) (widths : List ℕ) (g : FunctionDecl) (es : List P4Expr) (n : Counts) → runtime_named d g.name.text ≡ Some g → is_one_of (fork_calls d) g.name.text ≡ true → Fine d widths (by_group g es n).made
 group-fine d widths g es n named stands at =
-    let both = fields-apart widths (fields_from (key_name n.app) 0 n.field (front_params g.params)) _ at in
-    all-both d widths (fields_from (key_name n.app) 0 n.field (front_params g.params)) _ (keys-fine d widths (key_name n.app) 0 n.field (front_params g.params) both.0)
-    (tt, (record { function = g; named = named; forked = stands; params = refl; keys = keys-are widths (key_name n.app) 0 n.field (front_params g.params) both.0; result = both.1.0 }, tt))
+    let both = fields-apart widths (fields_from (key_name n.app) 0 n.field (params_before_last g.params)) _ at in
+    all-both d widths (fields_from (key_name n.app) 0 n.field (params_before_last g.params)) _ (keys-fine d widths (key_name n.app) 0 n.field (params_before_last g.params) both.0)
+    (tt, (record { function = g; named = named; forked = stands; params = refl; keys = keys-are widths (key_name n.app) 0 n.field (params_before_last g.params) both.0; result = both.1.0 }, tt))
 
 abbrev lowered-by : List HeaderDecl → List FunctionDecl → FunctionDecl → List P4Expr → Counts → Option Expr → Lowered
 lowered-by headers earlier g es n body = elim body [

@@ -21,11 +21,11 @@ use Rattle.cocoon_types.specs.Tables.{Defs}
 use Rattle.declarations.proofs.NameFacts.{same-refl, same-true}
 use Rattle.defs_text.specs.Fitting.{literal_functions}
 use Rattle.lower_body.specs.Lower.{Made}
-use Rattle.lowered.specs.Groups.{ascending, front_of, last_of, members_at, put_in, true_choice}
+use Rattle.lowered_rows.specs.Groups.{ascending, before_last, last_of, members_at, put_in, true_choice}
 use Rattle.lowered.specs.Serving.{GroupsServe, is_true, MembersFit}
-use Rattle.lowered.specs.SwitchRows.{switch_rows}
+use Rattle.lowered_rows.specs.SwitchRows.{switch_rows}
 use Rattle.lowered_rows.proofs.Chosen.{members-are}
-use Rattle.lowered_rows.proofs.Exact.{front-is, joined, last-is, ones-match}
+use Rattle.lowered_rows.proofs.Exact.{before-last-is, joined, last-is, ones-match}
 use Rattle.lowered_rows.proofs.Found.{gives, params-fit, Tabled, tabled, widths-fit}
 use Rattle.lowered_rows.specs.Logs.{filling}
 use Rattle.runtime_defs.specs.Fitting.{all_ones, FitsDesign, FitsRow, IsLiteral, result_width}
@@ -68,11 +68,11 @@ has-ascending x (y ∷ ys) = has-put x y (ascending ys) ∙ ap (λ b. (x == y) |
 
 -- a row has this choice after these arguments
 record RowOf (ns : List ℕ) (x : ℕ) (vs : List ℕ) : Type 0 where
-  front : ns ≡ front_of vs
+  before_last : ns ≡ before_last vs
   last : x ≡ last_of vs
 
-choice-of : (t : FunTable) (ns vs : List ℕ) (x : ℕ) (a b : Bool) → same_name ns (front_of vs) ≡ a → has_number x (if a && b then last_of vs ∷ [] else []) ≡ true → RowOf ns x vs
-choice-of t ns vs x true true e h = record { front = same-true ns (front_of vs) e; last = only (x == last_of vs) refl h }
+choice-of : (t : FunTable) (ns vs : List ℕ) (x : ℕ) (a b : Bool) → same_name ns (before_last vs) ≡ a → has_number x (if a && b then last_of vs ∷ [] else []) ≡ true → RowOf ns x vs
+choice-of t ns vs x true true e h = record { before_last = same-true ns (before_last vs) e; last = only (x == last_of vs) refl h }
   where
     only : (c : Bool) → (x == last_of vs) ≡ c → (c || false) ≡ true → x ≡ last_of vs
     only true k l = number-is x (last_of vs) k
@@ -84,7 +84,7 @@ choice-of t ns vs x false b e h = absurd cc
 row-of : (ps : List Param) (ns vs : List ℕ) (x : ℕ) → 1 ≤ length ps → all_fit_widths (widths_of ps) vs ≡ true → RowOf ns x vs → ns ++ (x ∷ []) ≡ vs
 row-of [] ns vs x l f h = absurd (omega (arith, l))
 row-of (p ∷ ps) ns [] x l f h = absurd cc
-row-of (p ∷ ps) ns (v ∷ vs) x l f h = ap₂ (λ a b. a ++ (b ∷ [])) h.front h.last ∙ joined v vs
+row-of (p ∷ ps) ns (v ∷ vs) x l f h = ap₂ (λ a b. a ++ (b ∷ [])) h.before_last h.last ∙ joined v vs
 
 some-params : (ps : List Param) (ns : List ℕ) (x : ℕ) → all_fit_widths (widths_of ps) (ns ++ (x ∷ [])) ≡ true → 1 ≤ length ps
 some-params [] [] x h = absurd cc
@@ -93,10 +93,10 @@ some-params (p ∷ ps) ns x h = omega arith
 
 -- the choice of a row that is these numbers
 right-choice : (t : FunTable) (ns : List ℕ) (x : ℕ) (vs : List ℕ) → ns ++ (x ∷ []) ≡ vs
-    → has_number x (if same_name ns (front_of vs) && ((looked t vs).value == 1) then last_of vs ∷ [] else []) ≡ ((looked t (ns ++ (x ∷ []))).value == 1)
+    → has_number x (if same_name ns (before_last vs) && ((looked t vs).value == 1) then last_of vs ∷ [] else []) ≡ ((looked t (ns ++ (x ∷ []))).value == 1)
 right-choice t ns x vs e =
-    ap (λ us. has_number x (if same_name ns (front_of us) && ((looked t us).value == 1) then last_of us ∷ [] else [])) (sym e)
-    ∙ ap₂ (λ l m. has_number x (if same_name ns l && ((looked t (ns ++ (x ∷ []))).value == 1) then m ∷ [] else [])) (front-is ns x) (last-is ns x)
+    ap (λ us. has_number x (if same_name ns (before_last us) && ((looked t us).value == 1) then last_of us ∷ [] else [])) (sym e)
+    ∙ ap₂ (λ l m. has_number x (if same_name ns l && ((looked t (ns ++ (x ∷ []))).value == 1) then m ∷ [] else [])) (before-last-is ns x) (last-is ns x)
     ∙ ap (λ b. has_number x (if b && ((looked t (ns ++ (x ∷ []))).value == 1) then x ∷ [] else [])) (same-refl ns)
     ∙ alone ((looked t (ns ++ (x ∷ []))).value == 1)
   where
@@ -105,9 +105,9 @@ right-choice t ns x vs e =
     alone false = refl
 
 wrong-choice : (t : FunTable) (ps : List Param) (ns : List ℕ) (x : ℕ) (vs : List ℕ) → 1 ≤ length ps → all_fit_widths (widths_of ps) vs ≡ true → same_name (ns ++ (x ∷ [])) vs ≡ false
-    → (b : Bool) → has_number x (if same_name ns (front_of vs) && ((looked t vs).value == 1) then last_of vs ∷ [] else []) ≡ b → b ≡ false
+    → (b : Bool) → has_number x (if same_name ns (before_last vs) && ((looked t vs).value == 1) then last_of vs ∷ [] else []) ≡ b → b ≡ false
 wrong-choice t ps ns x vs l f s true h =
-    absurd (clash (same_name (ns ++ (x ∷ [])) vs) (ap (λ us. same_name us vs) (row-of ps ns vs x l f (choice-of t ns vs x (same_name ns (front_of vs)) ((looked t vs).value == 1) refl h)) ∙ same-refl vs) s)
+    absurd (clash (same_name (ns ++ (x ∷ [])) vs) (ap (λ us. same_name us vs) (row-of ps ns vs x l f (choice-of t ns vs x (same_name ns (before_last vs)) ((looked t vs).value == 1) refl h)) ∙ same-refl vs) s)
   where
     clash : (c : Bool) → c ≡ true → c ≡ false → ⊥
     clash true p q = cc
@@ -206,7 +206,7 @@ fits-by : (t : FunTable) (ps : List Param) (ns : List ℕ) (x : ℕ) (row : FunR
     → (has_number x rest ≡ true → all_fit_widths (widths_of ps) (ns ++ (x ∷ [])) ≡ true) → (b : Bool) → has_number x (true_choice t ns row) ≡ b → (b || has_number x rest) ≡ true
     → all_fit_widths (widths_of ps) (ns ++ (x ∷ [])) ≡ true
 fits-by t ps ns x row rest l f ih true e h =
-    ap (all_fit_widths (widths_of ps)) (row-of ps ns row.values x l f (choice-of t ns row.values x (same_name ns (front_of row.values)) ((looked t row.values).value == 1) refl e)) ∙ f
+    ap (all_fit_widths (widths_of ps)) (row-of ps ns row.values x l f (choice-of t ns row.values x (same_name ns (before_last row.values)) ((looked t row.values).value == 1) refl e)) ∙ f
 fits-by t ps ns x row rest l f ih false e h = ih h
 
 choices-fit : (t : FunTable) (ps : List Param) (r : ℕ) (ns : List ℕ) (x : ℕ) (rows : List FunRow) → 1 ≤ length ps → All (FitsRow (widths_of ps) r) rows

@@ -13,7 +13,7 @@ use Rattle.cocoon_num.specs.declared.fun_table.FunTable.{FunTable}
 use Rattle.cocoon_types.specs.DefsRules.{fork_calls}
 use Rattle.cocoon_types.specs.Design.{functions, widths_of}
 use Rattle.cocoon_types.specs.Rules.{WellFormed}
-use Rattle.lowered.specs.Groups.{ForkGroup, Grouped, ascending, fork_groups, front_of, groups_at, groups_of, last_of, members_at, put_in, table_groups, true_choice, where_members}
+use Rattle.lowered_rows.specs.Groups.{ForkGroup, Grouped, ascending, fork_groups, before_last, groups_at, groups_of, last_of, members_at, put_in, table_groups, true_choice, where_members}
 use Rattle.lowered_rows.proofs.Found.{both-true}
 use Rattle.lowered_rows.proofs.Widths.{AllNarrow, IsNarrow, narrow-function, narrow-numbers}
 use Rattle.runtime_defs.specs.Fitting.{FitsDesign, FitsPlace, FitsRow, result_width}
@@ -107,7 +107,7 @@ short-choices : (t : FunTable) (ws : List ℕ) (r : ℕ) (args : List ℕ) (rows
 short-choices t ws r args [] n f = refl
 short-choices t ws r args (row ∷ rows) n f =
     short-both (true_choice t args row) (flat_map (true_choice t args) rows)
-    (short-if (same_name args (front_of row.values) && ((looked t row.values).value == 1)) (last_of row.values)
+    (short-if (same_name args (before_last row.values) && ((looked t row.values).value == 1)) (last_of row.values)
     (short-last row.values (narrow-numbers ws row.values n (All-head (FitsRow ws r) row rows f).values_fit)))
     (short-choices t ws r args rows n (All-tail (FitsRow ws r) row rows f))
 

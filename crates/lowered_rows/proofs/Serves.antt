@@ -12,9 +12,9 @@ use Rattle.cocoon_types.specs.Tables.{Defs, look_up}
 use Rattle.lower_body.specs.Agrees.{FitAll, code_of}
 use Rattle.lower_body.specs.Log.{Placed}
 use Rattle.lower_body.specs.Lower.{Made, a_field, a_table, a_group}
-use Rattle.lowered.specs.Groups.{fork_groups, group_number}
+use Rattle.lowered_rows.specs.Groups.{fork_groups, group_number}
 use Rattle.lowered.specs.Serving.{AllServe}
-use Rattle.lowered.specs.SwitchRows.{function_rows, made_rows, rows_from, switch_rows}
+use Rattle.lowered_rows.specs.SwitchRows.{function_rows, made_rows, rows_from, switch_rows}
 use Rattle.lowered_rows.proofs.Found.{gives, Tabled, tabled, widths-fit}
 use Rattle.lowered_rows.proofs.GroupNumbers.{groups-fit, GroupsFit, numbers-given}
 use Rattle.lowered_rows.proofs.Looks.{table-gives}

@@ -1,2 +1,4 @@
+pub mod Groups
+pub mod SwitchRows
 pub mod Logs
 pub mod Totals

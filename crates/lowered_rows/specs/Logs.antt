@@ -8,9 +8,9 @@ use Rattle.cocoon_types.specs.Tables.{Defs}
 use Rattle.p4_ir.specs.P4Tree.{P4Table}
 use Rattle.lower_body.specs.Agrees.{Filling}
 use Rattle.lower_body.specs.Log.{Placed, widths_in}
-use Rattle.lower_body.specs.Lower.{Made, a_field, a_table, a_group, front_params, kind_width}
+use Rattle.lower_body.specs.Lower.{Made, a_field, a_table, a_group, params_before_last, kind_width}
 use Rattle.runtime_defs.specs.Places.{Places}
-use Rattle.lowered.specs.Groups.{group_number}
+use Rattle.lowered_rows.specs.Groups.{group_number}
 
 -- the keys are meta fields of the widths of these parameters, where meta fields have these widths
 abbrev pub KeysAre : (widths keys : List ℕ) → List Param → Type 0
@@ -32,7 +32,7 @@ pub record HoldsGroups (d : Design) (widths : List ℕ) (t : P4Table) (f : List 
   pub function : FunctionDecl
   pub named : runtime_named d f ≡ Some function
   pub forked : is_one_of (fork_calls d) f ≡ true
-  pub params : ps ≡ front_params function.params
+  pub params : ps ≡ params_before_last function.params
   pub keys : KeysAre widths t.keys ps
   pub result : slice_get widths t.result ≡ Some 16
 

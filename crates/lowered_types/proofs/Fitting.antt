@@ -14,8 +14,8 @@ use Rattle.cocoon_types.specs.Typing.{Scope, args_fit, call_sort, function_named
 use Rattle.cocoon_types.specs.Val.{Context, Env, bound, numbers, value, variable}
 use Rattle.lower_body.specs.Agrees.{EitherOf, FitAll, GroupTakesIn, Takes, TakesAll, TakesIn}
 use Rattle.lower_body.specs.Ends.{Fits, FitsAll, Onward}
-use Rattle.lower_body.specs.Lower.{front_from, front_params}
-use Rattle.lower_body.specs.LowerBlock.{fork_args, fork_function, front_after, in_block, in_expr, in_exprs, in_stmt}
+use Rattle.lower_body.specs.Lower.{before_last_from, params_before_last}
+use Rattle.lower_body.specs.LowerBlock.{fork_args, fork_function, before_last_after, in_block, in_expr, in_exprs, in_stmt}
 use Rattle.lower_body.specs.Visit.{Forked, Visit, on, leaves, copies, nothing, back_in, then_visit, visit, visit_all, where_true, with_number, with_numbers, with_value}
 use Rattle.lowered_types.proofs.ForkCalls.{EndsWith, IsForkCall, is_variable}
 use Rattle.lowered.specs.Sends.{IsExit}
@@ -169,43 +169,43 @@ mutual
   sorts_without x w s (expr e es) h =
       let k = either_not (in_expr x.text e) (in_exprs x.text es) h in (λ j. sort_without x w s e k.0 j ∷ sorts_without x w s es k.1 j)
 
-pub front_fits : (x : Name) (w : ℕ) (s : Scope) (p : Param) (ps : List Param) (e : Expr) (es : Exprs) → EndsWith x.text (expr e es) → args_fit (widths_of (p ∷ ps)) (sorts_of (with_var x w s) (expr e es)) ≡ true
-    → args_fit (widths_of (front_from p ps)) (sorts_of s (front_after e es)) ≡ true
-front_fits x w s p [] e no_exprs ends h = refl
-front_fits x w s p (q ∷ ps) e no_exprs ends h = let both = both_true (has_sort (bits_sort p.width) (sort_of (with_var x w s) e)) false h in absurd (cc)
-front_fits x w s p [] e (expr a es) ends h = let both = both_true (has_sort (bits_sort p.width) (sort_of (with_var x w s) e)) false h in absurd (cc)
-front_fits x w s p (q ∷ ps) e (expr a es) ends h =
+pub before_last_fits : (x : Name) (w : ℕ) (s : Scope) (p : Param) (ps : List Param) (e : Expr) (es : Exprs) → EndsWith x.text (expr e es) → args_fit (widths_of (p ∷ ps)) (sorts_of (with_var x w s) (expr e es)) ≡ true
+    → args_fit (widths_of (before_last_from p ps)) (sorts_of s (before_last_after e es)) ≡ true
+before_last_fits x w s p [] e no_exprs ends h = refl
+before_last_fits x w s p (q ∷ ps) e no_exprs ends h = let both = both_true (has_sort (bits_sort p.width) (sort_of (with_var x w s) e)) false h in absurd (cc)
+before_last_fits x w s p [] e (expr a es) ends h = let both = both_true (has_sort (bits_sort p.width) (sort_of (with_var x w s) e)) false h in absurd (cc)
+before_last_fits x w s p (q ∷ ps) e (expr a es) ends h =
     let both = both_true (has_sort (bits_sort p.width) (sort_of (with_var x w s) e)) (args_fit (widths_of (q ∷ ps)) (sorts_of (with_var x w s) (expr a es))) h in
-    true_both (has_sort (bits_sort p.width) (sort_of s e)) (args_fit (widths_of (front_from q ps)) (sorts_of s (front_after a es)))
-    (ap (has_sort (bits_sort p.width)) (sym (sort_without x w s e ends.0)) ∙ both.0) (front_fits x w s q ps a es ends.1 both.1)
+    true_both (has_sort (bits_sort p.width) (sort_of s e)) (args_fit (widths_of (before_last_from q ps)) (sorts_of s (before_last_after a es)))
+    (ap (has_sort (bits_sort p.width)) (sym (sort_without x w s e ends.0)) ∙ both.0) (before_last_fits x w s q ps a es ends.1 both.1)
 
-pub front_part : (e : Expr) (es : Exprs) (a : Expr) → In a (parts_of (front_after e es)) → In a (parts_of (expr e es))
-front_part e no_exprs a i = absurd i
-front_part e (expr b es) a i = elim (in_either a (parts e) (parts_of (front_after b es)) i) [
+pub before_last_part : (e : Expr) (es : Exprs) (a : Expr) → In a (parts_of (before_last_after e es)) → In a (parts_of (expr e es))
+before_last_part e no_exprs a i = absurd i
+before_last_part e (expr b es) a i = elim (in_either a (parts e) (parts_of (before_last_after b es)) i) [
   | inl k ↦ in_left a (parts e) (parts_of (expr b es)) k
-  | inr k ↦ in_right a (parts e) (parts_of (expr b es)) (front_part b es a k)
+  | inr k ↦ in_right a (parts e) (parts_of (expr b es)) (before_last_part b es a k)
 ]
 
 either_of : (a b : Bool) → (a || b) ≡ true → (a ≡ true) ⊎ (b ≡ true)
 either_of true b h = inl refl
 either_of false b h = inr h
 
-pub front_name : (e : Expr) (es : Exprs) (x : List ℕ) → in_exprs x (front_after e es) ≡ true → in_exprs x (expr e es) ≡ true
-front_name e no_exprs x h = absurd (cc)
-front_name e (expr b es) x h = elim (either_of (in_expr x e) (in_exprs x (front_after b es)) h) [
+pub before_last_name : (e : Expr) (es : Exprs) (x : List ℕ) → in_exprs x (before_last_after e es) ≡ true → in_exprs x (expr e es) ≡ true
+before_last_name e no_exprs x h = absurd (cc)
+before_last_name e (expr b es) x h = elim (either_of (in_expr x e) (in_exprs x (before_last_after b es)) h) [
   | inl k ↦ left_in (in_expr x e) (in_exprs x (expr b es)) k
-  | inr k ↦ right_in (in_expr x e) (in_exprs x (expr b es)) (front_name b es x k)
+  | inr k ↦ right_in (in_expr x e) (in_exprs x (expr b es)) (before_last_name b es x k)
 ]
 
 -- what a fork's function takes before the choice
 groups_in : (d : Design) (fs : List FunctionDecl) (f : List ℕ) (g : FunctionDecl) → NamesDiffer d → ((h : FunctionDecl) → In h fs → In h (functions d)) → In g fs → f ≡ g.name.text
-    → (ns : List ℕ) → FieldsFit (widths_of (front_params g.params)) ns → GroupTakesIn fs f ns
+    → (ns : List ℕ) → FieldsFit (widths_of (params_before_last g.params)) ns → GroupTakesIn fs f ns
 groups_in d [] f g differ within i is ns fit = absurd i
 groups_in d (h ∷ fs) f g differ within i is ns fit =
-    by_name (same_name f h.name.text) (FitAll (front_params h.params) ns) (GroupTakesIn fs f ns)
+    by_name (same_name f h.name.text) (FitAll (params_before_last h.params) ns) (GroupTakesIn fs f ns)
     (λ same.
     let one : g ≡ h = differ g h (within g i) (within h (inl refl)) (sym is ∙ same_text f h.name.text same) in
-    subst (λ (x : FunctionDecl). FitAll (front_params x.params) ns) one (fit_all (front_params g.params) ns fit))
+    subst (λ (x : FunctionDecl). FitAll (params_before_last x.params) ns) one (fit_all (params_before_last g.params) ns fit))
     (λ other. elim i [
       | inl e ↦ absurd (clash (same_name f h.name.text) (ap (λ x. same_name x h.name.text) (is ∙ ap (λ (x : FunctionDecl). x.name.text) e) ∙ text_self h.name.text) other)
       | inr k ↦ groups_in d fs f g differ (λ x j. within x (inr j)) k is ns fit
@@ -387,32 +387,32 @@ mutual
 abbrev pub GroupsOf : Design → Bool → (List ℕ → List ℕ → Type 0) → Type 0
 GroupsOf d inside G = inside ≡ false → (f ns : List ℕ) → GroupTakesIn (reverse (functions d)) f ns → G f ns
 
-record FrontValued (d : Design) (a : List ℕ → List ℕ → Option Value) (W : List ℕ → Type 0) (env : Env) (packet : Packet) (e : Expr) : Type 0 where
+record BeforeLastValued (d : Design) (a : List ℕ → List ℕ → Option Value) (W : List ℕ → Type 0) (env : Env) (packet : Packet) (e : Expr) : Type 0 where
   taken : TakesAll (TakesIn (reverse (functions d))) W (context_of d a) env packet (fork_args e)
   ns : List ℕ
   are : numbers (context_of d a) env packet (fork_args e) ≡ Some ns
   group : GroupTakesIn (reverse (functions d)) (fork_function e) ns
 
-front_valued : (d : Design) (i : ℕ) (own out : List ℕ) (a : List ℕ → List ℕ → Option Value) → Setting d i own out a → (W : List ℕ → Type 0) (vars : List Param) (env : Env) (packet : Packet)
+before_last_valued : (d : Design) (i : ℕ) (own out : List ℕ) (a : List ℕ → List ℕ → Option Value) → Setting d i own out a → (W : List ℕ → Type 0) (vars : List Param) (env : Env) (packet : Packet)
     → Matches (scope_at d i vars true) env packet → (x : Name) (w : ℕ) (e : Expr) → IsForkCall (reverse (functions d)) x.text w e → HasType (with_var x w (scope_at d i vars true)) truth_sort e
-    → ((y : List ℕ) → in_expr y e ≡ true → W y) → FrontValued d a W env packet e
-front_valued d i own out a g W vars env packet m x w e k h wanted = by_call e k h wanted
+    → ((y : List ℕ) → in_expr y e ≡ true → W y) → BeforeLastValued d a W env packet e
+before_last_valued d i own out a g W vars env packet m x w e k h wanted = by_call e k h wanted
   where
     by_args : (at : ℕ) (f : Name) (h : FunctionDecl) → In h (functions d) → f.text ≡ h.name.text → (ps : List Param) → h.params ≡ ps → (es : Exprs) → args_fit (widths_of ps) (sorts_of (with_var x w (scope_at d i vars true)) es) ≡ true
-        → EndsWith x.text es → AllFine Any (parts_of es) → ((y : List ℕ) → in_exprs y es ≡ true → W y) → FrontValued d a W env packet (call at f es)
+        → EndsWith x.text es → AllFine Any (parts_of es) → ((y : List ℕ) → in_exprs y es ≡ true → W y) → BeforeLastValued d a W env packet (call at f es)
     by_args at f h j is ps are no_exprs fit ends fines wants = absurd ends
     by_args at f h j is [] are (expr b es) fit ends fines wants = absurd (cc)
     by_args at f h j is (p ∷ ps) are (expr b es) fit ends fines wants =
         let s = scope_at d i vars true in
-        let v = valued_all d i own out a g W vars env packet m (front_after b es) (widths_of (front_from p ps)) (λ y l. fines y (front_part b es y l)) (front_fits x w s p ps b es ends fit) (λ y l. wants y (front_name b es y l)) in record {
+        let v = valued_all d i own out a g W vars env packet m (before_last_after b es) (widths_of (before_last_from p ps)) (λ y l. fines y (before_last_part b es y l)) (before_last_fits x w s p ps b es ends fit) (λ y l. wants y (before_last_name b es y l)) in record {
           taken = v.taken;
           ns = v.ns;
           are = v.are;
           group = groups_in d (reverse (functions d)) f.text h g.differ (λ y l. in_reverse y (functions d) l) (reverse_in h (functions d) j) is v.ns
-              (subst (λ qs. FieldsFit (widths_of (front_params qs)) v.ns) (sym are) v.fit);
+              (subst (λ qs. FieldsFit (widths_of (params_before_last qs)) v.ns) (sym are) v.fit);
         }
 
-    by_call : (c : Expr) → IsForkCall (reverse (functions d)) x.text w c → HasType (with_var x w (scope_at d i vars true)) truth_sort c → ((y : List ℕ) → in_expr y c ≡ true → W y) → FrontValued d a W env packet c
+    by_call : (c : Expr) → IsForkCall (reverse (functions d)) x.text w c → HasType (with_var x w (scope_at d i vars true)) truth_sort c → ((y : List ℕ) → in_expr y c ≡ true → W y) → BeforeLastValued d a W env packet c
     by_call (call at f es) q t wants =
         let s = with_var x w (scope_at d i vars true) in
         let found = then_there (λ (y : FunctionDecl). if args_fit (widths_of y.params) (sorts_of s es) then Some (result_sort y.result) else None) (function_named s f.text) truth_sort t.0 in
@@ -471,7 +471,7 @@ mutual
   fits d i own out s a g inside G groups W (havoc_field at x f) vars h k env packet m wanted = absurd k
   fits d i own out s a g inside G groups W (assume at e) vars h k env packet m wanted = absurd k
   fits d i own out s a g inside G groups W (fork at x w e b) vars h k env packet m wanted =
-      let v = front_valued d i own out a g W vars env packet m.matches x w e k.2 h.1 (λ y j. wanted y (left_in (in_expr y e) (in_block y b) j)) in
+      let v = before_last_valued d i own out a g W vars env packet m.matches x w e k.2 h.1 (λ y j. wanted y (left_in (in_expr y e) (in_block y b) j)) in
       (v.taken, v.ns, v.are, groups k.0 (fork_function e) v.ns v.group)
   fits d i own out s a g inside G groups W (send at r es) vars h k env packet m wanted =
       let sc = scope_at d i vars true in

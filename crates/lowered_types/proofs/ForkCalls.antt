@@ -3,7 +3,7 @@ use Rattle.std.proofs.Common.{◌≡◌, ℕ, ◌<◌, ◌≤◌, nat_le, List, 
 use Rattle.cocoon_num.specs.Names.{same_name, named}
 use Rattle.cocoon_num.specs.Sorts.{is_declared_width}
 use Rattle.cocoon_num.specs.Tree.{Name, Param, Expr, name, field, lit, true_or_false, call, unary, binary, slice, pick, Exprs, no_exprs, expr, FunctionDecl, of_truth}
-use Rattle.lower_body.specs.Lower.{front_params}
+use Rattle.lower_body.specs.Lower.{params_before_last}
 use Rattle.lower_body.specs.LowerBlock.{in_expr}
 use Rattle.lowered_visits.specs.Forks.{EndsIn, ForkIs, IsName, last_width}
 use Rattle.sound_types.proofs.Options.{both_true, same_text}
@@ -30,9 +30,9 @@ pub record IsForkCall (functions : List FunctionDecl) (x : List ℕ) (width : �
   pub function_is : named (λ (f : FunctionDecl). f.name) callee.text functions ≡ Some function
   pub is_runtime : function.body ≡ None
   pub is_truth : function.result ≡ of_truth
-  pub params_are : function.params ≡ front_params function.params ++ (last ∷ [])
+  pub params_are : function.params ≡ params_before_last function.params ++ (last ∷ [])
   pub last_width : last.width ≡ width
-  pub has_front : 0 < length (front_params function.params)
+  pub has_before_last : 0 < length (params_before_last function.params)
   pub values_end : EndsWith x values
 
 name_is : (x : List ℕ) (e : Expr) → is_variable x e ≡ true → IsName x e
@@ -79,7 +79,7 @@ fork_is fs x w e d h =
       decl = h.function;
       declared = h.function_is;
       runtime = h.is_runtime;
-      width_is = ap last_width h.params_are ∙ last_is (front_params h.function.params) h.last ∙ ap Some h.last_width;
+      width_is = ap last_width h.params_are ∙ last_is (params_before_last h.function.params) h.last ∙ ap Some h.last_width;
       least = width_least w d;
       most = width_most w d;
     }

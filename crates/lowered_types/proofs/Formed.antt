@@ -14,7 +14,7 @@ use Rattle.cocoon_types.specs.RuleParts.{unless_named}
 use Rattle.cocoon_types.specs.SameTrees.{same_expr}
 use Rattle.cocoon_types.specs.Sites.{StmtSite, after_stmt, stmts_at, stmts_in, stmt_ends}
 use Rattle.cocoon_types.specs.Typing.{Scope, args_fit, function_named, result_sort, sort_of, sorts_of, var_width, with_var}
-use Rattle.lower_body.specs.Lower.{front_from, front_params}
+use Rattle.lower_body.specs.Lower.{before_last_from, params_before_last}
 use Rattle.lower_body.specs.LowerBlock.{in_expr, in_exprs}
 use Rattle.lowered_visits.specs.Forks.{AllForks, OfFork, StmtForks}
 use Rattle.lowered_types.proofs.ForkCalls.{EndsWith, IsForkCall, is_variable}
@@ -203,7 +203,7 @@ ended x es (l ∷ os) is h =
 -- the last parameter has the variable's width
 record LastOf (first : Param) (rest : List Param) (w : ℕ) : Type 0 where
   last : Param
-  params_are : first ∷ rest ≡ front_from first rest ++ (last ∷ [])
+  params_are : first ∷ rest ≡ before_last_from first rest ++ (last ∷ [])
   width_is : last.width ≡ w
 
 bits_same : (v w : ℕ) → bits_sort v ≡ bits_sort w → v ≡ w
@@ -236,11 +236,11 @@ last_of x w s p (q ∷ ps) e (expr a es) ends h =
     let more = last_of x w s q ps a es ends.1 both.1 in
     record { last = more.last; params_are = ap (λ xs. p ∷ xs) more.params_are; width_is = more.width_is }
 
-front_some : (s : Scope) (p : Param) (ps : List Param) (es : Exprs) → 1 < length (list_of es) → args_fit (widths_of (p ∷ ps)) (sorts_of s es) ≡ true → 0 < length (front_from p ps)
-front_some s p ps no_exprs l h = absurd (omega (arith, l))
-front_some s p ps (expr e no_exprs) l h = absurd (omega (arith, l))
-front_some s p [] (expr e (expr a es)) l h = let both = both_true (has_sort (bits_sort p.width) (sort_of s e)) false h in absurd (cc)
-front_some s p (q ∷ ps) (expr e (expr a es)) l h = omega arith
+before_last_some : (s : Scope) (p : Param) (ps : List Param) (es : Exprs) → 1 < length (list_of es) → args_fit (widths_of (p ∷ ps)) (sorts_of s es) ≡ true → 0 < length (before_last_from p ps)
+before_last_some s p ps no_exprs l h = absurd (omega (arith, l))
+before_last_some s p ps (expr e no_exprs) l h = absurd (omega (arith, l))
+before_last_some s p [] (expr e (expr a es)) l h = let both = both_true (has_sort (bits_sort p.width) (sort_of s e)) false h in absurd (cc)
+before_last_some s p (q ∷ ps) (expr e (expr a es)) l h = omega arith
 
 truth_kind : (k : ResultKind) → result_sort k ≡ truth_sort → k ≡ of_truth
 truth_kind (of_width w) h = absurd (cc)
@@ -269,7 +269,7 @@ called_fork d differ i vars x w at f es typed runtime ends =
     let same : back.0 ≡ g = differ back.0 g (in_reverse back.0 (functions d) again.0) there.0 (sym again.1 ∙ there.1) in
     let named_is : named (λ (y : FunctionDecl). y.name) f.text (reverse (functions d)) ≡ Some g = back.1 ∙ ap Some same in
     let none : g.body ≡ None = runtime_there (named (λ (y : FunctionDecl). y.name) f.text (functions d)) g runtime found.1 in
-    by_params g g.params refl es fit.0 end.ends end.two (λ last are width front. record {
+    by_params g g.params refl es fit.0 end.ends end.two (λ last are width before_last. record {
       at = at;
       callee = f;
       values = es;
@@ -281,13 +281,13 @@ called_fork d differ i vars x w at f es typed runtime ends =
       is_truth = truth_kind g.result fit.1;
       params_are = are;
       last_width = width;
-      has_front = front;
+      has_before_last = before_last;
       values_end = end.ends;
     })
   where
     by_params : {R : Type 0} (g : FunctionDecl) (ps : List Param) → g.params ≡ ps → (vs : Exprs) → args_fit (widths_of g.params) (sorts_of (with_var x w (scope_at d i vars true)) vs) ≡ true
         → EndsWith x.text vs → 1 < length (list_of vs)
-        → ((last : Param) → g.params ≡ front_params g.params ++ (last ∷ []) → last.width ≡ w → 0 < length (front_params g.params) → R) → R
+        → ((last : Param) → g.params ≡ params_before_last g.params ++ (last ∷ []) → last.width ≡ w → 0 < length (params_before_last g.params) → R) → R
     by_params g ps is no_exprs fit end two k = absurd end
     by_params g [] is (expr e vs) fit end two k =
         let h : args_fit [] (sorts_of (with_var x w (scope_at d i vars true)) (expr e vs)) ≡ true = ap (λ qs. args_fit (widths_of qs) (sorts_of (with_var x w (scope_at d i vars true)) (expr e vs))) (sym is) ∙ fit in absurd (cc)
@@ -295,8 +295,8 @@ called_fork d differ i vars x w at f es typed runtime ends =
         let s = scope_at d i vars true in
         let h : args_fit (widths_of (p ∷ ps)) (sorts_of (with_var x w s) (expr e vs)) ≡ true = ap (λ qs. args_fit (widths_of qs) (sorts_of (with_var x w s) (expr e vs))) (sym is) ∙ fit in
         let l = last_of x w s p ps e vs end h in
-        k l.last (subst (λ qs. qs ≡ front_params qs ++ (l.last ∷ [])) (sym is) l.params_are) l.width_is
-        (subst (λ qs. 0 < length (front_params qs)) (sym is) (front_some (with_var x w s) p ps (expr e vs) two h))
+        k l.last (subst (λ qs. qs ≡ params_before_last qs ++ (l.last ∷ [])) (sym is) l.params_are) l.width_is
+        (subst (λ qs. 0 < length (params_before_last qs)) (sym is) (before_last_some (with_var x w s) p ps (expr e vs) two h))
 
 fork_call : (d : Design) → NamesDiffer d → (i : ℕ) (vars : List Param) (x : Name) (w : ℕ) (e : Expr) → sort_of (with_var x w (scope_at d i vars true)) e ≡ Some truth_sort → fork_condition d x.text e ≡ true
     → IsForkCall (reverse (functions d)) x.text w e

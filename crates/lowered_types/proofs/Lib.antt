@@ -3,6 +3,6 @@ pub mod FunctionsFit
 pub mod ForkCalls
 pub mod Formed
 pub mod Fitting
-pub mod Parts
+pub mod NetParts
 pub mod RolesFit
 pub mod NamedForks

@@ -16,7 +16,7 @@ use Rattle.sound_types.specs.WellTyped.{scope_at}
 use Rattle.sound_types.proofs.Members.{In, in_flat, in_left, in_right}
 use Rattle.sound_types.proofs.Options.{text_self}
 use Rattle.lowered_types.proofs.Formed.{any_in}
-use Rattle.lowered_types.proofs.Parts.{into_are, parts_ingress}
+use Rattle.lowered_types.proofs.NetParts.{into_are, parts_ingress}
 
 abbrev pub IsNamed : List (List ℕ) → List ℕ → ℕ → Expr → Type 0
 IsNamed names x width e = is_one_of names (fork_function e) ≡ true

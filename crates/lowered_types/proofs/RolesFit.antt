@@ -31,7 +31,7 @@ use Rattle.lowered_types.proofs.Fitting.{AtFork, Here, PacketOnly, Setting, Visi
 use Rattle.lowered_types.proofs.ForkCalls.{fork_is, width_least, width_most}
 use Rattle.lowered_types.proofs.Formed.{Formed, all_forks, one_more}
 use Rattle.lowered_types.proofs.Taking.{some_same}
-use Rattle.lowered_types.proofs.Parts.{body_formed, exit_widths, parts_ingress, role_with}
+use Rattle.lowered_types.proofs.NetParts.{body_formed, exit_widths, parts_ingress, role_with}
 
 -- ---- what a visit that is so gives
 

@@ -9,8 +9,8 @@ use Rattle.cocoon_num.specs.Values.{Value, number, as_number, apply_unary, apply
 use Rattle.cocoon_types.specs.Tables.{Defs, look_up}
 use Rattle.cocoon_types.specs.Val.{Context, Env, apply_in, bind, bound, numbers, value}
 use Rattle.lower_body.specs.Agrees.{EitherOf, FitAll, GroupTakesIn, inner_context}
-use Rattle.lower_body.specs.Lower.{front_params}
-use Rattle.lower_body.specs.LowerBlock.{front, in_expr, in_exprs}
+use Rattle.lower_body.specs.Lower.{params_before_last}
+use Rattle.lower_body.specs.LowerBlock.{exprs_before_last, in_expr, in_exprs}
 use Rattle.lowered_visits.specs.Forks.{EndsIn, IsName, last_width}
 use Rattle.lowered_visits.proofs.Names.{same_name-other, same_name-refl}
 
@@ -66,14 +66,14 @@ more None o p n ns e f = absurd cc
 more (Some m) None p n ns e f = absurd cc
 more (Some m) (Some rest) p n ns e f = rw (f rest refl) (ap (λ (o : Option (List ℕ)). option_and_then (λ ms. Some (ms ++ (n ∷ []))) o) e)
 
-pub numbers_end : (c : Context) (x : List ℕ) (w n : ℕ) (env : Env) (packet : Packet) (es : Exprs) → EndsIn x es → (ns : List ℕ) → numbers c env packet (front es) ≡ Some ns
+pub numbers_end : (c : Context) (x : List ℕ) (w n : ℕ) (env : Env) (packet : Packet) (es : Exprs) → EndsIn x es → (ns : List ℕ) → numbers c env packet (exprs_before_last es) ≡ Some ns
     → numbers c (bound x (number w n) env) packet es ≡ Some (ns ++ (n ∷ []))
 numbers_end c x w n env packet no_exprs h ns e = absurd h
 numbers_end c x w n env packet (expr a no_exprs) h ns e =
     rw (name_is c x (number w n) env packet a h) (ap (λ (o : Option (List ℕ)). option_and_then (λ ms. Some (ms ++ (n ∷ []))) o) e)
 numbers_end c x w n env packet (expr a (expr b es)) h ns e =
     rw (value_without c x (number w n) env packet a h.0)
-    (more (option_and_then as_number (value c env packet a)) (numbers c env packet (front (expr b es))) (numbers c (bound x (number w n) env) packet (expr b es)) n ns e
+    (more (option_and_then as_number (value c env packet a)) (numbers c env packet (exprs_before_last (expr b es))) (numbers c (bound x (number w n) env) packet (expr b es)) n ns e
     (λ rest g. numbers_end c x w n env packet (expr b es) h.1 rest g))
 
 -- ---- numbers that fit
@@ -82,14 +82,14 @@ abbrev width_of : Option ℕ → ℕ
 width_of None = 0
 width_of (Some w) = w
 
-pub fit_with : (ps : List Param) (w : ℕ) (ns : List ℕ) (x : ℕ) → last_width ps ≡ Some w → FitAll (front_params ps) ns → x < 2 ^ w → FitAll ps (ns ++ (x ∷ []))
+pub fit_with : (ps : List Param) (w : ℕ) (ns : List ℕ) (x : ℕ) → last_width ps ≡ Some w → FitAll (params_before_last ps) ns → x < 2 ^ w → FitAll ps (ns ++ (x ∷ []))
 fit_with [] w ns x e f h = absurd cc
 fit_with (p ∷ []) w [] x e f h = (subst (λ k. x < 2 ^ k) (sym (ap width_of e)) h, tt)
 fit_with (p ∷ []) w (n ∷ ns) x e f h = absurd f
 fit_with (p ∷ q ∷ ps) w [] x e f h = absurd f
 fit_with (p ∷ q ∷ ps) w (n ∷ ns) x e f h = (f.0, fit_with (q ∷ ps) w ns x e f.1 h)
 
-pub last_fits : (ps : List Param) (w : ℕ) (ns : List ℕ) (x : ℕ) → last_width ps ≡ Some w → FitAll (front_params ps) ns → FitAll ps (ns ++ (x ∷ [])) → x < 2 ^ w
+pub last_fits : (ps : List Param) (w : ℕ) (ns : List ℕ) (x : ℕ) → last_width ps ≡ Some w → FitAll (params_before_last ps) ns → FitAll ps (ns ++ (x ∷ [])) → x < 2 ^ w
 last_fits [] w ns x e f h = absurd cc
 last_fits (p ∷ []) w [] x e f h = subst (λ k. x < 2 ^ k) (ap width_of e) h.0
 last_fits (p ∷ []) w (n ∷ ns) x e f h = absurd f
@@ -102,15 +102,15 @@ abbrev decl_of : FunctionDecl → Option FunctionDecl → FunctionDecl
 decl_of d None = d
 decl_of d (Some x) = x
 
-front_by : (b : Bool) (d first : FunctionDecl) (o : Option FunctionDecl) (A : Type 0) (ns : List ℕ) → EitherOf b (FitAll (front_params first.params) ns) A
-    → (A → o ≡ Some d → FitAll (front_params d.params) ns) → cond b (Some first) o ≡ Some d → FitAll (front_params d.params) ns
-front_by true d first o A ns h f e = subst (λ (z : FunctionDecl). FitAll (front_params z.params) ns) (ap (decl_of d) e) h
-front_by false d first o A ns h f e = f h e
+before_last_by : (b : Bool) (d first : FunctionDecl) (o : Option FunctionDecl) (A : Type 0) (ns : List ℕ) → EitherOf b (FitAll (params_before_last first.params) ns) A
+    → (A → o ≡ Some d → FitAll (params_before_last d.params) ns) → cond b (Some first) o ≡ Some d → FitAll (params_before_last d.params) ns
+before_last_by true d first o A ns h f e = subst (λ (z : FunctionDecl). FitAll (params_before_last z.params) ns) (ap (decl_of d) e) h
+before_last_by false d first o A ns h f e = f h e
 
-pub front_fits : (fs : List FunctionDecl) (f : List ℕ) (ns : List ℕ) (d : FunctionDecl) → GroupTakesIn fs f ns → named (λ (d : FunctionDecl). d.name) f fs ≡ Some d → FitAll (front_params d.params) ns
-front_fits [] f ns d h e = absurd h
-front_fits (first ∷ fs) f ns d h e =
-    front_by (same_name f first.name.text) d first (named (λ (d : FunctionDecl). d.name) f fs) (GroupTakesIn fs f ns) ns h (λ g k. front_fits fs f ns d g k) e
+pub before_last_fits : (fs : List FunctionDecl) (f : List ℕ) (ns : List ℕ) (d : FunctionDecl) → GroupTakesIn fs f ns → named (λ (d : FunctionDecl). d.name) f fs ≡ Some d → FitAll (params_before_last d.params) ns
+before_last_fits [] f ns d h e = absurd h
+before_last_fits (first ∷ fs) f ns d h e =
+    before_last_by (same_name f first.name.text) d first (named (λ (d : FunctionDecl). d.name) f fs) (GroupTakesIn fs f ns) ns h (λ g k. before_last_fits fs f ns d g k) e
 
 abbrev value_of : List HeaderDecl → Defs → List FunctionDecl → FunctionDecl → List ℕ → List ℕ → Option Expr → Option Value
 value_of headers defs earlier d f xs body = elim body [

@@ -11,7 +11,7 @@ use Rattle.p4_ir.specs.P4Tree.{Program, program_layout}
 use Rattle.p4_ir.specs.Switch.{Departure, Outcome, sent_by, state_of}
 use Rattle.lower_body.specs.Agrees.{inner_context}
 use Rattle.lower_body.specs.Ends.{Sent}
-use Rattle.lower_body.specs.LowerBlock.{fork_args, fork_function, front}
+use Rattle.lower_body.specs.LowerBlock.{fork_args, fork_function, exprs_before_last}
 use Rattle.lower_body.specs.Visit.{Visit, on, leaves, copies, nothing, where_true}
 use Rattle.lowered.specs.Departs.{departure, left_by}
 use Rattle.lowered.specs.Serving.{is_true}
@@ -22,7 +22,7 @@ use Rattle.lowered_visits.proofs.Reaching.{AtFork}
 -- ---- the condition
 
 of_call : (headers : List HeaderDecl) (defs : Defs) (fs : List FunctionDecl) (at : ℕ) (g : Name) (es : Exprs) (x : List ℕ) (w n : ℕ) (env : Env) (packet : Packet) (ns : List ℕ) (d : FunctionDecl)
-    → EndsIn x es → named (λ (d : FunctionDecl). d.name) g.text fs ≡ Some d → d.body ≡ None → numbers (inner_context headers defs fs) env packet (front es) ≡ Some ns
+    → EndsIn x es → named (λ (d : FunctionDecl). d.name) g.text fs ≡ Some d → d.body ≡ None → numbers (inner_context headers defs fs) env packet (exprs_before_last es) ≡ Some ns
     → value (inner_context headers defs fs) (bound x (number w n) env) packet (call at g es) ≡ look_up defs g.text (ns ++ (n ∷ []))
 of_call headers defs fs at g es x w n env packet ns d ends named_d none h =
     ap (option_and_then (apply_in headers defs fs g.text)) (numbers_end (inner_context headers defs fs) x w n env packet es ends ns h)

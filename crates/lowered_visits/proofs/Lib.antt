@@ -4,6 +4,6 @@ pub mod Reaching
 pub mod Made
 pub mod Laws
 pub mod Copies
-pub mod Visits
+pub mod SwitchVisits
 pub mod Served
 pub mod Runs

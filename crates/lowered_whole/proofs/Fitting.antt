@@ -7,11 +7,11 @@ use Rattle.cocoon_types.specs.Rules.{WellFormed}
 use Rattle.lower_body.specs.Log.{tables_in}
 use Rattle.lower_body.specs.Lower.{Made}
 use Rattle.lower_body.specs.Whole.{SwitchRole}
-use Rattle.lowered.specs.Groups.{fork_groups}
-use Rattle.lowered.specs.Network.{IsNetwork, switch_files}
+use Rattle.lowered_rows.specs.Groups.{fork_groups}
+use Rattle.lowered_net.specs.Network.{IsNetwork, switch_files}
 use Rattle.lowered.specs.Roles.{NetParts, net_parts}
 use Rattle.lowered.specs.SwitchProgram.{switch_made, switch_program}
-use Rattle.lowered.specs.SwitchRows.{switch_rows}
+use Rattle.lowered_rows.specs.SwitchRows.{switch_rows}
 use Rattle.lowered_rows.specs.Logs.{IsLogOf}
 use Rattle.lowered_whole.specs.Writable.{IsWritable}
 use Rattle.p4_ir.specs.Loading.{rows_file_fits, rows_load}

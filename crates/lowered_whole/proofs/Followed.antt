@@ -22,7 +22,7 @@ use Rattle.lowered.specs.Roles.{NetParts, net_parts}
 use Rattle.lowered.specs.Sends.{IsExit}
 use Rattle.lowered.specs.Serving.{AllServe, GroupsServe, MembersFit}
 use Rattle.lowered.specs.SwitchProgram.{switch_made, switch_program}
-use Rattle.lowered.specs.SwitchRows.{switch_rows}
+use Rattle.lowered_rows.specs.SwitchRows.{switch_rows}
 use Rattle.lowered_net.specs.Followed.{AreFollowed, Exits, bytes_depart}
 use Rattle.lowered_net.specs.Ingress.{IngressIs}
 use Rattle.lowered_rows.specs.Logs.{IsLogOf, filling}

@@ -12,7 +12,7 @@ use Rattle.cocoon_num.specs.declared.fun_table.FunRow.{FunRow}
 use Rattle.cocoon_num.specs.declared.fun_table.FunTable.{FunTable}
 use Rattle.cocoon_types.specs.DefsRules.{DefsFit}
 use Rattle.cocoon_types.specs.Rules.{WellFormed, twice}
-use Rattle.lowered.specs.Network.{HasNumbers, IsNetwork}
+use Rattle.lowered_net.specs.Network.{HasNumbers, IsNetwork}
 use Rattle.runtime_defs.specs.Bound.{IsBound, IsRow}
 use Rattle.runtime_defs.specs.Places.{Places}
 use Rattle.uniqueness_laws.specs.ExampleDesign.{c_definitions, c_tree}

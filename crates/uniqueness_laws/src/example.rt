@@ -4,7 +4,7 @@ ghost use Rattle.cocoon_num.specs.Reads.{Reads, ReadsDefs};
 ghost use Rattle.cocoon_types.specs.Rules.{WellFormed};
 ghost use Rattle.cocoon_types.specs.Runs.{LastGo};
 ghost use Rattle.cocoon_types.specs.Tables.{defs_of};
-ghost use Rattle.lowered.specs.Network.{IsNetwork};
+ghost use Rattle.lowered_net.specs.Network.{IsNetwork};
 ghost use Rattle.net_bundle.specs.Bundle.{bundle};
 ghost use Rattle.net_bundle.specs.Network.{Network};
 ghost use Rattle.p4_ir.specs.NetRuns.{NetGo};

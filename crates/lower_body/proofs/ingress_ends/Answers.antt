@@ -1,4 +1,4 @@
-use Rattle.lower_body.proofs.Visits as visits
+use Rattle.lower_body.proofs.ChoicelessVisits as visits
 use Rattle.lower_body.proofs.ingress_ends.Goals as goal
 
 pub returns : goal.returns

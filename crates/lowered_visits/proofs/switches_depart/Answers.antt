@@ -1,5 +1,5 @@
 use Rattle.lowered_visits.proofs.Laws.{Laws}
-use Rattle.lowered_visits.proofs.Visits as visits
+use Rattle.lowered_visits.proofs.SwitchVisits as visits
 use Rattle.lowered_visits.proofs.switches_depart.Goals as goal
 
 pub returns-clause-layout : goal.returns-clause-layout

@@ -1,6 +1,6 @@
 use Rattle.std.proofs.Common.{sym, ◌∙◌}
 use Rattle.p4_ir.specs.Program.{expr_of}
-use Rattle.lower_code.proofs.Fronts.{last_of_two}
+use Rattle.lower_code.proofs.BeforeLast.{last_of_two}
 use Rattle.lower_code.proofs.statements.second_of.Goals as goal
 
 pub returns-in-Some : goal.returns-in-Some

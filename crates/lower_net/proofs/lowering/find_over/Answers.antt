@@ -1,8 +1,8 @@
 use Rattle.std.proofs.Common.{◌≡◌, [], None, length, rules}
 use Rattle.std.proofs.lemmas.Result.{IfOk-weaker}
 use Rattle.cocoon_syntax.specs.TreeOf.{design_of}
-use Rattle.lowered.specs.Counts.{first_over}
-use Rattle.lower_switch.specs.Parts.{switch_role}
+use Rattle.lowered_net.specs.Counts.{first_over}
+use Rattle.lower_switch.specs.NetDeclarations.{switch_role}
 use Rattle.lower_net.specs.Limits.{of_network}
 use Rattle.lower_net.proofs.Over.{first_number, over_there}
 use Rattle.lower_net.proofs.lowering.find_over.Goals as goal

@@ -1,8 +1,8 @@
 use Rattle.std.proofs.Common.{◌≡◌, ◌++◌, Some, None, rules, sym, ap, ◌∙◌}
 use Rattle.std.specs.Option.{option_or}
 use Rattle.cocoon_syntax.specs.TreeOf.{design_of}
-use Rattle.lowered.specs.Counts.{first_over}
-use Rattle.lowered.specs.Groups.{fork_groups}
+use Rattle.lowered_net.specs.Counts.{first_over}
+use Rattle.lowered_rows.specs.Groups.{fork_groups}
 use Rattle.lower_net.specs.Limits.{of_groups, of_program}
 use Rattle.lower_net.proofs.Over.{over_both}
 use Rattle.lower_net.proofs.lowering.switch_over.Goals as goal

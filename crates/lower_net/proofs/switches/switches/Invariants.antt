@@ -1,7 +1,7 @@
 use Rattle.std.proofs.Common.{◌≡◌, map, take}
 use Rattle.cocoon_syntax.specs.TreeOf.{design_of}
-use Rattle.lower_switch.specs.Parts.{parts_of}
-use Rattle.lowered.specs.Network.{switch_files}
+use Rattle.lower_switch.specs.NetDeclarations.{parts_of}
+use Rattle.lowered_net.specs.Network.{switch_files}
 use Rattle.p4_ir.specs.NetOf.{switch_of}
 use Rattle.lower_net.proofs.switches.switches.Given as goal
 

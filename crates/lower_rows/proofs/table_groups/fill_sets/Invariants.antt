@@ -8,7 +8,7 @@ use Rattle.lower_rows.proofs.table_groups.fill_sets.Given as goal
 abbrev pub invariant-loop-at : goal.invariant-loop-at
 invariant-loop-at l = record {
   within : l.at ≤ length l.rows;
-  filled : (ns : List (List ℕ)) → Holds l.fronts ns → all_distinct ns ≡ true → keys_of l.sets.items ≡ map (members_by (said_true l.first) (drop l.at l.rows)) ns;
+  filled : (ns : List (List ℕ)) → Holds l.args ns → all_distinct ns ≡ true → keys_of l.sets.items ≡ map (members_by (said_true l.first) (drop l.at l.rows)) ns;
 }
 
 abbrev pub decreases-loop-at : goal.decreases-loop-at

@@ -2,9 +2,9 @@ use Rattle.std.proofs.Common.{ap, sym, ◌∙◌}
 use Rattle.cocoon_syntax.specs.TreeOf.{design_of}
 use Rattle.lower_body.specs.Lower.{callees}
 use Rattle.lower_body.specs.Whole.{role_lowered, role_vars}
-use Rattle.lower_code.specs.Counting.{all_tables}
-use Rattle.lower_code.proofs.Counted.{all_counted, forks_counted}
-use Rattle.lower_switch.specs.Parts.{switch_role}
+use Rattle.lower_body.specs.Counting.{all_tables}
+use Rattle.lower_body.proofs.Counted.{all_counted, forks_counted}
+use Rattle.lower_switch.specs.NetDeclarations.{switch_role}
 use Rattle.lower_switch.proofs.Whole.{all-functions}
 use Rattle.lower_switch.proofs.counts.program_counts.Goals as goal
 

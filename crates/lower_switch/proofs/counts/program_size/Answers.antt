@@ -1,8 +1,8 @@
 use Rattle.std.proofs.Common.{ap, ◌∙◌}
 use Rattle.std.proofs.lemmas.Result.{IfOk-weaker}
 use Rattle.cocoon_syntax.specs.TreeOf.{design_of}
-use Rattle.lower_code.specs.Counting.{all_parts}
-use Rattle.lower_switch.specs.Parts.{switch_role}
+use Rattle.lower_body.specs.Counting.{all_parts}
+use Rattle.lower_switch.specs.NetDeclarations.{switch_role}
 use Rattle.lower_switch.proofs.Whole.{all-functions}
 use Rattle.lower_switch.proofs.counts.program_size.Goals as goal
 

@@ -1,7 +1,7 @@
 use Rattle.std.proofs.Common.{sym, ◌∙◌}
 use Rattle.lower_body.specs.Lower.{callees}
 use Rattle.lower_body.specs.Whole.{role_lowered, role_vars}
-use Rattle.lower_code.proofs.Counted.{all_counted, forks_counted}
+use Rattle.lower_body.proofs.Counted.{all_counted, forks_counted}
 use Rattle.lower_switch.proofs.laws.programs_count_alike.Goals as goal
 
 pub returns-clause-tables : goal.returns-clause-tables

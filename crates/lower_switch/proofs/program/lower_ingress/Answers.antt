@@ -7,7 +7,7 @@ use Rattle.lower_code.specs.Blocks.{block_so_far, site_of}
 use Rattle.lower_code.specs.Growth.{made_in}
 use Rattle.lower_code.specs.Scopes.{callees_in, design_in}
 use Rattle.lower_switch.specs.Halves.{of_block}
-use Rattle.lower_switch.specs.Parts.{switch_role}
+use Rattle.lower_switch.specs.NetDeclarations.{switch_role}
 use Rattle.p4_ir.specs.Program.{stmt_of as code_of}
 use Rattle.lower_switch.proofs.Whole.{all-callees, half-step}
 use Rattle.lower_switch.proofs.program.lower_ingress.Goals as goal

@@ -5,7 +5,7 @@ use Rattle.lower_code.specs.Blocks.{site_of}
 use Rattle.lower_code.specs.Growth.{counts_of, made_in, made_of}
 use Rattle.lower_code.specs.Scopes.{callees_in}
 use Rattle.lower_switch.specs.Halves.{egress_half, half_of, program_with}
-use Rattle.lower_switch.specs.Parts.{switch_role}
+use Rattle.lower_switch.specs.NetDeclarations.{switch_role}
 use Rattle.lower_switch.proofs.Whole.{egress-step}
 use Rattle.lower_switch.proofs.program.switch_code.Goals as goal
 

@@ -1,5 +1,5 @@
 use Rattle.lowered_types.proofs.NamedForks as named
-use Rattle.lowered_types.proofs.Parts as parts
+use Rattle.lowered_types.proofs.NetParts as parts
 use Rattle.lowered_types.proofs.RolesFit as laws
 use Rattle.lowered_types.proofs.laws.forks_are.Goals as goal
 

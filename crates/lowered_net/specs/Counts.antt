@@ -7,8 +7,8 @@ use Rattle.cocoon_num.specs.declared.limit_name.LimitName.TheVariants as limit
 use Rattle.runtime_defs.specs.Places.{Places}
 use Rattle.lower_body.specs.Log.{tables_in}
 use Rattle.lower_body.specs.Whole.{SwitchRole, role_lowered}
-use Rattle.lowered.specs.Groups.{ForkGroup, fork_groups}
-use Rattle.lowered.specs.Network.{HasNumbers}
+use Rattle.lowered_rows.specs.Groups.{ForkGroup, fork_groups}
+use Rattle.lowered_net.specs.Network.{HasNumbers}
 use Rattle.lowered.specs.Roles.{NetParts, net_parts}
 use Rattle.lowered.specs.SwitchProgram.{switch_made}
 

@@ -15,7 +15,7 @@ use Rattle.p4_ir.specs.Switch.{Departure, Outcome, Running, State, after_ingress
 use Rattle.lower_body.specs.Agrees.{AllMade, Filling, FitAll, GroupTakesIn, TakesIn, run_list}
 use Rattle.lower_body.specs.Ends.{Copies, Ends, FitsAll, Numbered, Sent, begun}
 use Rattle.lower_body.specs.Log.{FieldsAt, NumberedTo, Placed}
-use Rattle.lower_body.specs.Lower.{Counts, Made, a_field, a_table, a_group, callees, front_params}
+use Rattle.lower_body.specs.Lower.{Counts, Made, a_field, a_table, a_group, callees, params_before_last}
 use Rattle.lower_body.specs.LowerBlock.{Site, fork_function, in_block}
 use Rattle.lower_body.specs.LowerSites.{InSite}
 use Rattle.lower_body.specs.Visit.{Forked, Visit, on, leaves, copies, nothing, visit_all}
@@ -26,7 +26,7 @@ use Rattle.lowered.specs.SwitchProgram.{egress_lowered, p4_field, p4_header, swi
 use Rattle.lowered_visits.specs.Forks.{ForkIs, ForkServes}
 use Rattle.lowered_visits.specs.Fitting.{CopiesFit, SwitchServes, VisitFits, role_context, role_layout, role_visit}
 use Rattle.lowered_visits.specs.Leaving.{role_departs}
-use Rattle.lowered_visits.proofs.Conditions.{fit_with, front_fits, last_fits}
+use Rattle.lowered_visits.proofs.Conditions.{fit_with, before_last_fits, last_fits}
 use Rattle.lowered_visits.proofs.Copies.{chosen, condition_is, declared_is, sent_shows, true_is}
 use Rattle.lowered_visits.proofs.Laws.{Laws}
 use Rattle.lowered_visits.proofs.Made.{all_made, fields_first, fields_second, placed_both, running, serves_first, serves_second, tables_at, widths_made}
@@ -137,16 +137,16 @@ module _ (laws : Laws) (r : SwitchRole) (fill : Filling) (s : ℕ) (rows : RowsF
       let is : value (role_context r fill) (bound f.x (number f.width x) env) packet f.e ≡ look_up fill.defs (fork_function f.e) (e.ns ++ (x ∷ []))
       = condition_is r.headers fill.defs r.functions f.x f.width f.e k x env packet e.ns e.args in
       let own = serves k.decl (declared_is r.functions f.x f.width f.e k) in
-      let front : FitAll (front_params k.decl.params) e.ns
-      = subst (λ ns. FitAll (front_params k.decl.params) ns) (same_numbers _ takes.0 e.ns takes.1 e.args) (front_fits r.functions (fork_function f.e) takes.0 k.decl takes.2 (declared_is r.functions f.x f.width f.e k)) in
+      let before_last : FitAll (params_before_last k.decl.params) e.ns
+      = subst (λ ns. FitAll (params_before_last k.decl.params) ns) (same_numbers _ takes.0 e.ns takes.1 e.args) (before_last_fits r.functions (fork_function f.e) takes.0 k.decl takes.2 (declared_is r.functions f.x f.width f.e k)) in
       let same : has_number x (members rows.groups e.after.group) ≡ has_number x (members rows.groups (fill.group (fork_function f.e) e.ns)) = ap (λ g. has_number x (members rows.groups g)) e.group_is in
       chosen (has_number x (members rows.groups e.after.group)) (fits_width f.width x) (value (role_context r fill) (bound f.x (number f.width x) env) packet f.e)
       (visit_all (role_context r fill) f.body (bound f.x (number f.width x) env) packet) (option_and_then (sent_by (switch_program r s) payload) (switch.egress_of (switch_program r s) rows x e.after)) (role_layout r) payload
       (λ member.
-      let all : FitAll k.decl.params (e.ns ++ (x ∷ [])) = own.1 e.ns x front (sym same ∙ member) in
-      let fits : x < 2 ^ f.width = last_fits k.decl.params f.width e.ns x k.width_is front all in
+      let all : FitAll k.decl.params (e.ns ++ (x ∷ [])) = own.1 e.ns x before_last (sym same ∙ member) in
+      let fits : x < 2 ^ f.width = last_fits k.decl.params f.width e.ns x k.width_is before_last all in
       (lt-ltb x (2 ^ f.width) fits, is ∙ true_is _ (sym (own.0 e.ns x all) ∙ sym same ∙ member), copy_sends port f env packet ran e k x fits (typed x fits) payload))
-      (λ none fit. ap is_true is ∙ sym (own.0 e.ns x (fit_with k.decl.params f.width e.ns x k.width_is front (ltb-true x (2 ^ f.width) fit))) ∙ sym same ∙ none)
+      (λ none fit. ap is_true is ∙ sym (own.0 e.ns x (fit_with k.decl.params f.width e.ns x k.width_is before_last (ltb-true x (2 ^ f.width) fit))) ∙ sym same ∙ none)
 
   -- what leaves, by the visit
   leaves_by : (port : ℕ) (packet : Packet) (V : Visit) (ran : Option Outcome)

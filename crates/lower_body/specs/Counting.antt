@@ -1,13 +1,23 @@
--- Cited by the clauses of counting: how many tables and forks the code of a body has, and how large it is. It follows "Lowering
--- and the P4 text" in docs/FORMATS.md: an application of a function that is defined at run time is a table, and so is a fork.
-use Rattle.std.specs.Prelude.{ℕ, ◌+◌, List, [], ◌∷◌, if◌then◌else◌, Some, None}
+-- Cited by the clauses of counting in lower_code and lower_switch, and by the law of lowered_size: how many tables and forks the
+-- code of a body has, and how large it is at least. It follows "Lowering and the P4 text" in docs/FORMATS.md: an application of a
+-- function that is defined at run time is a table, and so is a fork.
+use Rattle.std.specs.Prelude.{ℕ, ◌+◌, ◌==◌, List, [], ◌∷◌, if◌then◌else◌, Some, None}
 use Rattle.cocoon_num.specs.Names.{same_name}
 use Rattle.cocoon_num.specs.Tree.{Expr, name, field, lit, true_or_false, call, unary, binary, slice, pick, Exprs, no_exprs, expr, FunctionDecl, Stmt, Block, let_, set_field, if_, filter, havoc_var, havoc_field, assume, fork, send, no_stmts, stmt}
+use Rattle.p4_ir.specs.P4Tree.{P4Stmt}
+use Rattle.lower_body.specs.Lower.{callees}
 use Rattle.lower_body.specs.LowerBlock.{fork_args, fork_function}
+use Rattle.lower_body.specs.LowerSites.{lower_sites}
+use Rattle.lower_body.specs.Whole.{SwitchRole, role_lowered}
 
 -- ---- tables, and parts of expressions
 
--- Each table counts as one, and each part of an expression as so many: as none where tables alone are counted.
+-- Each table counts as one, and each part of an expression that is printed as so many: as none where tables alone are counted.
+-- What is counted is no more than the bytes of the code's text.
+
+-- the arguments of a call are printed where there is such a function, of which a call counts as one at least where parts are counted
+abbrev pub printed_part : (part called : ℕ) → ℕ
+printed_part part called = if called == 0 then 0 else part
 
 abbrev mutual
   -- of an expression, by those of the calls of each function
@@ -16,7 +26,7 @@ abbrev mutual
   expr_count part calls (field at h f) = part
   expr_count part calls (lit at w n) = part
   expr_count part calls (true_or_false at b) = part
-  expr_count part calls (call at f es) = exprs_count part calls es + calls f.text
+  expr_count part calls (call at f es) = exprs_count (printed_part part (calls f.text)) calls es + calls f.text
   expr_count part calls (unary at op a) = part + expr_count part calls a
   expr_count part calls (binary at op a b) = part + (expr_count part calls a + expr_count part calls b)
   expr_count part calls (slice at a high low) = part + expr_count part calls a
@@ -43,6 +53,9 @@ abbrev pub group_count : List FunctionDecl → List ℕ → ℕ
 group_count [] f = 0
 group_count (d ∷ earlier) f = if same_name f d.name.text then 1 else group_count earlier f
 
+-- Of a `send` one argument alone is printed, and those of a fork are set to fields only where there is its function: their own
+-- parts are not counted.
+
 abbrev mutual
   -- of a block, but for the blocks of its forks
   pub block_count : (part : ℕ) → List FunctionDecl → Block → ℕ
@@ -57,8 +70,8 @@ abbrev mutual
   stmt_count part fs (havoc_var at x w) = 0
   stmt_count part fs (havoc_field at h f) = 0
   stmt_count part fs (assume at e) = 0
-  stmt_count part fs (fork at x w e body) = exprs_count part (call_count part fs) (fork_args e) + group_count fs (fork_function e)
-  stmt_count part fs (send at r es) = exprs_count part (call_count part fs) es
+  stmt_count part fs (fork at x w e body) = exprs_count 0 (call_count part fs) (fork_args e) + group_count fs (fork_function e)
+  stmt_count part fs (send at r es) = exprs_count 0 (call_count part fs) es
 
 abbrev mutual
   -- of the blocks of a block's forks
@@ -79,9 +92,17 @@ all_count part fs b = block_count part fs b + site_count part fs b
 abbrev pub all_tables : List FunctionDecl → Block → ℕ
 all_tables fs b = all_count 0 fs b
 
--- the same, and the parts of all expressions
+-- the same, and the parts of expressions
 abbrev pub all_parts : List FunctionDecl → Block → ℕ
 all_parts fs b = all_count 1 fs b
+
+-- how large the code of a program is at least
+abbrev pub role_size : SwitchRole → ℕ
+role_size r = all_parts r.functions r.body
+
+-- the code of its egress control
+abbrev pub egress_code : SwitchRole → (switch : ℕ) → List P4Stmt
+egress_code r s = (lower_sites (callees r.headers r.functions r.port) (role_lowered r s).next (role_lowered r s).sites).code
 
 -- ---- forks
 

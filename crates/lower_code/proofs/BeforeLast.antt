@@ -3,24 +3,24 @@ use Rattle.std.proofs.Common.{◌≡◌, List, [], ◌∷◌, ◌++◌, map, tak
 use Rattle.cocoon_num.specs.Tree.{Expr, Param, expr}
 use Rattle.cocoon_syntax.specs.TreeOf.{exprs_of}
 use Rattle.p4_ir.specs.P4Tree.{P4Expr}
-use Rattle.lower_body.specs.Lower.{front_from, front_params}
-use Rattle.lower_body.specs.LowerBlock.{front, front_after, second_of}
+use Rattle.lower_body.specs.Lower.{before_last_from, params_before_last}
+use Rattle.lower_body.specs.LowerBlock.{exprs_before_last, before_last_after, second_of}
 
-from_back : {A : Type 0} (f : A → Param) (p : A) (xs : List A) (x : A) → f p ∷ map f xs ≡ front_from (f p) (map f (xs ++ x ∷ []))
+from_back : {A : Type 0} (f : A → Param) (p : A) (xs : List A) (x : A) → f p ∷ map f xs ≡ before_last_from (f p) (map f (xs ++ x ∷ []))
 from_back f p [] x = refl
 from_back f p (y ∷ xs) x = ap (λ ps. f p ∷ ps) (from_back f y xs x)
 
-pub front_back : {A : Type 0} (f : A → Param) (xs : List A) (x : A) → map f xs ≡ front_params (map f (xs ++ x ∷ []))
-front_back f [] x = refl
-front_back f (y ∷ xs) x = from_back f y xs x
+pub params_back : {A : Type 0} (f : A → Param) (xs : List A) (x : A) → map f xs ≡ params_before_last (map f (xs ++ x ∷ []))
+params_back f [] x = refl
+params_back f (y ∷ xs) x = from_back f y xs x
 
-exprs_from_back : {A : Type 0} (f : A → Expr) (p : A) (xs : List A) (x : A) → expr (f p) (exprs_of (map f xs)) ≡ front_after (f p) (exprs_of (map f (xs ++ x ∷ [])))
+exprs_from_back : {A : Type 0} (f : A → Expr) (p : A) (xs : List A) (x : A) → expr (f p) (exprs_of (map f xs)) ≡ before_last_after (f p) (exprs_of (map f (xs ++ x ∷ [])))
 exprs_from_back f p [] x = refl
 exprs_from_back f p (y ∷ xs) x = ap (λ es. expr (f p) es) (exprs_from_back f y xs x)
 
-pub exprs_front_back : {A : Type 0} (f : A → Expr) (xs : List A) (x : A) → exprs_of (map f xs) ≡ front (exprs_of (map f (xs ++ x ∷ [])))
-exprs_front_back f [] x = refl
-exprs_front_back f (y ∷ xs) x = exprs_from_back f y xs x
+pub exprs_back : {A : Type 0} (f : A → Expr) (xs : List A) (x : A) → exprs_of (map f xs) ≡ exprs_before_last (exprs_of (map f (xs ++ x ∷ [])))
+exprs_back f [] x = refl
+exprs_back f (y ∷ xs) x = exprs_from_back f y xs x
 
 -- ---- the last of two
 

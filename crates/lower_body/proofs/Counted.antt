@@ -1,14 +1,14 @@
 -- The code of a body has as many tables and forks as are counted.
-use Rattle.std.proofs.Common.{◌≡◌, ℕ, suc, ◌+◌, Bool, true, false, List, [], ◌∷◌, ◌++◌, length, if◌then◌else◌, Option, Some, None, refl, ap, ◌∙◌, arith}
+use Rattle.std.proofs.Common.{◌≡◌, ℕ, suc, ◌+◌, ◌==◌, Bool, true, false, List, [], ◌∷◌, ◌++◌, length, if◌then◌else◌, Option, Some, None, refl, sym, ap, ◌∙◌, arith}
 use Rattle.std.proofs.lemmas.List.{length-append}
 use Rattle.cocoon_num.specs.Names.{same_name}
 use Rattle.cocoon_num.specs.Tree.{Param, Expr, name, field, lit, true_or_false, call, unary, binary, slice, pick, Exprs, no_exprs, expr, FunctionDecl, HeaderDecl, Stmt, Block, let_, set_field, if_, filter, havoc_var, havoc_field, assume, fork, send, no_stmts, stmt}
 use Rattle.p4_ir.specs.P4Tree.{P4Expr}
 use Rattle.lower_body.specs.Log.{tables_in}
-use Rattle.lower_body.specs.Lower.{Callees, Counts, FieldName, Lowered, Made, Variable, a_field, a_group, a_table, after_args, by_group, by_table, callees, closed, fields_from, front_params, key_name, var_name, lower_call, lower_expr, lower_exprs, lower_group, variables_from}
+use Rattle.lower_body.specs.Lower.{Callees, Counts, FieldName, Lowered, Made, Variable, a_field, a_group, a_table, after_args, by_group, by_table, callees, closed, fields_from, params_before_last, key_name, var_name, lower_call, lower_expr, lower_exprs, lower_group, variables_from}
 use Rattle.lower_body.specs.LowerBlock.{Site, forked, fork_args, fork_function, in_block, lower_block, lower_stmt}
 use Rattle.lower_body.specs.LowerSites.{lower_site, lower_sites}
-use Rattle.lower_code.specs.Counting.{all_tables, block_count, call_count, expr_count, exprs_count, forks, group_count, site_count, stmt_forks, stmt_site_count, stmt_count}
+use Rattle.lower_body.specs.Counting.{all_tables, block_count, call_count, expr_count, exprs_count, forks, group_count, printed_part, site_count, stmt_forks, stmt_site_count, stmt_count}
 
 abbrev count : List Made → ℕ
 count ms = length (tables_in ms)
@@ -34,6 +34,13 @@ no_tables named j i (p ∷ ps) more = no_tables named (suc j) (suc i) ps more
 no_parts : (m n : ℕ) → m ≡ n → m ≡ 0 + n
 no_parts m n h = h ∙ omega arith
 
+never_printed : (called : ℕ) → printed_part 0 called ≡ 0
+never_printed n = by (n == 0)
+  where
+    by : (b : Bool) → ◌≡◌ {A = ℕ} (if b then 0 else 0) 0
+    by true = refl
+    by false = refl
+
 abbrev Calls : Callees → (List ℕ → ℕ) → Type 0
 Calls c calls = (f : List ℕ) (es : List P4Expr) (n : Counts) → count (c.call f es n).made ≡ calls f
 
@@ -46,6 +53,7 @@ mutual
   expr_counted c calls h vars n (call at f es) =
       count_two (lower_exprs c vars n es).made (c.call f.text (lower_exprs c vars n es).exprs (lower_exprs c vars n es).next).made (exprs_count 0 calls es) (calls f.text)
       (exprs_counted c calls h vars n es) (h f.text (lower_exprs c vars n es).exprs (lower_exprs c vars n es).next)
+      ∙ ap (λ k. exprs_count k calls es + calls f.text) (sym (never_printed (calls f.text)))
   expr_counted c calls h vars n (unary at op a) = no_parts _ _ (expr_counted c calls h vars n a)
   expr_counted c calls h vars n (binary at op a b) =
       let k = (lower_expr c vars n a).next in
@@ -94,7 +102,7 @@ group_counted : (fs : List FunctionDecl) (f : List ℕ) (es : List P4Expr) (n : 
 group_counted [] f es n = refl
 group_counted (d ∷ earlier) f es n =
     if_counted (same_name f d.name.text) (by_group d es n) (lower_group earlier f es n) 1 (group_count earlier f)
-    (no_tables (key_name n.app) 0 n.field (front_params d.params) _) (group_counted earlier f es n)
+    (no_tables (key_name n.app) 0 n.field (params_before_last d.params) _) (group_counted earlier f es n)
 
 -- ---- blocks
 
@@ -137,62 +145,62 @@ mutual
 
 -- ---- the blocks of forks
 
-abbrev sites_count : List FunctionDecl → List Site → ℕ
-sites_count fs [] = 0
-sites_count fs (x ∷ xs) = block_count 0 fs x.body + sites_count fs xs
+abbrev pub sites_count : (part : ℕ) → List FunctionDecl → List Site → ℕ
+sites_count part fs [] = 0
+sites_count part fs (x ∷ xs) = block_count part fs x.body + sites_count part fs xs
 
-sites_more : (fs : List FunctionDecl) (xs ys : List Site) → sites_count fs (xs ++ ys) ≡ sites_count fs xs + sites_count fs ys
-sites_more fs [] ys = omega arith
-sites_more fs (x ∷ xs) ys = let r = sites_more fs xs ys in omega arith
+sites_more : (part : ℕ) (fs : List FunctionDecl) (xs ys : List Site) → sites_count part fs (xs ++ ys) ≡ sites_count part fs xs + sites_count part fs ys
+sites_more part fs [] ys = omega arith
+sites_more part fs (x ∷ xs) ys = let r = sites_more part fs xs ys in omega arith
 
-sites_counted : (headers : List HeaderDecl) (fs : List FunctionDecl) (port : List ℕ) (n : Counts) (xs : List Site) → count (lower_sites (callees headers fs port) n xs).made ≡ sites_count fs xs
+sites_counted : (headers : List HeaderDecl) (fs : List FunctionDecl) (port : List ℕ) (n : Counts) (xs : List Site) → count (lower_sites (callees headers fs port) n xs).made ≡ sites_count 0 fs xs
 sites_counted headers fs port n [] = refl
 sites_counted headers fs port n (x ∷ xs) =
     let a = lower_site (callees headers fs port) n x in
     count_two a.made (lower_sites (callees headers fs port) a.next xs).made _ _
     (block_counted headers fs port _ _ x.body) (sites_counted headers fs port a.next xs)
 
-forked_sites : (fs : List FunctionDecl) (x : List ℕ) (w : ℕ) (body : Block) (b : Bool) (vars : List Variable) (r : Lowered)
-    → (sites_count fs (forked x w body b vars r).sites ≡ block_count 0 fs body) × (length (forked x w body b vars r).sites ≡ 1)
-forked_sites fs x w body true vars r = (omega arith, refl)
-forked_sites fs x w body false vars r = (omega arith, refl)
+forked_sites : (part : ℕ) (fs : List FunctionDecl) (x : List ℕ) (w : ℕ) (body : Block) (b : Bool) (vars : List Variable) (r : Lowered)
+    → (sites_count part fs (forked x w body b vars r).sites ≡ block_count part fs body) × (length (forked x w body b vars r).sites ≡ 1)
+forked_sites part fs x w body true vars r = (omega arith, refl)
+forked_sites part fs x w body false vars r = (omega arith, refl)
 
 mutual
-  stmt_sites : (c : Callees) (fs : List FunctionDecl) (vars : List Variable) (n : Counts) (s : Stmt)
-      → (sites_count fs (lower_stmt c vars n s).sites ≡ stmt_site_count 0 fs s) × (length (lower_stmt c vars n s).sites ≡ stmt_forks s)
-  stmt_sites c fs vars n (let_ at x w e) = (refl, refl)
-  stmt_sites c fs vars n (set_field at h f e) = (refl, refl)
-  stmt_sites c fs vars n (if_ at e first second) =
+  stmt_sites : (part : ℕ) (c : Callees) (fs : List FunctionDecl) (vars : List Variable) (n : Counts) (s : Stmt)
+      → (sites_count part fs (lower_stmt c vars n s).sites ≡ stmt_site_count part fs s) × (length (lower_stmt c vars n s).sites ≡ stmt_forks s)
+  stmt_sites part c fs vars n (let_ at x w e) = (refl, refl)
+  stmt_sites part c fs vars n (set_field at h f e) = (refl, refl)
+  stmt_sites part c fs vars n (if_ at e first second) =
       let k = (lower_expr c vars n e).next in
       let a = lower_block c vars k first in
       let b = lower_block c vars a.next second in
-      let ha = block_sites c fs vars k first in
-      let hb = block_sites c fs vars a.next second in
-      (sites_more fs a.sites b.sites ∙ (λ i. ha.0 i + hb.0 i), length-append a.sites b.sites ∙ (λ i. ha.1 i + hb.1 i))
-  stmt_sites c fs vars n (filter at e) = (refl, refl)
-  stmt_sites c fs vars n (havoc_var at x w) = (refl, refl)
-  stmt_sites c fs vars n (havoc_field at h f) = (refl, refl)
-  stmt_sites c fs vars n (assume at e) = (refl, refl)
-  stmt_sites c fs vars n (fork at x w e body) = forked_sites fs x.text w body (in_block c.port body) vars _
-  stmt_sites c fs vars n (send at r es) = (refl, refl)
+      let ha = block_sites part c fs vars k first in
+      let hb = block_sites part c fs vars a.next second in
+      (sites_more part fs a.sites b.sites ∙ (λ i. ha.0 i + hb.0 i), length-append a.sites b.sites ∙ (λ i. ha.1 i + hb.1 i))
+  stmt_sites part c fs vars n (filter at e) = (refl, refl)
+  stmt_sites part c fs vars n (havoc_var at x w) = (refl, refl)
+  stmt_sites part c fs vars n (havoc_field at h f) = (refl, refl)
+  stmt_sites part c fs vars n (assume at e) = (refl, refl)
+  stmt_sites part c fs vars n (fork at x w e body) = forked_sites part fs x.text w body (in_block c.port body) vars _
+  stmt_sites part c fs vars n (send at r es) = (refl, refl)
 
-  block_sites : (c : Callees) (fs : List FunctionDecl) (vars : List Variable) (n : Counts) (b : Block)
-      → (sites_count fs (lower_block c vars n b).sites ≡ site_count 0 fs b) × (length (lower_block c vars n b).sites ≡ forks b)
-  block_sites c fs vars n no_stmts = (refl, refl)
-  block_sites c fs vars n (stmt s rest) =
+  pub block_sites : (part : ℕ) (c : Callees) (fs : List FunctionDecl) (vars : List Variable) (n : Counts) (b : Block)
+      → (sites_count part fs (lower_block c vars n b).sites ≡ site_count part fs b) × (length (lower_block c vars n b).sites ≡ forks b)
+  block_sites part c fs vars n no_stmts = (refl, refl)
+  block_sites part c fs vars n (stmt s rest) =
       let a = lower_stmt c vars n s in
       let b = lower_block c a.vars a.next rest in
-      let ha = stmt_sites c fs vars n s in
-      let hb = block_sites c fs a.vars a.next rest in
-      (sites_more fs a.sites b.sites ∙ (λ i. ha.0 i + hb.0 i), length-append a.sites b.sites ∙ (λ i. ha.1 i + hb.1 i))
+      let ha = stmt_sites part c fs vars n s in
+      let hb = block_sites part c fs a.vars a.next rest in
+      (sites_more part fs a.sites b.sites ∙ (λ i. ha.0 i + hb.0 i), length-append a.sites b.sites ∙ (λ i. ha.1 i + hb.1 i))
 
 -- a block has as many forks as are counted
 pub forks_counted : (c : Callees) (vars : List Variable) (n : Counts) (b : Block) → length (lower_block c vars n b).sites ≡ forks b
-forks_counted c vars n b = (block_sites c [] vars n b).1
+forks_counted c vars n b = (block_sites 0 c [] vars n b).1
 
 -- and both controls have as many tables
 pub all_counted : (headers : List HeaderDecl) (fs : List FunctionDecl) (port : List ℕ) (vars : List Variable) (n m : Counts) (b : Block)
     → length (tables_in ((lower_block (callees headers fs port) vars n b).made ++ (lower_sites (callees headers fs port) m (lower_block (callees headers fs port) vars n b).sites).made)) ≡ all_tables fs b
 all_counted headers fs port vars n m b =
     count_two (lower_block (callees headers fs port) vars n b).made _ _ _ (block_counted headers fs port vars n b)
-    (sites_counted headers fs port m (lower_block (callees headers fs port) vars n b).sites ∙ (block_sites (callees headers fs port) fs vars n b).0)
+    (sites_counted headers fs port m (lower_block (callees headers fs port) vars n b).sites ∙ (block_sites 0 (callees headers fs port) fs vars n b).0)

@@ -15,10 +15,10 @@ use Rattle.runtime_defs.specs.Places.{Places}
 -- ---- numbers of a row
 
 -- all but the last, which is the choice
-abbrev pub front_of : List ℕ → List ℕ
-front_of [] = []
-front_of (n ∷ []) = []
-front_of (n ∷ m ∷ ns) = n ∷ front_of (m ∷ ns)
+abbrev pub before_last : List ℕ → List ℕ
+before_last [] = []
+before_last (n ∷ []) = []
+before_last (n ∷ m ∷ ns) = n ∷ before_last (m ∷ ns)
 
 abbrev pub last_of : List ℕ → ℕ
 last_of [] = 0
@@ -44,7 +44,7 @@ pub record Grouped : Type 0 where
 -- the choice of a row, where the row has these arguments and the function is true there
 abbrev pub true_choice : FunTable → List ℕ → FunRow → List ℕ
 true_choice t args row =
-    if same_name args (front_of row.values) && ((looked t row.values).value == 1) then last_of row.values ∷ [] else []
+    if same_name args (before_last row.values) && ((looked t row.values).value == 1) then last_of row.values ∷ [] else []
 
 abbrev pub members_at : FunTable → List ℕ → List ℕ
 members_at t args = ascending (flat_map (true_choice t args) t.rows)
@@ -56,7 +56,7 @@ where_members args (m ∷ ms) = record { args = args; members = m ∷ ms } ∷ [
 
 -- in the order of the first rows of their arguments
 abbrev pub table_groups : FunTable → List Grouped
-table_groups t = flat_map (λ args. where_members args (members_at t args)) (firsts (map (λ (row : FunRow). front_of row.values) t.rows))
+table_groups t = flat_map (λ args. where_members args (members_at t args)) (firsts (map (λ (row : FunRow). before_last row.values) t.rows))
 
 -- ---- the groups of all functions
 

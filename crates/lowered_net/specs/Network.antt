@@ -7,8 +7,8 @@ use Rattle.runtime_defs.specs.Guards.{ListsTrue, host_table, switch_table}
 use Rattle.runtime_defs.specs.Places.{Places}
 use Rattle.lowered.specs.Roles.{NetParts, net_parts}
 use Rattle.lowered.specs.SwitchProgram.{switch_made, switch_program}
-use Rattle.lowered.specs.SwitchRows.{switch_rows}
-use Rattle.lowered.specs.Wires.{host_port, port_link}
+use Rattle.lowered_rows.specs.SwitchRows.{switch_rows}
+use Rattle.lowered_net.specs.Wires.{host_port, port_link}
 
 -- the switch of a number
 abbrev pub switch_files : Design → Places → NetParts → ℕ → SwitchFiles

@@ -2,7 +2,7 @@
 ghost use Rattle.std.specs.Prelude.{◌≡◌, ◌∷◌, [], option_map};
 ghost use Rattle.cocoon_syntax.specs.TreeOf.{body_of, design_of, param_of, role_of, switch_of};
 ghost use Rattle.lowered.specs.Roles.{net_parts};
-ghost use Rattle.lower_switch.specs.Parts.{ingress_of, into_of, parts_of, parts_with_body, role_parts};
+ghost use Rattle.lower_switch.specs.NetDeclarations.{ingress_of, into_of, parts_of, parts_with_body, role_parts};
 
 use cocoon_resolve::Checked;
 use cocoon_syntax::{HostDecl, Param, Role, Stmt, SwitchDecl};

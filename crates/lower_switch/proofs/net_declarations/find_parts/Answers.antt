@@ -1,9 +1,9 @@
 use Rattle.std.proofs.Common.{◌≡◌, Some, None, option_map, rules, ap, ◌∙◌}
 use Rattle.cocoon_syntax.specs.TreeOf.{design_of, host_of, switch_of}
 use Rattle.cocoon_types.specs.Design.{host_decl, switch_decl}
-use Rattle.lower_switch.specs.Parts.{ingress_of, into_of, parts_of}
+use Rattle.lower_switch.specs.NetDeclarations.{ingress_of, into_of, parts_of}
 use Rattle.lower_switch.proofs.Found.{parts-found}
-use Rattle.lower_switch.proofs.parts.find_parts.Goals as goal
+use Rattle.lower_switch.proofs.net_declarations.find_parts.Goals as goal
 
 pub returns-in_err-ingress : goal.returns-in_err-ingress
 returns-in_err-ingress c =

@@ -11,7 +11,7 @@ use Rattle.p4_ir.specs.P4Tree.{Group, KeyRow, RowsFile, TableRows}
 use Rattle.lower_body.specs.Lower.{Made, a_field, a_table, a_group}
 use Rattle.runtime_defs.specs.Guards.{table_named}
 use Rattle.runtime_defs.specs.Places.{Places}
-use Rattle.lowered.specs.Groups.{ForkGroup, fork_groups}
+use Rattle.lowered_rows.specs.Groups.{ForkGroup, fork_groups}
 
 -- ---- the table of a function
 

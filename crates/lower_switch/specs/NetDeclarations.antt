@@ -4,10 +4,9 @@ use Rattle.cocoon_num.specs.Tree.{Block, Param, Role, SwitchDecl, Design}
 use Rattle.cocoon_syntax.specs.TreeOf.{block_of, host_of, stmt_of, switch_of}
 use Rattle.cocoon_types.specs.Design.{functions, last_level, role_at}
 use Rattle.lower_body.specs.Whole.{SwitchRole}
-use Rattle.lower_code.specs.Counting.{all_parts}
 use Rattle.lowered.specs.Roles.{NetParts, parts_with}
-use Rattle.lower_switch.specs.declared.parts.Ingress.{Ingress}
-use Rattle.lower_switch.specs.declared.parts.Parts.{Parts}
+use Rattle.lower_switch.specs.declared.net_declarations.Ingress.{Ingress}
+use Rattle.lower_switch.specs.declared.net_declarations.Parts.{Parts}
 
 -- the names of the parameters, and the body
 pub record IngressParts : Type 0 where
@@ -42,7 +41,3 @@ switch_role d i = record {
 
 abbrev pub parts_of : Design → Parts → NetParts
 parts_of d p = parts_with (switch_of p.switches.now) (host_of p.hosts.now) (switch_role d p.ingress)
-
--- how large the code of a program is: its tables and the parts of its expressions
-abbrev pub role_size : SwitchRole → ℕ
-role_size r = all_parts r.functions r.body
