@@ -1,4 +1,4 @@
--- Cited by the clauses of loading: the faults of the definitions that those of the code stand for. Want of memory is none.
+-- Cited by the clauses of loading: the faults of the definitions that those of the code stand for. Being out of memory is none.
 use Rattle.std.specs.Prelude.{◌≡◌, Option, Some, None}
 use Rattle.p4_run.specs.Faults as faults
 use Rattle.p4_run.specs.declared.faults.LoadFault.{LoadFault}
