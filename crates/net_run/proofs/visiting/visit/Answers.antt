@@ -8,7 +8,7 @@ use Rattle.p4_run.specs.Frames.{left_in}
 use Rattle.p4_run.specs.Running.{layout_in, program_in, rows_in}
 use Rattle.p4_run.specs.Visits.{AreHeaders, departs, ingress_left}
 use Rattle.p4_run.proofs.VisitSteps.{are_bytes}
-use Rattle.p4_run.proofs.WidthFacts.{declared_at}
+use Rattle.p4_run.proofs.FitFacts.{declared_at}
 use Rattle.net_run.specs.DepartedOf.{departed_of}
 use Rattle.net_run.specs.Departures.{departures, members_after, put}
 use Rattle.net_run.proofs.MemberSteps.{before_copies, is_listed, member_departs, member_put}
