@@ -24,6 +24,9 @@ returns-in_err-read-clause-refused g c =
 pub returns-in_err-push-clause-refused : goal.returns-in_err-push-clause-refused
 returns-in_err-push-clause-refused g c = passed _ _ _ c.from_residual-in_err-push.ensures.1 (λ files e reads. tt)
 
+pub returns-in_err-push-2-clause-refused : goal.returns-in_err-push-2-clause-refused
+returns-in_err-push-2-clause-refused g c = passed _ _ _ c.from_residual-in_err-push-2.ensures.1 (λ files e reads. tt)
+
 pub returns-in_err-push-clause-failed : goal.returns-in_err-push-clause-failed
 returns-in_err-push-clause-failed g c = passed _ _ _ c.from_residual-in_err-push.ensures.1 (c.in_ok-read.ensures.counted ∙ c.loop-switch.invariant.reads)
 
