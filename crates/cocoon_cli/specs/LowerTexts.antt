@@ -23,13 +23,17 @@ use Rattle.runtime_defs.specs.Fitting.{FitsDesign}
 use Rattle.runtime_defs.specs.Places.{Places}
 use Rattle.lower_p4.specs.Accepts.{Accepts, Lowers}
 use Rattle.lower_p4.specs.LowerLimits.{IsOver, IsWithin}
-use Rattle.lower_p4.specs.Lowering.{AreOfText, IsLowering, IsSound}
+use Rattle.lower_p4.specs.Lowering.{AreOfText, IsLowering, IsSound, IsTooLong}
+use Rattle.net_bundle.specs.Writing.{most_of}
+use Rattle.net_bundle.specs.declared.file.BundleFile.TheVariants.{Program}
+use Rattle.cocoon_cli.specs.declared.files.CommandFile.{CommandFile}
+use Rattle.cocoon_cli.specs.declared.files.CommandFile.TheVariants.{Bundle}
 use Rattle.cocoon_cli.specs.declared.refusal.InputFault.TheVariants.{NoTree, Rule, NotYet}
 use Rattle.cocoon_cli.specs.declared.refusal.EntryRule.TheVariants.{UnknownFunction, WrongRow, TwoDefaults, GuardRows, ForkRows}
 use Rattle.cocoon_cli.specs.declared.refusal.DefinitionsFault.{DefinitionsFault}
 use Rattle.cocoon_cli.specs.declared.refusal.DefinitionsFault.TheVariants as definitions
 use Rattle.cocoon_cli.specs.declared.refusal.Refusal.{Refusal}
-use Rattle.cocoon_cli.specs.declared.refusal.Refusal.TheVariants.{Language, Definitions, OverLimit, NoMemory}
+use Rattle.cocoon_cli.specs.declared.refusal.Refusal.TheVariants.{Language, Definitions, OverLimit, TooLong, NoMemory}
 
 -- ---- what is made of the texts
 
@@ -129,8 +133,19 @@ NotBound design defs (OverLimit limit count) = ManyRows design defs limit count
 NotBound design defs NoMemory = Unit {0}
 NotBound design defs _ = ⊥
 
+-- the file is the program of the first switch of their network, whose text is over its limit
+pub record LongProgram (design defs : List ℕ) (file : CommandFile) (most : ℕ) : Type 0 where
+  pub tree : Design
+  pub tables : Places
+  pub binds : BindsTables design defs tree tables
+  pub switch : ℕ
+  pub names : file ≡ Bundle (Program switch)
+  pub limit : most ≡ most_of (Program switch)
+  pub long : IsTooLong tree binds.entries switch
+
 -- why no network is made of a design that the compiler takes and definitions that fit it
 abbrev pub NotLowered : (design defs : List ℕ) → Refusal → Type 0
+NotLowered design defs (TooLong file most) = LongProgram design defs file most
 NotLowered design defs (OverLimit limit count) =
     (tree : Design) × (tables : Places) × (binds : BindsTables design defs tree tables)
     × IsOver tree binds.entries limit count

@@ -26,6 +26,7 @@ use cocoon_types::TypeRule;
 use declarations::FunId;
 use lower_p4::laws::one_lowering;
 use lower_p4::{LowerFault, is_accepted, lower};
+use net_bundle::{BundleFault, BundleFile};
 use p4_ir::NetData;
 use runtime_defs::{Defs, DefsFault, bind};
 use sound_types::laws::code_literals_fit;
@@ -217,6 +218,10 @@ fn lower_bound(alloc: Global, bound: &Bound) -> Result<NetData, Refusal>
     match lower(alloc, &bound.checked, &bound.defs) {
         Ok(net) => Ok(net),
         Err(LowerFault::Limit(limit, count)) => Err(Refusal::OverLimit(limit, count)),
+        Err(LowerFault::TooLong(switch)) => {
+            let file = BundleFile::Program(switch);
+            Err(Refusal::from(BundleFault::Limit(file)))
+        }
         Err(LowerFault::NoMemory) => Err(Refusal::NoMemory),
     }
 }

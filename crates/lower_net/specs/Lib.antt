@@ -1,2 +1,4 @@
 pub mod Limits
 pub mod Refused
+pub mod Idle
+pub mod Led

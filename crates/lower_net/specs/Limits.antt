@@ -1,8 +1,9 @@
--- Cited by private clauses of `limits` and `lowering`: the counts of a network, in three parts, and what is too large to be made.
-use Rattle.std.specs.Prelude.{ℕ, ◌==◌, nat_lt, Bool, not, ◌&&◌, List, [], ◌∷◌, map, length}
+-- Cited by private clauses of `limits` and `lowering`, and by `Refused`: the counts of a network, in three parts, and which
+-- texts are too long.
+use Rattle.std.specs.Prelude.{ℕ, nat_lt, List, [], ◌∷◌, map, length, if◌then◌else◌, Option, Some, None, option_and_then, slice_get}
 use Rattle.cocoon_num.specs.declared.limit_name.LimitName.TheVariants as limit
-use Rattle.lower_body.specs.Whole.{SwitchRole}
 use Rattle.lower_body.specs.Counting.{role_size}
+use Rattle.lower_body.specs.Whole.{SwitchRole}
 use Rattle.lowered_net.specs.Counts.{Counted}
 use Rattle.lowered_rows.specs.Groups.{ForkGroup}
 
@@ -17,6 +18,6 @@ of_program tables forks =
 abbrev pub of_groups : List ForkGroup → List Counted
 of_groups gs = map (λ (g : ForkGroup). record { limit = limit.Members; count = length g.grouped.members; most = 256 }) gs
 
--- there is a switch, and the code of its program is so large that none is made: its text would be four times as long as its file may be
-abbrev pub too_large : List ℕ → SwitchRole → Bool
-too_large switches r = not (length switches == 0) && nat_lt 16777216 (role_size r)
+-- the first switch, where the code of the programs is so large that their texts are over the limit of a file
+abbrev pub too_long : List ℕ → SwitchRole → Option ℕ
+too_long switches r = option_and_then (λ s. if nat_lt 4194304 (role_size r) then Some s else None) (slice_get switches 0)

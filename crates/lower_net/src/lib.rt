@@ -2,7 +2,12 @@
 //! the links. It is the network that `lowered_net` says.
 #![tactic(auto)]
 
+mod ends;
+mod hosts;
+mod idle;
+mod led;
 pub mod limits;
+mod links;
 pub mod lowering;
 mod switches;
 

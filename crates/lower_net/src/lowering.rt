@@ -2,7 +2,7 @@
 ghost use Rattle.std.specs.Prelude.{◌≡◌, ℕ, IfErr, IfOk, None, Some, length, map};
 ghost use Rattle.cocoon_syntax.specs.TreeOf.{design_of};
 ghost use Rattle.cocoon_types.specs.Design as design;
-ghost use Rattle.lower_net.specs.Limits.{too_large};
+ghost use Rattle.lower_net.specs.Limits.{too_long};
 ghost use Rattle.lower_net.specs.Refused.{IsRefused, Lowers};
 ghost use Rattle.lowered.specs.Roles.{net_parts};
 ghost use Rattle.lower_rows.specs.AllGroups.{fork_group_of};
@@ -14,26 +14,29 @@ ghost use Rattle.p4_ir.specs.NetOf.{net_of};
 ghost use Rattle.runtime_defs.specs.Fitting.{FitsDesign};
 ghost use Rattle.runtime_defs.specs.Places.{Places};
 
+use crate::hosts::host_ports;
 use crate::limits::{groups_over, network_over, program_over};
+use crate::links::port_links;
 use crate::switches::switches;
 use cocoon_num::{LimitName, List, NoMemory};
 use cocoon_resolve::Checked;
 use lower_rows::{ForkGroup, fork_groups};
 use lower_switch::{Parts, find_parts, program_counts, program_size};
-use lower_wires::{host_ports, port_links};
 use p4_ir::NetData;
 use runtime_defs::Defs;
 use std::alloc::Global;
 
-/// How large the code of a program may be: as many bytes as four of its files may have. Of a larger one no network is made,
-/// since its text, which is longer still, may find no memory.
-const MOST_CODE: u64 = 16_777_216;
+/// How large the code of a program may be: as many bytes as its file may have. Of a larger one no network is made, since its
+/// text, which has at least as many bytes, may find no memory.
+const MOST_CODE: u64 = 4_194_304;
 
 /// Why no network is made.
 #[derive(Clone, Copy, Debug, Drop, PartialEq, Eq)]
 pub enum LowerFault {
     /// The definitions give more than a limit allows, by this count.
     Limit(LimitName, u64),
+    /// The text of each program would be longer than its file may be. The first switch has this number.
+    TooLong(u16),
     NoMemory,
 }
 
@@ -124,32 +127,36 @@ fn find_over(
     }
 }
 
-/// Whether there is a switch, and the code of its program is so large that none is made.
-fn is_too_large(
+/// The first switch, where the text of its program would be longer than its file may be.
+fn find_too_long(
     alloc: Global,
     checked: &Checked,
     functions: u32,
     parts: &Parts<'_>,
     numbers: &[u16],
-) -> Result<bool, NoMemory>
+) -> Result<Option<u16>, NoMemory>
     requires { functions ≡ length (design.functions (design_of checked.now)) }
-    ensures { IfOk result (λ large. large
-        ≡ too_large numbers.now (switch_role (design_of checked.now) parts.now.ingress)) }
+    ensures { IfOk result (λ switch. switch
+        ≡ too_long numbers.now (switch_role (design_of checked.now) parts.now.ingress)) }
 {
-    if numbers.is_empty() {
-        return Ok(false);
-    }
+    let Some(number) = numbers.first() else {
+        return Ok(None);
+    };
     let size = program_size(alloc, checked, functions, &parts.ingress)?;
-    Ok(size > MOST_CODE)
+    if size > MOST_CODE {
+        Ok(Some(*number))
+    } else {
+        Ok(None)
+    }
 }
 
-/// The network of these parts, or the first limit that is exceeded, with the count.
+/// The network of these parts, or why there is none.
 fn lower_parts(
     alloc: Global,
     checked: &Checked,
     defs: &Defs,
     parts: &Parts<'_>,
-) -> Result<Result<NetData, (LimitName, u64)>, NoMemory>
+) -> Result<Result<NetData, LowerFault>, NoMemory>
     requires fits { FitsDesign (design_of checked.now) defs.now }
     requires parts { net_parts (design_of checked.now)
         ≡ Some (parts_of (design_of checked.now) parts.now) }
@@ -160,14 +167,11 @@ fn lower_parts(
     let hosts = defs.hosts(checked);
     let groups = fork_groups(alloc, checked, defs)?;
     match find_over(alloc, checked, functions, parts, &groups, numbers, hosts)? {
-        Some(over) => Ok(Err(over)),
-        None => {
-            if is_too_large(alloc, checked, functions, parts, numbers)? {
-                return Err(NoMemory);
-            }
-            let net = make(alloc, checked, defs, parts, &groups, numbers, hosts)?;
-            Ok(Ok(net))
-        }
+        Some((limit, count)) => Ok(Err(LowerFault::Limit(limit, count))),
+        None => match find_too_long(alloc, checked, functions, parts, numbers)? {
+            Some(switch) => Ok(Err(LowerFault::TooLong(switch))),
+            None => Ok(Ok(make(alloc, checked, defs, parts, &groups, numbers, hosts)?)),
+        },
     }
 }
 
@@ -183,7 +187,7 @@ pub fn lower(alloc: Global, checked: &Checked, defs: &Defs) -> Result<NetData, L
     };
     match lower_parts(alloc, checked, defs, &parts) {
         Ok(Ok(net)) => Ok(net),
-        Ok(Err((limit, count))) => Err(LowerFault::Limit(limit, count)),
+        Ok(Err(fault)) => Err(fault),
         Err(NoMemory) => Err(LowerFault::NoMemory),
     }
 }

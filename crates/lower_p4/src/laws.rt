@@ -6,7 +6,8 @@ ghost use Rattle.cocoon_types.specs.Tables.{defs_of};
 ghost use Rattle.lower_p4.specs.Accepts.{Accepts, Lowers, RunsProgram};
 ghost use Rattle.lower_p4.specs.Grounds.{Grounds, HoldsFields};
 ghost use Rattle.lower_p4.specs.LowerLimits.{IsOver, IsWithin};
-ghost use Rattle.lower_p4.specs.Lowering.{IsLowering, RunPrograms};
+ghost use Rattle.lower_p4.specs.Lowering.{IsLowering, RunPrograms, StartsLong};
+ghost use Rattle.lower_net.specs.Refused.{HasLongPrograms};
 ghost use Rattle.lowered_net.specs.Counts.{FirstOver};
 ghost use Rattle.lowered.specs.Delivers.{DeliversExactly, DeliversWithin};
 ghost use Rattle.lowered_net.specs.Network.{IsNetwork};
@@ -20,6 +21,7 @@ use lowered_depth::programs_are_shallow;
 use lowered_kinds::laws::{programs_are_kinded, readings_are_plain};
 use lowered_net::laws::deliveries_stay_within;
 use lowered_rows::{groups_are_few, rows_are_few};
+use lowered_size::programs_are_long;
 use lowered_whole::laws::{networks_are_exact, networks_fit};
 use tree_depth::readings_are_shallow;
 
@@ -56,6 +58,15 @@ pub fn networks_are_writable()
     readings_are_plain();
     readings_are_shallow();
     programs_are_shallow();
+}
+
+/// Where the code of the programs is over the limit of a file, so is the text of the program of the first switch.
+pub fn large_programs_are_long()
+    ensures { (d : Design) (places : Places) (switch : ℕ) → HasLongPrograms d places switch
+        → (net : NetData) × IsNetwork d places net × FirstOver d places None
+        × StartsLong switch net.switches }
+{
+    programs_are_long();
 }
 
 /// The compiler makes one network of a design and definitions. It makes it only of a design that it takes, and the program

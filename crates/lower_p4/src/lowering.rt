@@ -10,7 +10,9 @@ ghost use Rattle.lower_p4.specs.Grounds.{HoldsFields, WasRead};
 ghost use Rattle.lower_p4.specs.LowerLimits.{IsWithin};
 ghost use Rattle.lower_p4.specs.Lowering.{AreOfText, IsLowering, IsSound, NotLowered};
 
-use crate::laws::{networks_are_writable, networks_deliver, switches_run_programs};
+use crate::laws::{
+    large_programs_are_long, networks_are_writable, networks_deliver, switches_run_programs,
+};
 use cocoon_num::LimitName;
 use cocoon_resolve::Checked;
 use lower_net::LowerFault as NetFault;
@@ -24,6 +26,8 @@ use std::alloc::Global;
 pub enum LowerFault {
     /// The design and its definitions exceed a limit, by this count.
     Limit(LimitName, u64),
+    /// The text of the program of the switch of this number, the first, would be longer than its file may be.
+    TooLong(u16),
     NoMemory,
 }
 
@@ -87,6 +91,7 @@ pub fn lower(alloc: Global, checked: &Checked, defs: &Defs) -> Result<NetData, L
     networks_deliver();
     switches_run_programs();
     networks_are_writable();
+    large_programs_are_long();
     code_literals_fit();
     checked.design();
     match lower_net::lower(alloc, checked, defs) {
@@ -96,6 +101,7 @@ pub fn lower(alloc: Global, checked: &Checked, defs: &Defs) -> Result<NetData, L
             Ok(net)
         }
         Err(NetFault::Limit(limit, count)) => Err(LowerFault::Limit(limit, count)),
+        Err(NetFault::TooLong(switch)) => Err(LowerFault::TooLong(switch)),
         Err(NetFault::NoMemory) => Err(LowerFault::NoMemory),
     }
 }

@@ -1,7 +1,12 @@
-use Rattle.std.proofs.Common.{subst}
+use Rattle.std.proofs.Common.{refl, subst, sym}
 use Rattle.cocoon_syntax.specs.TreeOf.{design_of}
 use Rattle.lower_p4.specs.Lowering.{NotLowered}
-use Rattle.lower_p4.specs.declared.lowering.LowerFault.TheVariants.{Limit}
+use Rattle.lower_p4.specs.declared.lowering.LowerFault.TheVariants.{Limit, TooLong}
+use Rattle.net_bundle.specs.Writing.{most_of}
+use Rattle.net_bundle.specs.declared.file.BundleFile.TheVariants.{Program}
+use Rattle.cocoon_cli.specs.LowerTexts as lowered
+use Rattle.cocoon_cli.specs.LowerTexts.{LongProgram}
+use Rattle.cocoon_cli.specs.declared.files.CommandFile.TheVariants.{Bundle}
 use Rattle.cocoon_cli.proofs.lower_texts.lower_bound.Goals as goal
 
 pub returns-in-Ok-clause-lowers : goal.returns-in-Ok-clause-lowers
@@ -21,3 +26,11 @@ returns-in-Err-Limit-clause-refused c = λ design defs binds.
     let told : NotLowered (design_of c.args.bound.now.checked) binds.entries (Limit c.in-Err-Limit.limit c.in-Err-Limit.count) =
     subst (NotLowered (design_of c.args.bound.now.checked) binds.entries) c.in-Err-Limit.field-0-is (c.in-Err-Limit.ensures.refused binds.entries binds.are) in
     (_, _, binds, told)
+
+pub returns-in-Err-TooLong-clause-refused : goal.returns-in-Err-TooLong-clause-refused
+returns-in-Err-TooLong-clause-refused c = λ design defs binds.
+    let told : NotLowered (design_of c.args.bound.now.checked) binds.entries (TooLong c.in-Err-TooLong.switch) =
+    subst (NotLowered (design_of c.args.bound.now.checked) binds.entries) c.in-Err-TooLong.field-0-is (c.in-Err-TooLong.ensures.refused binds.entries binds.are) in
+    let long : LongProgram design defs (Bundle (Program c.in-Err-TooLong.switch)) (most_of (Program c.in-Err-TooLong.switch))
+    = record { tree = _; tables = _; binds = binds; switch = c.in-Err-TooLong.switch; names = refl; limit = refl; long = told } in
+    subst (lowered.NotLowered design defs) (sym c.from.ensures) long

@@ -1,6 +1,9 @@
+use Rattle.std.proofs.Common.{subst}
 use Rattle.cocoon_num.specs.Tree.{DefsText}
 use Rattle.cocoon_syntax.specs.TreeOf.{design_of}
 use Rattle.p4_ir.specs.NetOf.{net_of}
+use Rattle.lower_net.specs.Refused.{IsRefused}
+use Rattle.lower_net.specs.declared.lowering.LowerFault.TheVariants.{TooLong}
 use Rattle.lower_p4.specs.Accepts.{Accepts, Lowers}
 use Rattle.lower_p4.specs.Grounds.{Grounds}
 use Rattle.lower_p4.specs.OfText.{AreOfText}
@@ -37,3 +40,15 @@ returns-in-Ok-clause-sound c = λ text of. record {
 pub returns-in-Ok-clause-lowers : goal.returns-in-Ok-clause-lowers
 unfolding Lowers
 returns-in-Ok-clause-lowers c = λ text of. (accepted c, c.args.defs.now, of, c.in-Ok.ensures.network)
+
+pub returns-in-Err-TooLong-clause-refused : goal.returns-in-Err-TooLong-clause-refused
+unfolding Lowers
+returns-in-Err-TooLong-clause-refused c = λ text of.
+    let d = design_of c.args.checked.now in
+    let told : IsRefused d c.args.defs.now (TooLong c.in-Err-TooLong.switch) = subst (IsRefused d c.args.defs.now) c.in-Err-TooLong.field-0-is c.in-Err-TooLong.ensures.refused in
+    let made = c.large_programs_are_long.ensures d c.args.defs.now c.in-Err-TooLong.switch told in record {
+      net = made.0;
+      lowers = (c.requires.accepted, c.args.defs.now, of, made.1);
+      within = (c.args.defs.now, of, made.2);
+      long = made.3;
+    }

@@ -1,3 +1,0 @@
-pub mod Still
-pub mod Leading
-pub mod Ranging

@@ -1,6 +1,0 @@
-use Rattle.std.proofs.Common.{◌≡◌, take}
-use Rattle.lower_wires.specs.Idle.{zeros}
-use Rattle.lower_wires.proofs.idle.zeros.Given as goal
-
-abbrev pub invariant-loop : goal.invariant-loop
-invariant-loop l = l.numbers.items ≡ zeros (take l.index l.widths)
