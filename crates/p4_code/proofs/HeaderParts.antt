@@ -1,5 +1,6 @@
 -- The fields of one header among those of all.
-use Rattle.std.proofs.Common.{◌≡◌, ℕ, zero, suc, ◌+◌, ◌-◌, ◌<◌, ◌^◌, List, [], ◌∷◌, ◌++◌, length, take, drop, set, get_or, slice_get, slice_set, Option, Some, None, option_and_then, min, refl, sym, ◌∙◌, ap, subst, arith}
+use Rattle.std.proofs.Common.{◌≡◌, ℕ, zero, suc, ◌+◌, ◌-◌, ◌<◌, ◌^◌, List, [], ◌∷◌, ◌++◌, length, take, drop, set, get_or}
+use Rattle.std.proofs.Common.{slice_get, slice_set, Option, Some, None, option_and_then, min, refl, sym, ◌∙◌, ap, subst, arith}
 use Rattle.std.proofs.lemmas.List.{drop-drop, drop-set-add, drop-set-lt, get_or-append-add, get_or-drop, get_or-take, get_or_append_left, length-drop, length-take, take-set-le}
 use Rattle.std.proofs.lemmas.Option.{slice_get-get_or}
 use Rattle.cocoon_num.specs.PacketForms.{FieldsFit}

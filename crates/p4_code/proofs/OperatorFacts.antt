@@ -1,10 +1,10 @@
 -- What operators make of operands that are resolved: of values and types.
-use Rattle.std.proofs.Common.{◌≡◌, ℕ, ◌+◌, ◌-◌, ◌/◌, ◌%◌, ◌*◌, ◌<◌, ◌≤◌, ◌^◌, ◌==◌, ◌&&◌, nat_le, nat_lt, Bool, true, false, if◌then◌else◌, Option, Some, None, refl, sym, ap, subst, ◌∙◌}
-use Rattle.std.proofs.lemmas.Bool.{and_from, and_parts, eqb-true, le-leb, leb-true, ltb-true}
+use Rattle.std.proofs.Common.{◌≡◌, ℕ, ◌+◌, ◌-◌, ◌/◌, ◌%◌, ◌*◌, ◌<◌, ◌≤◌, ◌^◌, ◌==◌, ◌&&◌, nat_le, nat_lt, Bool, true, false, if◌then◌else◌, Some, None, refl, sym, ap, subst, ◌∙◌}
+use Rattle.std.proofs.lemmas.Bool.{and_parts, eqb-true, le-leb, leb-true, ltb-true}
 use Rattle.cocoon_num.specs.Sorts.{Sort, bits_sort, truth_sort, unary_sort, work_sort, slice_sort}
 use Rattle.cocoon_num.specs.Values.{number, truth, UnaryOp, flip, not_, Work, computes, compares, combines, joins}
 use Rattle.p4_code.specs.Held.{Held}
-use Rattle.p4_code.specs.Meaning.{number_by, truth_by}
+use Rattle.p4_code.specs.Meaning.{number_by}
 use Rattle.p4_code.specs.Operating.{comparing, Compares, computing, Computes, Gives, IsSorted, OfOne, OfSlice, OfTwo, sort_of}
 use Rattle.p4_code.specs.declared.codes.TruthCode.{TruthCode}
 use Rattle.p4_code.specs.declared.resolved.Resolved.{Resolved}

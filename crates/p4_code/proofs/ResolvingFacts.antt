@@ -1,11 +1,12 @@
 -- What an expression is resolved to means it, where its parts do.
-use Rattle.std.proofs.Common.{◌≡◌, ℕ, zero, suc, ◌+◌, ◌<◌, ◌≤◌, ◌^◌, Bool, true, false, if◌then◌else◌, List, [], ◌∷◌, length, map, replicate, get_or, slice_get, Option, Some, None, option_map, option_and_then, refl, sym, ap, subst, ◌∙◌, arith}
+use Rattle.std.proofs.Common.{◌≡◌, ℕ, zero, suc, ◌+◌, ◌<◌, ◌≤◌, ◌^◌, Bool, true, false, if◌then◌else◌, List, [], ◌∷◌, length, map, replicate}
+use Rattle.std.proofs.Common.{get_or, slice_get, Option, Some, None, option_map, option_and_then, refl, sym, ap, subst, ◌∙◌, arith}
 use Rattle.cocoon_num.specs.PacketForms.{FieldsFit}
 use Rattle.cocoon_num.specs.Sorts.{Sort, bits_sort, unary_sort, binary_sort, slice_sort, pick_sort}
 use Rattle.cocoon_num.specs.Tokens.{kept_if}
 use Rattle.cocoon_num.specs.Values.{number, UnaryOp, BinaryOp, apply_unary, apply_binary, apply_slice, apply_pick, with_both, with_all, work}
 use Rattle.packed_fields.specs.AtOnce.{widths_in}
-use Rattle.p4_ir.specs.P4Kinds.{field_sort, is_implies, meta_sort, p4_sort, widths_fit}
+use Rattle.p4_ir.specs.P4Kinds.{field_sort, is_implies, p4_sort, widths_fit}
 use Rattle.p4_ir.specs.P4Tree.{P4Expr, p_lit, p_meta, p_field, p_port, p_rid, p_unary, p_binary, p_slice, p_pick, P4Field, P4Header, Program, program_layout, field_widths}
 use Rattle.p4_ir.specs.Program.{binary_of, field_of, header_of}
 use Rattle.p4_ir.specs.declared.program.P4Binary.{P4Binary}
@@ -14,15 +15,15 @@ use Rattle.p4_ir.specs.declared.program.P4Field.{P4Field as CodeField}
 use Rattle.p4_ir.specs.declared.program.P4Header.{P4Header as CodeHeader}
 use Rattle.p4_code.specs.Held.{Held}
 use Rattle.p4_code.specs.Meaning.{number_by}
-use Rattle.p4_code.specs.Operating.{IsSorted, OfOne, OfSlice, OfThree, OfTwo, sort_of}
-use Rattle.p4_code.specs.Places.{layout_of, starts_from}
+use Rattle.p4_code.specs.Operating.{IsSorted, OfOne, OfSlice, OfThree, OfTwo}
+use Rattle.p4_code.specs.Places.{starts_from}
 use Rattle.p4_code.specs.Resolving.{Means}
 use Rattle.p4_code.specs.Running.{within_in}
 use Rattle.p4_code.specs.declared.resolved.Resolved.{Resolved}
 use Rattle.p4_code.specs.declared.resolved.Resolved.TheVariants.{Number}
 use Rattle.p4_code.specs.declared.resolved.SizedNumber.{SizedNumber}
 use Rattle.p4_code.proofs.FieldFacts.{field_is, FieldIs}
-use Rattle.p4_code.proofs.WidthFacts.{field_sorted_at, number_at, NumberAt, Widths, widths_of, zeros_fit}
+use Rattle.p4_code.proofs.WidthFacts.{field_sorted_at, number_at, NumberAt, widths_of, zeros_fit}
 
 -- ---- parts of what has a type
 

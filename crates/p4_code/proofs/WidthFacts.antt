@@ -1,6 +1,7 @@
 -- Widths of a program's fields, as the code has them, and numbers of these widths.
-use Rattle.std.proofs.Common.{◌≡◌, ℕ, zero, suc, ◌+◌, ◌%◌, ◌<◌, ◌≤◌, ◌^◌, ◌==◌, ◌&&◌, nat_le, nat_lt, Bool, true, false, List, [], ◌∷◌, ◌++◌, length, map, replicate, get_or, slice_get, Option, Some, None, option_map, option_and_then, refl, sym, ap, arith}
-use Rattle.std.proofs.lemmas.Bool.{and_from, and_parts, and_right, eqb-true, leb-true, lt-ltb, ltb-true}
+use Rattle.std.proofs.Common.{◌≡◌, ℕ, zero, suc, ◌+◌, ◌%◌, ◌<◌, ◌≤◌, ◌^◌, ◌==◌, ◌&&◌, nat_le, Bool, true, List, [], ◌∷◌, ◌++◌}
+use Rattle.std.proofs.Common.{length, map, replicate, get_or, slice_get, Option, Some, None, option_map, option_and_then, refl, sym, ap, arith}
+use Rattle.std.proofs.lemmas.Bool.{and_from, and_parts, eqb-true, leb-true}
 use Rattle.std.proofs.lemmas.Option.{slice_get-get_or}
 use Rattle.std.proofs.Math.Pow.{pow_pos}
 use Rattle.cocoon_num.specs.Lists.{each}

@@ -10,7 +10,7 @@ use Rattle.p4_code.specs.Held.{Held}
 use Rattle.p4_code.specs.Meaning.{Numbers, Truths}
 use Rattle.p4_code.specs.Operating.{Gives, sort_of}
 use Rattle.p4_code.specs.Places.{starts_from}
-use Rattle.p4_code.specs.Running.{own_width, running_in, within_in}
+use Rattle.p4_code.specs.Running.{running_in, within_in}
 use Rattle.p4_code.specs.States.{state_at, Suits}
 use Rattle.p4_code.specs.declared.resolved.Resolved.{Resolved}
 use Rattle.p4_code.specs.declared.resolving.Names.{Names}

@@ -1,6 +1,6 @@
 -- Cited by the clauses of resolving and of runs: the states of the definitions that registers stand for, and what they hold
 -- where they fit a program.
-use Rattle.std.specs.Prelude.{ℕ, ◌<◌, ◌^◌, Bool}
+use Rattle.std.specs.Prelude.{◌<◌, ◌^◌, Bool}
 use Rattle.cocoon_num.specs.PacketForms.{FieldsFit}
 use Rattle.cocoon_num.specs.Packets.{Layout}
 use Rattle.packed_fields.specs.AtOnce.{grouped, widths_in}

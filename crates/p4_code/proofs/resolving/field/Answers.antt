@@ -1,4 +1,4 @@
-use Rattle.std.proofs.Common.{◌+◌, get_or, refl, rules, ap, ◌∙◌}
+use Rattle.std.proofs.Common.{get_or, refl, ap, ◌∙◌}
 use Rattle.p4_code.specs.Resolving.{program_at}
 use Rattle.p4_code.proofs.CodeFacts.{by_field}
 use Rattle.p4_code.proofs.ResolvingFacts.{means_field}

@@ -1,5 +1,4 @@
-use Rattle.std.proofs.Common.{◌≡◌, ◌<◌, length, map, ap, ◌∙◌, arith}
-use Rattle.p4_ir.specs.Program.{header_of}
+use Rattle.std.proofs.Common.{◌≡◌, ◌<◌, length, ap, ◌∙◌, arith}
 use Rattle.p4_ir.specs.P4Tree.{program_layout}
 use Rattle.p4_code.specs.Resolving.{program_at}
 use Rattle.p4_code.proofs.HeaderParts.{starts_count}

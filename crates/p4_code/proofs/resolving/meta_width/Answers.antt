@@ -1,4 +1,4 @@
-use Rattle.std.proofs.Common.{◌≡◌, ◌<◌, ◌≤◌, length, map, get_or, sym, subst, ap, ◌∙◌, arith}
+use Rattle.std.proofs.Common.{◌≡◌, ◌<◌, ◌≤◌, length, map, sym, subst, arith}
 use Rattle.packed_fields.proofs.Steps.{width_is}
 use Rattle.p4_ir.specs.P4Tree.{field_widths}
 use Rattle.p4_ir.specs.Program.{field_of}
