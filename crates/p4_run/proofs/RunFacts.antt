@@ -10,10 +10,10 @@ use Rattle.p4_code.specs.Running.{control_in, running_in}
 use Rattle.p4_code.specs.States.{Fit, state_at, state_in, Suits}
 use Rattle.p4_code.specs.declared.registers.Registers.{Registers}
 use Rattle.p4_steps.specs.Doing.{DoesAll, outcome_at}
-use Rattle.p4_steps.specs.Steps.{ended, goes_on, left, ran, Ran, Steps}
+use Rattle.p4_steps.specs.Effects.{ended, goes_on, left, ran, Ran, Effect}
 use Rattle.p4_steps.specs.declared.running.Way.{Way}
 use Rattle.p4_steps.specs.declared.running.Way.TheVariants.{Proceeds, Returned}
-use Rattle.p4_steps.specs.declared.steps.Application.{Application}
+use Rattle.p4_steps.specs.declared.codes.Application.{Application}
 use Rattle.p4_run.specs.Runs.{held_fits, listed, Runs}
 use Rattle.p4_run.specs.States.{fields_fit}
 use Rattle.p4_run.proofs.FitFacts.{fit_true, true_fit}
@@ -22,7 +22,7 @@ state_left : (layout : Layout) (o : Ran) → state_of (outcome_at layout o) ≡ 
 state_left layout (goes_on h) = refl
 state_left layout (ended h) = refl
 
-pub runs_of : (p : Program) (rows : List TableRows) (b : Bool) (tables : List Application) (f : Steps) → DoesAll p rows b tables (control_in p b).body f → Runs p rows b tables f
+pub runs_of : (p : Program) (rows : List TableRows) (b : Bool) (tables : List Application) (f : Effect) → DoesAll p rows b tables (control_in p b).body f → Runs p rows b tables f
 runs_of p rows b tables f d h u =
     let o = f tables h in
     let kept = (d.keeps h u).suits in (
@@ -53,7 +53,7 @@ pub record Ends (p : Program) (rows : List TableRows) (b : Bool) (old new : Regi
   pub fit : Fit p new
   pub left_is : option_map state_of (p4_run_all (running_in p rows b old.own) (control_in p b).body (state_in (program_layout p) old)) ≡ Some (state_in (program_layout p) new)
 
-pub ends : (p : Program) (rows : List TableRows) (b : Bool) (tables given : List Application) (f g : Steps) (way : Way) (old new : Registers) → Runs p rows b tables f → Suits p b (held old)
+pub ends : (p : Program) (rows : List TableRows) (b : Bool) (tables given : List Application) (f g : Effect) (way : Way) (old new : Registers) → Runs p rows b tables f → Suits p b (held old)
     → given ≡ tables → g ≡ f → ran way (held new) ≡ g given (held old) → Ends p rows b old new
 ends p rows b tables given f g way old new runs u e d r =
     let is : left (f tables (held old)) ≡ held new = ap left (sym ((r ∙ (λ i. d i (e i) (held old))))) ∙ way_left way (held new) in

@@ -9,8 +9,8 @@ use Rattle.p4_ir.specs.Switch.{p4_run_all, State, state_of, table_numbered, tabl
 use Rattle.p4_code.specs.Held.{Held}
 use Rattle.p4_code.specs.Running.{control_in, running_in}
 use Rattle.p4_code.specs.States.{state_at, Suits}
-use Rattle.p4_steps.specs.Steps.{applied_to, left, Steps}
-use Rattle.p4_steps.specs.declared.steps.Application.{Application}
+use Rattle.p4_steps.specs.Effects.{applied_to, left, Effect}
+use Rattle.p4_steps.specs.declared.codes.Application.{Application}
 use Rattle.p4_run.specs.States.{fields_fit}
 
 -- ---- tables
@@ -40,7 +40,7 @@ listed s = (s.verdict ∷ s.egress_port ∷ s.group ∷ []) ∷ s.meta ∷ s.pac
 abbrev pub held_fits : Program → Held → Bool
 held_fits p h = fields_fit (widths_in (program_layout p)) h.fields && fields_fit (field_widths p.meta) h.meta
 
-abbrev pub Runs : Program → List TableRows → Bool → List Application → Steps → Type 0
+abbrev pub Runs : Program → List TableRows → Bool → List Application → Effect → Type 0
 Runs p rows in_ingress tables f =
     (h : Held) → Suits p in_ingress h
     → (option_map (λ o. listed (state_of o)) (p4_run_all (running_in p rows in_ingress h.own) (control_in p in_ingress).body (state_at (program_layout p) h))

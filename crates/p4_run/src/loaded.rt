@@ -6,12 +6,12 @@ ghost use Rattle.p4_ir.specs.NetOf.{rows_of};
 ghost use Rattle.p4_ir.specs.P4Kinds.{kinds_fit};
 ghost use Rattle.p4_ir.specs.P4Tree.{program_layout};
 ghost use Rattle.p4_ir.specs.Program.{program_of};
-ghost use Rattle.p4_steps.specs.Steps.{step_by, steps_by};
+ghost use Rattle.p4_steps.specs.Effects.{stmt_by, stmts_by};
 ghost use Rattle.std.proofs.Props.{props};
 ghost use Rattle.p4_run.specs.Runs.{Runs};
 
 use p4_ir::{Program, RowsFile};
-use p4_steps::{Application, Step};
+use p4_steps::{Application, StmtCode};
 
 /// A program with its rows, in which nothing but rows is left to be looked up.
 #[derive(Drop)]
@@ -24,14 +24,14 @@ pub struct Loaded {
     /// The tables, in the order of their rows.
     pub(crate) tables: Vec<Application>,
     /// The statements of both controls, resolved.
-    pub(crate) ingress: Vec<Step>,
-    pub(crate) egress: Vec<Step>,
+    pub(crate) ingress: Vec<StmtCode>,
+    pub(crate) egress: Vec<StmtCode>,
     ghost kinds: { IsTrue (kinds_fit (program_of program)) },
     ghost loads: { IsTrue (rows_load (program_of program) (rows_of rows)) },
     ghost widths_are: { widths.items ≡ widths_in (program_layout (program_of program)) },
     ghost bytes_are: { header_bytes ≡ bytes_in (program_layout (program_of program)) },
     ghost ingress_runs: { Runs (program_of program) (rows_of rows).tables true tables.items
-        (steps_by (map step_by ingress.items)) } by { Prim.hlevel props },
+        (stmts_by (map stmt_by ingress.items)) } by { Prim.hlevel props },
     ghost egress_runs: { Runs (program_of program) (rows_of rows).tables false tables.items
-        (steps_by (map step_by egress.items)) } by { Prim.hlevel props },
+        (stmts_by (map stmt_by egress.items)) } by { Prim.hlevel props },
 }

@@ -7,7 +7,7 @@ ghost use Rattle.p4_ir.specs.P4Tree.{program_layout};
 ghost use Rattle.p4_ir.specs.Program.{program_of};
 ghost use Rattle.p4_ir.specs.WellKinded.{WellKinded};
 ghost use Rattle.p4_code.specs.Places.{starts_from};
-ghost use Rattle.p4_steps.specs.Steps.{step_by, steps_by};
+ghost use Rattle.p4_steps.specs.Effects.{stmt_by, stmts_by};
 ghost use Rattle.p4_run.specs.FaultOf.{IsFault};
 ghost use Rattle.p4_run.specs.Faults as faults;
 ghost use Rattle.p4_run.specs.Running.{program_in, rows_in};
@@ -20,7 +20,7 @@ use crate::tables::tables_with;
 use cocoon_num::NoMemory;
 use p4_code::Names;
 use p4_ir::{Program, RowsFile};
-use p4_steps::{Application, Step, all_stepped};
+use p4_steps::{Application, StmtCode, resolved_stmts};
 use std::alloc::Global;
 
 /// The statements of ingress.
@@ -30,13 +30,13 @@ fn ingress_steps(
     rows: &RowsFile,
     starts: &[usize],
     tables: &[Application],
-) -> Result<Vec<Step>, NoMemory>
+) -> Result<Vec<StmtCode>, NoMemory>
     requires kinds { IsTrue (kinds_fit (program_of program.now)) }
     requires loads { IsTrue (rows_load (program_of program.now) (rows_of rows.now)) }
     requires starts { starts.now ≡ starts_from 0 (program_layout (program_of program.now)) }
     requires tables { AreApplied (program_of program.now) (rows_of rows.now).tables tables.now }
     ensures { IfOk result (λ steps. Runs (program_of program.now) (rows_of rows.now).tables true
-        tables.now (steps_by (map step_by steps.items))) }
+        tables.now (stmts_by (map stmt_by steps.items))) }
 {
     let names = Names {
         program,
@@ -44,7 +44,7 @@ fn ingress_steps(
         in_ingress: true,
     };
     let stmts = program.ingress.body.items();
-    all_stepped(alloc, &names, rows.tables.items(), tables, stmts)
+    resolved_stmts(alloc, &names, rows.tables.items(), tables, stmts)
 }
 
 /// The statements of egress.
@@ -54,13 +54,13 @@ fn egress_steps(
     rows: &RowsFile,
     starts: &[usize],
     tables: &[Application],
-) -> Result<Vec<Step>, NoMemory>
+) -> Result<Vec<StmtCode>, NoMemory>
     requires kinds { IsTrue (kinds_fit (program_of program.now)) }
     requires loads { IsTrue (rows_load (program_of program.now) (rows_of rows.now)) }
     requires starts { starts.now ≡ starts_from 0 (program_layout (program_of program.now)) }
     requires tables { AreApplied (program_of program.now) (rows_of rows.now).tables tables.now }
     ensures { IfOk result (λ steps. Runs (program_of program.now) (rows_of rows.now).tables false
-        tables.now (steps_by (map step_by steps.items))) }
+        tables.now (stmts_by (map stmt_by steps.items))) }
 {
     let names = Names {
         program,
@@ -68,7 +68,7 @@ fn egress_steps(
         in_ingress: false,
     };
     let stmts = program.egress.body.items();
-    all_stepped(alloc, &names, rows.tables.items(), tables, stmts)
+    resolved_stmts(alloc, &names, rows.tables.items(), tables, stmts)
 }
 
 /// A program with rows that load, and its tables.

@@ -1,3 +1,3 @@
 pub mod DoingFacts
 pub mod Sizes
-pub mod StepFacts
+pub mod SetFacts

@@ -1,13 +1,13 @@
 -- What statements set.
-use Rattle.std.proofs.Common.{◌≡◌, ℕ, zero, suc, ◌<◌, ◌≤◌, nat_le, Bool, true, if◌then◌else◌, List, [], ◌∷◌, length, map, slice_index, slice_set, refl, ap, ◌∙◌, arith}
+use Rattle.std.proofs.Common.{◌≡◌, ℕ, zero, suc, ◌≤◌, nat_le, Bool, true, if◌then◌else◌, List, [], ◌∷◌, length, slice_index, slice_set, refl, ap, ◌∙◌, arith}
 use Rattle.std.proofs.lemmas.Bool.{le-leb}
 use Rattle.std.proofs.lemmas.List.{length-map}
 use Rattle.flat_rows.specs.Held.{Holds, looked_up}
 use Rattle.flat_rows.specs.Keyed.{keyed}
 use Rattle.p4_ir.specs.P4Tree.{TableRows}
 use Rattle.p4_ir.specs.Switch.{table_result}
-use Rattle.p4_steps.specs.Steps.{applied_to}
-use Rattle.p4_steps.specs.declared.steps.Application.{Application}
+use Rattle.p4_steps.specs.Effects.{applied_to}
+use Rattle.p4_steps.specs.declared.codes.Application.{Application}
 
 -- nothing is set behind the end
 pub set_nothing : (ns : List ℕ) (i n : ℕ) → length ns ≤ i → slice_set ns i n ≡ ns

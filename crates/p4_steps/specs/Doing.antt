@@ -1,4 +1,4 @@
--- Cited by the clauses of stepping, and by what p4_run keeps: resolved statements do what statements of the definitions do.
+-- Cited by the clauses of resolving, and by what p4_run keeps: resolved statements do what statements of the definitions do.
 use Rattle.std.specs.Prelude.{All, ◌≡◌, ℕ, suc, ◌<◌, ◌^◌, ◌==◌, Bool, true, List, [], ◌∷◌, length, if◌then◌else◌, Some, slice_set}
 use Rattle.cocoon_num.specs.Lists.{has_number}
 use Rattle.cocoon_num.specs.Packets.{Layout}
@@ -10,8 +10,8 @@ use Rattle.p4_ir.specs.Switch.{Outcome, p4_run, p4_run_all, proceeds, returned, 
 use Rattle.p4_code.specs.Held.{Held}
 use Rattle.p4_code.specs.Running.{control_in, running_in}
 use Rattle.p4_code.specs.States.{state_at, Suits}
-use Rattle.p4_steps.specs.Steps.{applied_at, ended, goes_on, left, Ran, Steps}
-use Rattle.p4_steps.specs.declared.steps.Application.{Application}
+use Rattle.p4_steps.specs.Effects.{applied_at, Effect, ended, goes_on, left, Ran}
+use Rattle.p4_steps.specs.declared.codes.Application.{Application}
 
 -- the index of a number, or how many there are
 abbrev pub place_of : List ℕ → ℕ → ℕ
@@ -45,18 +45,18 @@ pub record Keeps (p : Program) (in_ingress : Bool) (h : Held) (o : Ran) : Type 0
   pub suits : Suits p in_ingress (left o)
   pub own : (left o).own ≡ h.own
 
-pub record Does (p : Program) (rows : List TableRows) (in_ingress : Bool) (tables : List Application) (s : P4Stmt) (f : Steps) : Type 0 where
+pub record Does (p : Program) (rows : List TableRows) (in_ingress : Bool) (tables : List Application) (s : P4Stmt) (f : Effect) : Type 0 where
   pub outcome : (h : Held) → Suits p in_ingress h
       → p4_run (running_in p rows in_ingress h.own) s (state_at (program_layout p) h) ≡ Some (outcome_at (program_layout p) (f tables h))
   pub keeps : (h : Held) → Suits p in_ingress h → Keeps p in_ingress h (f tables h)
 
-pub record DoesAll (p : Program) (rows : List TableRows) (in_ingress : Bool) (tables : List Application) (block : P4Block) (f : Steps) : Type 0 where
+pub record DoesAll (p : Program) (rows : List TableRows) (in_ingress : Bool) (tables : List Application) (block : P4Block) (f : Effect) : Type 0 where
   pub outcome : (h : Held) → Suits p in_ingress h
       → p4_run_all (running_in p rows in_ingress h.own) block (state_at (program_layout p) h) ≡ Some (outcome_at (program_layout p) (f tables h))
   pub keeps : (h : Held) → Suits p in_ingress h → Keeps p in_ingress h (f tables h)
 
 -- each does what the statement at its place does
-abbrev pub EachDoes : Program → List TableRows → Bool → List Application → List P4Stmt → List Steps → Type 0
+abbrev pub EachDoes : Program → List TableRows → Bool → List Application → List P4Stmt → List Effect → Type 0
 EachDoes p rows in_ingress tables [] [] = Unit {0}
 EachDoes p rows in_ingress tables (s ∷ ss) (f ∷ fs) = Does p rows in_ingress tables s f × EachDoes p rows in_ingress tables ss fs
 EachDoes p rows in_ingress tables _ _ = ⊥

@@ -6,9 +6,9 @@ use Rattle.p4_code.specs.Held.{Held}
 use Rattle.p4_code.specs.Meaning.{number_by, truth_by}
 use Rattle.p4_steps.specs.declared.running.Way.{Way}
 use Rattle.p4_steps.specs.declared.running.Way.TheVariants.{Proceeds, Returned}
-use Rattle.p4_steps.specs.declared.steps.Application.{Application}
-use Rattle.p4_steps.specs.declared.steps.Step.{Step, fold-Step}
-use Rattle.p4_steps.specs.declared.steps.Step.TheOpen.{Step-F}
+use Rattle.p4_steps.specs.declared.codes.Application.{Application}
+use Rattle.p4_steps.specs.declared.codes.StmtCode.{StmtCode, fold-StmtCode}
+use Rattle.p4_steps.specs.declared.codes.StmtCode.TheOpen.{StmtCode-F}
 
 -- a run goes on, or has ended, with what is held then
 pub data Ran : Type 0 where
@@ -37,25 +37,25 @@ abbrev pub applied_at : List Application → ℕ → List ℕ → List ℕ
 applied_at tables i meta = elim (slice_get tables i) [ None ↦ meta | Some a ↦ applied_to a meta ]
 
 -- what a statement makes of what is held, with some tables
-abbrev pub Steps : Type 0
-Steps = List Application → Held → Ran
+abbrev pub Effect : Type 0
+Effect = List Application → Held → Ran
 
 -- statements one after another
-abbrev pub steps_by : List Steps → Steps
-steps_by [] tables h = goes_on h
-steps_by (f ∷ fs) tables h = then_on (f tables h) (steps_by fs tables)
+abbrev pub stmts_by : List Effect → Effect
+stmts_by [] tables h = goes_on h
+stmts_by (f ∷ fs) tables h = then_on (f tables h) (stmts_by fs tables)
 
 -- one level, with each statement inside already seen
-abbrev pub step_step : Step-F Steps → Steps
-step_step (Step-F.SetMeta i n) = λ tables h. goes_on (record h { meta = slice_set h.meta i (number_by n h % 2 ^ 64) })
-step_step (Step-F.SetField i n) = λ tables h. goes_on (record h { fields = slice_set h.fields i (number_by n h % 2 ^ 64) })
-step_step (Step-F.Apply i) = λ tables h. goes_on (record h { meta = applied_at tables i h.meta })
-step_step (Step-F.If t first) = λ tables h. if truth_by t h then steps_by first.items tables h else goes_on h
-step_step (Step-F.IfElse t first second) = λ tables h. if truth_by t h then steps_by first.items tables h else steps_by second.items tables h
-step_step (Step-F.Verdict n) = λ tables h. goes_on (record h { verdict = n })
-step_step (Step-F.EgressPort n) = λ tables h. goes_on (record h { egress_port = number_by n h % 2 ^ 16 })
-step_step (Step-F.Group n) = λ tables h. goes_on (record h { group = number_by n h % 2 ^ 16 })
-step_step Step-F.Return = λ tables h. ended h
+abbrev pub effect_step : StmtCode-F Effect → Effect
+effect_step (StmtCode-F.SetMeta i n) = λ tables h. goes_on (record h { meta = slice_set h.meta i (number_by n h % 2 ^ 64) })
+effect_step (StmtCode-F.SetField i n) = λ tables h. goes_on (record h { fields = slice_set h.fields i (number_by n h % 2 ^ 64) })
+effect_step (StmtCode-F.Apply i) = λ tables h. goes_on (record h { meta = applied_at tables i h.meta })
+effect_step (StmtCode-F.If t first) = λ tables h. if truth_by t h then stmts_by first.items tables h else goes_on h
+effect_step (StmtCode-F.IfElse t first second) = λ tables h. if truth_by t h then stmts_by first.items tables h else stmts_by second.items tables h
+effect_step (StmtCode-F.Verdict n) = λ tables h. goes_on (record h { verdict = n })
+effect_step (StmtCode-F.EgressPort n) = λ tables h. goes_on (record h { egress_port = number_by n h % 2 ^ 16 })
+effect_step (StmtCode-F.Group n) = λ tables h. goes_on (record h { group = number_by n h % 2 ^ 16 })
+effect_step StmtCode-F.Return = λ tables h. ended h
 
-abbrev pub step_by : Step → Steps
-step_by = fold-Step Steps step_step
+abbrev pub stmt_by : StmtCode → Effect
+stmt_by = fold-StmtCode Effect effect_step

@@ -1,2 +1,2 @@
 pub mod Doing
-pub mod Steps
+pub mod Effects

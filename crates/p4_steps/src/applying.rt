@@ -3,9 +3,9 @@ ghost use Rattle.std.specs.Prelude.{All, ◌≡◌, ◌<◌, IfOk, length, List,
 ghost use Rattle.flat_rows.specs.Keyed.{HasKeys, keyed};
 ghost use Rattle.p4_ir.specs.NetOf.{key_row_of};
 ghost use Rattle.p4_ir.specs.Switch.{table_result};
-ghost use Rattle.p4_steps.specs.Steps.{applied_to};
+ghost use Rattle.p4_steps.specs.Effects.{applied_to};
 
-use crate::steps::Application;
+use crate::codes::Application;
 use cocoon_num::NoMemory;
 use flat_rows::FlatRows;
 use p4_ir::{Table, TableRows};

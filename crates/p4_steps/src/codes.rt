@@ -21,14 +21,14 @@ pub struct Application {
 
 /// A statement, in which nothing but rows is left to be looked up.
 #[derive(Drop)]
-pub enum Step {
+pub enum StmtCode {
     SetMeta(usize, NumberCode),
     /// A field, by its index among those of all headers.
     SetField(usize, NumberCode),
     /// A table, by its index among those that are given.
     Apply(usize),
-    If(TruthCode, Vec<Step>),
-    IfElse(TruthCode, Vec<Step>, Vec<Step>),
+    If(TruthCode, Vec<StmtCode>),
+    IfElse(TruthCode, Vec<StmtCode>, Vec<StmtCode>),
     Verdict(u8),
     EgressPort(NumberCode),
     Group(NumberCode),

@@ -3,10 +3,10 @@
 #![tactic(auto)]
 
 pub mod applying;
+pub mod codes;
+pub mod resolving;
 pub mod running;
-pub mod stepping;
-pub mod steps;
 
+pub use codes::{Application, StmtCode};
+pub use resolving::{resolved_stmts, rows_place};
 pub use running::{Way, run_all};
-pub use stepping::{all_stepped, rows_place};
-pub use steps::{Application, Step};

@@ -7,9 +7,9 @@ ghost use Rattle.p4_ir.specs.Program.{block_of, stmt_of};
 ghost use Rattle.p4_steps.specs.Doing.{AreTables, Does, DoesAll, place_of};
 ghost use Rattle.p4_code.specs.Resolving.{AreNames, program_at};
 ghost use Rattle.p4_code.specs.Running.{within_in};
-ghost use Rattle.p4_steps.specs.Steps.{step_by, steps_by};
+ghost use Rattle.p4_steps.specs.Effects.{stmt_by, stmts_by};
 
-use crate::steps::{Application, Step};
+use crate::codes::{Application, StmtCode};
 use cocoon_num::NoMemory;
 use p4_code::{Names, field_place, resolved_number, resolved_truth};
 use p4_ir::{P4Stmt, TableRows};
@@ -28,72 +28,74 @@ pub fn rows_place(rows: &[TableRows], number: u32) -> usize
 }
 
 /// A statement.
-#[cycle(step)]
-fn stepped(
+#[cycle(resolve)]
+fn resolved_stmt(
     alloc: Global,
     names: &Names,
     rows: &[TableRows],
     tables: &[Application],
     stmt: &P4Stmt,
-) -> Result<Step, NoMemory>
+) -> Result<StmtCode, NoMemory>
     requires names { AreNames names.now }
     requires tables { AreTables (program_at names.now) (map table_rows_of rows.now)
         names.now.in_ingress tables.now }
     requires kinds { IsTrue (stmt_fits (within_in (program_at names.now) names.now.in_ingress)
         (stmt_of stmt.now)) }
-    ensures { IfOk result (λ step. Does (program_at names.now) (map table_rows_of rows.now)
-        names.now.in_ingress tables.now (stmt_of stmt.now) (step_by step)) }
+    ensures { IfOk result (λ code. Does (program_at names.now) (map table_rows_of rows.now)
+        names.now.in_ingress tables.now (stmt_of stmt.now) (stmt_by code)) }
 {
     match stmt {
         P4Stmt::SetMeta(index, value) => {
             let code = resolved_number(alloc, names, value)?;
-            Ok(Step::SetMeta(*index as usize, code))
+            Ok(StmtCode::SetMeta(*index as usize, code))
         }
         P4Stmt::SetField(header, field, value) => {
             let place = field_place(names, *header, *field)?;
             let code = resolved_number(alloc, names, value)?;
-            Ok(Step::SetField(place, code))
+            Ok(StmtCode::SetField(place, code))
         }
-        P4Stmt::Apply(number) => Ok(Step::Apply(rows_place(rows, *number))),
+        P4Stmt::Apply(number) => Ok(StmtCode::Apply(rows_place(rows, *number))),
         P4Stmt::If(condition, first) => {
             let code = resolved_truth(alloc, names, condition)?;
-            let first = all_stepped(alloc, names, rows, tables, first)?;
-            Ok(Step::If(code, first))
+            let first = resolved_stmts(alloc, names, rows, tables, first)?;
+            Ok(StmtCode::If(code, first))
         }
         P4Stmt::IfElse(condition, first, second) => {
             let code = resolved_truth(alloc, names, condition)?;
-            let first = all_stepped(alloc, names, rows, tables, first)?;
-            let second = all_stepped(alloc, names, rows, tables, second)?;
-            Ok(Step::IfElse(code, first, second))
+            let first = resolved_stmts(alloc, names, rows, tables, first)?;
+            let second = resolved_stmts(alloc, names, rows, tables, second)?;
+            Ok(StmtCode::IfElse(code, first, second))
         }
-        P4Stmt::Verdict(verdict) => Ok(Step::Verdict(*verdict)),
-        P4Stmt::EgressPort(value) => { Ok(Step::EgressPort(resolved_number(alloc, names, value)?)) }
-        P4Stmt::Group(value) => Ok(Step::Group(resolved_number(alloc, names, value)?)),
-        P4Stmt::Return => Ok(Step::Return),
+        P4Stmt::Verdict(verdict) => Ok(StmtCode::Verdict(*verdict)),
+        P4Stmt::EgressPort(value) => {
+            Ok(StmtCode::EgressPort(resolved_number(alloc, names, value)?))
+        }
+        P4Stmt::Group(value) => Ok(StmtCode::Group(resolved_number(alloc, names, value)?)),
+        P4Stmt::Return => Ok(StmtCode::Return),
     }
 }
 
 /// Statements one after another. The tables are those of the rows, at the same places.
-#[cycle(step)]
-pub fn all_stepped(
+#[cycle(resolve)]
+pub fn resolved_stmts(
     alloc: Global,
     names: &Names,
     rows: &[TableRows],
     tables: &[Application],
     stmts: &[P4Stmt],
-) -> Result<Vec<Step>, NoMemory>
+) -> Result<Vec<StmtCode>, NoMemory>
     requires names { AreNames names.now }
     requires tables { AreTables (program_at names.now) (map table_rows_of rows.now)
         names.now.in_ingress tables.now }
     requires kinds { IsTrue (block_fits (within_in (program_at names.now) names.now.in_ingress)
         (block_of (map stmt_of stmts.now))) }
-    ensures { IfOk result (λ steps. DoesAll (program_at names.now) (map table_rows_of rows.now)
+    ensures { IfOk result (λ codes. DoesAll (program_at names.now) (map table_rows_of rows.now)
         names.now.in_ingress tables.now (block_of (map stmt_of stmts.now))
-        (steps_by (map step_by steps.items))) }
+        (stmts_by (map stmt_by codes.items))) }
 {
-    let mut steps = Vec::new(alloc);
+    let mut codes = Vec::new(alloc);
     for stmt in stmts {
-        steps.push(stepped(alloc, names, rows, tables, stmt)?)?;
+        codes.push(resolved_stmt(alloc, names, rows, tables, stmt)?)?;
     }
-    Ok(steps)
+    Ok(codes)
 }

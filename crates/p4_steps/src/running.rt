@@ -1,10 +1,11 @@
 //! Resolved statements, run one after another.
-ghost use Rattle.std.specs.Prelude.{◌≡◌, ◌%◌, ◌^◌, map, slice_set};
+ghost use Rattle.std.specs.Prelude.{◌≡◌, ◌%◌, ◌^◌, if◌then◌else◌, map, slice_set};
 ghost use Rattle.p4_code.specs.Held.{held};
-ghost use Rattle.p4_steps.specs.Steps.{applied_at, applied_to, ran, step_by, steps_by};
+ghost use Rattle.p4_code.specs.Meaning.{truth_by};
+ghost use Rattle.p4_steps.specs.Effects.{applied_at, applied_to, goes_on, ran, stmt_by, stmts_by};
 
-use crate::steps::{Application, Step};
-use p4_code::{Registers, number, truth};
+use crate::codes::{Application, StmtCode};
+use p4_code::{Registers, TruthCode, number, truth};
 
 /// How statements end.
 #[derive(Clone, Copy, Drop)]
@@ -15,7 +16,7 @@ pub enum Way {
 
 /// Sets the number at an index, where there is one.
 #[inline(always)]
-#[tactic(auto, using(crate::proofs::StepFacts::set_nothing))]
+#[tactic(auto, using(crate::proofs::SetFacts::set_nothing))]
 fn set(numbers: &mut [u64], index: usize, number: u64)
     ensures { numbers.new ≡ slice_set numbers.old index number }
 {
@@ -61,66 +62,80 @@ fn apply_at(meta: &mut [u64], tables: &[Application], index: usize)
 
 /// Runs a statement.
 #[cycle(run)]
-fn run(registers: &mut Registers, tables: &[Application], step: &Step) -> Way
-    ensures { ran result (held registers.new) ≡ step_by step.now tables.now
+fn run(registers: &mut Registers, tables: &[Application], stmt: &StmtCode) -> Way
+    ensures { ran result (held registers.new) ≡ stmt_by stmt.now tables.now
         (held registers.old) }
 {
-    match step {
-        Step::SetMeta(index, code) => {
+    match stmt {
+        StmtCode::SetMeta(index, code) => {
             let value = number(code, registers);
             set(&mut registers.meta, *index, low(value));
             Way::Proceeds
         }
-        Step::SetField(index, code) => {
+        StmtCode::SetField(index, code) => {
             let value = number(code, registers);
             set(&mut registers.fields, *index, low(value));
             Way::Proceeds
         }
-        Step::Apply(index) => {
+        StmtCode::Apply(index) => {
             apply_at(&mut registers.meta, tables, *index);
             Way::Proceeds
         }
-        Step::If(condition, first) => {
-            if truth(condition, registers) {
-                run_all(registers, tables, first)
-            } else {
-                Way::Proceeds
-            }
-        }
-        Step::IfElse(condition, first, second) => {
+        StmtCode::If(condition, first) => run_if(registers, tables, first, condition),
+        StmtCode::IfElse(condition, first, second) => {
             if truth(condition, registers) {
                 run_all(registers, tables, first)
             } else {
                 run_all(registers, tables, second)
             }
         }
-        Step::Verdict(verdict) => {
+        StmtCode::Verdict(verdict) => {
             registers.verdict = *verdict;
             Way::Proceeds
         }
-        Step::EgressPort(code) => {
+        StmtCode::EgressPort(code) => {
             registers.egress_port = lowest(number(code, registers));
             Way::Proceeds
         }
-        Step::Group(code) => {
+        StmtCode::Group(code) => {
             registers.group = lowest(number(code, registers));
             Way::Proceeds
         }
-        Step::Return => Way::Returned,
+        StmtCode::Return => Way::Returned,
     }
 }
 
 /// Runs statements one after another, until one returns.
 #[cycle(run)]
-pub fn run_all(registers: &mut Registers, tables: &[Application], steps: &[Step]) -> Way
+pub fn run_all(registers: &mut Registers, tables: &[Application], stmts: &[StmtCode]) -> Way
     ensures { ran result (held registers.new)
-        ≡ steps_by (map step_by steps.now) tables.now (held registers.old) }
+        ≡ stmts_by (map stmt_by stmts.now) tables.now (held registers.old) }
 {
-    for step in steps {
-        match run(registers, tables, step) {
+    for stmt in stmts {
+        match run(registers, tables, stmt) {
             Way::Proceeds => {}
             Way::Returned => return Way::Returned,
         }
     }
     Way::Proceeds
+}
+
+/// Runs statements where a condition holds.
+#[cycle(run)]
+#[inline(always)]
+fn run_if(
+    registers: &mut Registers,
+    tables: &[Application],
+    stmts: &[StmtCode],
+    condition: &TruthCode,
+) -> Way
+    ensures { ran result (held registers.new) ≡ if truth_by condition.now (held registers.old)
+        then stmts_by (map stmt_by stmts.now) tables.now (held registers.old)
+        else goes_on (held registers.old) }
+{
+    if truth(condition, registers) {
+        run_all(registers, tables, stmts)
+    } else {
+        Way::Proceeds
+    }
 }

@@ -5,23 +5,23 @@ use Rattle.p4_ir.specs.P4Kinds.{block_fits}
 use Rattle.p4_ir.specs.Program.{block_of, program_of, stmt_of}
 use Rattle.p4_code.specs.Running.{within_in}
 use Rattle.p4_steps.specs.Doing.{AreTables, DoesAll}
-use Rattle.p4_steps.specs.Steps.{step_by, steps_by}
+use Rattle.p4_steps.specs.Effects.{stmt_by, stmts_by}
 use Rattle.p4_run.proofs.AppliedTables.{are_tables}
 use Rattle.p4_run.proofs.RunFacts.{runs_of}
 use Rattle.p4_run.proofs.TableFacts.{kinds_of}
 use Rattle.p4_run.proofs.loading.ingress_steps.Goals as goal
 
-pub all_stepped-requires-clause-names : goal.all_stepped-requires-clause-names
-all_stepped-requires-clause-names c = record { widths = (kinds_of (program_of c.args.program.now) c.requires.kinds).widths; starts = c.requires.starts }
+pub resolved_stmts-requires-clause-names : goal.resolved_stmts-requires-clause-names
+resolved_stmts-requires-clause-names c = record { widths = (kinds_of (program_of c.args.program.now) c.requires.kinds).widths; starts = c.requires.starts }
 
-pub all_stepped-requires-clause-tables : goal.all_stepped-requires-clause-tables
-all_stepped-requires-clause-tables c =
+pub resolved_stmts-requires-clause-tables : goal.resolved_stmts-requires-clause-tables
+resolved_stmts-requires-clause-tables c =
     let p = program_of c.args.program.now in
     subst (λ ts. AreTables p (map table_rows_of ts) true c.args.tables.now) (sym c.items.ensures)
     (are_tables p (rows_of c.args.rows.now) true c.args.tables.now c.requires.kinds c.requires.loads c.requires.tables)
 
-pub all_stepped-requires-clause-kinds : goal.all_stepped-requires-clause-kinds
-all_stepped-requires-clause-kinds c =
+pub resolved_stmts-requires-clause-kinds : goal.resolved_stmts-requires-clause-kinds
+resolved_stmts-requires-clause-kinds c =
     let p = program_of c.args.program.now in
     subst (λ ss. IsTrue (block_fits (within_in p true) (block_of (map stmt_of ss)))) (sym c.items-stmts.ensures) ((kinds_of p c.requires.kinds).body true)
 
@@ -29,10 +29,10 @@ pub returns : goal.returns
 returns c =
     let p = program_of c.args.program.now in
     let tables = c.args.tables.now in
-    IfOk-weaker c.all_stepped.result _ _
+    IfOk-weaker c.resolved_stmts.result _ _
     (λ steps d.
-    let f = steps_by (map step_by steps.items) in
+    let f = stmts_by (map stmt_by steps.items) in
     runs_of p (rows_of c.args.rows.now).tables true tables f
     (subst (λ ts. DoesAll p (map table_rows_of ts) true tables p.ingress.body f) c.items.ensures
     (subst (λ ss. DoesAll p (map table_rows_of c.items.result.now) true tables (block_of (map stmt_of ss)) f) c.items-stmts.ensures d)))
-    c.all_stepped.ensures
+    c.resolved_stmts.ensures

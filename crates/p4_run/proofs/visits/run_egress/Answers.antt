@@ -1,7 +1,7 @@
 use Rattle.std.proofs.Common.{◌≡◌, ◌<◌, ◌^◌, false, map, rules, ap}
 use Rattle.p4_code.specs.Held.{held}
 use Rattle.p4_code.specs.States.{Suits}
-use Rattle.p4_steps.specs.Steps.{step_by, steps_by}
+use Rattle.p4_steps.specs.Effects.{stmt_by, stmts_by}
 use Rattle.p4_run.specs.Running.{program_in, rows_in}
 use Rattle.p4_run.proofs.RunFacts.{Ends, ends}
 use Rattle.p4_run.proofs.visits.run_egress.Goals as goal
@@ -12,8 +12,8 @@ returns-clause-fit c =
     let own : c.args.registers.now.own < 2 ^ 64 = c.requires.own in
     let suits : Suits (program_in l) false (held c.args.registers.now) = record { fields = c.requires.fit.fields; meta = c.requires.fit.meta; own = own } in
     let all : Ends (program_in l) (rows_in l).tables false c.args.registers.now c.run_all.new.registers =
-    ends (program_in l) (rows_in l).tables false l.tables.items c.deref.result.now (steps_by (map step_by l.egress.items)) (steps_by (map step_by c.deref-2.result.now)) c.run_all.result
-    c.args.registers.now c.run_all.new.registers l.egress_runs suits c.deref.ensures.value (ap (λ ss. steps_by (map step_by ss)) c.deref-2.ensures.value) c.run_all.ensures in
+    ends (program_in l) (rows_in l).tables false l.tables.items c.deref.result.now (stmts_by (map stmt_by l.egress.items)) (stmts_by (map stmt_by c.deref-2.result.now)) c.run_all.result
+    c.args.registers.now c.run_all.new.registers l.egress_runs suits c.deref.ensures.value (ap (λ ss. stmts_by (map stmt_by ss)) c.deref-2.ensures.value) c.run_all.ensures in
     all.fit
 
 pub returns-clause-left : goal.returns-clause-left
@@ -22,6 +22,6 @@ returns-clause-left c =
     let own : c.args.registers.now.own < 2 ^ 64 = c.requires.own in
     let suits : Suits (program_in l) false (held c.args.registers.now) = record { fields = c.requires.fit.fields; meta = c.requires.fit.meta; own = own } in
     let all : Ends (program_in l) (rows_in l).tables false c.args.registers.now c.run_all.new.registers =
-    ends (program_in l) (rows_in l).tables false l.tables.items c.deref.result.now (steps_by (map step_by l.egress.items)) (steps_by (map step_by c.deref-2.result.now)) c.run_all.result
-    c.args.registers.now c.run_all.new.registers l.egress_runs suits c.deref.ensures.value (ap (λ ss. steps_by (map step_by ss)) c.deref-2.ensures.value) c.run_all.ensures in
+    ends (program_in l) (rows_in l).tables false l.tables.items c.deref.result.now (stmts_by (map stmt_by l.egress.items)) (stmts_by (map stmt_by c.deref-2.result.now)) c.run_all.result
+    c.args.registers.now c.run_all.new.registers l.egress_runs suits c.deref.ensures.value (ap (λ ss. stmts_by (map stmt_by ss)) c.deref-2.ensures.value) c.run_all.ensures in
     all.left_is

@@ -5,18 +5,18 @@ use Rattle.p4_ir.specs.Program.{block_of, stmt_of}
 use Rattle.p4_steps.specs.Doing.{EachDoes}
 use Rattle.p4_code.specs.Resolving.{program_at}
 use Rattle.p4_code.specs.Running.{within_in}
-use Rattle.p4_steps.specs.Steps.{step_by}
+use Rattle.p4_steps.specs.Effects.{stmt_by}
 use Rattle.p4_steps.proofs.Sizes.{block_size, stmt_size}
-use Rattle.p4_steps.proofs.stepping.+step.Given as goal
+use Rattle.p4_steps.proofs.resolving.+resolve.Given as goal
 
-abbrev pub decreases-stepped : goal.decreases-stepped
-decreases-stepped l = 2 * stmt_size (stmt_of l.stmt.now)
+abbrev pub decreases-resolved_stmt : goal.decreases-resolved_stmt
+decreases-resolved_stmt l = 2 * stmt_size (stmt_of l.stmt.now)
 
-abbrev pub decreases-all_stepped : goal.decreases-all_stepped
-decreases-all_stepped l = 2 * block_size (block_of (map stmt_of l.stmts.now)) + 1
+abbrev pub decreases-resolved_stmts : goal.decreases-resolved_stmts
+decreases-resolved_stmts l = 2 * block_size (block_of (map stmt_of l.stmts.now)) + 1
 
-abbrev pub invariant-all_stepped-loop-stmt : goal.invariant-all_stepped-loop-stmt
-invariant-all_stepped-loop-stmt l = record {
+abbrev pub invariant-resolved_stmts-loop-stmt : goal.invariant-resolved_stmts-loop-stmt
+invariant-resolved_stmts-loop-stmt l = record {
   kinds : IsTrue (block_fits (within_in (program_at l.names) l.names.in_ingress) (block_of (map stmt_of (drop l.stmt-index l.stmts))));
-  each : EachDoes (program_at l.names) (map table_rows_of l.rows) l.names.in_ingress l.tables (map stmt_of (take l.stmt-index l.stmts)) (map step_by l.steps.items);
+  each : EachDoes (program_at l.names) (map table_rows_of l.rows) l.names.in_ingress l.tables (map stmt_of (take l.stmt-index l.stmts)) (map stmt_by l.codes.items);
 }
