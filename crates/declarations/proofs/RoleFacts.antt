@@ -83,10 +83,10 @@ last : {X : Type 0} (xs : List X) (x : X) → slice_get (xs ++ x ∷ []) (length
 last [] x = refl
 last (y ∷ xs) x = last xs x
 
-front : {X : Type 0} (xs : List X) (x : X) (i : ℕ) → i < length xs → slice_get (xs ++ x ∷ []) i ≡ slice_get xs i
-front [] x i l = absurd (omega arith)
-front (y ∷ xs) x zero l = refl
-front (y ∷ xs) x (suc i) l = front xs x i (omega arith)
+in_prefix : {X : Type 0} (xs : List X) (x : X) (i : ℕ) → i < length xs → slice_get (xs ++ x ∷ []) i ≡ slice_get xs i
+in_prefix [] x i l = absurd (omega arith)
+in_prefix (y ∷ xs) x zero l = refl
+in_prefix (y ∷ xs) x (suc i) l = in_prefix xs x i (omega arith)
 
 -- a role that is not there
 pub role-new : (old new : RoleTable) (ps : List Placed) (p : Place) (r : Role) → HoldsRoles old ps
@@ -111,7 +111,7 @@ role-new old new ps p r h none adds = record {
     other x None n = refl
     other x (Some j) n =
         let within : j < length (firsts (role_texts (decls_by as_role ps))) = slice_get_within _ j x (index-at x _ j n) in
-        ap (λ o. option_map_or (λ (v : Vec Place Global). v.items) o []) (ap (λ l. slice_get l j) adds.places ∙ front old.places.items adds.list j (omega (arith, h.count)))
+        ap (λ o. option_map_or (λ (v : Vec Place Global). v.items) o []) (ap (λ l. slice_get l j) adds.places ∙ in_prefix old.places.items adds.list j (omega (arith, h.count)))
 
     by : (x : List ℕ) (b : Bool) → same_name x r.name.text ≡ b
         → option_map_or (places_at new) (number_of new.names x) [] ≡ places_by (role_called x) ps ++ (if same_name x r.name.text then p ∷ [] else [])

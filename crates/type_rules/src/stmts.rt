@@ -86,7 +86,7 @@ fn note_stmt(
     )
 }
 
-/// Notes the faults of a fork, and of its condition and its block, where its variable is in scope.
+/// Notes the faults of a fork, and of its condition and its block, where its variable is in scope. A fork ends.
 #[cycle(stmts)]
 fn note_fork_and_block(
     alloc: Global,
@@ -100,9 +100,10 @@ fn note_fork_and_block(
     body: &[Stmt],
     condition: &Expr,
     noted: &mut Noted,
-) -> Result<(), NoMemory>
+) -> Result<bool, NoMemory>
     requires { Declares names.now (design_of design.now) }
     ensures vars { OnOk result (vars.new ≡ vars.old) }
+    ensures ends { IfOk result (λ ends. ends ≡ true) }
     ensures noted { (w : Around) → OnOk result (Notes
         (in_stmt (scope_of w (design_of design.now) vars.old true) ended
         (tree.fork at (name_of name.now) width (expr_of condition.now)
@@ -116,7 +117,7 @@ fn note_fork_and_block(
     note_fork(at, ended, name, width, condition, noted);
     note_block(alloc, names, design, vars, body, noted)?;
     vars.close(depth)?;
-    Ok(())
+    Ok(true)
 }
 
 #[cycle(stmts)]
@@ -169,12 +170,9 @@ fn note_stmt_kind(
             note_havoc_field(at, ended, noted);
             Ok(false)
         }
-        StmtKind::Fork(name, width, condition, body) => {
-            note_fork_and_block(
-                alloc, names, design, vars, at, ended, name, *width, body, condition, noted,
-            )?;
-            Ok(true)
-        }
+        StmtKind::Fork(name, width, condition, body) => note_fork_and_block(
+            alloc, names, design, vars, at, ended, name, *width, body, condition, noted,
+        ),
         StmtKind::Send(role, args) => {
             note_send_and_values(names, design, vars, at, ended, role, args, noted);
             Ok(true)

@@ -1,4 +1,4 @@
-use Rattle.std.proofs.Common.{true, false, ◌≡◌, ◌<◌, ◌+◌, [], length, map, drop, rules, sym, subst}
+use Rattle.std.proofs.Common.{true, false, ◌≡◌, ◌<◌, ◌+◌, [], OnOk, length, map, drop, rules, sym, subst}
 use Rattle.cocoon_num.specs.Tree.{Stmt, let_, set_field, if_, havoc_var, havoc_field, fork, send}
 use Rattle.cocoon_syntax.specs.TreeOf.{block_of, design_of, expr_of, exprs_of, name_of, stmt_kind_of, stmt_of}
 use Rattle.cocoon_syntax.specs.declared.stmt.StmtKind as kinds
@@ -89,11 +89,11 @@ note_stmt_kind-returns-in-HavocField-clause-noted t c = λ w.
 pub note_stmt_kind-note_fork_and_block-requires : goal.note_stmt_kind-note_fork_and_block-requires
 note_stmt_kind-note_fork_and_block-requires t c = (search (rules, kinds.the_lemmas), c.requires)
 
-pub note_stmt_kind-returns-in_ok-note_fork_and_block-in-Fork-clause-noted : goal.note_stmt_kind-returns-in_ok-note_fork_and_block-in-Fork-clause-noted
-note_stmt_kind-returns-in_ok-note_fork_and_block-in-Fork-clause-noted t c = λ w.
+pub note_stmt_kind-returns-in-Fork-clause-noted : goal.note_stmt_kind-returns-in-Fork-clause-noted
+note_stmt_kind-returns-in-Fork-clause-noted t c = λ w.
     let s = scope_of w (design_of c.args.design.now) c.args.vars.now true in
     let is : stmt_kind_of c.args.kind.now c.args.at ≡ fork c.args.at (name_of c.in-Fork.name) c.in-Fork.width (expr_of c.in-Fork.condition) (block_of (map stmt_of c.deref-in-Fork.result.now)) = search (rules, kinds.the_lemmas) in
-    subst (λ (z : Stmt). Notes (in_stmt s c.args.ended z) c.args.noted.now c.note_fork_and_block.new.noted) (sym is) (c.in_ok-note_fork_and_block-in-Fork.ensures.noted w)
+    subst (λ (z : Stmt). OnOk c.note_fork_and_block.result (Notes (in_stmt s c.args.ended z) c.args.noted.now c.note_fork_and_block.new.noted)) (sym is) (c.note_fork_and_block.ensures.noted w)
 
 pub note_stmt_kind-returns-in-Send-clause-noted : goal.note_stmt_kind-returns-in-Send-clause-noted
 note_stmt_kind-returns-in-Send-clause-noted t c = λ w.
