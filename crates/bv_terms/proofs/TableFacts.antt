@@ -13,7 +13,7 @@ use Rattle.cocoon_num.specs.declared.bits.Bits.{Bits}
 use Rattle.cocoon_num.specs.declared.fun_table.FunRow.{FunRow}
 use Rattle.cocoon_num.specs.declared.fun_table.FunTable.{FunTable}
 use Rattle.bv_terms.specs.declared.eval.Env.{Env}
-use Rattle.bv_terms.specs.Environments.{table_of, functions_of, HasTable, RowFits, TableFits}
+use Rattle.bv_terms.specs.Environments.{function_table, functions_of, HasTable, RowFits, TableFits}
 
 match-width : (xs : List ℕ) (n w : ℕ) (rows : List FunRow) (otherwise : Bits) → AllByRecursion (RowFits n w) rows → otherwise.width ≡ w
     → (first_match (row_fits xs) (λ (row : FunRow). row.result) rows otherwise).width ≡ w
@@ -36,7 +36,7 @@ table-within (o ∷ tables) (suc f) t e = let l = table-within tables f t e in o
 pub looked-value : (env : Env) (f : ℕ) (widths xs : List ℕ) (w : ℕ) (t : FunTable) → HasTable env f widths w → slice_get env.tables f ≡ Some (Some t)
     → value_of (looked t xs) ≡ number w (functions_of env f xs)
 looked-value env f widths xs w t h e =
-    let there : table_of env f ≡ Some t = ap (option_and_then (λ (o : Option FunTable). o)) e in
+    let there : function_table env f ≡ Some t = ap (option_and_then (λ (o : Option FunTable). o)) e in
     let same : h.0 ≡ t = (let p : Some h.0 ≡ Some t = sym h.1 ∙ there in cc) in
     let fits : TableFits t widths w = subst (λ (u : FunTable). TableFits u widths w) same h.2 in
     let value : (looked t xs).value ≡ functions_of env f xs = ap (λ (o : Option FunTable). unwrap_or (option_map (λ (u : FunTable). (looked u xs).value) o) 0) (sym there) in

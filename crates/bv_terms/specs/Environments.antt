@@ -14,11 +14,11 @@ use Rattle.bv_terms.specs.TermValues.{Inputs, Functions}
 abbrev pub inputs_of : Env → Inputs
 inputs_of env i = unwrap_or (option_map (λ (b : Bits). b.value) (slice_get env.inputs i)) 0
 
-abbrev pub table_of : Env → ℕ → Option FunTable
-table_of env f = option_and_then (λ t. t) (slice_get env.tables f)
+abbrev pub function_table : Env → ℕ → Option FunTable
+function_table env f = option_and_then (λ t. t) (slice_get env.tables f)
 
 abbrev pub functions_of : Env → Functions
-functions_of env f xs = unwrap_or (option_map (λ t. (looked t xs).value) (table_of env f)) 0
+functions_of env f xs = unwrap_or (option_map (λ t. (looked t xs).value) (function_table env f)) 0
 
 -- ---- what it must have
 
@@ -35,7 +35,7 @@ pub record TableFits (t : FunTable) (widths : List ℕ) (w : ℕ) : Type 0 where
   pub otherwise : t.default.width ≡ w
 
 abbrev pub HasTable : Env → ℕ → List ℕ → ℕ → Type 0
-HasTable env f widths w = (t : FunTable) × (table_of env f ≡ Some t) × TableFits t widths w
+HasTable env f widths w = (t : FunTable) × (function_table env f ≡ Some t) × TableFits t widths w
 
 abbrev mutual
   -- each input of the term with its width, and a table for each function that it applies
