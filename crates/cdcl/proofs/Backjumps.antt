@@ -5,7 +5,7 @@ use Rattle.cnf_core.specs.Licensing.{IsNew}
 use Rattle.cnf_core.specs.Literals.{opposite}
 use Rattle.cnf_core.specs.Trails.{AllNamed, IsApart, WeighsAs}
 use Rattle.cnf_core.specs.declared.weight.Weight.TheVariants.{Open}
-use Rattle.cdcl.specs.Marks.{count_from, is_marked, kept}
+use Rattle.cdcl.specs.Marks.{count_from, is_marked, marked_literals}
 use Rattle.cdcl.specs.Searching.{IsClosed}
 use Rattle.cdcl.proofs.Counting.{OneMarked, one-marked}
 use Rattle.cdcl.proofs.LearnedClauses.{learned-new, learned-open}
@@ -25,11 +25,11 @@ module _ (cs : List (List ℤ)) (ts : List ℤ) (apart : IsApart ts) (vars : ℕ
     | inr above ↦ inl (last.only p above (omega (arith, lt, sized)) on)
   ]
 
-  pub back-new : (cut : ℕ) → second ≤ cut → cut ≤ floor → IsClosed cs (take cut ts) → IsNew cs (map opposite (kept marks ts))
+  pub back-new : (cut : ℕ) → second ≤ cut → cut ≤ floor → IsClosed cs (take cut ts) → IsNew cs (map opposite (marked_literals marks ts))
   back-new cut le above closed = learned-new cs ts apart vars named marks last.place second (omega (arith, last.within, sized)) last.marked others
       cut le (omega (arith, above, last.above)) closed
 
-  pub back-open : ((p : ℕ) → second ≡ p + 1 → is_marked marks p ≡ true) → (s : ℕ) → s < second → WeighsAs (take s ts) (map opposite (kept marks ts)) Open
+  pub back-open : ((p : ℕ) → second ≡ p + 1 → is_marked marks p ≡ true) → (s : ℕ) → s < second → WeighsAs (take s ts) (map opposite (marked_literals marks ts)) Open
   back-open marked s lt =
       let w = second - 1 in
       learned-open cs ts apart vars named marks s last.place w (omega (arith, lt, low, last.above)) (omega (arith, lt))

@@ -7,7 +7,7 @@ use Rattle.cnf_core.specs.Deriving.{Refutes, is_conflict, is_false}
 use Rattle.cnf_core.specs.Literals.{has_literal, opposite, same}
 use Rattle.cnf_core.specs.Trails.{AllNamed, IsApart, WeighsAs, literal_at}
 use Rattle.cnf_core.specs.declared.weight.Weight.TheVariants.{Open}
-use Rattle.cdcl.specs.Marks.{MarksToo, Shows, count_from, is_marked, kept}
+use Rattle.cdcl.specs.Marks.{MarksToo, Shows, count_from, is_marked, marked_literals}
 use Rattle.cdcl.proofs.Counting.{count-some}
 use Rattle.cdcl.proofs.Trailing.{at-some}
 use Rattle.cdcl.specs.Searching.{IsClosed, IsForcedBy}
@@ -15,23 +15,23 @@ use Rattle.cdcl.proofs.Membership.{each-from, each-has, forced-from, forced-part
 
 -- ---- the literals that are marked
 
-pub kept-place : (marks : List Bool) (ts : List ℤ) (l : ℤ) → has_literal (kept marks ts) l ≡ true → (p : ℕ) × (p < length ts) × (is_marked marks p ≡ true) × (literal_at ts p ≡ l)
-kept-place [] ts l h = absurd (false≢true h)
-kept-place (true ∷ marks) [] l h = absurd (false≢true h)
-kept-place (false ∷ marks) [] l h = absurd (false≢true h)
-kept-place (true ∷ marks) (t ∷ ts) l h = elim (or_cases (same l t) (has_literal (kept marks ts) l) h) [
+pub marked-place : (marks : List Bool) (ts : List ℤ) (l : ℤ) → has_literal (marked_literals marks ts) l ≡ true → (p : ℕ) × (p < length ts) × (is_marked marks p ≡ true) × (literal_at ts p ≡ l)
+marked-place [] ts l h = absurd (false≢true h)
+marked-place (true ∷ marks) [] l h = absurd (false≢true h)
+marked-place (false ∷ marks) [] l h = absurd (false≢true h)
+marked-place (true ∷ marks) (t ∷ ts) l h = elim (or_cases (same l t) (has_literal (marked_literals marks ts) l) h) [
   | inl e ↦ (0, omega arith, refl, sym (same-is l t e))
-  | inr e ↦ let r = kept-place marks ts l e in (suc r.0, omega (arith, r.1), r.2, r.3)
+  | inr e ↦ let r = marked-place marks ts l e in (suc r.0, omega (arith, r.1), r.2, r.3)
 ]
-kept-place (false ∷ marks) (t ∷ ts) l h = let r = kept-place marks ts l h in (suc r.0, omega (arith, r.1), r.2, r.3)
+marked-place (false ∷ marks) (t ∷ ts) l h = let r = marked-place marks ts l h in (suc r.0, omega (arith, r.1), r.2, r.3)
 
-pub kept-at : (marks : List Bool) (ts : List ℤ) (p : ℕ) → p < length ts → is_marked marks p ≡ true → has_literal (kept marks ts) (literal_at ts p) ≡ true
-kept-at [] ts p lt h = absurd (false≢true h)
-kept-at (b ∷ marks) [] p lt h = absurd (omega (arith, lt))
-kept-at (true ∷ marks) (t ∷ ts) zero lt h = or_left (same t t) (has_literal (kept marks ts) t) (same-same t)
-kept-at (false ∷ marks) (t ∷ ts) zero lt h = absurd (false≢true h)
-kept-at (true ∷ marks) (t ∷ ts) (suc p) lt h = or_right (same (literal_at ts p) t) (has_literal (kept marks ts) (literal_at ts p)) (kept-at marks ts p (omega (arith, lt)) h)
-kept-at (false ∷ marks) (t ∷ ts) (suc p) lt h = kept-at marks ts p (omega (arith, lt)) h
+pub marked-at : (marks : List Bool) (ts : List ℤ) (p : ℕ) → p < length ts → is_marked marks p ≡ true → has_literal (marked_literals marks ts) (literal_at ts p) ≡ true
+marked-at [] ts p lt h = absurd (false≢true h)
+marked-at (b ∷ marks) [] p lt h = absurd (omega (arith, lt))
+marked-at (true ∷ marks) (t ∷ ts) zero lt h = or_left (same t t) (has_literal (marked_literals marks ts) t) (same-same t)
+marked-at (false ∷ marks) (t ∷ ts) zero lt h = absurd (false≢true h)
+marked-at (true ∷ marks) (t ∷ ts) (suc p) lt h = or_right (same (literal_at ts p) t) (has_literal (marked_literals marks ts) (literal_at ts p)) (marked-at marks ts p (omega (arith, lt)) h)
+marked-at (false ∷ marks) (t ∷ ts) (suc p) lt h = marked-at marks ts p (omega (arith, lt)) h
 
 pub opposites-has : (ls : List ℤ) (m : ℤ) → has_literal (map opposite ls) m ≡ true → has_literal ls (opposite m) ≡ true
 opposites-has [] m h = absurd (false≢true h)

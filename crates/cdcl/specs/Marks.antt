@@ -9,10 +9,10 @@ abbrev pub is_marked : List Bool → ℕ → Bool
 is_marked marks p = slice_index_or marks p false
 
 -- the literals at the places that are marked
-abbrev pub kept : List Bool → List ℤ → List ℤ
-kept (true ∷ marks) (t ∷ ts) = t ∷ kept marks ts
-kept (false ∷ marks) (t ∷ ts) = kept marks ts
-kept _ _ = []
+abbrev pub marked_literals : List Bool → List ℤ → List ℤ
+marked_literals (true ∷ marks) (t ∷ ts) = t ∷ marked_literals marks ts
+marked_literals (false ∷ marks) (t ∷ ts) = marked_literals marks ts
+marked_literals _ _ = []
 
 -- the opposite of the literal at this place, if it is marked
 abbrev pub opposite_at : List Bool → List ℤ → ℕ → List ℤ

@@ -8,7 +8,7 @@ ghost use Rattle.cnf_core.specs.Literals.{opposite};
 ghost use Rattle.cnf_core.specs.Satisfying.{WellNamed};
 ghost use Rattle.cnf_core.specs.Trails.{numbers, WeighsAs};
 ghost use Rattle.cnf_core.specs.TrailViews.{trues};
-ghost use Rattle.cdcl.specs.Marks.{kept, opposite_at};
+ghost use Rattle.cdcl.specs.Marks.{marked_literals, opposite_at};
 ghost use Rattle.cdcl.specs.Analyses.{IsSameBut};
 ghost use Rattle.cdcl.specs.Resolving.{Analyzed, IsLevel, IsResolved, MarksClause, MarksNumber};
 ghost use Rattle.cdcl.specs.Searching.{IsConflictAt, IsForcedBy};
@@ -107,7 +107,7 @@ impl Search {
     pub fn learned(&self, alloc: Global, analysis: &Analysis) -> Result<Clause, NoMemory>
         requires { length analysis.now.marks.items ≡ length (trues self.now.trail) }
         ensures { IfOk result (λ clause. literals clause
-            ≡ map opposite (kept analysis.now.marks.items (trues self.now.trail))) }
+            ≡ map opposite (marked_literals analysis.now.marks.items (trues self.now.trail))) }
     {
         let mut lits = Vec::new(alloc);
         for place in 0..self.trail.len() {

@@ -7,7 +7,7 @@ use Rattle.cnf_core.specs.Literals.{opposite}
 use Rattle.cnf_core.specs.Trails.{AllNamed, WeighsAs}
 use Rattle.cnf_core.specs.TrailViews.{trues}
 use Rattle.cnf_core.specs.declared.weight.Weight.TheVariants.{Open}
-use Rattle.cdcl.specs.Marks.{count_from, is_marked, kept}
+use Rattle.cdcl.specs.Marks.{count_from, is_marked, marked_literals}
 use Rattle.cdcl.specs.Searching.{IsClosed}
 use Rattle.cdcl.specs.States.{clauses_of}
 use Rattle.cdcl.proofs.Backjumps.{back-new, back-open}
@@ -40,7 +40,7 @@ go_back-requires-clause-follows c =
     let a = c.in_ok-analysis.analysis in
     let analyzed = c.in_ok-analysis.ensures.analyzed in
     subst (λ ls. Follows cnf.vars cs ls c.in_ok-hints.hints) (sym c.in_ok-clause.ensures)
-    (subst (Follows cnf.vars cs (map opposite (kept a.marks.items ts))) (sym c.in_ok-hints.ensures)
+    (subst (Follows cnf.vars cs (map opposite (marked_literals a.marks.items ts))) (sym c.in_ok-hints.ensures)
     (learned-follows cs ts s.trail.apart cnf.vars (subst (λ v. AllNamed v ts) c.requires.sound.same_room s.trail.named) a.marks.items analyzed.0 a.hints.items analyzed.1.below analyzed.1.shows))
 
 pub go_back-requires-clause-new : goal.go_back-requires-clause-new

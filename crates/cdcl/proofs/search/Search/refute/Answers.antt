@@ -8,11 +8,11 @@ use Rattle.cnf_core.specs.Literals.{opposite}
 use Rattle.cnf_core.specs.Trails.{AllNamed}
 use Rattle.cnf_core.specs.TrailViews.{trues}
 use Rattle.cnf_core.specs.declared.log.Step.{Step}
-use Rattle.cdcl.specs.Marks.{count_from, kept}
+use Rattle.cdcl.specs.Marks.{count_from, marked_literals}
 use Rattle.cdcl.specs.States.{clauses_of}
 use Rattle.cdcl.proofs.Counting.{none-marked}
 use Rattle.cdcl.proofs.Jumping.{derived-push, get-last, new-front}
-use Rattle.cdcl.proofs.LearnedClauses.{kept-none, learned-follows}
+use Rattle.cdcl.proofs.LearnedClauses.{marked-none, learned-follows}
 use Rattle.cdcl.proofs.search.Search.refute.Goals as goal
 
 pub returns : goal.returns
@@ -27,9 +27,9 @@ returns c =
     let step : Step = record { clause = c.in_ok-clause.clause; hints = c.in_ok-hints.hints } in
     let pushed = c.in_ok-push.ensures.items in
     let counted : count_from 0 marks ≡ 0 = ap (λ n. count_from n marks) (sym res.at_floor) ∙ sym a.counted ∙ res.exact in
-    let empty : literals c.in_ok-clause.clause ≡ [] = c.in_ok-clause.ensures ∙ ap (map opposite) (kept-none marks ts (none-marked marks counted)) in
+    let empty : literals c.in_ok-clause.clause ≡ [] = c.in_ok-clause.ensures ∙ ap (map opposite) (marked-none marks ts (none-marked marks counted)) in
     let f = subst (λ ls. Follows cnf.vars cs ls c.in_ok-hints.hints) (sym c.in_ok-clause.ensures)
-    (subst (Follows cnf.vars cs (map opposite (kept marks ts))) (sym c.in_ok-hints.ensures)
+    (subst (Follows cnf.vars cs (map opposite (marked_literals marks ts))) (sym c.in_ok-hints.ensures)
     (learned-follows cs ts s.trail.apart cnf.vars (subst (λ v. AllNamed v ts) c.requires.sound.same_room s.trail.named) marks res.analyzed.0 a.hints.items res.analyzed.1.below res.analyzed.1.shows)) in
     let grown = ap length pushed ∙ length_push s.steps.items step in
     let place : length c.push.new.self.items - 1 ≡ length s.steps.items = omega (arith, grown) in
