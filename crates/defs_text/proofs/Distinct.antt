@@ -51,16 +51,16 @@ none_first : (a b : Bool) → (a || b) ≡ false → a ≡ false
 none_first true b h = absurd cc
 none_first false b h = refl
 
-other_than_seen : (x : List ℕ) (front : List Name) (s : Name) (back : List Name) → has_name x (front ++ s ∷ back) ≡ false → same_name x s.text ≡ false
+other_than_seen : (x : List ℕ) (prefix : List Name) (s : Name) (back : List Name) → has_name x (prefix ++ s ∷ back) ≡ false → same_name x s.text ≡ false
 other_than_seen x [] s back h = none_first (same_name x s.text) (has_name x back) h
-other_than_seen x (n ∷ front) s back h = other_than_seen x front s back (none_left (same_name x n.text) (has_name x (front ++ s ∷ back)) h)
+other_than_seen x (n ∷ prefix) s back h = other_than_seen x prefix s back (none_left (same_name x n.text) (has_name x (prefix ++ s ∷ back)) h)
 
-apart_from : (front : List Name) (s : Name) (back : List Name) (fs : List FunctionDecl) → repeated (front ++ s ∷ back) (map (λ (f : FunctionDecl). f.name) fs) ≡ [] → Apart s.text fs
-apart_from front s back [] h = tt
-apart_from front s back (g ∷ fs) h =
-    let rest = repeated (g.name ∷ (front ++ s ∷ back)) (map (λ (f : FunctionDecl). f.name) fs) in
-    let one = unless_named (not (has_name g.name.text (front ++ s ∷ back))) g.name in
-    (other_than_seen g.name.text front s back (unseen (has_name g.name.text (front ++ s ∷ back)) g.name (nil_left one rest h)), apart_from (g.name ∷ front) s back fs (nil_right one rest h))
+apart_from : (prefix : List Name) (s : Name) (back : List Name) (fs : List FunctionDecl) → repeated (prefix ++ s ∷ back) (map (λ (f : FunctionDecl). f.name) fs) ≡ [] → Apart s.text fs
+apart_from prefix s back [] h = tt
+apart_from prefix s back (g ∷ fs) h =
+    let rest = repeated (g.name ∷ (prefix ++ s ∷ back)) (map (λ (f : FunctionDecl). f.name) fs) in
+    let one = unless_named (not (has_name g.name.text (prefix ++ s ∷ back))) g.name in
+    (other_than_seen g.name.text prefix s back (unseen (has_name g.name.text (prefix ++ s ∷ back)) g.name (nil_left one rest h)), apart_from (g.name ∷ prefix) s back fs (nil_right one rest h))
 
 distinct_from : (seen : List Name) (fs : List FunctionDecl) → repeated seen (map (λ (f : FunctionDecl). f.name) fs) ≡ [] → Distinct fs
 distinct_from seen [] h = tt

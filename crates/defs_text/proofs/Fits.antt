@@ -98,8 +98,8 @@ both_fit : (xs ys : List Entry) → EntriesFit xs → EntriesFit ys → EntriesF
 both_fit [] ys h k = k
 both_fit (x ∷ xs) ys h k = (h.0, both_fit xs ys h.1 k)
 
-pub all_fit : (fs : List FunctionDecl) (ps : List (Option FunTable)) → All IsDeclared fs → AllZip FitsPlace fs ps → EntriesFit (all_entries fs ps)
-all_fit [] ps d h = tt
-all_fit (f ∷ fs) [] d h = absurd h
-all_fit (f ∷ fs) (p ∷ ps) d h =
-    both_fit (place_entries f p) (all_entries fs ps) (place_fits f p (All-head IsDeclared f fs d) h.0) (all_fit fs ps (All-tail IsDeclared f fs d) h.1)
+pub entries_fit : (fs : List FunctionDecl) (ps : List (Option FunTable)) → All IsDeclared fs → AllZip FitsPlace fs ps → EntriesFit (all_entries fs ps)
+entries_fit [] ps d h = tt
+entries_fit (f ∷ fs) [] d h = absurd h
+entries_fit (f ∷ fs) (p ∷ ps) d h =
+    both_fit (place_entries f p) (all_entries fs ps) (place_fits f p (All-head IsDeclared f fs d) h.0) (entries_fit fs ps (All-tail IsDeclared f fs d) h.1)

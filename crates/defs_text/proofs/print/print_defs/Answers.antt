@@ -7,7 +7,7 @@ use Rattle.cocoon_types.specs.Design.{functions}
 use Rattle.defs_text.specs.Fitting.{FitsPlace}
 use Rattle.defs_text.specs.Places.{all_entries, entries_of_places}
 use Rattle.defs_text.proofs.Derived.{entries_text_reads}
-use Rattle.defs_text.proofs.Fits.{all_fit, all_keys}
+use Rattle.defs_text.proofs.Fits.{entries_fit, all_keys}
 use Rattle.defs_text.proofs.Widths.{functions_declared}
 use Rattle.defs_text.proofs.print.print_defs.Goals as goal
 
@@ -22,4 +22,4 @@ returns-clause-reads c =
     let d = design_of c.args.checked.now in
     let ps = c.args.places.now in
     IfOk-weaker c.text_of.result _ _ (λ v h. subst (λ (t : List ℕ). ReadsDefs t (entries_of_places d ps)) (sym h)
-    (entries_text_reads (all_entries (functions d) ps) (all_fit (functions d) ps (functions_declared d c.requires.named c.keeps_rules.ensures.rules) c.requires.places))) c.text_of.ensures
+    (entries_text_reads (all_entries (functions d) ps) (entries_fit (functions d) ps (functions_declared d c.requires.named c.keeps_rules.ensures.rules) c.requires.places))) c.text_of.ensures
