@@ -13,7 +13,7 @@ use Rattle.bit_blast.specs.Gates.{Circuit, fresh, true_bit}
 use Rattle.bit_blast.specs.Clauses.{Blasted, bits_in, blasted, clauses_of, goal_bit, goal_blasted, is_among, circuit_of, vars_of, walk, with_term}
 use Rattle.bit_blast.specs.Goals.{IsGoal}
 use Rattle.bit_blast.specs.Meanings.{IsValuation, all_hold}
-use Rattle.bit_blast.specs.Readings.{Extends, InputsFit, ReadsAs, input_bits, number_of}
+use Rattle.bit_blast.specs.Readings.{Extends, InputsFit, ReadsAs, input_bits, number_read}
 use Rattle.bit_blast.proofs.Places.{among-more}
 use Rattle.bit_blast.proofs.Ordered.{Fresh, Ordered, among-last}
 use Rattle.bit_blast.proofs.Defining.{Agree, AllNamed, ClausesNamed, Defines, Named, every-append, hold-both, hold-parts, holds-same, lit, lit-same, lit-valuation, opp, put, put-here, put-other}
@@ -28,13 +28,13 @@ clauses-first v [] s h = h
 clauses-first v (t ∷ ts) s h = (hold-parts v s.clauses (circuit_of (bits_in s.table) s.next t).clauses (clauses-first v ts (with_term s t) h)).0
 
 abbrev pub Reads : (ℤ → Bool) → Inputs → List Term → Blasted → Type 0
-Reads v ins seen s = (i w : ℕ) → is_among seen (input i w) ≡ true → ins i ≡ number_of v (bits_in s.table (input i w))
+Reads v ins seen s = (i w : ℕ) → is_among seen (input i w) ≡ true → ins i ≡ number_read v (bits_in s.table (input i w))
 
 abbrev pub Mean : (ℤ → Bool) → Functions → Inputs → List Term → Blasted → Type 0
-Mean v F ins seen s = (u : Term) → is_among seen u ≡ true → term_value F ins u ≡ number (width u) (number_of v (bits_in s.table u))
+Mean v F ins seen s = (u : Term) → is_among seen u ≡ true → term_value F ins u ≡ number (width u) (number_read v (bits_in s.table u))
 
 module _ (v : ℤ → Bool) (is : IsValuation v) (constant_true : v true_bit ≡ true) where
-  input-is : (ins : Inputs) (t : Term) (bits : List ℤ) → ((i w : ℕ) → t ≡ input i w → ins i ≡ number_of v bits) → InputIs v is constant_true ins t bits
+  input-is : (ins : Inputs) (t : Term) (bits : List ℤ) → ((i w : ℕ) → t ≡ input i w → ins i ≡ number_read v bits) → InputIs v is constant_true ins t bits
   input-is ins (constant w n) bits f = tt
   input-is ins (input i w) bits f = f i w refl
   input-is ins (apply g args w) bits f = tt
@@ -45,19 +45,19 @@ module _ (v : ℤ → Bool) (is : IsValuation v) (constant_true : v true_bit ≡
 
   module _ (F : Functions) (ins : Inputs) where
     next-means : (seen : List Term) (s : Blasted) (t : Term) → Tabled seen s → Fresh seen t → all_hold v (with_term s t).clauses ≡ true
-        → ((i w : ℕ) → t ≡ input i w → ins i ≡ number_of v (circuit_of (bits_in s.table) s.next t).bits) → Mean v F ins seen s → Mean v F ins (seen ++ t ∷ []) (with_term s t)
+        → ((i w : ℕ) → t ≡ input i w → ins i ≡ number_read v (circuit_of (bits_in s.table) s.next t).bits) → Mean v F ins seen s → Mean v F ins (seen ++ t ∷ []) (with_term s t)
     next-means seen s t h f holds reads mean u k = elim (among-cases seen t u k) [
-      | inl e ↦ mean u e ∙ ap (λ bs. number (width u) (number_of v bs)) (sym (kept-bits seen s t h f u e))
+      | inl e ↦ mean u e ∙ ap (λ bs. number (width u) (number_read v bs)) (sym (kept-bits seen s t h f u e))
       | inr e ↦
           let p = its_circuit seen s t h f in
           let own = part-means v is constant_true F ins (bits_in s.table) s.next t h.next f.term f.unapplied
           (parts-each (λ u. is_among seen u ≡ true) (λ u. AllNamed s.next (bits_in s.table u)) h.named t f.parts)
           (parts-each (λ u. is_among seen u ≡ true) (λ u. length (bits_in s.table u) ≡ width u) h.counts t f.parts)
           (hold-parts v s.clauses p.clauses holds).1
-          (parts-each (λ u. is_among seen u ≡ true) (λ u. term_value F ins u ≡ number (width u) (number_of v (bits_in s.table u))) mean t f.parts)
+          (parts-each (λ u. is_among seen u ≡ true) (λ u. term_value F ins u ≡ number (width u) (number_read v (bits_in s.table u))) mean t f.parts)
           (input-is ins t p.bits reads) in
-          subst (λ x. term_value F ins x ≡ number (width x) (number_of v (bits_in (with_term s t).table x))) e
-          (own ∙ ap (λ bs. number (width t) (number_of v bs)) (sym (its-bits seen s t h f)))
+          subst (λ x. term_value F ins x ≡ number (width x) (number_read v (bits_in (with_term s t).table x))) e
+          (own ∙ ap (λ bs. number (width t) (number_read v bs)) (sym (its-bits seen s t h f)))
     ]
 
     all-mean : (ts seen : List Term) (s : Blasted) → Ordered seen ts → Tabled seen s → all_hold v (fold with_term s ts).clauses ≡ true
@@ -67,10 +67,10 @@ module _ (v : ℤ → Bool) (is : IsValuation v) (constant_true : v true_bit ≡
         let tabled = its-tabled seen s t h o.0 in
         let there : is_among (seen ++ t ∷ ts) t ≡ true
         = ap (λ xs. is_among xs t) (sym (append_assoc seen (t ∷ []) ts)) ∙ among-more (seen ++ t ∷ []) ts t (among-last seen t) in
-        let own : (i w : ℕ) → t ≡ input i w → ins i ≡ number_of v (circuit_of (bits_in s.table) s.next t).bits
+        let own : (i w : ℕ) → t ≡ input i w → ins i ≡ number_read v (circuit_of (bits_in s.table) s.next t).bits
         = (λ i w e. reads i w (subst (λ x. is_among (seen ++ t ∷ ts) x ≡ true) e there)
-        ∙ ap (λ x. number_of v (bits_in (fold with_term (with_term s t) ts).table x)) (sym e)
-        ∙ ap (number_of v) (later-bits ts (seen ++ t ∷ []) (with_term s t) o.1 tabled t (among-last seen t) ∙ its-bits seen s t h o.0)) in
+        ∙ ap (λ x. number_read v (bits_in (fold with_term (with_term s t) ts).table x)) (sym e)
+        ∙ ap (number_read v) (later-bits ts (seen ++ t ∷ []) (with_term s t) o.1 tabled t (among-last seen t) ∙ its-bits seen s t h o.0)) in
         let next = next-means seen s t h o.0 (clauses-first v ts (with_term s t) holds) own mean in
         subst (λ xs. Mean v F ins xs (fold with_term (with_term s t) ts)) (append_assoc seen (t ∷ []) ts)
         (all-mean ts (seen ++ t ∷ []) (with_term s t) o.1 tabled holds
@@ -82,7 +82,7 @@ module _ (v : ℤ → Bool) (is : IsValuation v) (constant_true : v true_bit ≡
         let tabled = goal-tabled goal g.term g.unapplied in
         let there = goal-there goal g.term g.unapplied in
         all-mean (walk goal []) [] (blasted []) (goal-ordered goal g.term g.unapplied) no-terms holds reads (λ u k. absurd (false≢true k)) goal there
-        ∙ ap (λ w. number w (number_of v (bits_in (goal_blasted goal).table goal))) g.truth
+        ∙ ap (λ w. number w (number_read v (bits_in (goal_blasted goal).table goal))) g.truth
         ∙ ap (number 1) (one-of v is constant_true (bits_in (goal_blasted goal).table goal) (tabled.counts goal there ∙ g.truth))
 
 -- ---- the clauses of a goal hold
@@ -120,14 +120,14 @@ holds-goal v goal h =
 
 -- ---- from the inputs to all variables
 
-number-same : (n : ℕ) (v w : ℤ → Bool) → ((l : ℤ) → Named n l → v l ≡ w l) → (bits : List ℤ) → AllNamed n bits → number_of v bits ≡ number_of w bits
+number-same : (n : ℕ) (v w : ℤ → Bool) → ((l : ℤ) → Named n l → v l ≡ w l) → (bits : List ℤ) → AllNamed n bits → number_read v bits ≡ number_read w bits
 number-same n v w f [] h = refl
-number-same n v w f (b ∷ bits) h = ap (λ x. bit x + 2 * number_of v bits) (f b h.0) ∙ ap (λ x. bit (w b) + 2 * x) (number-same n v w f bits h.1)
+number-same n v w f (b ∷ bits) h = ap (λ x. bit x + 2 * number_read v bits) (f b h.0) ∙ ap (λ x. bit (w b) + 2 * x) (number-same n v w f bits h.1)
 
 record Set (val : ℕ → Bool) (n w k : ℕ) : Type 0 where
   new : ℕ → Bool
   same : Agree n val new
-  reads : k ≡ number_of (lit new) (fresh n w)
+  reads : k ≡ number_read (lit new) (fresh n w)
 
 low-bit : (k : ℕ) → bit (k % 2 == 1) ≡ k % 2
 low-bit k = elim (cases_Bool (k % 2 == 1)) [
@@ -156,7 +156,7 @@ record PartSet (ins : Inputs) (val : ℕ → Bool) (n : ℕ) (t : Term) (p : Cir
   new : ℕ → Bool
   same : Agree n val new
   holds : all_hold (lit new) p.clauses ≡ true
-  reads : (i w : ℕ) → t ≡ input i w → ins i ≡ number_of (lit new) p.bits
+  reads : (i w : ℕ) → t ≡ input i w → ins i ≡ number_read (lit new) p.bits
 
 other : (ins : Inputs) (val : ℕ → Bool) (n : ℕ) (t : Term) (p : Circuit) → Defines n p → ((i w : ℕ) → t ≡ input i w → ⊥) → PartSet ins val n t p
 other ins val n t p d no_input = let e = d.extend val in record { new = e.new; same = e.same; holds = e.holds; reads = λ i w x. absurd (no_input i w x) }
@@ -197,8 +197,8 @@ next-set ins seen s t h f fit a =
       holds = hold-both (lit e.new) s.clauses p.clauses (holds-same s.next (lit e.new) (lit a.val) agree s.clauses h.clauses ∙ a.holds) e.holds;
       reads = λ i w k. elim (among-cases seen t (input i w) k) [
         | inl x ↦ a.reads i w x ∙ sym (number-same s.next (lit e.new) (lit a.val) agree (bits_in s.table (input i w)) (h.named (input i w) x))
-            ∙ ap (number_of (lit e.new)) (sym (kept-bits seen s t h f (input i w) x))
-        | inr x ↦ e.reads i w x ∙ ap (number_of (lit e.new)) (sym (its-bits seen s t h f)) ∙ ap (λ u. number_of (lit e.new) (bits_in (with_term s t).table u)) x
+            ∙ ap (number_read (lit e.new)) (sym (kept-bits seen s t h f (input i w) x))
+        | inr x ↦ e.reads i w x ∙ ap (number_read (lit e.new)) (sym (its-bits seen s t h f)) ∙ ap (λ u. number_read (lit e.new) (bits_in (with_term s t).table u)) x
       ];
     }
 

@@ -30,7 +30,7 @@ use Rattle.bit_blast.specs.Emitted.{numbers}
 use Rattle.bit_blast.specs.Goals.{IsGoal, IsUnapplied}
 use Rattle.bit_blast.specs.InputTables.{CanMap, IsInputRow, IsMapped}
 use Rattle.bit_blast.specs.Orders.{IsBefore, IsEmitted, first_index, row_numbers, rows_of, terms_of}
-use Rattle.bit_blast.specs.Readings.{input_bits, number_of}
+use Rattle.bit_blast.specs.Readings.{input_bits, number_read}
 use Rattle.bit_blast.specs.Tables.{bits_at}
 use Rattle.bit_blast.specs.Walks.{IsIndexed, WalkDone, index_in}
 use Rattle.bit_blast.proofs.BitNumbers.{bit, bit-small, two-pow}
@@ -247,17 +247,17 @@ well-named cnf goal g l c = (
 -- ---- values
 
 number-drop : (v : ℤ → Bool) (bits : List Bit) (at : ℕ) (b : Bit) → at < length bits → b ≡ get_or bits at b
-    → number_of v (numbers (drop at bits)) ≡ bit (v b.number) + 2 * number_of v (numbers (drop (at + 1) bits))
-number-drop v bits at b l e = ap (number_of v) (Rattle.bit_blast.proofs.BitSteps.next-number bits at b l e)
+    → number_read v (numbers (drop at bits)) ≡ bit (v b.number) + 2 * number_read v (numbers (drop (at + 1) bits))
+number-drop v bits at b l e = ap (number_read v) (Rattle.bit_blast.proofs.BitSteps.next-number bits at b l e)
 
-number-below : (v : ℤ → Bool) (bits : List ℤ) (n : ℕ) → length bits ≤ n → number_of v bits < 2 ^ n
+number-below : (v : ℤ → Bool) (bits : List ℤ) (n : ℕ) → length bits ≤ n → number_read v bits < 2 ^ n
 number-below v [] n l = (let p = Rattle.std.proofs.lemmas.Nat.pow_pos n in omega arith)
 number-below v (b ∷ bits) zero l = absurd (omega arith)
 number-below v (b ∷ bits) (suc n) l = (let s = bit-small (v b) in let p = two-pow n in let h = number-below v bits n (omega arith) in omega arith)
 
 pub record Valuing (v : ℤ → Bool) (bits : List Bit) (at value : ℕ) : Type 0 where
   pub within : at ≤ length bits
-  pub is : value ≡ number_of v (numbers (drop at bits))
+  pub is : value ≡ number_read v (numbers (drop at bits))
 
 pub value-below : (v : ℤ → Bool) (bits : List Bit) (at value : ℕ) → Valuing v bits at value → length bits ≤ 128 → 0 < at → value < 2 ^ 127
 value-below v bits at value h l p =
@@ -273,16 +273,16 @@ value-step v bits at value next b holds h p e k n =
     let d = number-drop v bits (at - 1) b (omega arith) e in
     record {
       within = omega arith;
-      is = n ∙ (let i = h.is ∙ ap (λ x. number_of v (numbers (drop x bits))) (sym m) in let j = ap bit k in omega arith);
+      is = n ∙ (let i = h.is ∙ ap (λ x. number_read v (numbers (drop x bits))) (sym m) in let j = ap bit k in omega arith);
     }
 
-pub value-fits : (v : ℤ → Bool) (bits : List ℤ) (w : ℕ) → length bits ≤ w → number_of v bits < 2 ^ w
+pub value-fits : (v : ℤ → Bool) (bits : List ℤ) (w : ℕ) → length bits ≤ w → number_read v bits < 2 ^ w
 value-fits v bits w l = number-below v bits w l
 
 pub value-start : (v : ℤ → Bool) (bits : List Bit) (at : ℕ) → at ≡ length bits → Valuing v bits at 0
 value-start v bits at e = record {
   within = omega arith;
-  is = ap (number_of v) (sym (Rattle.bit_blast.proofs.BitSteps.no-more bits at (omega arith)));
+  is = ap (number_read v) (sym (Rattle.bit_blast.proofs.BitSteps.no-more bits at (omega arith)));
 }
 
 -- ---- satisfying

@@ -9,9 +9,9 @@ use Rattle.bit_blast.specs.Clauses.{bits_in, clauses_of, goal_blasted, is_among,
 use Rattle.bit_blast.specs.Meanings.{all_hold}
 
 -- the number of these bits, from bit 0 on
-abbrev pub number_of : (ℤ → Bool) → List ℤ → ℕ
-number_of v [] = 0
-number_of v (b ∷ bits) = (if v b then 1 else 0) + 2 * number_of v bits
+abbrev pub number_read : (ℤ → Bool) → List ℤ → ℕ
+number_read v [] = 0
+number_read v (b ∷ bits) = (if v b then 1 else 0) + 2 * number_read v bits
 
 abbrev pub HasInput : Term → (i w : ℕ) → Type 0
 HasInput goal i w = is_among (walk goal []) (input i w) ≡ true
@@ -22,7 +22,7 @@ input_bits goal i w = bits_in (goal_blasted goal).table (input i w)
 
 -- each input of the goal is the number of its literals
 abbrev pub ReadsAs : Term → (ℤ → Bool) → Inputs → Type 0
-ReadsAs goal v ins = (i w : ℕ) → HasInput goal i w → ins i ≡ number_of v (input_bits goal i w)
+ReadsAs goal v ins = (i w : ℕ) → HasInput goal i w → ins i ≡ number_read v (input_bits goal i w)
 
 abbrev pub InputsFit : Term → Inputs → Type 0
 InputsFit goal ins = (i w : ℕ) → HasInput goal i w → ins i < 2 ^ w

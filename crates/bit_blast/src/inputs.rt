@@ -7,7 +7,7 @@ ghost use Rattle.cocoon_num.specs.Values.{number};
 ghost use Rattle.bit_blast.specs.Blasting.{InputRow, row_of};
 ghost use Rattle.bit_blast.specs.Emitted.{numbers};
 ghost use Rattle.bit_blast.specs.InputTables.{CanMap, IsInputRow, IsMapped};
-ghost use Rattle.bit_blast.specs.Readings.{number_of};
+ghost use Rattle.bit_blast.specs.Readings.{number_read};
 
 use crate::bit::Bit;
 use crate::input_bits::InputBits;
@@ -60,7 +60,7 @@ fn digit(assignment: &Assignment, bit: Bit) -> u128
 /// The number of these bits.
 fn value(assignment: &Assignment, bits: &[Bit]) -> u128
     requires { length bits.now ≤ 128 }
-    ensures { result ≡ number_of (makes_true assignment.now) (numbers bits.now) }
+    ensures { result ≡ number_read (makes_true assignment.now) (numbers bits.now) }
 {
     let mut value = 0;
     let mut at = bits.len();
@@ -74,7 +74,7 @@ fn value(assignment: &Assignment, bits: &[Bit]) -> u128
 impl InputBits {
     fn read(&self, assignment: &Assignment) -> Bits
         ensures { value_of result ≡ number self.now.width
-            (number_of (makes_true assignment.now) (numbers self.now.bits.items)) }
+            (number_read (makes_true assignment.now) (numbers self.now.bits.items)) }
     {
         Bits::new(self.width, value(assignment, &self.bits))
     }
@@ -115,7 +115,8 @@ impl InputMap {
     pub fn read(&self, assignment: &Assignment, input: InputId) -> Bits
         requires { input < length self.now }
         ensures { (row : InputRow) → slice_get self.now input ≡ Some row
-            → value_of result ≡ number row.width (number_of (makes_true assignment.now) row.bits) }
+            → value_of result
+            ≡ number row.width (number_read (makes_true assignment.now) row.bits) }
     {
         self.inputs[input as usize].read(assignment)
     }
