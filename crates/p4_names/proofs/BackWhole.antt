@@ -339,7 +339,7 @@ text_back p k =
     let hs : (program_of_text t).headers ≡ p.headers = alike header_written header_meant header_same p.headers in
     let ts = tables_same p k.named p.ingress.tables k.ingress_tables in
     let us = tables_same p k.named p.egress.tables k.egress_tables in
-    let split : ascend (numbers_of p.ingress.tables) ≡ true = front (numbers_of p.ingress.tables) (numbers_of p.egress.tables) k.rise in
+    let split : ascend (numbers_of p.ingress.tables) ≡ true = prefix_ascends (numbers_of p.ingress.tables) (numbers_of p.egress.tables) k.rise in
     record {
       headers = headers_back [] p.headers k.header_names k.named.headers k.header_widths;
       members = ap (λ z. kept (member_pieces z (map member_written p.headers))) hs ∙ members_back p.headers;
@@ -355,12 +355,12 @@ text_back p k =
       emits = ap (λ z. kept (line_pieces emit_then z (map line_written p.headers))) hs ∙ lines_back emit_then p.headers;
     }
   where
-    front : (ms ns : List ℕ) → ascend (ms ++ ns) ≡ true → ascend ms ≡ true
-    front [] ns h = refl
-    front (m ∷ []) ns h = refl
-    front (m ∷ n ∷ ms) ns h =
+    prefix_ascends : (ms ns : List ℕ) → ascend (ms ++ ns) ≡ true → ascend ms ≡ true
+    prefix_ascends [] ns h = refl
+    prefix_ascends (m ∷ []) ns h = refl
+    prefix_ascends (m ∷ n ∷ ms) ns h =
         let p = and_parts (nat_lt m n) (ascend (n ∷ (ms ++ ns))) h in
-        and_from (nat_lt m n) (ascend (n ∷ ms)) p.0 (front (n ∷ ms) ns p.1)
+        and_from (nat_lt m n) (ascend (n ∷ ms)) p.0 (prefix_ascends (n ∷ ms) ns p.1)
 
 pub no_fault_back : (p : Program) → kinds_fit p ≡ true → kind_faults (text_of_program p) ≡ []
 no_fault_back p h = none_where_kept (text_of_program p) (text_back p (kinds_of p h))

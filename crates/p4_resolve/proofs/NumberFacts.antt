@@ -45,15 +45,15 @@ one_good b h =
       large = λ e. grind (arith, nat_tests);
     }
 
-begins_front : (x b : ℕ) (front : List ℕ) → 0 < length front → begins_with x (front ++ b ∷ []) ≡ begins_with x front
-begins_front x b [] h = absurd (omega (arith, h))
-begins_front x b (d ∷ front) h = refl
+begins_prefix : (x b : ℕ) (prefix : List ℕ) → 0 < length prefix → begins_with x (prefix ++ b ∷ []) ≡ begins_with x prefix
+begins_prefix x b [] h = absurd (omega (arith, h))
+begins_prefix x b (d ∷ prefix) h = refl
 
-more_good : (front : List ℕ) (b w k : ℕ) → length front ≡ suc k → suc k < 64 → is_digit b ≡ true → begins_with 48 front ≡ false → Good front w → Good (front ++ b ∷ []) (w * 10 + (b - 48))
-more_good front b w k n small h first g =
+more_good : (prefix : List ℕ) (b w k : ℕ) → length prefix ≡ suc k → suc k < 64 → is_digit b ≡ true → begins_with 48 prefix ≡ false → Good prefix w → Good (prefix ++ b ∷ []) (w * 10 + (b - 48))
+more_good prefix b w k n small h first g =
     let low : 48 ≤ b = grind (arith, nat_tests) in
     let high : b ≤ 57 = grind (arith, nat_tests) in
-    let long : length (front ++ b ∷ []) ≡ suc k + 1 = length-append front (b ∷ []) ∙ ap (λ m. m + 1) n in
+    let long : length (prefix ++ b ∷ []) ≡ suc k + 1 = length-append prefix (b ∷ []) ∙ ap (λ m. m + 1) n in
     let below : w < 10 ^ suc k = subst (λ m. w < 10 ^ m) n g.below in
     let large : 10 ^ (suc k - 1) ≤ w = subst (λ m. 10 ^ (m - 1) ≤ w) n (g.large first) in
     let bound : 10 ^ suc k ≤ 10 ^ 63 = pow-le-pow_right {n = 10} (let p : 0 < 10 = omega arith in p) {i = suc k} {j = 63} (omega (arith, small)) in
@@ -65,26 +65,26 @@ more_good front b w k n small h first g =
     let two : suc k + 1 ≡ suc (suc k) = omega arith in
     let wide : w * 10 + (b - 48) < 10 ^ 64 = omega (arith, below, bound, high) in
     let ten : 10 ≤ w * 10 + (b - 48) = omega (arith, some, less) in
-    let front_is : (w * 10 + (b - 48)) / 10 ≡ w = omega (arith, high) in
+    let prefix_is : (w * 10 + (b - 48)) / 10 ≡ w = omega (arith, high) in
     let last_is : 48 + (w * 10 + (b - 48)) % 10 ≡ b = omega (arith, low, high) in
     record {
-      value_is = more_digits front 0 b ∙ ap (λ o. option_and_then (λ w. value w (b ∷ [])) o) g.value_is ∙ rw (digit_is b h) refl;
-      text = decimal_step_wide (w * 10 + (b - 48)) ten wide ∙ ap₂ (λ m n. decimal m ++ (n ∷ [])) front_is last_is ∙ ap (λ ds. ds ++ (b ∷ [])) g.text;
+      value_is = more_digits prefix 0 b ∙ ap (λ o. option_and_then (λ w. value w (b ∷ [])) o) g.value_is ∙ rw (digit_is b h) refl;
+      text = decimal_step_wide (w * 10 + (b - 48)) ten wide ∙ ap₂ (λ m n. decimal m ++ (n ∷ [])) prefix_is last_is ∙ ap (λ ds. ds ++ (b ∷ [])) g.text;
       below = subst (λ m. w * 10 + (b - 48) < 10 ^ m) (sym (long ∙ two)) (omega (arith, last, below, high));
-      large = λ e. subst (λ m. 10 ^ m ≤ w * 10 + (b - 48)) (let m : suc k ≡ length (front ++ b ∷ []) - 1 = omega (arith, long) in m) (omega (arith, next, less));
+      large = λ e. subst (λ m. 10 ^ m ≤ w * 10 + (b - 48)) (let m : suc k ≡ length (prefix ++ b ∷ []) - 1 = omega (arith, long) in m) (omega (arith, next, less));
     }
 
-split : (d : ℕ) (ds : List ℕ) → (front : List ℕ) × (b : ℕ) × (d ∷ ds ≡ front ++ b ∷ [])
+split : (d : ℕ) (ds : List ℕ) → (prefix : List ℕ) × (b : ℕ) × (d ∷ ds ≡ prefix ++ b ∷ [])
 split d [] = ([], d, refl)
 split d (e ∷ ds) = let r = split e ds in (d ∷ r.0, r.1, ap (λ xs. d ∷ xs) r.2)
 
-each_last : (front : List ℕ) (b : ℕ) → each is_digit (front ++ b ∷ []) ≡ (each is_digit front && is_digit b)
+each_last : (prefix : List ℕ) (b : ℕ) → each is_digit (prefix ++ b ∷ []) ≡ (each is_digit prefix && is_digit b)
 each_last [] b = swap (is_digit b)
   where
     swap : (t : Bool) → (t && true) ≡ (true && t)
     swap true = refl
     swap false = refl
-each_last (d ∷ front) b = ap (λ t. is_digit d && t) (each_last front b) ∙ regroup (is_digit d) (each is_digit front) (is_digit b)
+each_last (d ∷ prefix) b = ap (λ t. is_digit d && t) (each_last prefix b) ∙ regroup (is_digit d) (each is_digit prefix) (is_digit b)
   where
     regroup : (x y z : Bool) → (x && (y && z)) ≡ ((x && y) && z)
     regroup true y z = refl
@@ -98,7 +98,7 @@ good_of (suc k) (d ∷ ds) n small h first =
     let r = split d ds in
     let long : length r.0 ≡ suc k = (let e : length (d ∷ ds) ≡ length r.0 + 1 = ap length r.2 ∙ length-append r.0 (r.1 ∷ []) in omega (arith, e, n)) in
     let digits_are = and_parts (each is_digit r.0) (is_digit r.1) (sym (each_last r.0 r.1) ∙ ap (each is_digit) (sym r.2) ∙ h) in
-    let begins : begins_with 48 r.0 ≡ false = sym (begins_front 48 r.1 r.0 (omega (arith, long))) ∙ ap (begins_with 48) (sym r.2) ∙ first (omega arith) in
+    let begins : begins_with 48 r.0 ≡ false = sym (begins_prefix 48 r.1 r.0 (omega (arith, long))) ∙ ap (begins_with 48) (sym r.2) ∙ first (omega arith) in
     let g = good_of k r.0 long (omega (arith, small)) digits_are.0 (λ _. begins) in
     (g.0 * 10 + (r.1 - 48), subst (λ xs. Good xs (g.0 * 10 + (r.1 - 48))) (sym r.2) (more_good r.0 r.1 g.0 k long (omega (arith, small)) digits_are.1 begins g.1))
 
@@ -124,7 +124,7 @@ canon_more n ds h c =
     record {
       digits_are = each_last ds (48 + n % 10) ∙ and_from (each is_digit ds) (is_digit (48 + n % 10)) c.digits_are (let e : is_digit (48 + n % 10) ≡ true = grind (arith, nat_tests) in e);
       some = let e = length-append ds ((48 + n % 10) ∷ []) in omega (arith, e);
-      first = λ k. begins_front 48 (48 + n % 10) ds c.some ∙ c.first (omega (arith, h));
+      first = λ k. begins_prefix 48 (48 + n % 10) ds c.some ∙ c.first (omega (arith, h));
       single = λ k. absurd (omega (arith, h, k));
     }
 

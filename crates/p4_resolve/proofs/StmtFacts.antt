@@ -63,16 +63,16 @@ count_then (w_pick c a b) ks =
     omega (arith, f, g, h)
 
 -- the token after so many, twice
-ends_after : (at begin mid front count back : ℕ) → begin ≡ index (at + front) → mid ≡ index (begin + count) → index (mid + back) ≡ index (at + (front + (count + back)))
-ends_after at begin mid front count back b m =
-    ap (λ i. index (i + back)) m ∙ then_after (begin + count) back ∙ ap index (add_assoc begin count back)
-    ∙ ap (λ i. index (i + (count + back))) b ∙ then_after (at + front) (count + back) ∙ ap index (add_assoc at front (count + back))
+ends_after : (at begin mid before count behind : ℕ) → begin ≡ index (at + before) → mid ≡ index (begin + count) → index (mid + behind) ≡ index (at + (before + (count + behind)))
+ends_after at begin mid before count behind b m =
+    ap (λ i. index (i + behind)) m ∙ then_after (begin + count) behind ∙ ap index (add_assoc begin count behind)
+    ∙ ap (λ i. index (i + (count + behind))) b ∙ then_after (at + before) (count + behind) ∙ ap index (add_assoc at before (count + behind))
 
 -- a piece that is one value, with as many other tokens
-pub value_passes : (t : ProgramText) (c : Within) (wanted : Option Sort) (allowed : Bool) (e : ExprText) (x : Piece) (at begin : ℕ) (made : P4Expr) (mid end front back : ℕ) → ValueKeeps t c wanted allowed e begin made mid
-    → begin ≡ index (at + front) → end ≡ index (mid + back) → length x.tokens ≡ front + (expr_count e + back) → x.keeps ≡ value_fits c wanted allowed (expr_meant t e) → Passes at (x ∷ []) end
-value_passes t c wanted allowed e x at begin made mid end front back v b d n k =
-    passed at (x ∷ []) at end x [] (started at (x ∷ [])) (k ∙ v.fits) (d ∙ ends_after at begin mid front (expr_count e) back b v.ends ∙ ap (λ l. index (at + l)) (sym n))
+pub value_passes : (t : ProgramText) (c : Within) (wanted : Option Sort) (allowed : Bool) (e : ExprText) (x : Piece) (at begin : ℕ) (made : P4Expr) (mid end before behind : ℕ) → ValueKeeps t c wanted allowed e begin made mid
+    → begin ≡ index (at + before) → end ≡ index (mid + behind) → length x.tokens ≡ before + (expr_count e + behind) → x.keeps ≡ value_fits c wanted allowed (expr_meant t e) → Passes at (x ∷ []) end
+value_passes t c wanted allowed e x at begin made mid end before behind v b d n k =
+    passed at (x ∷ []) at end x [] (started at (x ∷ [])) (k ∙ v.fits) (d ∙ ends_after at begin mid before (expr_count e) behind b v.ends ∙ ap (λ l. index (at + l)) (sym n))
 
 -- a piece that is a whole statement
 pub one_passes : (x : Piece) (at end : ℕ) → x.keeps ≡ true → end ≡ index (at + length x.tokens) → Passes at (x ∷ []) end

@@ -92,7 +92,7 @@ fn number(digits: &[u8]) -> Option<u32>
 }
 
 /// The number in a name that is a letter with a number as it is printed, where it is one of a table.
-pub(crate) fn number_of(name: &[u8]) -> Option<u32>
+pub(crate) fn table_number(name: &[u8]) -> Option<u32>
     ensures { (letter : ℕ) → same_name name.now (letter ∷ decimal (number_in name.now)) ≡ true
         → result ≡ spec.small (number_in name.now) }
 {

@@ -16,7 +16,7 @@ ghost use Rattle.p4_written.specs.TreeOf.{body_of, expr_of, stmt_of};
 
 use crate::exprs::{Typed, after_expr, meaning};
 use crate::fault::KindFault;
-use crate::numbers::{is_numbered, number_of};
+use crate::numbers::{is_numbered, table_number};
 use crate::pieces::{after, pass};
 use crate::scope::Scope;
 use cocoon_num::Bits;
@@ -181,7 +181,7 @@ fn applied(scope: &Scope, name: &[u8]) -> Option<u32>
     if !is_numbered(b't', name) {
         return None;
     }
-    let number = number_of(name)?;
+    let number = table_number(name)?;
     if scope.tables.contains(&number) {
         Some(number)
     } else {

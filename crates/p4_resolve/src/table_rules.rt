@@ -12,7 +12,7 @@ ghost use Rattle.p4_resolve.specs.TableForms.{is_wide, own_keeps};
 ghost use Rattle.p4_texts.specs.Written.{ProgramText};
 ghost use Rattle.p4_written.specs.TreeOf.{table_of};
 
-use crate::numbers::{is_numbered, is_with, number_of, tail};
+use crate::numbers::{is_numbered, is_with, table_number, tail};
 use crate::pieces::after;
 use crate::scope::{Scope, place};
 use cocoon_num::{List, NoMemory, Text};
@@ -125,7 +125,7 @@ pub(crate) fn fitting_table(
         (λ made. (own_keeps t least (table_of table.now) ≡ true)
         × (ir.table_of made ≡ meant.table_meant t (table_of table.now)))) }
 {
-    let Some(number) = number_of(table.action.bytes()) else {
+    let Some(number) = table_number(table.action.bytes()) else {
         return Ok(None);
     };
     let declared = declared(alloc, scope, number, table)?;
