@@ -80,19 +80,19 @@ same_keys (some_keys b x xs) (some_keys c y ys) ks ls h =
     (ap₂ (λ z zs. some_keys b z zs) (ap (name_at 2) h) r.0 ∙ ap (λ z. some_keys z y ys) exact, ap (drop 1) r.1)
 
 -- what a table's tokens have before its keys, and after them
-record FrontOf : Type 0 where
+record FirstPart : Type 0 where
   action : List ℕ
   width : ℕ
   result : List ℕ
   table : List ℕ
 
-record BackOf : Type 0 where
+record LastPart : Type 0 where
   actions : List ℕ
   default_action : List ℕ
   default_width : ℕ
   default : ℕ
 
-abbrev table_with : FrontOf → KeysText → BackOf → TableText
+abbrev table_with : FirstPart → KeysText → LastPart → TableText
 table_with f k b = record {
   action = f.action;
   width = f.width;
@@ -105,24 +105,24 @@ table_with f k b = record {
   default = b.default;
 }
 
-abbrev front_of : List Kind → FrontOf
-front_of ks = record { action = name_at 1 ks; width = plain_at 5 ks; result = name_at 12 ks; table = name_at 18 ks }
+abbrev first_part_in : List Kind → FirstPart
+first_part_in ks = record { action = name_at 1 ks; width = plain_at 5 ks; result = name_at 12 ks; table = name_at 18 ks }
 
-abbrev back_of : List Kind → BackOf
-back_of ks = record { actions = name_at 3 ks; default_action = name_at 8 ks; default_width = first_width (drop 10 ks); default = first_number (drop 10 ks) }
+abbrev last_part_in : List Kind → LastPart
+last_part_in ks = record { actions = name_at 3 ks; default_action = name_at 8 ks; default_width = first_width (drop 10 ks); default = first_number (drop 10 ks) }
 
-abbrev front : TableText → FrontOf
-front t = record { action = t.action; width = t.width; result = t.result; table = t.table }
+abbrev first_part : TableText → FirstPart
+first_part t = record { action = t.action; width = t.width; result = t.result; table = t.table }
 
-abbrev back : TableText → BackOf
-back t = record { actions = t.actions; default_action = t.default_action; default_width = t.default_width; default = t.default }
+abbrev last_part : TableText → LastPart
+last_part t = record { actions = t.actions; default_action = t.default_action; default_width = t.default_width; default = t.default }
 
 same_table : Known table_then
 same_table x y ks ls h =
     let r = same_keys x.keys y.keys _ _ (ap (drop 23) h) in
-    let f : front x ≡ front y = ap front_of h in
-    let b : back x ≡ back y = ap back_of r.1 in
-    (ap₂ (λ f k. table_with f k (back x)) f r.0 ∙ ap (table_with (front y) y.keys) b, ap (drop 14) r.1)
+    let f : first_part x ≡ first_part y = ap first_part_in h in
+    let b : last_part x ≡ last_part y = ap last_part_in r.1 in
+    (ap₂ (λ f k. table_with f k (last_part x)) f r.0 ∙ ap (table_with (first_part y) y.keys) b, ap (drop 14) r.1)
 
 -- ---- controls
 
