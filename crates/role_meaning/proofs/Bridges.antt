@@ -57,14 +57,14 @@ zip_count R (x ∷ xs) (y ∷ ys) h = ap suc (zip_count R xs ys h.1)
 
 -- ---- packets and locations that fit
 
-front : (ps : List Param) (vs ns : List ℕ) → FieldsFit (widths_of ps ++ vs) ns → FieldsFit (widths_of ps) (take (length ps) ns) × FieldsFit vs (drop (length ps) ns)
-front [] vs ns h = (tt, h)
-front (p ∷ ps) vs [] h = absurd h
-front (p ∷ ps) vs (n ∷ ns) h = let r = front ps vs ns h.1 in ((h.0, r.0), r.1)
+fits_apart : (ps : List Param) (vs ns : List ℕ) → FieldsFit (widths_of ps ++ vs) ns → FieldsFit (widths_of ps) (take (length ps) ns) × FieldsFit vs (drop (length ps) ns)
+fits_apart [] vs ns h = (tt, h)
+fits_apart (p ∷ ps) vs [] h = absurd h
+fits_apart (p ∷ ps) vs (n ∷ ns) h = let r = fits_apart ps vs ns h.1 in ((h.0, r.0), r.1)
 
 pub packet_fits : (hs : List HeaderDecl) (ns : List ℕ) → FieldsFit (all_widths hs) ns → PacketFits (map (λ (h : HeaderDecl). widths_of h.fields) hs) (packet_of hs ns)
 packet_fits [] ns h = tt
-packet_fits (d ∷ ds) ns h = let r = front d.fields (all_widths ds) ns h in (r.0, packet_fits ds (drop (length d.fields) ns) r.1)
+packet_fits (d ∷ ds) ns h = let r = fits_apart d.fields (all_widths ds) ns h in (r.0, packet_fits ds (drop (length d.fields) ns) r.1)
 
 fit_step : (b : Bool) (r : Option Env) (k : Env → Env) (env : Env) (P Q : Type 0) → (b ≡ true → P) → ((e : Env) → r ≡ Some e → Q)
     → (if b then option_map k r else None) ≡ Some env → P × Q

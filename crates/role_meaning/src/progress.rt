@@ -6,7 +6,7 @@ ghost use Rattle.role_values.specs.Meant.{meant};
 use crate::place::Loc;
 use cocoon_num::{NoMemory, Text};
 use cocoon_syntax::Name;
-use role_values::bindings::{fits, number_of};
+use role_values::bindings::{fits, number_value};
 use role_values::{Binding, State, Value};
 use std::alloc::Global;
 
@@ -49,7 +49,7 @@ impl Progress<'_> {
         if !fits(width, choice) {
             return None;
         }
-        Some(number_of(width, choice))
+        Some(number_value(width, choice))
     }
 
     /// Binds a variable.

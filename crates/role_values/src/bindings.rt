@@ -40,7 +40,7 @@ pub fn fits(width: u32, number: u128) -> bool
 }
 
 /// The number of a width in bits.
-pub fn number_of(width: u32, number: u128) -> Value
+pub fn number_value(width: u32, number: u128) -> Value
     requires wide { 1 ≤ width }
     requires narrow { width ≤ 64 }
     requires fits { number < 2 ^ width }
@@ -87,7 +87,7 @@ pub fn bind(
             return Ok(None);
         }
         let name = Text::from(alloc, param.name.text.bytes())?;
-        let value = number_of(param.width, number);
+        let value = number_value(param.width, number);
         bindings.push(Binding { name, value })?;
     }
     Ok(Some(bindings))

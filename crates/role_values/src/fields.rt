@@ -11,7 +11,7 @@ ghost use Rattle.role_values.specs.Flat.{packet_of};
 ghost use Rattle.role_values.specs.Meant.{meant};
 ghost use Rattle.role_values.specs.Written.{written};
 
-use crate::bindings::{fits, is_same, number_of};
+use crate::bindings::{fits, is_same, number_value};
 use crate::value::Value;
 use cocoon_syntax::{HeaderDecl, Param};
 
@@ -24,7 +24,7 @@ fn read_in(params: &[Param], numbers: &[u64], field: &[u8]) -> Option<Value>
 {
     for (index, param) in params.iter().enumerate() {
         if is_same(field, param.name.text.bytes()) {
-            return Some(number_of(param.width, u128::from(numbers[index])));
+            return Some(number_value(param.width, u128::from(numbers[index])));
         }
     }
     None

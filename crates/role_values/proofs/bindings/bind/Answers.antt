@@ -23,8 +23,8 @@ returns-then-not-fits c =
     (bind_step param_of c.args.params.now c.args.args.now (c.loop-at.at - 1) x (omega arith) (omega arith) c.index-params-at.is
     ∙ ap (λ b. if b then option_map (val.bound (param_of x).name.text (number x.width n)) (val.bind (map param_of (drop (c.loop-at.at - 1 + 1) c.args.params.now)) (drop (c.loop-at.at - 1 + 1) c.args.args.now)) else None) no))
 
-pub number_of-value-requires-clause-wide : goal.number_of-value-requires-clause-wide
-number_of-value-requires-clause-wide c = (declared_at param_of c.args.params.now (c.loop-at.at - 1) c.index-params-at.result c.requires (omega arith) c.index-params-at.is).0
+pub number_value-value-requires-clause-wide : goal.number_value-value-requires-clause-wide
+number_value-value-requires-clause-wide c = (declared_at param_of c.args.params.now (c.loop-at.at - 1) c.index-params-at.result c.requires (omega arith) c.index-params-at.is).0
 
-pub number_of-value-requires-clause-narrow : goal.number_of-value-requires-clause-narrow
-number_of-value-requires-clause-narrow c = (declared_at param_of c.args.params.now (c.loop-at.at - 1) c.index-params-at.result c.requires (omega arith) c.index-params-at.is).1
+pub number_value-value-requires-clause-narrow : goal.number_value-value-requires-clause-narrow
+number_value-value-requires-clause-narrow c = (declared_at param_of c.args.params.now (c.loop-at.at - 1) c.index-params-at.result c.requires (omega arith) c.index-params-at.is).1
