@@ -146,8 +146,8 @@ impl<'a> Source<'a> {
     /// Demands this mark at a token index, and gives the next index.
     pub fn expect(&self, pos: usize, mark: Mark) -> Result<usize, Stop>
         requires { pos ≤ length self.now }
-        ensures { Fixed (the_mark (mark_text mark) ∷ []) (the_kind (mark_text mark) ∷ []) self.now pos
-            result }
+        ensures { Fixed (the_mark (mark_text mark) ∷ []) (the_kind (mark_text mark) ∷ [])
+            self.now pos result }
     {
         if self.is_mark(pos, mark) {
             Ok(pos + 1)
