@@ -35,8 +35,8 @@ switches_more : (files : Files) (out : List ℕ) (first two : List KeptDigest) (
 switches_more files out first two [] [] s h r = (two, [], refl, ap (λ f. f ++ two) h ∙ sym (append-nil two), r, refl)
 switches_more files out first two [] (t ∷ ss) s h r = absurd h
 switches_more files out first two (n ∷ ns) [] s h r = absurd h
-switches_more files out first two (n ∷ ns) (t ∷ ss) s (front, rest, is, parts, here, more) r =
-    (front, rest ++ two, is, ap (λ f. f ++ two) parts ∙ append_assoc front rest two, here, switches_more files out rest two ns ss s more r)
+switches_more files out first two (n ∷ ns) (t ∷ ss) s (prefix, rest, is, parts, here, more) r =
+    (prefix, rest ++ two, is, ap (λ f. f ++ two) parts ∙ append_assoc prefix rest two, here, switches_more files out rest two ns ss s more r)
 
 short_more : (files : Files) (out : List ℕ) (ss : List SwitchFiles) (s : SwitchFiles) → AllShort files out ss → IsShort files out (Program s.number) → IsShort files out (Rows s.number) → AllShort files out (ss ++ s ∷ [])
 short_more files out [] s h p r = (p, r, tt)

@@ -75,10 +75,10 @@ accepts d differ i vars f g any e ns fit =
     let t = named_there (λ (x : FunctionDecl). x.name) f (functions d) g e in
     takes_in d (reverse (functions d)) f g differ (λ x j. in_reverse x (functions d) j) (reverse_in g (functions d) t.0) t.1 ns fit
 
-number_value : (w : ℕ) (r : Option Value) → HasValue (bits_sort w) r → (n : ℕ) × (r ≡ Some (number w n)) × (n < 2 ^ w)
-number_value w None h = absurd h
-number_value w (Some (number v n)) h = (n, ap (λ y. Some (number y n)) h.0, h.1)
-number_value w (Some (truth b)) h = absurd h
+value_is_number : (w : ℕ) (r : Option Value) → HasValue (bits_sort w) r → (n : ℕ) × (r ≡ Some (number w n)) × (n < 2 ^ w)
+value_is_number w None h = absurd h
+value_is_number w (Some (number v n)) h = (n, ap (λ y. Some (number y n)) h.0, h.1)
+value_is_number w (Some (truth b)) h = absurd h
 
 truth_value : (r : Option Value) → HasValue truth_sort r → (b : Bool) × (r ≡ Some (truth b))
 truth_value None h = absurd h
@@ -329,11 +329,11 @@ mutual
       → FormedStmt (reverse (functions d)) own out inside vars st → (env : Env) (packet : Packet) → Here d i own s vars env packet
       → VisitOk d i own out s (Here d i own s (after_vars st vars)) (visit (context_of d a) st env packet)
   visit_ok d i own out s a g inside (let_ at x w e) vars h k env packet m =
-      let v = number_value w (value (context_of d a) env packet e) (valued d i own out a g Any vars env packet m.matches e (bits_sort w) h.1 (λ y j. tt)).has in
+      let v = value_is_number w (value (context_of d a) env packet e) (valued d i own out a g Any vars env packet m.matches e (bits_sort w) h.1 (λ y j. tt)).has in
       subst (λ o. VisitOk d i own out s (Here d i own s (one_more x w vars)) (with_value o (λ u. on (bound x.text u env) packet))) (sym v.1)
       (here_more d i own s vars env packet x w (number w v.0) (refl, v.2) k m)
   visit_ok d i own out s a g inside (set_field at x f e) vars h k env packet m =
-      let v = number_value h.0 (value (context_of d a) env packet e) (valued d i own out a g Any vars env packet m.matches e (bits_sort h.0) h.2 (λ y j. tt)).has in
+      let v = value_is_number h.0 (value (context_of d a) env packet e) (valued d i own out a g Any vars env packet m.matches e (bits_sort h.0) h.2 (λ y j. tt)).has in
       subst (λ o. VisitOk d i own out s (Here d i own s vars) (with_value o (λ u. with_number u (λ n. on env (write_field d.headers packet x.text f.text n))))) (sym v.1)
       (record {
         matches = record { variables = m.matches.variables; packet_fits = λ t. written_fits d.headers packet (m.matches.packet_fits t) x.text f.text h.0 v.0 v.2 h.1 };
@@ -448,10 +448,10 @@ mutual
       → ((y : List ℕ) → in_stmt y st ≡ true → W y) → Fits (TakesIn (reverse (functions d))) G W (context_of d a) st env packet
   fits d i own out s a g inside G groups W (let_ at x w e) vars h k env packet m wanted =
       let v = valued d i own out a g W vars env packet m.matches e (bits_sort w) h.1 wanted in
-      let n = number_value w (value (context_of d a) env packet e) v.has in (v.taken, n.0, n.1)
+      let n = value_is_number w (value (context_of d a) env packet e) v.has in (v.taken, n.0, n.1)
   fits d i own out s a g inside G groups W (set_field at x f e) vars h k env packet m wanted =
       let v = valued d i own out a g W vars env packet m.matches e (bits_sort h.0) h.2 wanted in
-      let n = number_value h.0 (value (context_of d a) env packet e) v.has in
+      let n = value_is_number h.0 (value (context_of d a) env packet e) v.has in
       let u = value_there (bits_sort h.0) (read_field d.headers packet x.text f.text) (field_value d.headers packet (m.matches.packet_fits refl) x.text f.text h.0 h.1) in
       (v.taken, h.0, n.0, u.0, n.1, u.1)
   fits d i own out s a g inside G groups W (if_ at e x y) vars h k env packet m wanted =

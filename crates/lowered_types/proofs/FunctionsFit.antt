@@ -19,7 +19,7 @@ use Rattle.sound_types.proofs.Members.{In, in_left, in_right, reverse_in, in_rev
 use Rattle.sound_types.proofs.Options.{text_self, same_text}
 use Rattle.sound_types.proofs.Values.{Sees, sound}
 use Rattle.sound_types.proofs.Variables.{bind_value, variable_value}
-use Rattle.lowered_types.proofs.Taking.{Accepts, all_fit, some_same, takes, takes_in}
+use Rattle.lowered_types.proofs.Taking.{Accepts, arguments_fit, some_same, takes, takes_in}
 
 -- a value of a type is one that a function of that result gives
 pub of_kind : (k : ResultKind) (v : Value) → IsOfSort (result_sort k) v → IsOf k v
@@ -80,14 +80,14 @@ given_fits d defs differ have before g rest all none ns fit =
 -- a value of the function is of its kind
 value_of : (d : Design) (defs : Defs) (g : FunctionDecl) (earlier : List FunctionDecl) → HaveValues (g ∷ []) (apply_in d.headers defs (g ∷ earlier)) → (o : Option Expr) → g.body ≡ o → (ns : List ℕ) → FitAll g.params ns
     → HasValue (result_sort g.result) (elim o as (λ x. Option Value) [ None ↦ look_up defs g.name.text ns | Some e ↦ option_and_then (λ env. value (inner_context d.headers defs earlier) env [] e) (bind g.params ns) ])
-value_of d defs g earlier have o is ns fit = subst (HasValue (result_sort g.result)) (here d.headers defs g earlier o is ns) (have g (inl refl) ns (all_fit g.params ns fit))
+value_of d defs g earlier have o is ns fit = subst (HasValue (result_sort g.result)) (here d.headers defs g earlier o is ns) (have g (inl refl) ns (arguments_fit g.params ns fit))
 
 body_fits : (d : Design) (defs : Defs) → NamesDiffer d → (before : List FunctionDecl) (g : FunctionDecl) → ((h : FunctionDecl) → In h before → In h (functions d)) → IsTypedBody d before g
     → HaveValues before (apply_in d.headers defs (reverse before)) → HaveValues (g ∷ []) (apply_in d.headers defs (g ∷ reverse before)) → (o : Option Expr) → g.body ≡ o → BodyFits d.headers defs g (reverse before) o
 body_fits d defs differ before g within typed have own None is = λ ns v fit e. value_of_kind g.result (look_up defs g.name.text ns) v e (value_of d defs g (reverse before) own None is ns fit)
 body_fits d defs differ before g within typed have own (Some e) is = λ ns env fit bound.
     let c = inner_context d.headers defs (reverse before) in
-    let t = bind_value g.params ns (all_fit g.params ns fit) in
+    let t = bind_value g.params ns (arguments_fit g.params ns fit) in
     let same : t.0 ≡ env = some_same t.0 env (sym t.1 ∙ bound) in
     let b : Binds g.params env = subst (Binds g.params) same t.2 in
     let s = scope_at d 0 g.params false in

@@ -22,11 +22,11 @@ fit_all [] (n ∷ ns) h = absurd h
 fit_all (p ∷ ps) [] h = absurd h
 fit_all (p ∷ ps) (n ∷ ns) h = (h.0, fit_all ps ns h.1)
 
-pub all_fit : (ps : List Param) (ns : List ℕ) → FitAll ps ns → FieldsFit (widths_of ps) ns
-all_fit [] [] h = tt
-all_fit [] (n ∷ ns) h = absurd h
-all_fit (p ∷ ps) [] h = absurd h
-all_fit (p ∷ ps) (n ∷ ns) h = (h.0, all_fit ps ns h.1)
+pub arguments_fit : (ps : List Param) (ns : List ℕ) → FitAll ps ns → FieldsFit (widths_of ps) ns
+arguments_fit [] [] h = tt
+arguments_fit [] (n ∷ ns) h = absurd h
+arguments_fit (p ∷ ps) [] h = absurd h
+arguments_fit (p ∷ ps) (n ∷ ns) h = (h.0, arguments_fit ps ns h.1)
 
 pub by_name : (b : Bool) (A B : Type 0) → (b ≡ true → A) → (b ≡ false → B) → EitherOf b A B
 by_name true A B f g = f refl

@@ -44,9 +44,9 @@ module _ (logs : (d : Design) (parts : NetParts) (s : ℕ) → WellFormed d → 
       and_from _ _ (and_from _ _ w.kinds (fit d places (switch_made parts.role s) tables.rules tables.fits log few w.tables))
       (loads d places parts.role s tables.rules tables.fits log few)
 
-  all_fit : (switches : List ℕ) → ((s : ℕ) → has_number s switches ≡ true → IsWritable (switch_program parts.role s) (switch_made parts.role s)) → each switch_fits (map (switch_files d places parts) switches) ≡ true
-  all_fit [] h = refl
-  all_fit (s ∷ switches) h = and_from _ _ (one_fits s (h s (first_number s switches))) (all_fit switches (λ x k. h x (later_number x s switches k)))
+  switches_fit : (switches : List ℕ) → ((s : ℕ) → has_number s switches ≡ true → IsWritable (switch_program parts.role s) (switch_made parts.role s)) → each switch_fits (map (switch_files d places parts) switches) ≡ true
+  switches_fit [] h = refl
+  switches_fit (s ∷ switches) h = and_from _ _ (one_fits s (h s (first_number s switches))) (switches_fit switches (λ x k. h x (later_number x s switches k)))
 
 pub network_fits : ((d : Design) (places : Places) (net : NetData) → HasTables d places → IsNetwork d places net → net.ports < 2 ^ 16 → wiring_fits (wiring_of net) ≡ true)
     → ((d : Design) (parts : NetParts) (s : ℕ) → WellFormed d → net_parts d ≡ Some parts → IsLogOf d (switch_made parts.role s))
@@ -58,4 +58,4 @@ pub network_fits : ((d : Design) (places : Places) (net : NetData) → HasTables
     → ((s : ℕ) → has_number s n.switches ≡ true → IsWritable (switch_program n.parts.role s) (switch_made n.parts.role s)) → net_fits net ≡ true
 network_fits wired logs loads fit d places net tables n ports few writable =
     and_from (wiring_fits (wiring_of net)) (each switch_fits net.switches) (wired d places net tables n ports)
-    (ap (λ (x : NetData). each switch_fits x.switches) n.net_is ∙ all_fit logs loads fit d places tables n.parts n.parts_are few n.switches writable)
+    (ap (λ (x : NetData). each switch_fits x.switches) n.net_is ∙ switches_fit logs loads fit d places tables n.parts n.parts_are few n.switches writable)

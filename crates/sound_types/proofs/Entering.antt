@@ -23,9 +23,9 @@ one_more ws layout fields (Some e) false h k = (h, k)
 enters : (layout : Layout) (bytes : List ℕ) → Fits layout (enter layout bytes)
 enters [] bytes = tt
 enters (ws ∷ layout) bytes =
-    let front = take (byte_count ws) bytes in
+    let prefix = take (byte_count ws) bytes in
     let rest = drop (byte_count ws) bytes in
-    one_more ws layout (header_fields ws front) (enter layout rest) (nat_lt (length bytes) (byte_count ws)) (cut_fits ws _) (enters layout rest)
+    one_more ws layout (header_fields ws prefix) (enter layout rest) (nat_lt (length bytes) (byte_count ws)) (cut_fits ws _) (enters layout rest)
 
 pub entered_fits : (layout : Layout) (bytes : List ℕ) (packet : Packet) (payload : List ℕ) → enter layout bytes ≡ Some (packet, payload) → PacketFits layout packet
 entered_fits layout bytes packet payload e = subst (Fits layout) e (enters layout bytes)
