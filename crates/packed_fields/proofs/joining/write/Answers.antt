@@ -1,7 +1,7 @@
 use Rattle.std.proofs.Common.{◌≡◌, ◌+◌, ◌*◌, ◌%◌, ◌^◌, take, rules, ap, ◌∙◌, arith}
+use Rattle.packed_fields.specs.Bits.{bytes_number}
 use Rattle.packed_fields.proofs.Steps.{field_below, field_written, mask_is}
-use Rattle.p4_run.specs.Bits.{number_of}
-use Rattle.p4_run.proofs.joining.write.Goals as goal
+use Rattle.packed_fields.proofs.joining.write.Goals as goal
 
 pub flush-requires-clause-writing : goal.flush-requires-clause-writing
 flush-requires-clause-writing c =
@@ -10,13 +10,14 @@ flush-requires-clause-writing c =
     record {
       within = c.requires.writing.within;
       bytes_fit = c.requires.writing.bytes_fit;
-      below = field_below w.pending w.count c.args.width c.from.result (1 * 2 ^ c.args.width % 2 ^ 128) (mask_is c.args.width (omega (arith, c.requires.narrow))) c.requires.writing.below (search rules);
+      below = field_below w.pending w.count c.args.width c.from.result (1 * 2 ^ c.args.width % 2 ^ 128)
+          (mask_is c.args.width (omega (arith, c.requires.narrow))) c.requires.writing.below (search rules);
     }
 
 pub returns-clause-number : goal.returns-clause-number
 returns-clause-number c =
     let w = c.args.left in
-    let made = number_of (take w.at c.args.bytes.now) in
+    let made = bytes_number (take w.at c.args.bytes.now) in
     let is : c.from.result ≡ c.args.number = search rules in
     c.flush.ensures.number
     ∙ field_written made w.pending w.count c.args.width c.from.result (1 * 2 ^ c.args.width % 2 ^ 128) (mask_is c.args.width (omega (arith, c.requires.narrow)))

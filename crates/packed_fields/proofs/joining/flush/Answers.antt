@@ -1,7 +1,7 @@
 use Rattle.std.proofs.Common.{◌≡◌, ◌+◌, ◌-◌, ◌*◌, ◌/◌, ◌%◌, ◌^◌, ◌<◌, ◌≤◌, [], ◌∷◌, ◌++◌, length, set, take, refl, rules, ◌∙◌, arith}
 use Rattle.std.proofs.lemmas.List.{length-set, take_more_set}
 use Rattle.packed_fields.proofs.Steps.{byte_fits, byte_written, lower_below, mask_is, upper_below}
-use Rattle.p4_run.proofs.joining.flush.Goals as goal
+use Rattle.packed_fields.proofs.joining.flush.Goals as goal
 
 pub overflow_cast-bytes-in-loop-left : goal.overflow_cast-bytes-in-loop-left
 overflow_cast-bytes-in-loop-left c =

@@ -1,6 +1,6 @@
 use Rattle.std.proofs.Common.{◌≡◌, ◌*◌, ◌<◌, ◌≤◌, length}
-use Rattle.p4_run.specs.Bits.{bits_made, IsWriting, number_made}
-use Rattle.p4_run.proofs.joining.flush.Given as goal
+use Rattle.packed_fields.specs.Bits.{bits_made, IsWriting, number_made}
+use Rattle.packed_fields.proofs.joining.flush.Given as goal
 
 abbrev pub invariant-loop-left : goal.invariant-loop-left
 invariant-loop-left l = record {

@@ -1,11 +1,9 @@
 use Rattle.std.proofs.Common.{◌≡◌, ◌+◌, ◌*◌, ◌/◌, ◌%◌, ◌^◌, ◌<◌, ◌≤◌, length, take, get_or, rules, sym, subst, ◌∙◌, arith}
-use Rattle.std.proofs.lemmas.List.{length-take-le}
-use Rattle.cocoon_num.specs.Packets.{byte_count, total}
+use Rattle.cocoon_num.specs.Packets.{total}
+use Rattle.packed_fields.specs.Bits.{bits_made}
 use Rattle.packed_fields.proofs.Packing.{fit_length}
-use Rattle.packed_fields.proofs.Steps.{all_written, bits_more, field_fits, number_more}
-use Rattle.p4_run.specs.Bits.{bits_made}
-use Rattle.p4_run.proofs.ByteSteps.{every_byte, total_within}
-use Rattle.p4_run.proofs.joining.join_into.Goals as goal
+use Rattle.packed_fields.proofs.Steps.{all_written, bits_more, field_fits, number_more, total_within}
+use Rattle.packed_fields.proofs.joining.join_into.Goals as goal
 
 pub bounds-fields-index : goal.bounds-fields-index
 bounds-fields-index c =
@@ -21,7 +19,8 @@ offset_bounds-fields-index c =
 pub write-left-requires-clause-fits : goal.write-left-requires-clause-fits
 write-left-requires-clause-fits c =
     let is : c.from.result ≡ get_or c.args.widths.now c.loop-index.index 0 = search rules in
-    subst (λ w. get_or c.args.fields.now c.loop-index.index 0 < 2 ^ w) (sym is) (field_fits c.args.widths.now c.args.fields.now c.loop-index.index c.requires.fit c.loop-index-test.true)
+    subst (λ w. get_or c.args.fields.now c.loop-index.index 0 < 2 ^ w) (sym is)
+    (field_fits c.args.widths.now c.args.fields.now c.loop-index.index c.requires.fit c.loop-index-test.true)
 
 pub write-left-requires-clause-room : goal.write-left-requires-clause-room
 write-left-requires-clause-room c =
@@ -52,14 +51,11 @@ loop-index-preserved c =
 
 pub returns : goal.returns
 returns c =
-    let ws = c.args.widths.now in
-    let fs = c.args.fields.now in
     let i = c.loop-index.index in
     let w = c.loop-index.left in
-    let bs = c.loop-index.bytes in
-    let l : length ws ≤ i = search rules in
-    let counted : length (take w.at bs) ≡ w.at = length-take-le w.at bs c.loop-index.invariant.writing.within in
-    let many : length bs ≡ byte_count ws = c.loop-index.invariant.many ∙ c.requires.many in
-    every_byte ws fs bs w.at w.count i c.requires.whole many c.loop-index.invariant.writing.within c.loop-index.invariant.short l c.loop-index.invariant.bits
-    (all_written ws fs (take w.at bs) i w.pending w.count l c.requires.fit c.requires.whole c.loop-index.invariant.writing.bytes_fit
-    c.loop-index.invariant.short c.loop-index.invariant.writing.below ((λ k. 8 * counted k + w.count) ∙ c.loop-index.invariant.bits) c.loop-index.invariant.number)
+    let kept = c.loop-index.invariant in
+    let l : length c.args.widths.now ≤ i = search rules in
+    record {
+      bytes = all_written c.args.widths.now c.args.fields.now c.loop-index.bytes w.at i w.pending w.count l c.requires.fit c.requires.whole (kept.many ∙ c.requires.many)
+          kept.writing.within kept.writing.bytes_fit kept.short kept.writing.below kept.bits kept.number;
+    }

@@ -1,7 +1,7 @@
 use Rattle.std.proofs.Common.{◌≡◌, ◌<◌, length, take}
 use Rattle.cocoon_num.specs.Packets.{packed, total}
-use Rattle.p4_run.specs.Bits.{bits_made, IsWriting, number_made}
-use Rattle.p4_run.proofs.joining.join_into.Given as goal
+use Rattle.packed_fields.specs.Bits.{bits_made, IsWriting, number_made}
+use Rattle.packed_fields.proofs.joining.join_into.Given as goal
 
 abbrev pub invariant-loop-index : goal.invariant-loop-index
 invariant-loop-index l = record {

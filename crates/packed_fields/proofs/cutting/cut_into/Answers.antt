@@ -1,10 +1,10 @@
 use Rattle.std.proofs.Common.{◌≡◌, ◌+◌, ◌∷◌, ◌++◌, ◌<◌, ◌≤◌, [], length, take, drop, set, get_or, rules, sym, ◌∙◌, arith}
 use Rattle.std.proofs.lemmas.List.{length-set, take_all, take_more_set}
 use Rattle.cocoon_num.specs.Packets.{total}
+use Rattle.packed_fields.specs.Bits.{bits_left, bytes_number, number_left}
 use Rattle.packed_fields.proofs.Packing.{fit_length}
 use Rattle.packed_fields.proofs.Steps.{all_read, field_cut, fields_cut, first_width, width_fits}
-use Rattle.p4_run.specs.Bits.{bits_left, number_left, number_of}
-use Rattle.p4_run.proofs.cutting.cut_into.Goals as goal
+use Rattle.packed_fields.proofs.cutting.cut_into.Goals as goal
 
 pub loop-index-preserved : goal.loop-index-preserved
 loop-index-preserved c =
@@ -27,7 +27,7 @@ loop-index-preserved c =
       short = c.read.ensures.short;
       many = length-set fs i n ∙ c.loop-index.invariant.many;
       bits = omega (arith, is, step, bits, was);
-      number = field_cut ws (take i fs) (take (i + 1) (set fs i n)) i w n (bits_left old) (bits_left new) (number_left old) (number_left new) (number_of c.args.bytes.now) l is
+      number = field_cut ws (take i fs) (take (i + 1) (set fs i n)) i w n (bits_left old) (bits_left new) (number_left old) (number_left new) (bytes_number c.args.bytes.now) l is
           (fit_length (take i ws) (take i fs) c.loop-index.invariant.fits) more bits c.read.ensures.number c.loop-index.invariant.number;
       fits = width_fits ws (take i fs) (take (i + 1) (set fs i n)) i w n l is more c.loop-index.invariant.fits c.read.ensures.fits;
     }
