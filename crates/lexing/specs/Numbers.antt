@@ -1,4 +1,4 @@
--- What the parts of `read_number` give, in the terms of the definition. Its clause cites `number_of`, as that of
+-- What the parts of `read_number` give, in the terms of the definition. Its clause cites `kind_of_number`, as that of
 -- `Lexicon` does; private clauses of `numbers` cite the others.
 use Rattle.std.specs.Prelude.{nat_lt, option_and_then, ◌^◌, ℕ, List, Option}
 use Rattle.cocoon_num.specs.Tokens as tokens
@@ -12,9 +12,9 @@ abbrev pub literal_kind : Bits → tokens.Kind
 literal_kind bits = tokens.literal bits.width bits.value
 
 -- the kind of a number
-abbrev pub number_of : Number → tokens.Kind
-number_of (Plain n) = tokens.plain n
-number_of (Literal bits) = literal_kind bits
+abbrev pub kind_of_number : Number → tokens.Kind
+kind_of_number (Plain n) = tokens.plain n
+kind_of_number (Literal bits) = literal_kind bits
 
 abbrev pub base_of : Radix → ℕ
 base_of Decimal = 10

@@ -2,7 +2,7 @@
 ghost use Rattle.std.specs.Prelude.{◌≡◌, ◌≤◌, ℕ, List, slice_range, true};
 ghost use Rattle.cocoon_num.specs.Lists.{each};
 ghost use Rattle.cocoon_num.specs.Tokens as tokens;
-ghost use Rattle.lexing.specs.Numbers.{number_of};
+ghost use Rattle.lexing.specs.Numbers.{kind_of_number};
 ghost use Rattle.lexing.specs.Prefixes.{BeginsWithLetter, has_bytes, mark_read};
 
 use crate::numbers::Number;
@@ -37,7 +37,7 @@ pub trait Lexicon {
             ≡ mark_read kind_of text.now result };
 
     fn number(number: Number) -> Self::Kind
-        ensures { (bytes : List ℕ) → kind_of result bytes ≡ number_of number };
+        ensures { (bytes : List ℕ) → kind_of result bytes ≡ kind_of_number number };
 
     /// The end of the text.
     fn end() -> Self::Kind

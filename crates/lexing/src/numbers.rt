@@ -1,7 +1,7 @@
 //! Plain numbers and literals. A value of more than 128 bits is none: the widest literals have so many.
 ghost use Rattle.std.specs.Prelude.{◌≡◌, ◌+◌, ◌*◌, ◌^◌, ◌≤◌, nat_lt, option_and_then, option_map};
 ghost use Rattle.cocoon_num.specs.Tokens as tokens;
-ghost use Rattle.lexing.specs.Numbers.{base_of, digit_of, literal_kind, literal_read, number_of, small, value_of};
+ghost use Rattle.lexing.specs.Numbers.{base_of, digit_of, literal_kind, literal_read, kind_of_number, small, value_of};
 
 use crate::bytes::{begins, is_digit, len_before};
 use cocoon_num::Bits;
@@ -129,7 +129,7 @@ fn bits(width: u128, value: u128, widest: u8) -> Option<Bits>
 /// What a run of letters, digits and `_` that begins with a digit is. The widest literal has so many bits.
 pub fn read_number(run: &[u8], widest: u8) -> Option<Number>
     requires { widest ≤ 128 }
-    ensures { option_map number_of result ≡ tokens.number_kind widest run.now }
+    ensures { option_map kind_of_number result ≡ tokens.number_kind widest run.now }
 {
     match digits_value(Radix::Decimal, run) {
         Some(value) => plain(value),
@@ -139,7 +139,7 @@ pub fn read_number(run: &[u8], widest: u8) -> Option<Number>
 
 /// A plain number, where it is below 2^32.
 fn plain(value: u128) -> Option<Number>
-    ensures { option_map number_of result
+    ensures { option_map kind_of_number result
         ≡ tokens.kept_if (nat_lt value (2 ^ 32)) (tokens.plain value) }
 {
     if value > u128::from(u32::MAX) {
