@@ -3,7 +3,7 @@ use Rattle.std.proofs.Common.{All, ◌≡◌, ℕ, zero, suc, ◌<◌, ◌^◌, 
 use Rattle.std.specs.List.{find}
 use Rattle.std.proofs.lemmas.Bool.{and_parts, eqb-true, eq-eqb, ltb-true, or_cases, or_left, or_right}
 use Rattle.cocoon_num.specs.Lists.{ascend, each, has_number, no_repeats}
-use Rattle.cocoon_num.specs.Rows.{all_fit}
+use Rattle.cocoon_num.specs.Rows.{values_match}
 use Rattle.flat_rows.specs.Keyed.{HasKeys}
 use Rattle.p4_ir.specs.Loading.{all_tables, group_fits, keys_fit, key_fits, row_fits, rows_load, table_numbers, table_rows_fit}
 use Rattle.p4_ir.specs.NetOf.{key_row_of}
@@ -249,7 +249,7 @@ result_fits p t [] otherwise xs h l = l
 result_fits p t (r ∷ rows) otherwise xs h l =
     let both = and_parts (row_fits p t r) (each (row_fits p t) rows) h in
     let own = and_parts (keys_fit p t.exact t.keys r.values r.masks) (nat_lt r.result (2 ^ meta_width p t.result)) both.0 in
-    small_step (2 ^ meta_width p t.result) (all_fit r.values r.masks xs) r.result (table_result rows otherwise xs)
+    small_step (2 ^ meta_width p t.result) (values_match r.values r.masks xs) r.result (table_result rows otherwise xs)
     (ltb-true r.result (2 ^ meta_width p t.result) own.1) (result_fits p t rows otherwise xs both.1 l)
 
 -- a group that is listed
