@@ -7,7 +7,7 @@
 It needs the program of crates/cocoon: `rt run` there builds it; or COCOON names one. The network has 64 switches of 256 ports, 512
 hosts and 7,680 rows; each switch is linked to the eight that follow it in a ring, so a packet visits up to nine of them. All files
 are in memory where the machine has a folder for that, and each run reads the bundle and the packets, and prints. What it prints is
-compared with where each packet has to go. Where a compiler `cc` is there, the plain program visits.c reads the same network in its
+compared with where each packet has to go. Where a compiler `cc` is there, the C program visits.c reads the same network in its
 plain form and the same packets, and has to print the same.
 """
 

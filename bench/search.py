@@ -1,5 +1,5 @@
 #!/usr/bin/env python3
-"""How long searches and the checks of logs take, and whether a plain program in C says the same of logs.
+"""How long searches and the checks of logs take, and whether a program in C says the same of logs.
 
     bench/search.py           all of it
     bench/search.py FOLDER    the same, with the crates and the built program kept in this folder, for a later run

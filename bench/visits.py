@@ -5,7 +5,7 @@
                                          times and the instructions for one packet; with PACKETS so many through one table,
                                          and a tenth and a hundredth of it through ten and a hundred
 
-It needs the program of crates/p4_tests: `rt run` there builds it. Where a compiler `cc` is there, the same is done by the plain
+It needs the program of crates/p4_tests: `rt run` there builds it. Where a compiler `cc` is there, the same is done by the C
 program bench/visits.c: every one of 10,000 results has to be the same, and the number that all results make. Times are seconds of
 the processor in user mode for 1,000,000 packets, and those of a run without packets are taken off them. Instructions are counted
 where valgrind is there, with 1,000 packets.
@@ -76,7 +76,7 @@ def instructions(program, asked):
 
 
 def cells(ours, plain, form):
-    """What both took, and the ratio; one cell where there is no plain program."""
+    """What both took, and the ratio; one cell where there is no C program."""
     both = [ours] if plain is None else [ours, plain]
     if None in both:
         return ["-"] * len(both) + ["-"] * (len(both) - 1)

@@ -7,7 +7,7 @@ use Rattle.std.proofs.lemmas.Option.{slice_get_read}
 use Rattle.std.proofs.lemmas.Bool.{cases_Bool, cond-true, cond-false}
 use Rattle.cocoon_num.specs.Values.{number}
 use Rattle.cocoon_num.specs.BitsOf.{value_of}
-use Rattle.cocoon_num.specs.FunTables.{looked, row_fits}
+use Rattle.cocoon_num.specs.FunTables.{looked, row_matches}
 use Rattle.cocoon_num.specs.Rows.{first_match}
 use Rattle.cocoon_num.specs.declared.bits.Bits.{Bits}
 use Rattle.cocoon_num.specs.declared.fun_table.FunRow.{FunRow}
@@ -16,12 +16,12 @@ use Rattle.bv_terms.specs.declared.eval.Env.{Env}
 use Rattle.bv_terms.specs.Environments.{function_table, functions_of, HasTable, RowFits, TableFits}
 
 match-width : (xs : List ℕ) (n w : ℕ) (rows : List FunRow) (otherwise : Bits) → AllByRecursion (RowFits n w) rows → otherwise.width ≡ w
-    → (first_match (row_fits xs) (λ (row : FunRow). row.result) rows otherwise).width ≡ w
+    → (first_match (row_matches xs) (λ (row : FunRow). row.result) rows otherwise).width ≡ w
 match-width xs n w [] otherwise h e = e
 match-width xs n w (r ∷ rows) otherwise h e =
-    elim (cases_Bool (row_fits xs r)) [
-      | inl t ↦ ap (λ (b : Bits). b.width) (cond-true (row_fits xs r) r.result (first_match (row_fits xs) (λ (row : FunRow). row.result) rows otherwise) t) ∙ h.0.1
-      | inr t ↦ ap (λ (b : Bits). b.width) (cond-false (row_fits xs r) r.result (first_match (row_fits xs) (λ (row : FunRow). row.result) rows otherwise) t)
+    elim (cases_Bool (row_matches xs r)) [
+      | inl t ↦ ap (λ (b : Bits). b.width) (cond-true (row_matches xs r) r.result (first_match (row_matches xs) (λ (row : FunRow). row.result) rows otherwise) t) ∙ h.0.1
+      | inr t ↦ ap (λ (b : Bits). b.width) (cond-false (row_matches xs r) r.result (first_match (row_matches xs) (λ (row : FunRow). row.result) rows otherwise) t)
           ∙ match-width xs n w rows otherwise h.1 e
     ]
 

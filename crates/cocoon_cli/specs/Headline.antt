@@ -2,7 +2,8 @@
 -- network that, for every packet entering at any host port and any number of switch visits,
 -- delivers copy for copy exactly what the design's last level delivers under the given definitions;
 -- and each such delivery, its port, headers and payload, is one that the design's topmost
--- specification may make. It is the sentence of the section "The headline" of docs/PROMISES.md.
+-- specification may make. It is the sentence of "What is proved" in README.md, which "The headline"
+-- of docs/PROMISES.md takes part by part.
 use Rattle.std.specs.Prelude.{◌≡◌, ℕ, List, Option, Some, None}
 use Rattle.std.specs.FinMap.{get}
 use Rattle.cocoon_num.specs.Tree.{Design, DefsText}

@@ -1,5 +1,5 @@
 -- Cited through Run.antt by `keeps` of `run` and by `performs` of each command. What a command
--- leaves in the folder. It follows "Statuses" in docs/FORMATS.md.
+-- leaves in the folder. It follows "What is left of the files" in README.md.
 use Rattle.std.specs.Prelude.{◌≡◌, ◌⊎◌, List, Option, Result, Ok, Err}
 use Rattle.cocoon_io.specs.Files.{Files}
 use Rattle.net_bundle.specs.Bundle.{MadeFile}

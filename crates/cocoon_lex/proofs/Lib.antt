@@ -1,6 +1,2 @@
-pub mod CappedValues
 pub mod Columns
-pub mod KeywordLookup
-pub mod PrefixCases
-pub mod Runs
-pub mod Steps
+pub mod Names

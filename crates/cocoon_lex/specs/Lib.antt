@@ -1,3 +1,3 @@
+pub mod Faults
 pub mod Kinds
 pub mod Position
-pub mod Prefixes

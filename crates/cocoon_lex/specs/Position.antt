@@ -1,4 +1,4 @@
--- Cited by `place` and by the first faults of cocoon_text: the line and the column of an offset in a text. A line ends
+-- Cited by `position_at` and by the first faults of cocoon_text: the line and the column of an offset in a text. A line ends
 -- with its line feed.
 use Rattle.std.specs.Prelude.{ℕ, ◌+◌, ◌==◌, not, List, length, take, reverse, count_by}
 use Rattle.cocoon_num.specs.Tokens.{leading}

@@ -1,11 +1,12 @@
 //! The tokens of a text, or its first fault.
-ghost use Rattle.std.specs.Prelude.{All, ◌≡◌, ◌<◌, ◌≤◌, ◌^◌, IfErr, IfOk, Ok, drop, length, map};
+ghost use Rattle.std.specs.Prelude.{All, ◌≡◌, ◌<◌, ◌^◌, IfErr, IfOk, Ok, length, map};
 ghost use Rattle.cocoon_num.specs.Tokens.{language, lex as tokens_of};
 ghost use Rattle.cocoon_lex.specs.Kinds.{HasFault, IsSpelled, StandsIn, token_of};
 
-use crate::prefixes::{Prefix, read_prefix};
-use crate::token::{Token, TokenKind};
-use std::alloc::{AllocFailed, Global};
+use crate::language::Language;
+use crate::token::Token;
+use lexing::FirstFault;
+use std::alloc::Global;
 
 /// The first fault of a text, with the offset of its first byte.
 #[derive(Clone, Copy, Debug, Drop, PartialEq, Eq)]
@@ -19,14 +20,19 @@ pub enum LexFault {
     NoMemory,
 }
 
-impl<T: Drop> From<AllocFailed<T>> for LexFault {
+impl From<FirstFault> for LexFault {
     ghost use Rattle.std.specs.Prelude.{◌≡◌};
-    ghost use Rattle.cocoon_lex.specs.declared.lexer.LexFault.TheVariants.{NoMemory};
+    ghost use Rattle.cocoon_lex.specs.Faults.{fault_of};
 
-    ghost from_gives = { λ _ fault. fault ≡ NoMemory };
+    ghost from_gives = { λ first fault. fault ≡ fault_of first };
 
-    fn from(_: AllocFailed<T>) -> LexFault {
-        LexFault::NoMemory
+    fn from(first: FirstFault) -> LexFault {
+        match first {
+            FirstFault::BadByte(at) => LexFault::BadByte(at),
+            FirstFault::BadNumber(at) => LexFault::BadNumber(at),
+            FirstFault::OpenComment(at) => LexFault::OpenComment(at),
+            FirstFault::NoMemory => LexFault::NoMemory,
+        }
     }
 }
 
@@ -39,33 +45,5 @@ pub fn lex(alloc: Global, text: &[u8]) -> Result<Vec<Token>, LexFault>
     ensures names { IfOk result (λ v. All (IsSpelled text.now) v.items) }
     ensures fault { IfErr result (λ f. HasFault text.now f) }
 {
-    let mut tokens = Vec::new(alloc);
-    let mut at = 0;
-    while at < text.len() {
-        let start = at as u32;
-        match read_prefix(rest(text, at)) {
-            Prefix::Gap(size) => at += size,
-            Prefix::Piece(kind, size) => {
-                at += size;
-                let end = at as u32;
-                tokens.push(Token { kind, start, end })?;
-            }
-            Prefix::Faulty(fault) => return Err(fault.at(start)),
-        }
-    }
-    let end = at as u32;
-    tokens.push(Token {
-        kind: TokenKind::End,
-        start: end,
-        end,
-    })?;
-    Ok(tokens)
-}
-
-/// The bytes from an offset on.
-fn rest(text: &[u8], at: usize) -> &[u8]
-    requires { at ≤ length text.now }
-    ensures { result.now ≡ drop at text.now }
-{
-    &text[at..]
+    Ok(lexing::lex::<Language>(alloc, text)?)
 }

@@ -2,14 +2,12 @@
 //! byte of it is copied: a name is the bytes from the start of its token to its end.
 #![tactic(auto)]
 
-mod bytes;
+mod language;
 pub mod lexer;
-mod numbers;
 mod position;
-mod prefixes;
 mod spellings;
 pub mod token;
 
 pub use lexer::{LexFault, lex};
-pub use position::place;
+pub use position::position_at;
 pub use token::{Keyword, Mark, Token, TokenKind};

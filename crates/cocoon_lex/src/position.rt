@@ -4,7 +4,7 @@ ghost use Rattle.cocoon_lex.specs.Position.{column_of, line_of};
 
 /// The line and the column of an offset, both from 1. A column counts bytes.
 #[tactic(auto, using(crate::proofs::Columns::next_column))]
-pub fn place(text: &[u8], offset: u32) -> (u32, u32)
+pub fn position_at(text: &[u8], offset: u32) -> (u32, u32)
     requires small { length text.now < 2 ^ 31 }
     requires within { offset ≤ length text.now }
     ensures line { result.0 ≡ line_of text.now offset }

@@ -1,11 +1,12 @@
-//! The reserved words and the marks, and how they are spelled in a text.
-ghost use Rattle.std.specs.Prelude.{◌≡◌, map, option_map};
+//! The reserved words and the marks, and which of them stands in a text.
+ghost use Rattle.std.specs.Prelude.{◌≡◌, option_map};
 ghost use Rattle.cocoon_num.specs.Tokens as tokens;
-ghost use Rattle.cocoon_lex.specs.Kinds.{kind_of, keyword_text, mark_text};
-ghost use Rattle.cocoon_lex.specs.Prefixes.{BeginsWithLetter, IsKeywordAmong};
+ghost use Rattle.cocoon_lex.specs.Kinds.{kind_of, mark_text};
+ghost use Rattle.lexing.specs.Prefixes.{BeginsWithLetter};
 
-use crate::bytes::{begins, same_bytes};
 use crate::token::{Keyword, Mark, TokenKind};
+use lexing::bytes::same_bytes;
+use lexing::{Spelled, first_beginning, first_same};
 
 const KEYWORDS: [Keyword; 27] = [
     Keyword::Packet,
@@ -69,37 +70,31 @@ const MARKS: [Mark; 28] = [
     Mark::Any,
 ];
 
-/// The first of these reserved words that is this run.
-#[tactic(auto, using(crate::proofs::KeywordLookup::is_next))]
-fn find_keyword(keywords: &[Keyword], run: &[u8]) -> Option<Keyword>
-    ensures { IsKeywordAmong (map keyword_text keywords.now) run.now result }
-{
-    for keyword in keywords {
-        if same_bytes(keyword.text().as_bytes(), run) {
-            return Some(*keyword);
-        }
+impl Spelled for Keyword {
+    ghost use Rattle.cocoon_lex.specs.Kinds.{keyword_text};
+
+    ghost text_of = { keyword_text };
+
+    fn spelling(self) -> &'static str {
+        self.text()
     }
-    None
 }
 
-/// The first of these marks with which a text begins.
-#[tactic(auto, using(crate::proofs::KeywordLookup::begins_next))]
-fn find_mark(marks: &[Mark], text: &[u8]) -> Option<Mark>
-    ensures { option_map mark_text result ≡ tokens.beginning (map mark_text marks.now) text.now }
-{
-    for mark in marks {
-        if begins(text, mark.text().as_bytes()) {
-            return Some(*mark);
-        }
+impl Spelled for Mark {
+    ghost use Rattle.cocoon_lex.specs.Kinds.{mark_text};
+
+    ghost text_of = { mark_text };
+
+    fn spelling(self) -> &'static str {
+        self.text()
     }
-    None
 }
 
 /// The longest mark with which a text begins.
 pub fn mark(text: &[u8]) -> Option<Mark>
     ensures { option_map mark_text result ≡ tokens.beginning tokens.language.marks text.now }
 {
-    find_mark(&MARKS, text)
+    first_beginning(&MARKS, text)
 }
 
 /// What a run of letters, digits and `_` that begins with a letter is.
@@ -110,7 +105,7 @@ pub fn run_kind(run: &[u8]) -> TokenKind
     if same_bytes(b"_", run) {
         return TokenKind::Mark(Mark::Any);
     }
-    match find_keyword(&KEYWORDS, run) {
+    match first_same(&KEYWORDS, run) {
         Some(keyword) => TokenKind::Keyword(keyword),
         None => TokenKind::Name,
     }

@@ -8,10 +8,10 @@ abbrev pub has_bits : (value mask : ℕ) → ℕ → Bool
 has_bits value mask x = bit_and x mask == bit_and value mask
 
 -- each number has its value in the bits of its mask, and there are as many of each
-abbrev pub all_fit : (values masks numbers : List ℕ) → Bool
-all_fit [] [] [] = true
-all_fit (v ∷ vs) (m ∷ ms) (x ∷ xs) = has_bits v m x && all_fit vs ms xs
-all_fit _ _ _ = false
+abbrev pub values_match : (values masks numbers : List ℕ) → Bool
+values_match [] [] [] = true
+values_match (v ∷ vs) (m ∷ ms) (x ∷ xs) = has_bits v m x && values_match vs ms xs
+values_match _ _ _ = false
 
 -- what the first row that matches gives, else the default
 abbrev pub first_match : {R A : Type 0} → (matches : R → Bool) → (gives : R → A) → List R → (otherwise : A) → A

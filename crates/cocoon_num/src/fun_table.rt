@@ -1,6 +1,6 @@
 //! Tables of functions: rows with values and masks, and a default.
 ghost use Rattle.std.specs.Prelude.{All, ◌≡◌, length};
-ghost use Rattle.cocoon_num.specs.FunTables.{HasKeys, looked, row_fits};
+ghost use Rattle.cocoon_num.specs.FunTables.{HasKeys, looked, row_matches};
 
 use crate::bits::Bits;
 use crate::list::List;
@@ -33,7 +33,7 @@ impl FunTable {
         ensures { result ≡ looked self.now args.now }
     {
         for row in self.rows.items() {
-            if row.fits(args) {
+            if row.matches(args) {
                 return row.result;
             }
         }
@@ -42,9 +42,9 @@ impl FunTable {
 }
 
 impl FunRow {
-    fn fits(&self, args: &[u64]) -> bool
+    fn matches(&self, args: &[u64]) -> bool
         requires { HasKeys (length args.now) self.now }
-        ensures { result ≡ row_fits args.now self.now }
+        ensures { result ≡ row_matches args.now self.now }
     {
         let values = self.values.items();
         let masks = self.masks.items();

@@ -3,7 +3,7 @@ ghost use Rattle.std.specs.Prelude.{All, ◌≡◌, ◌<◌, ◌≤◌, ◌^◌,
 ghost use Rattle.cocoon_lex.specs.Kinds.{StandsIn, token_of};
 ghost use Rattle.cocoon_text.specs.Positions.{offset_of, position_at, start_or, token_position};
 
-use cocoon_lex::{LexFault, Token, lex, place};
+use cocoon_lex::{LexFault, Token, lex, position_at};
 use cocoon_num::NoMemory;
 use std::alloc::Global;
 
@@ -30,7 +30,7 @@ fn position_of_byte(text: &[u8], offset: u32) -> Position
     requires within { offset ≤ length text.now }
     ensures { result ≡ position_at text.now offset }
 {
-    let (line, column) = place(text, offset);
+    let (line, column) = position_at(text, offset);
     Position { line, column }
 }
 

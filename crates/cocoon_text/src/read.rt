@@ -12,7 +12,7 @@ ghost use Rattle.cocoon_text.specs.TextFaults.{IsUnread};
 ghost use Rattle.cocoon_text.specs.OfToken.{OfToken};
 
 use crate::fault::{FaultKind, TextFault, Unread};
-use cocoon_lex::{LexFault, Token, lex, place};
+use cocoon_lex::{LexFault, Token, lex, position_at};
 use cocoon_parse::{ParseFault, parse_defs, parse_design};
 use cocoon_syntax::{DefsText, Design};
 use std::alloc::Global;
@@ -56,7 +56,7 @@ fn fault_at(text: &[u8], kind: FaultKind, offset: u32) -> TextFault
     ensures line { result.line ≡ line_of text.now offset }
     ensures column { result.column ≡ column_of text.now offset }
 {
-    let (line, column) = place(text, offset);
+    let (line, column) = position_at(text, offset);
     TextFault { kind, line, column }
 }
 

@@ -8,7 +8,7 @@ use Rattle.std.proofs.lemmas.Bool.{and_parts, ne_eqb}
 use Rattle.std.proofs.lemmas.List.{drop_more}
 use Rattle.cocoon_num.specs.Lists.{each}
 use Rattle.cocoon_num.specs.Names.{same_name}
-use Rattle.cocoon_num.specs.Rows.{all_fit}
+use Rattle.cocoon_num.specs.Rows.{values_match}
 use Rattle.p4_ir.specs.NetOf.{key_row_of}
 use Rattle.p4_ir.specs.Switch.{table_result}
 use Rattle.p4_ir.specs.declared.rows.KeyRow.{KeyRow as CodeRow}
@@ -70,13 +70,13 @@ values_counted ms (r ∷ rows) h =
 
 -- ---- one row after another
 
-row_fits : (vs ms xs : List ℕ) (rest : List KeyTest) → length vs ≡ length xs → length ms ≡ length xs → fits (row_tests vs ms ++ rest) xs ≡ all_fit vs ms xs
-row_fits [] [] [] rest e f = refl
-row_fits (v ∷ vs) ms [] rest e f = absurd (let bad : suc (length vs) ≡ 0 = e in omega arith)
-row_fits [] (m ∷ ms) [] rest e f = absurd (let bad : suc (length ms) ≡ 0 = f in omega arith)
-row_fits [] ms (x ∷ xs) rest e f = absurd (let bad : 0 ≡ suc (length xs) = e in omega arith)
-row_fits (v ∷ vs) [] (x ∷ xs) rest e f = absurd (let bad : 0 ≡ suc (length xs) = f in omega arith)
-row_fits (v ∷ vs) (m ∷ ms) (x ∷ xs) rest e f = ap (λ b. (bit_and x m == bit_and v m) && b) (row_fits vs ms xs rest (cc) (cc))
+row_tests_match : (vs ms xs : List ℕ) (rest : List KeyTest) → length vs ≡ length xs → length ms ≡ length xs → fits (row_tests vs ms ++ rest) xs ≡ values_match vs ms xs
+row_tests_match [] [] [] rest e f = refl
+row_tests_match (v ∷ vs) ms [] rest e f = absurd (let bad : suc (length vs) ≡ 0 = e in omega arith)
+row_tests_match [] (m ∷ ms) [] rest e f = absurd (let bad : suc (length ms) ≡ 0 = f in omega arith)
+row_tests_match [] ms (x ∷ xs) rest e f = absurd (let bad : 0 ≡ suc (length xs) = e in omega arith)
+row_tests_match (v ∷ vs) [] (x ∷ xs) rest e f = absurd (let bad : 0 ≡ suc (length xs) = f in omega arith)
+row_tests_match (v ∷ vs) (m ∷ ms) (x ∷ xs) rest e f = ap (λ b. (bit_and x m == bit_and v m) && b) (row_tests_match vs ms xs rest (cc) (cc))
 
 pub scanned_is : (n : ℕ) (rows : List CodeRow) (otherwise : ℕ) (xs : List ℕ) → All (HasKeys n) rows → length xs ≡ n
     → scanned n (rows_tests (map key_row_of rows)) (results_of (map key_row_of rows)) otherwise xs ≡ table_result (map key_row_of rows) otherwise xs
@@ -84,9 +84,9 @@ scanned_is n [] otherwise xs h l = refl
 scanned_is n (r ∷ rows) otherwise xs h l =
     let own = keys_first n r rows h in
     let rest = rows_tests (map key_row_of rows) in
-    (λ i. if row_fits r.values r.masks xs rest (own.0 ∙ sym l) (own.1 ∙ sym l) i then r.result
+    (λ i. if row_tests_match r.values r.masks xs rest (own.0 ∙ sym l) (own.1 ∙ sym l) i then r.result
     else scanned n (later_part n (row_tests r.values r.masks) rest (row_counted n r own) i) (results_of (map key_row_of rows)) otherwise xs)
-    ∙ ap (λ k. if all_fit r.values r.masks xs then r.result else k) (scanned_is n rows otherwise xs (keys_rest n r rows h) l)
+    ∙ ap (λ k. if values_match r.values r.masks xs then r.result else k) (scanned_is n rows otherwise xs (keys_rest n r rows h) l)
 
 next_row : (b : Bool) (x y : ℕ) → b ≡ false → (if b then x else y) ≡ y
 next_row true x y h = absurd (cc)
@@ -112,7 +112,7 @@ scanned_on n tests results otherwise xs at i l h =
 
 -- ---- rows with the same masks
 
-masked_same : (ms vs xs : List ℕ) → length vs ≡ length ms → length xs ≡ length ms → same_name (masked ms xs) (masked ms vs) ≡ all_fit vs ms xs
+masked_same : (ms vs xs : List ℕ) → length vs ≡ length ms → length xs ≡ length ms → same_name (masked ms xs) (masked ms vs) ≡ values_match vs ms xs
 masked_same [] [] [] e f = refl
 masked_same [] (v ∷ vs) xs e f = absurd (let bad : suc (length vs) ≡ 0 = e in omega arith)
 masked_same [] [] (x ∷ xs) e f = absurd (let bad : suc (length xs) ≡ 0 = f in omega arith)
@@ -139,5 +139,5 @@ found_is ms (r ∷ rows) otherwise xs h s l =
     (λ i. unwrap_or (cond (is_eq (slice_cmp nat_cmp (masked ms xs) (first_part n (masked ms r.values) rest many i))) (Some r.result)
     (found (pairs_of n (later_part n (masked ms r.values) rest many i) (results_of (map key_row_of rows))) (masked ms xs))) otherwise)
     ∙ picked (is_eq (slice_cmp nat_cmp (masked ms xs) (masked ms r.values))) r.result others otherwise
-    ∙ (λ i. if (same_compare (masked ms xs) (masked ms r.values) ∙ masked_same ms r.values xs own.0 l ∙ ap (λ k. all_fit r.values k xs) (sym mine)) i then r.result
+    ∙ (λ i. if (same_compare (masked ms xs) (masked ms r.values) ∙ masked_same ms r.values xs own.0 l ∙ ap (λ k. values_match r.values k xs) (sym mine)) i then r.result
     else found_is ms rows otherwise xs (keys_rest n r rows h) shared.1 l i)

@@ -3,10 +3,10 @@ use Rattle.std.proofs.Common.{◌≡◌, ℕ, ◌==◌, ◌&&◌, ◌||◌, Bool
 use Rattle.std.specs.Prelude.{option_and_then}
 use Rattle.std.proofs.lemmas.List.Elements.{All-cons, All-head, All-nil, All-tail}
 use Rattle.std.proofs.lemmas.List.Folds.{list_any-append}
-use Rattle.cocoon_num.specs.FunTables.{row_fits}
+use Rattle.cocoon_num.specs.FunTables.{row_matches}
 use Rattle.cocoon_num.specs.Lists.{is_one_of}
 use Rattle.cocoon_num.specs.Names.{same_name}
-use Rattle.cocoon_num.specs.Rows.{all_fit, first_match}
+use Rattle.cocoon_num.specs.Rows.{values_match, first_match}
 use Rattle.cocoon_num.specs.Tree.{FunctionDecl, ResultKind, of_width, of_truth, Design}
 use Rattle.cocoon_num.specs.Values.{fits_width, truth}
 use Rattle.cocoon_num.specs.declared.bits.Bits.{Bits}
@@ -23,7 +23,7 @@ use Rattle.lower_rows.specs.FirstRows.{is_some_true, said_first}
 use Rattle.lower_rows.specs.Sets.{IsDecided}
 
 -- a row that compares all bits matches its values alone
-fits-same : (ws vs xs : List ℕ) → all_fit_widths ws vs ≡ true → all_fit_widths ws xs ≡ true → all_fit vs (all_ones ws) xs ≡ same_name xs vs
+fits-same : (ws vs xs : List ℕ) → all_fit_widths ws vs ≡ true → all_fit_widths ws xs ≡ true → values_match vs (all_ones ws) xs ≡ same_name xs vs
 fits-same [] [] [] h k = refl
 fits-same [] [] (x ∷ xs) h k = absurd cc
 fits-same [] (v ∷ vs) xs h k = absurd cc
@@ -45,11 +45,11 @@ pick false true row rest d e h = absurd cc
 pick false false row rest d e h = h
 
 first-says : (ws : List ℕ) (r : ℕ) (rows : List FunRow) (d : Bits) (xs : List ℕ) → All (FitsRow ws r) rows → All (MasksOnes ws) rows → all_fit_widths ws xs ≡ true → (d.value == 1) ≡ false
-    → is_some_true (said_first rows xs) ≡ ((first_match (row_fits xs) (λ (row : FunRow). row.result) rows d).value == 1)
+    → is_some_true (said_first rows xs) ≡ ((first_match (row_matches xs) (λ (row : FunRow). row.result) rows d).value == 1)
 first-says ws r [] d xs f m h z = sym z
 first-says ws r (row ∷ rows) d xs f m h z =
-    pick (same_name xs row.values) (row_fits xs row) row (said_first rows xs) (first_match (row_fits xs) (λ (x : FunRow). x.result) rows d)
-    (sym (ap (λ ms. all_fit row.values ms xs) (All-head (MasksOnes ws) row rows m) ∙ fits-same ws row.values xs (All-head (FitsRow ws r) row rows f).values_fit h))
+    pick (same_name xs row.values) (row_matches xs row) row (said_first rows xs) (first_match (row_matches xs) (λ (x : FunRow). x.result) rows d)
+    (sym (ap (λ ms. values_match row.values ms xs) (All-head (MasksOnes ws) row rows m) ∙ fits-same ws row.values xs (All-head (FitsRow ws r) row rows f).values_fit h))
     (first-says ws r rows d xs (All-tail (FitsRow ws r) row rows f) (All-tail (MasksOnes ws) row rows m) h z)
 
 each-decided : (t : FunTable) (r : ℕ) (rows : List FunRow) → All (FitsRow t.widths r) rows → All (FitsRow t.widths r) t.rows → All (MasksOnes t.widths) t.rows → (t.default.value == 1) ≡ false → All (IsDecided t) rows

@@ -1,5 +1,5 @@
 -- What a network delivers, against the design that it was made from: copy for copy what the last level delivers, and
--- nothing that the topmost specification may not make. It follows "The network" in docs/FORMATS.md and "Deliveries" in
+-- nothing that the topmost specification may not make. It follows "The network" in docs/FORMATS.md and "Hosts" in
 -- docs/LANGUAGE.md.
 use Rattle.std.specs.Prelude.{◌↔◌, ℕ, List}
 use Rattle.cocoon_num.specs.Tree.{Design}

@@ -1,3 +1,3 @@
-//! What lowering gives, as functions on trees: the program of a switch, the rows of its tables, the groups of its forks, and
-//! the network. There is no code here: `lower_p4` has the code that follows them.
+//! What lowering gives for one switch, as functions on trees: the role that switches run, and the program of a switch. There
+//! is no code here: `lower_switch` has the code that follows them.
 #![tactic(auto)]

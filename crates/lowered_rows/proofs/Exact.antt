@@ -3,7 +3,7 @@ use Rattle.std.proofs.Common.{◌≡◌, ℕ, ◌-◌, ◌^◌, ◌==◌, ◌&&�
 use Rattle.std.proofs.Math.Nat.{mod-eq_of_lt}
 use Rattle.std.proofs.lemmas.Nat.{and_mask}
 use Rattle.cocoon_num.specs.Names.{same_name}
-use Rattle.cocoon_num.specs.Rows.{all_fit}
+use Rattle.cocoon_num.specs.Rows.{values_match}
 use Rattle.cocoon_num.specs.Tree.{Param}
 use Rattle.cocoon_num.specs.Values.{fits_width}
 use Rattle.cocoon_types.specs.Design.{widths_of}
@@ -18,7 +18,7 @@ use Rattle.runtime_defs.specs.Places.{all_fit_widths}
 pub kept : (w n : ℕ) → fits_width w n ≡ true → bit_and n (2 ^ w - 1) ≡ n
 kept w n h = and_mask n w ∙ mod-eq_of_lt (below-width w n h)
 
-pub ones-match : (ws vs xs : List ℕ) → all_fit_widths ws vs ≡ true → all_fit_widths ws xs ≡ true → all_fit vs (all_ones ws) xs ≡ same_name xs vs
+pub ones-match : (ws vs xs : List ℕ) → all_fit_widths ws vs ≡ true → all_fit_widths ws xs ≡ true → values_match vs (all_ones ws) xs ≡ same_name xs vs
 ones-match [] [] [] f h = refl
 ones-match [] [] (x ∷ xs) f h = absurd cc
 ones-match [] (v ∷ vs) xs f h = absurd cc

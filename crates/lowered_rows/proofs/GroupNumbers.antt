@@ -5,7 +5,7 @@ use Rattle.std.specs.List.{AllZip}
 use Rattle.std.proofs.lemmas.List.Elements.{All-head, All-tail}
 use Rattle.cocoon_num.specs.Lists.{is_one_of}
 use Rattle.cocoon_num.specs.Names.{same_name}
-use Rattle.cocoon_num.specs.Rows.{all_fit}
+use Rattle.cocoon_num.specs.Rows.{values_match}
 use Rattle.cocoon_num.specs.Tree.{FunctionDecl, Design}
 use Rattle.cocoon_num.specs.declared.fun_table.FunRow.{FunRow}
 use Rattle.cocoon_num.specs.declared.fun_table.FunTable.{FunTable}
@@ -99,7 +99,7 @@ row-step : (ws f ns : List ℕ) (k : ℕ) (g : ForkGroup) (gs : List ForkGroup) 
     → (b : Bool) → same_name f g.function ≡ b
     → table_result ((if b then record { values = g.grouped.args; masks = all_ones ws; result = k } ∷ [] else []) ++ rows_from (all_ones ws) (suc k) gs f) 0 ns ≡ (if b && same_name ns g.grouped.args then k else number_from (suc k) gs f ns)
 row-step ws f ns k g gs fits h ih true s =
-    one-match (all_fit g.grouped.args (all_ones ws) ns) (same_name ns g.grouped.args) k (table_result (rows_from (all_ones ws) (suc k) gs f) 0 ns) (number_from (suc k) gs f ns)
+    one-match (values_match g.grouped.args (all_ones ws) ns) (same_name ns g.grouped.args) k (table_result (rows_from (all_ones ws) (suc k) gs f) 0 ns) (number_from (suc k) gs f ns)
     (ones-match ws g.grouped.args ns (fits s) h) ih
 row-step ws f ns k g gs fits h ih false s = ih
 

@@ -4,8 +4,8 @@ use Rattle.std.specs.Int.Bits.{and_self}
 use Rattle.std.proofs.lemmas.Bool.Decides.{nat_tests}
 use Rattle.std.proofs.lemmas.List.Elements.{All-head, All-tail}
 use Rattle.std.proofs.lemmas.Nat.{and_assoc}
-use Rattle.cocoon_num.specs.FunTables.{looked, row_fits}
-use Rattle.cocoon_num.specs.Rows.{all_fit, first_match}
+use Rattle.cocoon_num.specs.FunTables.{looked, row_matches}
+use Rattle.cocoon_num.specs.Rows.{values_match, first_match}
 use Rattle.cocoon_num.specs.Tree.{ResultKind, of_width, of_truth}
 use Rattle.cocoon_num.specs.Values.{truth, fits_width}
 use Rattle.cocoon_num.specs.declared.bits.Bits.{Bits}
@@ -24,7 +24,7 @@ masked-twice : (n m : ℕ) → bit_and (bit_and n m) m ≡ bit_and n m
 masked-twice n m = and_assoc m n m ∙ ap (bit_and n) (and_self m)
 
 -- values match as they do without the bits that are not compared
-masked-match : (vs ms xs : List ℕ) → length vs ≡ length ms → all_fit (masked vs ms) ms xs ≡ all_fit vs ms xs
+masked-match : (vs ms xs : List ℕ) → length vs ≡ length ms → values_match (masked vs ms) ms xs ≡ values_match vs ms xs
 masked-match [] [] xs h = refl
 masked-match [] (m ∷ ms) xs h = absurd cc
 masked-match (v ∷ vs) [] xs h = absurd cc
@@ -47,10 +47,10 @@ one-row false true x y m e h = absurd cc
 one-row false false x y m e h = h
 
 pub rows-give : (ws ns : List ℕ) (r : ℕ) (rows : List FunRow) (d : Bits) → All (FitsRow ws r) rows
-    → table_result (map key_row rows) d.value ns ≡ (first_match (row_fits ns) (λ (row : FunRow). row.result) rows d).value
+    → table_result (map key_row rows) d.value ns ≡ (first_match (row_matches ns) (λ (row : FunRow). row.result) rows d).value
 rows-give ws ns r [] d f = refl
 rows-give ws ns r (row ∷ rows) d f =
-    one-row (all_fit (masked row.values row.masks) row.masks ns) (row_fits ns row) row.result (first_match (row_fits ns) (λ (row : FunRow). row.result) rows d) (table_result (map key_row rows) d.value ns)
+    one-row (values_match (masked row.values row.masks) row.masks ns) (row_matches ns row) row.result (first_match (row_matches ns) (λ (row : FunRow). row.result) rows d) (table_result (map key_row rows) d.value ns)
     (masked-match row.values row.masks ns (row-lengths ws r row (All-head (FitsRow ws r) row rows f)))
     (rows-give ws ns r rows d (All-tail (FitsRow ws r) row rows f))
 
@@ -59,10 +59,10 @@ either-width true x y r h k = h
 either-width false x y r h k = k
 
 pub looked-width : (ws ns : List ℕ) (r : ℕ) (rows : List FunRow) (d : Bits) → All (FitsRow ws r) rows → d.width ≡ r
-    → (first_match (row_fits ns) (λ (row : FunRow). row.result) rows d).width ≡ r
+    → (first_match (row_matches ns) (λ (row : FunRow). row.result) rows d).width ≡ r
 looked-width ws ns r [] d f h = h
 looked-width ws ns r (row ∷ rows) d f h =
-    either-width (row_fits ns row) row.result (first_match (row_fits ns) (λ (row : FunRow). row.result) rows d) r (All-head (FitsRow ws r) row rows f).result_is
+    either-width (row_matches ns row) row.result (first_match (row_matches ns) (λ (row : FunRow). row.result) rows d) r (All-head (FitsRow ws r) row rows f).result_is
     (looked-width ws ns r rows d (All-tail (FitsRow ws r) row rows f) h)
 
 -- ---- results

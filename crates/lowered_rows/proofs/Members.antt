@@ -5,10 +5,10 @@ use Rattle.std.specs.List.{list_any}
 use Rattle.std.proofs.lemmas.Bool.Decides.{nat_tests}
 use Rattle.std.proofs.lemmas.List.Elements.{All-head, All-tail}
 use Rattle.std.proofs.lemmas.List.Folds.{list_any-append}
-use Rattle.cocoon_num.specs.FunTables.{looked, row_fits}
+use Rattle.cocoon_num.specs.FunTables.{looked, row_matches}
 use Rattle.cocoon_num.specs.Lists.{has_number, is_one_of}
 use Rattle.cocoon_num.specs.Names.{same_name}
-use Rattle.cocoon_num.specs.Rows.{all_fit, first_match}
+use Rattle.cocoon_num.specs.Rows.{values_match, first_match}
 use Rattle.cocoon_num.specs.Tree.{Param, ResultKind, of_width, of_truth, FunctionDecl, Design}
 use Rattle.cocoon_num.specs.Values.{truth}
 use Rattle.cocoon_num.specs.declared.bits.Bits.{Bits}
@@ -124,8 +124,8 @@ one-choice t ps ns x row l f false s = wrong-choice t ps ns x row.values l f s (
 abbrev MasksOnes : List ℕ → FunRow → Type 0
 MasksOnes ws row = row.masks ≡ all_ones ws
 
-row-at : (ws xs : List ℕ) (r : ℕ) (row : FunRow) → FitsRow ws r row → MasksOnes ws row → all_fit_widths ws xs ≡ true → row_fits xs row ≡ same_name xs row.values
-row-at ws xs r row f m h = ap (λ ms. all_fit row.values ms xs) m ∙ ones-match ws row.values xs f.values_fit h
+row-at : (ws xs : List ℕ) (r : ℕ) (row : FunRow) → FitsRow ws r row → MasksOnes ws row → all_fit_widths ws xs ≡ true → row_matches xs row ≡ same_name xs row.values
+row-at ws xs r row f m h = ap (λ ms. values_match row.values ms xs) m ∙ ones-match ws row.values xs f.values_fit h
 
 spread : (a b c : Bool) → ((a && c) || (b && c)) ≡ ((a || b) && c)
 spread true true true = refl
@@ -136,7 +136,7 @@ spread false b c = refl
 
 choices-are : (t : FunTable) (ps : List Param) (r : ℕ) (ns : List ℕ) (x : ℕ) (rows : List FunRow) → 1 ≤ length ps → All (FitsRow (widths_of ps) r) rows → All (MasksOnes (widths_of ps)) rows
     → all_fit_widths (widths_of ps) (ns ++ (x ∷ [])) ≡ true
-    → has_number x (flat_map (true_choice t ns) rows) ≡ (list_any (row_fits (ns ++ (x ∷ []))) rows && ((looked t (ns ++ (x ∷ []))).value == 1))
+    → has_number x (flat_map (true_choice t ns) rows) ≡ (list_any (row_matches (ns ++ (x ∷ []))) rows && ((looked t (ns ++ (x ∷ []))).value == 1))
 choices-are t ps r ns x [] l f m h = refl
 choices-are t ps r ns x (row ∷ rows) l f m h =
     let fits = All-head (FitsRow (widths_of ps) r) row rows f in
@@ -146,20 +146,20 @@ choices-are t ps r ns x (row ∷ rows) l f m h =
     ∙ ap₂ (◌||◌) (one-choice t ps ns x row l fits.values_fit (same_name (ns ++ (x ∷ [])) row.values) refl
     ∙ ap (λ b. b && value) (sym (row-at (widths_of ps) (ns ++ (x ∷ [])) r row fits ones h)))
     (choices-are t ps r ns x rows l (All-tail (FitsRow (widths_of ps) r) row rows f) (All-tail (MasksOnes (widths_of ps)) row rows m) h)
-    ∙ spread (row_fits (ns ++ (x ∷ [])) row) (list_any (row_fits (ns ++ (x ∷ []))) rows) value
+    ∙ spread (row_matches (ns ++ (x ∷ [])) row) (list_any (row_matches (ns ++ (x ∷ []))) rows) value
 
 -- where no row matches there is the default
-none-matches : (xs : List ℕ) (rows : List FunRow) (d : Bits) → list_any (row_fits xs) rows ≡ false → first_match (row_fits xs) (λ (row : FunRow). row.result) rows d ≡ d
+none-matches : (xs : List ℕ) (rows : List FunRow) (d : Bits) → list_any (row_matches xs) rows ≡ false → first_match (row_matches xs) (λ (row : FunRow). row.result) rows d ≡ d
 none-matches xs [] d h = refl
 none-matches xs (row ∷ rows) d h =
-    let both = or-both (row_fits xs row) (list_any (row_fits xs) rows) h in
-    ap (λ b. if b then row.result else first_match (row_fits xs) (λ (r : FunRow). r.result) rows d) both.0 ∙ none-matches xs rows d both.1
+    let both = or-both (row_matches xs row) (list_any (row_matches xs) rows) h in
+    ap (λ b. if b then row.result else first_match (row_matches xs) (λ (r : FunRow). r.result) rows d) both.0 ∙ none-matches xs rows d both.1
   where
     or-both : (a b : Bool) → (a || b) ≡ false → (a ≡ false) × (b ≡ false)
     or-both true b h = absurd cc
     or-both false b h = (refl, h)
 
-matched : (t : FunTable) (xs : List ℕ) → (t.default.value == 1) ≡ false → (b : Bool) → list_any (row_fits xs) t.rows ≡ b → (b && ((looked t xs).value == 1)) ≡ ((looked t xs).value == 1)
+matched : (t : FunTable) (xs : List ℕ) → (t.default.value == 1) ≡ false → (b : Bool) → list_any (row_matches xs) t.rows ≡ b → (b && ((looked t xs).value == 1)) ≡ ((looked t xs).value == 1)
 matched t xs z true h = refl
 matched t xs z false h = sym (ap (λ (b : Bits). b.value == 1) (none-matches xs t.rows t.default h) ∙ z)
 
@@ -188,7 +188,7 @@ members-true t g ns x e f l h =
     has-ascending x (flat_map (true_choice t ns) t.rows)
     ∙ choices-are t g.params (result_width g.result) ns x t.rows (some-params g.params ns x h) (subst (λ ws. All (FitsRow ws (result_width g.result)) t.rows) e f)
     (subst (λ ws. All (MasksOnes ws) t.rows) e l.masks_ones) h
-    ∙ matched t xs truths.1 (list_any (row_fits xs) t.rows) refl
+    ∙ matched t xs truths.1 (list_any (row_matches xs) t.rows) refl
     ∙ sym (ap (λ kind. is_true (Some (result_value kind (looked t xs)))) truths.0)
 
 pub groups-serve : (d : Design) (places : Places) (defs : Defs) (made : List Made) (f : List ℕ) (g : FunctionDecl) → WellFormed d → FitsDesign d places → Stands d places defs

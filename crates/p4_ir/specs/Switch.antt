@@ -6,7 +6,7 @@ use Rattle.std.specs.Prelude.{ℕ, ◌==◌, List, [], ◌∷◌, replicate, len
 use Rattle.std.specs.List.{find, slice_set}
 use Rattle.cocoon_num.specs.Values.{Value, number, truth, as_number, apply_unary, apply_binary, apply_slice, apply_pick, with_both, with_all}
 use Rattle.cocoon_num.specs.Lists.{has_number}
-use Rattle.cocoon_num.specs.Rows.{all_fit, first_match}
+use Rattle.cocoon_num.specs.Rows.{values_match, first_match}
 use Rattle.cocoon_num.specs.Packets.{Packet, Layout, enter, leave}
 use Rattle.p4_ir.specs.P4Tree.{P4Expr, p_lit, p_truth, p_meta, p_field, p_port, p_rid, p_unary, p_binary, p_slice, p_pick, P4Stmt, set_meta, set_header, apply_table, p_if, p_if_else, verdict, egress_port, group, p_return, P4Block, p_done, p_then, P4Table, Program, KeyRow, TableRows, Group, RowsFile, field_widths, program_layout}
 
@@ -52,7 +52,7 @@ p4_value at s (p_pick c a b) = with_all apply_pick (p4_value at s c) (p4_value a
 
 -- the result of the first row that matches all keys, else the default
 abbrev pub table_result : List KeyRow → ℕ → List ℕ → ℕ
-table_result rows otherwise xs = first_match (λ (r : KeyRow). all_fit r.values r.masks xs) (λ (r : KeyRow). r.result) rows otherwise
+table_result rows otherwise xs = first_match (λ (r : KeyRow). values_match r.values r.masks xs) (λ (r : KeyRow). r.result) rows otherwise
 
 abbrev pub table_numbered : List P4Table → ℕ → Option P4Table
 table_numbered ts n = find (λ (t : P4Table). t.number == n) ts

@@ -1,5 +1,1 @@
-pub mod MarkLookup
-pub mod PrefixCases
-pub mod Runs
-pub mod SmallValues
-pub mod Steps
+pub mod Names

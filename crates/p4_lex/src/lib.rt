@@ -2,10 +2,8 @@
 //! the bytes from the start of its token to its end. No word is reserved.
 #![tactic(auto)]
 
-mod bytes;
 pub mod lexer;
-mod numbers;
-mod prefixes;
+mod p4;
 mod spellings;
 pub mod token;
 

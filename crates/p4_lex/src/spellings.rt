@@ -1,11 +1,11 @@
-//! The marks, and how they are spelled in a text.
-ghost use Rattle.std.specs.Prelude.{◌≡◌, map, option_map};
+//! The marks, and which of them stands in a text.
+ghost use Rattle.std.specs.Prelude.{◌≡◌, option_map};
 ghost use Rattle.cocoon_num.specs.Tokens as tokens;
 ghost use Rattle.p4_ir.specs.P4Text.{p4_lexicon};
 ghost use Rattle.p4_lex.specs.Kinds.{mark_text};
 
-use crate::bytes::begins;
 use crate::token::Mark;
+use lexing::{Spelled, first_beginning};
 
 /// A longer mark stands before its beginnings.
 const MARKS: [Mark; 29] = [
@@ -40,22 +40,19 @@ const MARKS: [Mark; 29] = [
     Mark::Question,
 ];
 
-/// The first of these marks with which a text begins.
-#[tactic(auto, using(crate::proofs::MarkLookup::begins_next))]
-fn find_mark(marks: &[Mark], text: &[u8]) -> Option<Mark>
-    ensures { option_map mark_text result ≡ tokens.beginning (map mark_text marks.now) text.now }
-{
-    for mark in marks {
-        if begins(text, mark.text().as_bytes()) {
-            return Some(*mark);
-        }
+impl Spelled for Mark {
+    ghost use Rattle.p4_lex.specs.Kinds.{mark_text};
+
+    ghost text_of = { mark_text };
+
+    fn spelling(self) -> &'static str {
+        self.text()
     }
-    None
 }
 
 /// The longest mark with which a text begins.
 pub fn mark(text: &[u8]) -> Option<Mark>
     ensures { option_map mark_text result ≡ tokens.beginning p4_lexicon.marks text.now }
 {
-    find_mark(&MARKS, text)
+    first_beginning(&MARKS, text)
 }

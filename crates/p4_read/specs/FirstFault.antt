@@ -1,7 +1,7 @@
 -- Cited by the clauses of `read` and the laws of p4_read, and by those of bundle_reader.
 -- The first fault of a P4 text: that of its first byte that begins no token, else that of its first token with which no text
--- goes on or which is too deep, else the first declaration or statement that breaks a kind rule. It follows "The grammar read"
--- and "Kind rules" in docs/FORMATS.md.
+-- goes on or which is too deep, else the first declaration or statement that breaks a kind rule. It follows "The text" and
+-- "Kind rules" in docs/FORMATS.md.
 use Rattle.std.specs.Prelude.{◌≡◌, ℕ, List, Some, Ok, IsTrue}
 use Rattle.cocoon_num.specs.FirstFaults.{Unexpected as UnexpectedAt, TooDeep as TooDeepAt}
 use Rattle.cocoon_num.specs.Tokens.{Kind as TokenKind, Token, is_shallow, kinds, lex}

@@ -1,5 +1,5 @@
 -- The test that numbers fit, and widths that are declared.
-use Rattle.std.proofs.Common.{◌≡◌, ℕ, suc, ◌<◌, ◌^◌, ◌&&◌, nat_lt, Bool, true, false, List, [], ◌∷◌, length, refl, ap}
+use Rattle.std.proofs.Common.{◌≡◌, ℕ, suc, ◌^◌, nat_lt, true, false, List, [], ◌∷◌, length, refl, ap}
 use Rattle.std.proofs.lemmas.Bool.{and_from, and_parts, and_right, lt-ltb, ltb-true}
 use Rattle.cocoon_num.specs.PacketForms.{FieldsFit}
 use Rattle.p4_ir.specs.P4Kinds.{kinds_fit}

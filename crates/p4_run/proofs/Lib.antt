@@ -1,5 +1,4 @@
 pub mod AppliedTables
-pub mod ByteSteps
 pub mod FaultSteps
 pub mod FitFacts
 pub mod GroupSteps

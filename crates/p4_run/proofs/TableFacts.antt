@@ -1,20 +1,16 @@
 -- Of a program that is well kinded and of rows that load: tables with their rows.
-use Rattle.std.proofs.Common.{All, ◌≡◌, ℕ, zero, suc, ◌<◌, ◌≤◌, ◌^◌, ◌-◌, ◌==◌, ◌&&◌, ◌||◌, ◌++◌, not, nat_lt, Bool, true, false, if◌then◌else◌, List, [], ◌∷◌, length, map, get_or, slice_get, slice_set, Option, Some, None, option_map, option_and_then, refl, sym, ◌∙◌, ap, subst, inl, inr, arith}
+use Rattle.std.proofs.Common.{All, ◌≡◌, ℕ, zero, suc, ◌<◌, ◌^◌, ◌-◌, ◌==◌, ◌&&◌, ◌||◌, ◌++◌, not, nat_lt, Bool, true, false, if◌then◌else◌, List, [], ◌∷◌, length, map, get_or, slice_get, Option, Some, None, refl, sym, ◌∙◌, ap, subst, inl, inr, arith}
 use Rattle.std.specs.List.{find}
-use Rattle.std.proofs.lemmas.Bool.{and_from, and_parts, eqb-true, eq-eqb, le-ltb, ltb-false, ltb-true, or_cases, or_left, or_right}
-use Rattle.std.proofs.lemmas.Option.{slice_get-get_or}
+use Rattle.std.proofs.lemmas.Bool.{and_parts, eqb-true, eq-eqb, ltb-true, or_cases, or_left, or_right}
 use Rattle.cocoon_num.specs.Lists.{ascend, each, has_number, no_repeats}
-use Rattle.cocoon_num.specs.Rows.{all_fit}
-use Rattle.flat_rows.specs.Keyed.{HasKeys, keyed}
+use Rattle.cocoon_num.specs.Rows.{values_match}
+use Rattle.flat_rows.specs.Keyed.{HasKeys}
 use Rattle.p4_ir.specs.Loading.{all_tables, group_fits, keys_fit, key_fits, row_fits, rows_load, table_numbers, table_rows_fit}
-use Rattle.p4_ir.specs.NetOf.{key_row_of, table_rows_of}
-use Rattle.p4_ir.specs.Program.{table_of}
+use Rattle.p4_ir.specs.NetOf.{key_row_of}
 use Rattle.p4_ir.specs.P4Kinds.{block_fits, kinds_fit, names_fit, numbers_of, tables_fit, table_fits, widths_fit}
 use Rattle.p4_ir.specs.P4Tree.{Group, KeyRow, meta_width, P4Table, Program, RowsFile, TableRows}
-use Rattle.p4_ir.specs.Switch.{all_there, State, rows_numbered, table_numbered, table_result}
-use Rattle.p4_ir.specs.declared.program.Table.{Table as CodeTable}
+use Rattle.p4_ir.specs.Switch.{rows_numbered, table_numbered, table_result}
 use Rattle.p4_ir.specs.declared.rows.KeyRow.{KeyRow as CodeRow}
-use Rattle.p4_ir.specs.declared.rows.TableRows.{TableRows as CodeRows}
 use Rattle.p4_code.specs.Running.{control_in, within_in}
 use Rattle.p4_steps.specs.Doing.{place_of}
 use Rattle.p4_run.proofs.TestSteps.{is_symmetric}
@@ -253,7 +249,7 @@ result_fits p t [] otherwise xs h l = l
 result_fits p t (r ∷ rows) otherwise xs h l =
     let both = and_parts (row_fits p t r) (each (row_fits p t) rows) h in
     let own = and_parts (keys_fit p t.exact t.keys r.values r.masks) (nat_lt r.result (2 ^ meta_width p t.result)) both.0 in
-    small_step (2 ^ meta_width p t.result) (all_fit r.values r.masks xs) r.result (table_result rows otherwise xs)
+    small_step (2 ^ meta_width p t.result) (values_match r.values r.masks xs) r.result (table_result rows otherwise xs)
     (ltb-true r.result (2 ^ meta_width p t.result) own.1) (result_fits p t rows otherwise xs both.1 l)
 
 -- a group that is listed

@@ -1,5 +1,5 @@
 -- What ingress and egress leave, by how their statements end.
-use Rattle.std.proofs.Common.{◌≡◌, ℕ, suc, ◌<◌, ◌≤◌, Bool, true, false, if◌then◌else◌, IfSome, List, [], ◌∷◌, drop, get_or, length, replicate, take, Option, Some, None, option_map, option_and_then, refl, sym, ◌∙◌, ap}
+use Rattle.std.proofs.Common.{◌≡◌, ℕ, suc, ◌<◌, ◌≤◌, Bool, true, false, if◌then◌else◌, List, [], ◌∷◌, drop, get_or, length, replicate, take, Option, Some, None, option_map, option_and_then, sym, ◌∙◌, ap}
 use Rattle.std.proofs.lemmas.Bool.{le-ltb, lt-ltb}
 use Rattle.std.proofs.lemmas.List.{append-nil}
 use Rattle.cocoon_num.specs.PacketForms.{AllWhole, AreBytes, FieldsFit}
@@ -11,7 +11,7 @@ use Rattle.p4_ir.specs.Switch.{ingress_of, p4_run_all, state_of}
 use Rattle.p4_code.specs.Running.{running_in}
 use Rattle.p4_code.specs.States.{state_in}
 use Rattle.p4_code.specs.declared.registers.Registers.{Registers}
-use Rattle.p4_run.specs.Visits.{AreHeaders, ingress_left}
+use Rattle.p4_run.specs.Visits.{ingress_left}
 
 pub are_bytes : (bs : List ℕ) → ((k : ℕ) → get_or bs k 0 < 256) → AreBytes bs
 are_bytes [] f = tt

@@ -1,4 +1,3 @@
-pub mod Bits
 pub mod FaultOf
 pub mod Faults
 pub mod Frames

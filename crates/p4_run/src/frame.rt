@@ -10,7 +10,7 @@ ghost use Rattle.p4_run.specs.States.{fields_fit};
 
 use crate::faults::fits_width;
 use crate::loaded::Loaded;
-use crate::registers::{all_fit, zero_registers};
+use crate::registers::{numbers_fit, zero_registers};
 use cocoon_num::NoMemory;
 use p4_code::Registers;
 use std::alloc::Global;
@@ -29,7 +29,7 @@ pub struct Frame {
 fn registers_fit(loaded: &Loaded, registers: &Registers) -> bool
     ensures { result ≡ spec.registers_fit (program_in loaded.now) registers.now }
 {
-    all_fit(&loaded.widths, &registers.fields) && meta_fits(loaded, &registers.meta)
+    numbers_fit(&loaded.widths, &registers.fields) && meta_fits(loaded, &registers.meta)
 }
 
 /// Whether each number fits the width of its meta field, and there are as many.

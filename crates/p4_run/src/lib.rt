@@ -2,10 +2,8 @@
 //! A run takes no memory.
 #![tactic(auto)]
 
-pub mod cutting;
 pub mod faults;
 pub mod frame;
-pub mod joining;
 pub mod laws;
 pub mod loaded;
 pub mod loading;

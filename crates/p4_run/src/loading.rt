@@ -15,12 +15,13 @@ ghost use Rattle.p4_run.specs.Runs.{AreApplied, Runs};
 
 use crate::faults::{LoadFault, load_fault};
 use crate::loaded::Loaded;
-use crate::places::{FieldWidths, bit_count, field_widths};
+use crate::places::{FieldWidths, field_widths};
 use crate::tables::tables_with;
 use cocoon_num::NoMemory;
 use p4_code::Names;
 use p4_ir::{Program, RowsFile};
 use p4_steps::{Application, StmtCode, resolved_stmts};
+use packed_fields::byte_count;
 use std::alloc::Global;
 
 /// The statements of ingress.
@@ -85,7 +86,7 @@ fn placed(
     ensures rows { IfOk result (λ loaded. rows_in loaded ≡ rows_of rows) }
 {
     let FieldWidths { widths, starts } = field_widths(alloc, program.headers.items())?;
-    let header_bytes = bit_count(&widths)? / 8;
+    let header_bytes = byte_count(&widths)?;
     let ingress = ingress_steps(alloc, &program, &rows, &starts, &tables)?;
     let egress = egress_steps(alloc, &program, &rows, &starts, &tables)?;
     Ok(Loaded {

@@ -1,6 +1,5 @@
 //! What is looked up once, at loading: the widths of all fields, and where those of each header begin.
 ghost use Rattle.std.specs.Prelude.{◌≡◌, ◌++◌, IfOk, OnOk, map};
-ghost use Rattle.cocoon_num.specs.Packets.{total};
 ghost use Rattle.packed_fields.specs.AtOnce.{widths_in};
 ghost use Rattle.p4_ir.specs.P4Tree.{field_widths};
 ghost use Rattle.p4_ir.specs.Program.{field_of, header_of};
@@ -40,19 +39,4 @@ pub(crate) fn field_widths(alloc: Global, headers: &[P4Header]) -> Result<FieldW
         push_widths(&mut widths, header.fields.items())?;
     }
     Ok(FieldWidths { widths, starts })
-}
-
-/// How many bits fields of these widths have together.
-#[tactic(auto, using(packed_fields::proofs::Steps::bits_more))]
-pub(crate) fn bit_count(widths: &[u8]) -> Result<usize, NoMemory>
-    ensures { IfOk result (λ bits. bits ≡ total widths.now) }
-{
-    let mut bits: usize = 0;
-    for width in widths {
-        match bits.checked_add(usize::from(*width)) {
-            Some(more) => bits = more,
-            None => return Err(NoMemory),
-        }
-    }
-    Ok(bits)
 }

@@ -6,10 +6,10 @@ ghost use Rattle.cocoon_num.specs.Packets.{header_fields, total};
 ghost use Rattle.cocoon_num.specs.Sorts.{is_declared_width};
 ghost use Rattle.p4_run.specs.States.{fields_fit};
 
-use crate::cutting::cut_into;
 use crate::faults::fits_width;
 use cocoon_num::NoMemory;
 use p4_code::Registers;
+use packed_fields::cut_into;
 use std::alloc::Global;
 
 /// Registers of zeros, so many.
@@ -78,7 +78,7 @@ fn set_zero(numbers: &mut [u64])
 }
 
 /// Whether each number fits its width, and there are as many.
-pub(crate) fn all_fit(widths: &[u8], numbers: &[u64]) -> bool
+pub(crate) fn numbers_fit(widths: &[u8], numbers: &[u64]) -> bool
     ensures { result ≡ fields_fit widths.now numbers.now }
 {
     if widths.len() != numbers.len() {

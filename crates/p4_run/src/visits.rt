@@ -13,11 +13,11 @@ ghost use Rattle.p4_run.specs.Running.{layout_in, program_in, rows_in};
 ghost use Rattle.p4_run.specs.Visits.{after_egress, after_ingress, AreHeaders, ingress_left};
 
 use crate::frame::Frame;
-use crate::joining::join_into;
 use crate::loaded::Loaded;
 use crate::registers::{copy_from, fill};
 use p4_code::Registers;
 use p4_steps::run_all;
+use packed_fields::join_into;
 
 /// What follows a run.
 #[derive(Clone, Copy, Debug, Drop, PartialEq, Eq)]

@@ -8,8 +8,9 @@ use Rattle.std.proofs.Math.Seq.{take-add, take-append_seam}
 use Rattle.cocoon_num.specs.Packets.{byte_count, cut, eights, enter, header_bytes, header_fields, Layout, leave, packed, Packet, total}
 use Rattle.cocoon_num.specs.PacketForms.{AllWhole, AreBytes, FieldsFit}
 use Rattle.packed_fields.specs.AtOnce.{bytes_in, entered_at_once, grouped, widths_in}
+use Rattle.packed_fields.specs.Bits.{bytes_number}
 use Rattle.packed_fields.proofs.Packing.{cut_same, packed-append, packed_below, total-append, total-eights}
-use Rattle.packed_fields.proofs.Steps.{eights_count, number_of}
+use Rattle.packed_fields.proofs.Steps.{eights_count}
 
 -- ---- two headers
 
@@ -49,12 +50,12 @@ fields_of_two : (us vs bs cs : List ℕ) → AreBytes cs → total vs ≡ 8 * le
 fields_of_two us vs bs cs f size =
     let many : length (bs ++ cs) ≡ length bs + length cs = length-append bs cs in
     let t : total (eights (length cs)) ≡ total vs = total-eights (length cs) ∙ sym size in
-    let small : number_of cs < 2 ^ total vs = subst (λ n. number_of cs < 2 ^ n) t (packed_below (eights (length cs)) cs (bytes_fit cs f)) in
-    let number : number_of (bs ++ cs) ≡ number_of bs * 2 ^ total vs + number_of cs =
+    let small : bytes_number cs < 2 ^ total vs = subst (λ n. bytes_number cs < 2 ^ n) t (packed_below (eights (length cs)) cs (bytes_fit cs f)) in
+    let number : bytes_number (bs ++ cs) ≡ bytes_number bs * 2 ^ total vs + bytes_number cs =
     ap (λ ws. packed ws (bs ++ cs)) (ap eights many ∙ eights-add (length bs) (length cs))
     ∙ packed-append (eights (length bs)) (eights (length cs)) bs cs (eights_count (length bs))
-    ∙ ap (λ n. number_of bs * 2 ^ n + number_of cs) t in
-    ap (cut (us ++ vs)) number ∙ cut_pair us vs (number_of bs) (number_of cs) small
+    ∙ ap (λ n. bytes_number bs * 2 ^ n + bytes_number cs) t in
+    ap (cut (us ++ vs)) number ∙ cut_pair us vs (bytes_number bs) (bytes_number cs) small
 
 count_of_two : (us vs : List ℕ) → total us % 8 ≡ 0 → total (us ++ vs) / 8 ≡ total us / 8 + total vs / 8
 count_of_two us vs h = let e : total (us ++ vs) ≡ total us + total vs = total-append us vs in omega arith

@@ -8,27 +8,24 @@ use Rattle.cocoon_num.specs.Lists.{each}
 use Rattle.cocoon_num.specs.Packets.{byte_count, cut, eights, header_bytes, header_fields, packed, total}
 use Rattle.cocoon_num.specs.PacketForms.{FieldsFit}
 use Rattle.cocoon_num.specs.Sorts.{is_declared_width}
+use Rattle.packed_fields.specs.Bits.{bytes_number}
 use Rattle.packed_fields.proofs.Packing.{cut-packed, eights_one, fit_length, fit_one, packed_one, total-eights, total_one}
-
--- the number that bytes make
-abbrev pub number_of : List ℕ → ℕ
-number_of bs = packed (eights (length bs)) bs
 
 -- ---- reading
 
-first_bits : (b : ℕ) (bs : List ℕ) → number_of (b ∷ bs) ≡ b * 2 ^ (8 * length bs) + number_of bs
-first_bits b bs = ap (λ t. b * 2 ^ t + number_of bs) (total-eights (length bs))
+first_bits : (b : ℕ) (bs : List ℕ) → bytes_number (b ∷ bs) ≡ b * 2 ^ (8 * length bs) + bytes_number bs
+first_bits b bs = ap (λ t. b * 2 ^ t + bytes_number bs) (total-eights (length bs))
 
 regroup : (p b m e : ℕ) → p * (256 * m) + (b * m + e) ≡ (p * 256 + b) * m + e
 regroup p b m e = grind arith
 
-pub byte_read : (p b : ℕ) (all bs : List ℕ) → all ≡ b ∷ bs → p * 2 ^ (8 * length all) + number_of all ≡ (p * 256 + b) * 2 ^ (8 * length bs) + number_of bs
+pub byte_read : (p b : ℕ) (all bs : List ℕ) → all ≡ b ∷ bs → p * 2 ^ (8 * length all) + bytes_number all ≡ (p * 256 + b) * 2 ^ (8 * length bs) + bytes_number bs
 byte_read p b all bs h =
     let e : 8 * length (b ∷ bs) ≡ 8 + 8 * length bs = omega arith in
     let q : 2 ^ (8 * length (b ∷ bs)) ≡ 256 * 2 ^ (8 * length bs) = ap (λ n. 2 ^ n) e ∙ pow-add 2 8 (8 * length bs) in
-    ap (λ xs. p * 2 ^ (8 * length xs) + number_of xs) h
+    ap (λ xs. p * 2 ^ (8 * length xs) + bytes_number xs) h
     ∙ (λ i. p * q i + first_bits b bs i)
-    ∙ regroup p b (2 ^ (8 * length bs)) (number_of bs)
+    ∙ regroup p b (2 ^ (8 * length bs)) (bytes_number bs)
 
 pub byte_below : (p b c : ℕ) → p < 2 ^ c → b < 256 → p * 256 + b < 2 ^ (c + 8)
 byte_below p b c h k =
@@ -71,7 +68,7 @@ field_cut ws fs new i w n b c x y all l is many pushed bits number sum =
     let s : 2 ^ b ≡ 2 ^ w * 2 ^ c = ap (λ k. 2 ^ k) bits ∙ pow-add 2 w c in
     rw p (spread (packed (take i ws) fs) (2 ^ w) n (2 ^ c) y ∙ (λ k. packed (take i ws) fs * sym s k + sym number k) ∙ sum)
 
-pub all_read : (bytes : List ℕ) (p c : ℕ) → c + 8 * length bytes ≡ 0 → p < 2 ^ c → p * 2 ^ (8 * length bytes) + number_of bytes ≡ 0
+pub all_read : (bytes : List ℕ) (p c : ℕ) → c + 8 * length bytes ≡ 0 → p < 2 ^ c → p * 2 ^ (8 * length bytes) + bytes_number bytes ≡ 0
 all_read [] p c h l =
     let none : c ≡ 0 = omega arith in
     let small : p < 2 ^ 0 = subst (λ n. p < 2 ^ n) none l in
@@ -79,16 +76,22 @@ all_read [] p c h l =
     rw zero_p refl
 all_read (b ∷ bytes) p c h l = absurd (omega arith)
 
-pub fields_cut : (ws fs bytes : List ℕ) (i b x : ℕ) → length ws ≤ i → b ≡ total (drop i ws) → FieldsFit (take i ws) fs → packed (take i ws) fs * 2 ^ b + x ≡ number_of bytes → (b ≡ 0 → x ≡ 0)
-    → fs ≡ header_fields ws bytes
+pub fields_cut : (ws fs bytes : List ℕ) (i b x : ℕ) → length ws ≤ i → b ≡ total (drop i ws) → FieldsFit (take i ws) fs
+    → packed (take i ws) fs * 2 ^ b + x ≡ bytes_number bytes → (b ≡ 0 → x ≡ 0) → fs ≡ header_fields ws bytes
 fields_cut ws fs bytes i b x l bits fit sum none =
     let all : take i ws ≡ ws = take_all i ws l in
     let rest : b ≡ 0 = bits ∙ ap total (drop_all i ws l) in
     let f : FieldsFit ws fs = subst (λ vs. FieldsFit vs fs) all fit in
-    let n : packed ws fs ≡ number_of bytes =
+    let n : packed ws fs ≡ bytes_number bytes =
     (let e : packed ws fs ≡ packed ws fs * 2 ^ 0 + 0 = omega arith in e)
     ∙ (λ k. packed (sym all k) fs * 2 ^ sym rest k + sym (none rest) k) ∙ sum in
     sym (cut-packed ws fs f) ∙ ap (cut ws) n
+
+pub width_fits : (ws fs new : List ℕ) (i w n : ℕ) → i < length ws → w ≡ get_or ws i 0 → new ≡ fs ++ n ∷ [] → FieldsFit (take i ws) fs → n < 2 ^ w
+    → FieldsFit (take (i + 1) ws) new
+width_fits ws fs new i w n l is pushed fit small =
+    let t : take (i + 1) ws ≡ take i ws ++ w ∷ [] = take_more ws i 0 l ∙ ap (λ v. take i ws ++ v ∷ []) (sym is) in
+    subst (λ vs. FieldsFit vs new) (sym t) (subst (FieldsFit (take i ws ++ w ∷ [])) (sym pushed) (fit_one (take i ws) fs w n fit small))
 
 -- ---- writing
 
@@ -97,13 +100,16 @@ eights_count zero = refl
 eights_count (suc n) = ap suc (eights_count n)
 
 pub byte_written : (old new : List ℕ) (p c : ℕ) (q m : ℕ) → 8 ≤ c → new ≡ old ++ q ∷ [] → q ≡ p / 2 ^ (c - 8) → m ≡ 2 ^ (c - 8)
-    → number_of new * 2 ^ (c - 8) + p % m ≡ number_of old * 2 ^ c + p
+    → bytes_number new * 2 ^ (c - 8) + p % m ≡ bytes_number old * 2 ^ c + p
 byte_written old new p c q m l pushed is mask =
     let many : length new ≡ length old + 1 = ap length pushed ∙ length-append old (q ∷ []) in
-    let e : number_of new ≡ number_of old * 2 ^ 8 + q = (λ k. packed (eights (many k)) (pushed k)) ∙ ap (λ ws. packed ws (old ++ q ∷ [])) (eights_one (length old)) ∙ packed_one (eights (length old)) old 8 q (eights_count (length old)) in
+    let e : bytes_number new ≡ bytes_number old * 2 ^ 8 + q =
+    (λ k. packed (eights (many k)) (pushed k))
+    ∙ ap (λ ws. packed ws (old ++ q ∷ [])) (eights_one (length old))
+    ∙ packed_one (eights (length old)) old 8 q (eights_count (length old)) in
     let s : 2 ^ c ≡ 2 ^ 8 * 2 ^ (c - 8) = (let o : c ≡ 8 + (c - 8) = omega arith in ap (λ n. 2 ^ n) o) ∙ pow-add 2 8 (c - 8) in
     let parts : q * 2 ^ (c - 8) + p % m ≡ p = (λ k. is k * 2 ^ (c - 8) + p % mask k) ∙ div-add-mod' p (2 ^ (c - 8)) in
-    rw (e, s) (spread (number_of old) (2 ^ 8) q (2 ^ (c - 8)) (p % m) ∙ ap (λ n. number_of old * (2 ^ 8 * 2 ^ (c - 8)) + n) parts)
+    rw (e, s) (spread (bytes_number old) (2 ^ 8) q (2 ^ (c - 8)) (p % m) ∙ ap (λ n. bytes_number old * (2 ^ 8 * 2 ^ (c - 8)) + n) parts)
 
 both_below : (p x n y : ℕ) → p < x → n < y → p * y + n < x * y
 both_below p x n y h k = grind arith
@@ -159,23 +165,25 @@ number_more ws fs i f l =
     (λ k. packed (take_more ws i 0 l k) (take_more fs i 0 (omega arith) k)) ∙ packed_one (take i ws) (take i fs) (get_or ws i 0) (get_or fs i 0) (take_counts ws fs i f)
 
 -- all bytes are written
-pub all_written : (ws fs bytes : List ℕ) (i p c : ℕ) → length ws ≤ i → FieldsFit ws fs → total ws % 8 ≡ 0 → FieldsFit (eights (length bytes)) bytes
-    → c < 8 → p < 2 ^ c → 8 * length bytes + c ≡ total (take i ws) → number_of bytes * 2 ^ c + p ≡ packed (take i ws) (take i fs) → bytes ≡ header_bytes ws fs
-all_written ws fs bytes i p c l fit whole small short below bits number =
+pub all_written : (ws fs bytes : List ℕ) (at i p c : ℕ) → length ws ≤ i → FieldsFit ws fs → total ws % 8 ≡ 0 → length bytes ≡ byte_count ws → at ≤ length bytes
+    → FieldsFit (eights (length (take at bytes))) (take at bytes) → c < 8 → p < 2 ^ c → 8 * at + c ≡ total (take i ws)
+    → bytes_number (take at bytes) * 2 ^ c + p ≡ packed (take i ws) (take i fs) → bytes ≡ header_bytes ws fs
+all_written ws fs bytes at i p c l fit whole room within small short below bits number =
     let all : take i ws ≡ ws = take_all i ws l in
     let many : length ws ≡ length fs = fit_length ws fs fit in
     let every : take i fs ≡ fs = take_all i fs (omega arith) in
-    let size : 8 * length bytes + c ≡ total ws = bits ∙ ap total all in
+    let size : 8 * at + c ≡ total ws = bits ∙ ap total all in
     let none : c ≡ 0 = omega arith in
+    let written : take at bytes ≡ bytes = take_all at bytes (omega arith) in
     let tiny : p < 2 ^ 0 = subst (λ n. p < 2 ^ n) none below in
     let nothing : p ≡ 0 = omega arith in
-    let count : byte_count ws ≡ length bytes = omega arith in
-    let n : number_of bytes ≡ packed ws fs =
-    (let e : number_of bytes ≡ number_of bytes * 2 ^ 0 + 0 = omega arith in e)
-    ∙ (λ k. number_of bytes * 2 ^ sym none k + sym nothing k) ∙ number ∙ (λ k. packed (all k) (every k)) in
-    sym (cut-packed (eights (length bytes)) bytes small) ∙ (λ k. cut (eights (sym count k)) (n k))
+    let n : bytes_number bytes ≡ packed ws fs =
+    (let e : bytes_number bytes ≡ bytes_number bytes * 2 ^ 0 + 0 = omega arith in e)
+    ∙ (λ k. bytes_number (sym written k) * 2 ^ sym none k + sym nothing k) ∙ number ∙ (λ k. packed (all k) (every k)) in
+    sym (cut-packed (eights (length bytes)) bytes (subst (λ bs. FieldsFit (eights (length bs)) bs) written small))
+    ∙ (λ k. cut (eights (room k)) (n k))
 
-pub width_fits : (ws fs new : List ℕ) (i w n : ℕ) → i < length ws → w ≡ get_or ws i 0 → new ≡ fs ++ n ∷ [] → FieldsFit (take i ws) fs → n < 2 ^ w → FieldsFit (take (i + 1) ws) new
-width_fits ws fs new i w n l is pushed fit small =
-    let t : take (i + 1) ws ≡ take i ws ++ w ∷ [] = take_more ws i 0 l ∙ ap (λ v. take i ws ++ v ∷ []) (sym is) in
-    subst (λ vs. FieldsFit vs new) (sym t) (subst (FieldsFit (take i ws ++ w ∷ [])) (sym pushed) (fit_one (take i ws) fs w n fit small))
+pub total_within : (ws : List ℕ) (i : ℕ) → total (take i ws) ≤ total ws
+total_within ws zero = omega arith
+total_within [] (suc i) = omega arith
+total_within (w ∷ ws) (suc i) = let h : total (take i ws) ≤ total ws = total_within ws i in omega arith

@@ -68,6 +68,25 @@ impl Reader<'_> {
     }
 }
 
+/// Sets the fields to those of these widths in bits that some bytes hold, which are as many as the widths say. It
+/// takes no memory.
+pub fn cut_into(fields: &mut [u64], widths: &[u8], bytes: &[u8])
+    requires declared { IsTrue (each is_declared_width widths.now) }
+    requires long { total widths.now ≡ 8 * length bytes.now }
+    requires many { length fields.old ≡ length widths.now }
+    ensures fields { fields.new ≡ header_fields widths.now bytes.now }
+    ensures fits { FieldsFit widths.now fields.new }
+{
+    let mut reader = Reader {
+        bytes,
+        pending: 0,
+        count: 0,
+    };
+    for (index, width) in widths.iter().enumerate() {
+        fields[index] = reader.read(u32::from(*width));
+    }
+}
+
 /// The fields of these widths in bits that some bytes hold, which are as many as the widths say.
 pub fn cut_fields(alloc: Global, widths: &[u8], bytes: &[u8]) -> Result<Vec<u64>, NoMemory>
     requires declared { IsTrue (each is_declared_width widths.now) }
@@ -75,14 +94,7 @@ pub fn cut_fields(alloc: Global, widths: &[u8], bytes: &[u8]) -> Result<Vec<u64>
     ensures fields { IfOk result (λ fields. fields.items ≡ header_fields widths.now bytes.now) }
     ensures fits { IfOk result (λ fields. FieldsFit widths.now fields.items) }
 {
-    let mut reader = Reader {
-        bytes,
-        pending: 0,
-        count: 0,
-    };
-    let mut fields = Vec::new(alloc);
-    for width in widths {
-        fields.push(reader.read(u32::from(*width)))?;
-    }
+    let mut fields = vec![in alloc; 0; widths.len()]?;
+    cut_into(&mut fields, widths, bytes);
     Ok(fields)
 }

@@ -6,5 +6,5 @@ pub mod at_once;
 pub mod cutting;
 pub mod joining;
 
-pub use cutting::cut_fields;
-pub use joining::join_fields;
+pub use cutting::{cut_fields, cut_into};
+pub use joining::{byte_count, join_fields, join_into};

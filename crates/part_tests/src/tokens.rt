@@ -4,7 +4,7 @@ ghost use Rattle.cocoon_lex.specs.Kinds.{StandsIn};
 
 use crate::pieces::{put_number, put_position};
 use case_files::Printer;
-use cocoon_lex::{LexFault, Token, lex, place};
+use cocoon_lex::{LexFault, Token, lex, position_at};
 use std::alloc::Global;
 
 /// Puts the tokens of a text, or its first fault with the offset of its first byte, as `BadByte(2)`.
@@ -38,8 +38,8 @@ fn put_token(out: &mut Printer, text: &[u8], token: Token)
     out.put("-");
     put_number(out, token.end);
     out.put(" ");
-    put_position(out, place(text, token.start));
+    put_position(out, position_at(text, token.start));
     out.put("-");
-    put_position(out, place(text, token.end));
+    put_position(out, position_at(text, token.end));
     out.put("; ");
 }

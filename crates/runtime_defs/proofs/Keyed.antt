@@ -6,9 +6,9 @@ use Rattle.std.specs.List.{AllZip}
 use Rattle.std.proofs.lemmas.List.Elements.{All-head, All-tail, All-push}
 use Rattle.std.proofs.lemmas.List.{map-append, take_more}
 use Rattle.std.proofs.lemmas.Option.{slice_get-get_or}
-use Rattle.cocoon_num.specs.FunTables.{row_fits}
+use Rattle.cocoon_num.specs.FunTables.{row_matches}
 use Rattle.cocoon_num.specs.Names.{same_name}
-use Rattle.cocoon_num.specs.Rows.{all_fit, first_match, has_bits}
+use Rattle.cocoon_num.specs.Rows.{values_match, first_match, has_bits}
 use Rattle.cocoon_num.specs.Values.{fits_width}
 use Rattle.cocoon_num.specs.declared.bits.Bits.{Bits}
 use Rattle.cocoon_num.specs.declared.fun_table.FunRow.{FunRow}
@@ -24,7 +24,7 @@ one-key w v m x f e h =
     let is : m ≡ 2 ^ w - 1 = number-is m (2 ^ w - 1) e in
     ap₂ (λ a b. a == b) (ap (bit_and x) is ∙ kept w x h) (ap (bit_and v) is ∙ kept w v f)
 
-same-keys : (ws vs ms xs : List ℕ) → compares_all ws vs ms ≡ true → all_fit_widths ws xs ≡ true → all_fit vs ms xs ≡ same_name xs vs
+same-keys : (ws vs ms xs : List ℕ) → compares_all ws vs ms ≡ true → all_fit_widths ws xs ≡ true → values_match vs ms xs ≡ same_name xs vs
 same-keys [] [] [] [] c h = refl
 same-keys [] [] [] (x ∷ xs) c h = absurd cc
 same-keys [] [] (m ∷ ms) xs c h = absurd cc
@@ -44,7 +44,7 @@ given rows d None = d
 given rows d (Some i) = elim (slice_get rows i) [ None ↦ d | Some row ↦ row.result ]
 
 pub keyed-look : (ws xs : List ℕ) (rows : List FunRow) (d : Bits) → All (ComparesAll ws) rows → all_fit_widths ws xs ≡ true
-    → first_match (row_fits xs) (λ (row : FunRow). row.result) rows d ≡ given rows d (first_place xs (row_keys rows))
+    → first_match (row_matches xs) (λ (row : FunRow). row.result) rows d ≡ given rows d (first_place xs (row_keys rows))
 keyed-look ws xs [] d a h = refl
 keyed-look ws xs (row ∷ rows) d a h =
     ap₂ (λ b r. if b then row.result else r) (same-keys ws row.values row.masks xs (All-head (ComparesAll ws) row rows a) h) (keyed-look ws xs rows d (All-tail (ComparesAll ws) row rows a) h)

@@ -9,9 +9,9 @@ use Rattle.std.proofs.lemmas.Bool.Decides.{nat_tests}
 use Rattle.std.proofs.lemmas.List.Elements.{All-head, All-tail}
 use Rattle.std.proofs.lemmas.List.Kept.{IsStrictlySortedBy-filter}
 use Rattle.std.proofs.lemmas.Map.Keys.{sorted_head, sorted_tail}
-use Rattle.cocoon_num.specs.FunTables.{looked, row_fits}
+use Rattle.cocoon_num.specs.FunTables.{looked, row_matches}
 use Rattle.cocoon_num.specs.Lists.{ascend, has_number}
-use Rattle.cocoon_num.specs.Rows.{all_fit, first_match, has_bits}
+use Rattle.cocoon_num.specs.Rows.{values_match, first_match, has_bits}
 use Rattle.cocoon_num.specs.Values.{fits_width}
 use Rattle.cocoon_num.specs.declared.bits.Bits.{Bits}
 use Rattle.cocoon_num.specs.declared.fun_table.FunRow.{FunRow}
@@ -103,10 +103,10 @@ true-behind true = refl
 true-behind false = refl
 
 -- a literal row fits its number alone
-row-at : (w n : ℕ) (row : FunRow) → all_fit_widths (w ∷ []) row.values ≡ true → row.masks ≡ all_ones (w ∷ []) → fits_width w n ≡ true → row_fits (n ∷ []) row ≡ (n == row_number row)
+row-at : (w n : ℕ) (row : FunRow) → all_fit_widths (w ∷ []) row.values ≡ true → row.masks ≡ all_ones (w ∷ []) → fits_width w n ≡ true → row_matches (n ∷ []) row ≡ (n == row_number row)
 row-at w n row f m h =
     let one = one-value w row.values f in
-    ap₂ (λ vs ms. all_fit vs ms (n ∷ [])) one.is m ∙ true-behind (has_bits one.value (2 ^ w - 1) n)
+    ap₂ (λ vs ms. values_match vs ms (n ∷ [])) one.is m ∙ true-behind (has_bits one.value (2 ^ w - 1) n)
     ∙ ap₂ (λ a b. a == b) (kept w n h) (kept w one.value one.fits) ∙ ap (λ v. n == v) (sym (number-of-row row one.value one.is))
 
 pick-value : (a b : Bool) (x y : Bits) (c : Bool) → a ≡ b → (y.value == 1) ≡ c → ((if a then x else y).value == 1) ≡ (if b then x.value == 1 else c)
@@ -119,10 +119,10 @@ abbrev MasksOnes : List ℕ → FunRow → Type 0
 MasksOnes ws row = row.masks ≡ all_ones ws
 
 rows-at : (w r n : ℕ) (rows : List FunRow) (d : Bits) → All (FitsRow (w ∷ []) r) rows → All (MasksOnes (w ∷ [])) rows → fits_width w n ≡ true → d.value ≡ 0
-    → ((first_match (row_fits (n ∷ [])) (λ (row : FunRow). row.result) rows d).value == 1) ≡ first_true rows n
+    → ((first_match (row_matches (n ∷ [])) (λ (row : FunRow). row.result) rows d).value == 1) ≡ first_true rows n
 rows-at w r n [] d f m h z = ap (λ v. v == 1) z
 rows-at w r n (row ∷ rows) d f m h z =
-    pick-value (row_fits (n ∷ []) row) (n == row_number row) row.result (first_match (row_fits (n ∷ [])) (λ (row : FunRow). row.result) rows d) (first_true rows n)
+    pick-value (row_matches (n ∷ []) row) (n == row_number row) row.result (first_match (row_matches (n ∷ [])) (λ (row : FunRow). row.result) rows d) (first_true rows n)
     (row-at w n row (All-head (FitsRow (w ∷ []) r) row rows f).values_fit (All-head (MasksOnes (w ∷ [])) row rows m) h)
     (rows-at w r n rows d (All-tail (FitsRow (w ∷ []) r) row rows f) (All-tail (MasksOnes (w ∷ [])) row rows m) h z)
 
@@ -143,7 +143,7 @@ none-at w r n (row ∷ rows) f h =
     ap (λ b. if b then row.result.value == 1 else first_true rows n) other ∙ none-at w r n rows (All-tail (FitsRow (w ∷ []) r) row rows f) h
 
 true-by-width : (w r n : ℕ) (rows : List FunRow) (d : Bits) → All (FitsRow (w ∷ []) r) rows → All (MasksOnes (w ∷ [])) rows → d.value ≡ 0 → (b : Bool) → fits_width w n ≡ b
-    → ((b && true) && ((first_match (row_fits (n ∷ [])) (λ (row : FunRow). row.result) rows d).value == 1)) ≡ first_true rows n
+    → ((b && true) && ((first_match (row_matches (n ∷ [])) (λ (row : FunRow). row.result) rows d).value == 1)) ≡ first_true rows n
 true-by-width w r n rows d f m z true h = rows-at w r n rows d f m h z
 true-by-width w r n rows d f m z false h = sym (none-at w r n rows f h)
 
@@ -164,10 +164,10 @@ pub record IsLiteral (t : FunTable) : Type 0 where
 
 -- a literal table is true at a number where its first row of the number is
 true-at : (ws : List ℕ) (r n : ℕ) (rows : List FunRow) (d : Bits) → All (FitsRow ws r) rows → All (MasksOnes ws) rows → d.value ≡ 0
-    → (all_fit_widths ws (n ∷ []) && ((first_match (row_fits (n ∷ [])) (λ (row : FunRow). row.result) rows d).value == 1)) ≡ ((length ws == 1) && first_true rows n)
+    → (all_fit_widths ws (n ∷ []) && ((first_match (row_matches (n ∷ [])) (λ (row : FunRow). row.result) rows d).value == 1)) ≡ ((length ws == 1) && first_true rows n)
 true-at [] r n rows d f m z = refl
 true-at (w ∷ []) r n rows d f m z = true-by-width w r n rows d f m z (fits_width w n) refl
-true-at (w ∷ v ∷ ws) r n rows d f m z = ap (λ b. b && ((first_match (row_fits (n ∷ [])) (λ (row : FunRow). row.result) rows d).value == 1)) (more-widths w v ws n)
+true-at (w ∷ v ∷ ws) r n rows d f m z = ap (λ b. b && ((first_match (row_matches (n ∷ [])) (λ (row : FunRow). row.result) rows d).value == 1)) (more-widths w v ws n)
     ∙ sym (ap (λ b. b && first_true rows n) (not-one (length ws)))
 
 pub table-true : (t : FunTable) (r n : ℕ) → All (FitsRow t.widths r) t.rows → IsLiteral t → is_true_at (Some t) n ≡ true_by (Some t) n

@@ -7,8 +7,8 @@ use Rattle.std.proofs.lemmas.Bool.Decides.{nat_tests}
 use Rattle.std.proofs.lemmas.List.Elements.{All-head, All-tail}
 use Rattle.std.proofs.lemmas.Nat.{and_assoc, and_mask}
 use Rattle.cocoon_num.specs.BitsOf.{value_of}
-use Rattle.cocoon_num.specs.FunTables.{looked, row_fits}
-use Rattle.cocoon_num.specs.Rows.{all_fit, first_match, has_bits}
+use Rattle.cocoon_num.specs.FunTables.{looked, row_matches}
+use Rattle.cocoon_num.specs.Rows.{values_match, first_match, has_bits}
 use Rattle.cocoon_num.specs.Sorts.{same_sort}
 use Rattle.cocoon_num.specs.Tree.{ResultKind, of_width, of_truth, Pattern, literal, masked, any}
 use Rattle.cocoon_num.specs.Values.{Value, number, truth, fits_width}
@@ -51,7 +51,7 @@ one-match any w x f k h = ap (λ a. a == 0) (and_zero_r x)
 
 -- patterns match as their values and masks do
 pub all-match : (ps : List Pattern) (ws xs : List ℕ) → patterns_fit ps ws ≡ true → all_fit_widths ws (map pattern_value ps) ≡ true → all_fit_widths ws xs ≡ true
-    → all_fit (map pattern_value ps) (map pattern_mask ps) xs ≡ all_match ps xs
+    → values_match (map pattern_value ps) (map pattern_mask ps) xs ≡ all_match ps xs
 all-match [] [] [] f k h = refl
 all-match [] [] (x ∷ xs) f k h = absurd cc
 all-match [] (w ∷ ws) xs f k h = absurd cc
@@ -72,8 +72,8 @@ pub record RowFits (ws : List ℕ) (kind : ResultKind) (r : Row) : Type 0 where
   pub masks : all_fit_widths ws (map pattern_mask r.patterns) ≡ true
   pub sort : same_sort (result_sort kind) (sort_of_value r.value) ≡ true
 
-row-matches : (ws xs : List ℕ) (kind : ResultKind) (r : Row) (row : FunRow) → IsRow r row → RowFits ws kind r → all_fit_widths ws xs ≡ true → row_fits xs row ≡ all_match r.patterns xs
-row-matches ws xs kind r row i f h = ap₂ (λ vs ms. all_fit vs ms xs) i.values i.masks ∙ all-match r.patterns ws xs f.widths f.values h
+row-matches : (ws xs : List ℕ) (kind : ResultKind) (r : Row) (row : FunRow) → IsRow r row → RowFits ws kind r → all_fit_widths ws xs ≡ true → row_matches xs row ≡ all_match r.patterns xs
+row-matches ws xs kind r row i f h = ap₂ (λ vs ms. values_match vs ms xs) i.values i.masks ∙ all-match r.patterns ws xs f.widths f.values h
 
 -- the value of one row more
 one-row : (a b : Bool) (x y : Bits) (u v : Value) → a ≡ b → value_of x ≡ as_bits u → value_of y ≡ as_bits v → value_of (if a then x else y) ≡ as_bits (if b then u else v)
@@ -83,12 +83,12 @@ one-row false true x y u v e h k = absurd cc
 one-row false false x y u v e h k = k
 
 pub rows-look : (ws xs : List ℕ) (kind : ResultKind) (rs : List Row) (rows : List FunRow) (v : Value) (d : Bits) → AllZip IsRow rs rows → All (RowFits ws kind) rs → all_fit_widths ws xs ≡ true
-    → value_of d ≡ as_bits v → value_of (first_match (row_fits xs) (λ (row : FunRow). row.result) rows d) ≡ as_bits (look rs v xs)
+    → value_of d ≡ as_bits v → value_of (first_match (row_matches xs) (λ (row : FunRow). row.result) rows d) ≡ as_bits (look rs v xs)
 rows-look ws xs kind [] [] v d z f h e = e
 rows-look ws xs kind [] (row ∷ rows) v d z f h e = absurd z
 rows-look ws xs kind (r ∷ rs) [] v d z f h e = absurd z
 rows-look ws xs kind (r ∷ rs) (row ∷ rows) v d z f h e =
-    one-row (row_fits xs row) (all_match r.patterns xs) row.result (first_match (row_fits xs) (λ (row : FunRow). row.result) rows d) r.value (look rs v xs)
+    one-row (row_matches xs row) (all_match r.patterns xs) row.result (first_match (row_matches xs) (λ (row : FunRow). row.result) rows d) r.value (look rs v xs)
     (row-matches ws xs kind r row z.0 (All-head (RowFits ws kind) r rs f) h) z.0.result
     (rows-look ws xs kind rs rows v d z.1 (All-tail (RowFits ws kind) r rs f) h e)
 

@@ -4,7 +4,7 @@ use Rattle.std.specs.Prelude.{slice_get}
 use Rattle.std.specs.List.{AllZip}
 use Rattle.std.proofs.lemmas.Bool.{lt-ltb}
 use Rattle.std.proofs.lemmas.List.{length-reverse, take_all, take-append-drop}
-use Rattle.cocoon_num.specs.FunTables.{looked, row_fits}
+use Rattle.cocoon_num.specs.FunTables.{looked, row_matches}
 use Rattle.cocoon_num.specs.PacketForms.{FieldsFit}
 use Rattle.cocoon_num.specs.Rows.{first_match}
 use Rattle.cocoon_num.specs.Tree.{ResultKind, of_width, of_truth, FunctionDecl, Design}
@@ -44,11 +44,11 @@ match_width w test row true other p q = p
 match_width w test row false other p q = q
 
 looked_width : (ws : List ℕ) (w : ℕ) (ns : List ℕ) (rows : List FunRow) (default : Bits) → All (FitsRow ws w) rows → default.width ≡ w
-    → (first_match (row_fits ns) (λ (row : FunRow). row.result) rows default).width ≡ w
+    → (first_match (row_matches ns) (λ (row : FunRow). row.result) rows default).width ≡ w
 looked_width ws w ns [] default h k = k
 looked_width ws w ns (row ∷ rows) default h k =
     let first : FitsRow ws w row = h 0 row (omega arith) in
-    match_width w (row_fits ns) row (row_fits ns row) (first_match (row_fits ns) (λ (r : FunRow). r.result) rows default) first.result_is
+    match_width w (row_matches ns) row (row_matches ns row) (first_match (row_matches ns) (λ (r : FunRow). r.result) rows default) first.result_is
     (looked_width ws w ns rows default (λ i d l. h (suc i) d (omega (arith, l))) k)
 
 place_value : (g : FunctionDecl) (o : Option FunTable) (ns : List ℕ) → FitsPlace g o → g.body ≡ None → FieldsFit (widths_of g.params) ns → HasValue (result_sort g.result) (table_value g.result o ns)

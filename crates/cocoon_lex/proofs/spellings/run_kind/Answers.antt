@@ -1,5 +1,5 @@
 use Rattle.std.proofs.Common.{sym}
-use Rattle.cocoon_lex.proofs.KeywordLookup.{is_name}
+use Rattle.cocoon_lex.proofs.Names.{is_name}
 use Rattle.cocoon_lex.proofs.spellings.run_kind.Goals as goal
 
 pub returns-in-None : goal.returns-in-None

@@ -1,4 +1,4 @@
-use Rattle.std.proofs.Common.{◌≡◌, true, IsTrue, map, sym, subst}
+use Rattle.std.proofs.Common.{true, IsTrue, map, sym, subst}
 use Rattle.std.proofs.lemmas.Result.{IfOk-weaker}
 use Rattle.p4_ir.specs.NetOf.{rows_of, table_rows_of}
 use Rattle.p4_ir.specs.P4Kinds.{block_fits}

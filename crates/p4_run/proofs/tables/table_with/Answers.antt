@@ -1,11 +1,8 @@
-use Rattle.std.proofs.Common.{All, ◌≡◌, ◌<◌, Some, None, IfOk, length, map, rules, sym, subst, ap, ◌∙◌}
+use Rattle.std.proofs.Common.{map, ap}
 use Rattle.std.proofs.lemmas.Result.{IfOk-weaker}
-use Rattle.flat_rows.specs.Keyed.{HasKeys}
 use Rattle.p4_ir.specs.Loading.{all_tables}
-use Rattle.p4_ir.specs.NetOf.{table_rows_of}
-use Rattle.p4_ir.specs.Program.{field_of, program_of, table_of}
+use Rattle.p4_ir.specs.Program.{field_of, program_of}
 use Rattle.p4_ir.specs.Switch.{table_numbered}
-use Rattle.p4_run.specs.Runs.{IsApplied}
 use Rattle.p4_run.proofs.AppliedTables.{applied_one, keys_some, keys_within, rows_within}
 use Rattle.p4_run.proofs.tables.table_with.Goals as goal
 

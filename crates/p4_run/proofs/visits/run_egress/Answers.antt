@@ -1,4 +1,4 @@
-use Rattle.std.proofs.Common.{◌≡◌, ◌<◌, ◌^◌, false, map, rules, ap}
+use Rattle.std.proofs.Common.{◌<◌, ◌^◌, false, map, ap}
 use Rattle.p4_code.specs.Held.{held}
 use Rattle.p4_code.specs.States.{Suits}
 use Rattle.p4_steps.specs.Effects.{stmt_by, stmts_by}

@@ -1,6 +1,7 @@
 use Rattle.std.proofs.Common.{◌≡◌, ◌+◌, ◌-◌, ◌*◌, ◌/◌, ◌%◌, ◌^◌, ◌<◌, ◌≤◌, length, rules, sym, ◌∙◌, arith}
 use Rattle.std.proofs.Math.Pow.{pow_mono}
-use Rattle.packed_fields.proofs.Steps.{field_read, mask_is, number_of, upper_below}
+use Rattle.packed_fields.specs.Bits.{bytes_number}
+use Rattle.packed_fields.proofs.Steps.{field_read, mask_is, upper_below}
 use Rattle.packed_fields.proofs.cutting.Reader.read.Goals as goal
 
 pub overflow_cast-result : goal.overflow_cast-result
@@ -23,4 +24,4 @@ returns-clause-number c =
     let r = c.fill.new.self in
     let b = r.count - c.args.width in
     let low : b < 128 = omega (arith, c.fill.ensures.short) in
-    sym c.fill.ensures.number ∙ field_read r.pending b (8 * length r.bytes.now) (number_of r.bytes.now) (1 * 2 ^ b % 2 ^ 128) (mask_is b low)
+    sym c.fill.ensures.number ∙ field_read r.pending b (8 * length r.bytes.now) (bytes_number r.bytes.now) (1 * 2 ^ b % 2 ^ 128) (mask_is b low)

@@ -1,0 +1,4 @@
+pub mod Lexed
+pub mod Numbers
+pub mod Prefixes
+pub mod Spellings

@@ -1,6 +1,0 @@
-use Rattle.std.proofs.Common.{◌≡◌, take}
-use Rattle.cocoon_num.specs.Packets.{total}
-use Rattle.p4_run.proofs.places.bit_count.Given as goal
-
-abbrev pub invariant-loop-width : goal.invariant-loop-width
-invariant-loop-width l = l.bits ≡ total (take l.width-index l.widths)
