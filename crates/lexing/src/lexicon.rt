@@ -1,4 +1,4 @@
-//! What a crate of tokens says of its own.
+//! What a crate of tokens says of its own, so that a text is lexed into them.
 ghost use Rattle.std.specs.Prelude.{◌≡◌, ◌≤◌, ℕ, List, slice_range, true};
 ghost use Rattle.cocoon_num.specs.Lists.{each};
 ghost use Rattle.cocoon_num.specs.Tokens as tokens;
@@ -7,12 +7,13 @@ ghost use Rattle.lexing.specs.Prefixes.{BeginsWithLetter, has_bytes, mark_read};
 
 use crate::numbers::Number;
 
-/// A lexicon of the definitions, and tokens of the code that stand for theirs.
+/// A lexicon, with tokens of the code that stand for those of the definitions.
 pub trait Lexicon {
     type Kind: Drop;
 
     type Token: Drop;
 
+    /// The lexicon of the definitions.
     ghost lexicon: { tokens.Lexicon };
 
     /// The kind that one stands for, in a token of these bytes.
@@ -36,10 +37,11 @@ pub trait Lexicon {
         ensures { tokens.mark_prefix (tokens.beginning lexicon.marks text.now)
             ≡ mark_read kind_of text.now result };
 
+    /// What a number is.
     fn number(number: Number) -> Self::Kind
         ensures { (bytes : List ℕ) → kind_of result bytes ≡ kind_of_number number };
 
-    /// The end of the text.
+    /// What the end of a text is.
     fn end() -> Self::Kind
         ensures { (bytes : List ℕ) → kind_of result bytes ≡ tokens.finish };
 
@@ -50,5 +52,6 @@ pub trait Lexicon {
         ensures start { (text : List ℕ) → (token_of text result).start ≡ start }
         ensures stop { (text : List ℕ) → (token_of text result).stop ≡ end };
 
+    /// A mark takes the lexer a byte on, or more.
     ghost marks_have_bytes: { each has_bytes lexicon.marks ≡ true };
 }
