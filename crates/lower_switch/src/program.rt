@@ -4,7 +4,7 @@ ghost use Rattle.cocoon_num.specs.Tree.{Design};
 ghost use Rattle.cocoon_syntax.specs.TreeOf.{design_of};
 ghost use Rattle.cocoon_types.specs.Design as design;
 ghost use Rattle.lower_body.specs.Log.{tables_in};
-ghost use Rattle.lower_body.specs.Whole.{role_vars};
+ghost use Rattle.lower_body.specs.Whole.{role_lowered, role_vars};
 ghost use Rattle.lower_code.specs.Blocks.{site_of};
 ghost use Rattle.lower_code.specs.Growth.{counts_of, made_in};
 ghost use Rattle.lower_code.specs.Scopes.{callees_in, design_in, SeesFunctions};
@@ -185,6 +185,8 @@ pub fn switch_code(
     ensures made { IfOk result (λ c.
         made_in (design_of checked.now) (c.ingress.items ++ c.egress.items)
         ≡ spec.switch_made (switch_role (design_of checked.now) ingress.now) number) }
+    ensures ingress { IfOk result (λ c. made_in (design_of checked.now) c.ingress.items
+        ≡ (role_lowered (switch_role (design_of checked.now) ingress.now) number).made) }
 {
     let scope = Scope {
         checked,

@@ -25,3 +25,7 @@ returns-clause-made c =
     map-append (made_of d) c.in_ok-code.code.ingress.items c.in_ok-code.code.egress.items
     ∙ ap₂ (λ a b. made_in d a.items ++ made_in d b.items) c.in_ok-code.ensures.ingress c.in_ok-code.ensures.egress
     ∙ (λ i. (c.in_ok-into.ensures i).made ++ (out i).made)
+
+pub returns-clause-ingress : goal.returns-clause-ingress
+returns-clause-ingress c =
+    ap (λ a. made_in (design_of c.args.checked.now) a.items) c.in_ok-code.ensures.ingress ∙ (λ i. (c.in_ok-into.ensures i).made)
