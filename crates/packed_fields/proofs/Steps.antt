@@ -8,7 +8,8 @@ use Rattle.cocoon_num.specs.Lists.{each}
 use Rattle.cocoon_num.specs.Packets.{byte_count, cut, eights, header_bytes, header_fields, packed, total}
 use Rattle.cocoon_num.specs.PacketForms.{FieldsFit}
 use Rattle.cocoon_num.specs.Sorts.{is_declared_width}
-use Rattle.packed_fields.proofs.Packing.{cut-packed, eights_one, fit_length, fit_one, packed_one, total-eights, total_one}
+use Rattle.cocoon_num.proofs.Packing.{cut-packed}
+use Rattle.packed_fields.proofs.Packing.{eights_one, fit_length, fit_one, packed_one, total-eights, total_one}
 
 -- the number that bytes make
 abbrev pub number_of : List ℕ → ℕ
