@@ -20,7 +20,8 @@ use Rattle.sound_types.proofs.Options.{both_true, true_both, if_there, same_text
 use Rattle.sound_types.proofs.Values.{AllFine}
 use Rattle.lowered_kinds.specs.WideLiterals.{wide_block, wide_expr, wide_exprs, wide_stmt}
 use Rattle.lowered_kinds.proofs.ExprKinds.{CallPiece, MadeOk, Piece, Ready, SortsAt, VarsOk, code_both, code_fits, code_one, has_of, kinded, kinded_all, lit_sort, made_left, made_right, same_of}
-use Rattle.lowered_types.proofs.Fitting.{Any, all_fine, before_last_fits, before_last_name, before_last_part, widths_args, widths_fine}
+use Rattle.sound_types.proofs.Expressions.{Any}
+use Rattle.lowered_types.proofs.Fitting.{all_fine, before_last_fits, before_last_name, before_last_part, widths_args, widths_fine}
 use Rattle.lowered_types.proofs.ForkCalls.{EndsWith, IsForkCall}
 use Rattle.lowered_types.proofs.Formed.{Formed, FormedStmt, one_more}
 use Rattle.lowered_kinds.proofs.Logged.{Logged, declared_both, logged_both, logged_none, named_both}

@@ -33,7 +33,7 @@ use Rattle.sound_types.proofs.Declared.{names_differ, typed_bodies}
 use Rattle.sound_types.proofs.Levels.{is_role, role_in, site_at, stands}
 use Rattle.sound_types.proofs.Members.{In, all_at, in_filter, in_map, in_reverse, named_there, none_at}
 use Rattle.sound_types.proofs.Options.{both_true, true_both, nil_left, nil_right, passes, same_self}
-use Rattle.lowered_types.proofs.Fitting.{Any}
+use Rattle.sound_types.proofs.Expressions.{Any}
 use Rattle.lowered_types.proofs.Formed.{Formed, any_in}
 use Rattle.lowered_types.proofs.NetParts.{HasIngress, body_formed, exit_widths, into_are, parts_ingress, role_with}
 use Rattle.lowered_kinds.proofs.BlockKinds.{SmallSites, Stage, block_kinds}

@@ -16,8 +16,8 @@ use Rattle.declarations.specs.Declares.{function_number}
 use Rattle.role_values.specs.ByTables.{apply_by, called, earlier, table_value}
 use Rattle.runtime_defs.specs.Guards.{table_named}
 use Rattle.runtime_defs.specs.Places.{Places, all_fit_widths, result_value, table_at}
-use Rattle.lowered_net.proofs.Functions.{named-self, number-self}
-use Rattle.lowered_net.proofs.Options.{same_text}
+use Rattle.runtime_defs.proofs.Distinct.{named-self, number-self}
+use Rattle.sound_types.proofs.Options.{same_text}
 
 -- ---- places in a list
 

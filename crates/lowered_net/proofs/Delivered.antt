@@ -21,7 +21,7 @@ use Rattle.runtime_defs.specs.Stands.{Stands}
 use Rattle.sound_types.specs.Defined.{HasTables}
 use Rattle.lowered_net.proofs.Ingress.{ingress_is}
 use Rattle.lowered_net.proofs.Network.{both_ways}
-use Rattle.lowered_net.proofs.Options.{nil_left, nil_right, passes}
+use Rattle.sound_types.proofs.Options.{nil_left, nil_right, passes}
 use Rattle.lowered_net.proofs.Steps.{SameGuards, SameRuns}
 use Rattle.lowered_net.proofs.Wiring.{fits}
 

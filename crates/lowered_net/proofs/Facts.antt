@@ -20,9 +20,9 @@ use Rattle.cocoon_types.specs.Sites.{DeclSite, decl_sites, params_of}
 use Rattle.cocoon_types.specs.TypeRules.{wide_params}
 use Rattle.runtime_defs.specs.Guards.{host_function, switch_function}
 use Rattle.lowered_net.proofs.Guards.{guards_fit, guards_same, is_and, is_binary, kept}
-use Rattle.lowered_net.proofs.Levels.{block_decls, role_in, role_stands, role_there, roles_all, roles_grow, site_at, stands}
-use Rattle.lowered_net.proofs.Members.{In, at_place, filter_in, flat_in, in_either, in_filter, in_left, in_right, none_at}
-use Rattle.lowered_net.proofs.Options.{both_true, nil_left, nil_right, passes, same_text, some_there, text_self}
+use Rattle.sound_types.proofs.Levels.{block_decls, role_in, role_stands, role_there, roles_all, roles_grow, site_at, stands}
+use Rattle.sound_types.proofs.Members.{In, at_place, filter_in, flat_in, in_either, in_filter, in_left, in_right, none_at}
+use Rattle.sound_types.proofs.Options.{both_true, nil_left, nil_right, passes, same_text, some_there, text_self}
 
 -- ---- forms of guards
 

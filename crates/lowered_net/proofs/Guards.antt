@@ -13,8 +13,8 @@ use Rattle.cocoon_types.specs.FormRules.{guards_by}
 use Rattle.cocoon_types.specs.RuleParts.{unless}
 use Rattle.cocoon_types.specs.SameTrees.{same_expr, same_exprs}
 use Rattle.cocoon_types.specs.Val.{Context, Env, bind, bound, value, variable}
-use Rattle.lowered_net.proofs.Members.{In, none_at}
-use Rattle.lowered_net.proofs.Options.{both_true, both_there, map_there, passes, same_text, text_self}
+use Rattle.sound_types.proofs.Members.{In, none_at}
+use Rattle.sound_types.proofs.Options.{both_true, both_there, map_there, passes, same_text, text_self}
 
 -- ---- parameters
 

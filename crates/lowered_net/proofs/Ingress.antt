@@ -13,8 +13,8 @@ use Rattle.lower_body.specs.Whole.{SwitchRole}
 use Rattle.lowered.specs.Roles.{NetParts, ingress_role, net_parts, parts_with, role_of_two}
 use Rattle.lowered_net.specs.Ingress.{IngressIs}
 use Rattle.lowered_net.proofs.Facts.{declares, two_params}
-use Rattle.lowered_net.proofs.Levels.{role_in}
-use Rattle.lowered_net.proofs.Options.{both_true, then_there}
+use Rattle.sound_types.proofs.Levels.{role_in}
+use Rattle.sound_types.proofs.Options.{both_true, then_there}
 
 -- the parameters and the body of a role of two parameters
 record TwoOf (d : Design) (ps : List Param) (o : Option Block) (r : SwitchRole) : Type 0 where

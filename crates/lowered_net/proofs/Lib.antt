@@ -1,6 +1,3 @@
-pub mod Options
-pub mod Members
-pub mod Levels
 pub mod Functions
 pub mod Calls
 pub mod Guards

@@ -8,8 +8,8 @@ use Rattle.p4_ir.specs.NetRuns.{attach_at, link_at, switch_at}
 use Rattle.p4_ir.specs.NetTree.{HostPort, Link, LinkEnd, SwitchFiles}
 use Rattle.lowered_net.specs.Network.{numbers_from}
 use Rattle.lowered_net.specs.Wires.{link_with}
-use Rattle.lowered_net.proofs.Members.{In, flat_in, in_flat}
-use Rattle.lowered_net.proofs.Options.{both_true, same_self}
+use Rattle.sound_types.proofs.Members.{In, flat_in, in_flat}
+use Rattle.sound_types.proofs.Options.{both_true, same_self}
 
 -- ---- numbers
 

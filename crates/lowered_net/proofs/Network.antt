@@ -24,7 +24,7 @@ use Rattle.lowered_net.specs.Ingress.{IngressIs}
 use Rattle.lowered_net.specs.Followed.{AreFollowed, body_departs, bytes_depart, into_at}
 use Rattle.lowered_net.proofs.Facts.{entry_is_wire, out_is_wire, roles_apart, sink_bodiless, sink_last}
 use Rattle.lowered_net.proofs.Lookups.{attach_found, attach_there, linked, linked_there, switch_found, switch_there}
-use Rattle.lowered_net.proofs.Options.{text_self, then_there}
+use Rattle.sound_types.proofs.Options.{text_self, then_there}
 use Rattle.lowered_net.proofs.Steps.{SameGuards, SameRuns, end_is, ends_there, guard_down, guard_up, host_listed, loc_of, port_is, ports_there, switch_listed, wire_goes, wire_leads, wire_wired}
 
 -- ---- lists of values

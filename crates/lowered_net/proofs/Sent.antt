@@ -8,7 +8,7 @@ use Rattle.cocoon_types.specs.Design.{field_width, write_field}
 use Rattle.cocoon_types.specs.Runs.{falls, sends, Loc, World}
 use Rattle.cocoon_types.specs.Taken.{Ended, Reached, back, body_go, by_truth, go, go_on, guard_at, if_reached, if_true, only_sends, run, run_all, take_one, where_true}
 use Rattle.cocoon_types.specs.Val.{Env, bind, bound, numbers, value}
-use Rattle.lowered_net.proofs.Options.{then_there}
+use Rattle.sound_types.proofs.Options.{then_there}
 
 -- what is sent is sent to where a guard is true
 abbrev SentTrue : World → Ended → Type 0

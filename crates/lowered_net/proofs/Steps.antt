@@ -37,8 +37,8 @@ use Rattle.lowered_net.specs.WiresLead.{MayReach, carried}
 use Rattle.lowered_net.proofs.Calls.{IsTrueFor, call_true}
 use Rattle.lowered_net.proofs.Facts.{declares, function_is, host_form, host_guarded, narrow, own_names, switch_form, switch_guarded, two_params}
 use Rattle.lowered_net.proofs.Guards.{bind_fits, bind_one, bind_two, host_value, switch_value}
-use Rattle.lowered_net.proofs.Levels.{role_in}
-use Rattle.lowered_net.proofs.Options.{both_true, map_there, nil_left, nil_right, passes, same_text, text_self, true_both}
+use Rattle.sound_types.proofs.Levels.{role_in}
+use Rattle.sound_types.proofs.Options.{both_true, map_there, nil_left, nil_right, passes, same_text, text_self, true_both}
 use Rattle.lowered_net.proofs.Sent.{goes, standing}
 use Rattle.lowered_net.proofs.WireGoes.{wires}
 

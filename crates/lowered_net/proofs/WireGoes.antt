@@ -16,9 +16,9 @@ use Rattle.cocoon_types.specs.Taken.{Ended, Reached, body_go, go, guard_at, if_r
 use Rattle.cocoon_types.specs.Typing.{Scope}
 use Rattle.cocoon_types.specs.Val.{Context, Env, bind}
 use Rattle.lowered_net.specs.WiresLead.{MayReach, WiresLead, carried, last_level_in}
-use Rattle.lowered_net.proofs.Levels.{role_in, role_name}
-use Rattle.lowered_net.proofs.Members.{In, in_map, none_at}
-use Rattle.lowered_net.proofs.Options.{same_text, text_self}
+use Rattle.sound_types.proofs.Levels.{role_in, role_name}
+use Rattle.sound_types.proofs.Members.{In, in_map, none_at}
+use Rattle.sound_types.proofs.Options.{same_text, text_self}
 use Rattle.lowered_net.proofs.WireRuns.{Leads, handed, wire_block}
 
 -- ---- names

@@ -13,8 +13,8 @@ use Rattle.cocoon_types.specs.Sites.{ExprSite, StmtSite, after_stmt, exprs_of_st
 use Rattle.cocoon_types.specs.Taken.{Ended, back, by_truth, go_on, guard_at, run, run_all, where_true}
 use Rattle.cocoon_types.specs.Typing.{Scope}
 use Rattle.cocoon_types.specs.Val.{Context, Env, numbers, value}
-use Rattle.lowered_net.proofs.Members.{In, in_either, in_left, in_map, in_right, none_at}
-use Rattle.lowered_net.proofs.Options.{nil_left, nil_right, passes}
+use Rattle.sound_types.proofs.Members.{In, in_either, in_left, in_map, in_right, none_at}
+use Rattle.sound_types.proofs.Options.{nil_left, nil_right, passes}
 
 -- ---- values without a packet
 

@@ -20,8 +20,8 @@ use Rattle.lowered_net.specs.Ingress.{IngressIs}
 use Rattle.lowered_net.specs.Followed.{into_at}
 use Rattle.lowered_net.proofs.Facts.{entry_is_wire, out_is_wire}
 use Rattle.lowered_net.proofs.Lookups.{all_links, host_with, in_number, link_is, number_in}
-use Rattle.lowered_net.proofs.Members.{In}
-use Rattle.lowered_net.proofs.Options.{both_true, same_self, then_there, true_both}
+use Rattle.sound_types.proofs.Members.{In}
+use Rattle.sound_types.proofs.Options.{both_true, same_self, then_there, true_both}
 use Rattle.lowered_net.proofs.Steps.{end_is, host_listed, port_is, switch_listed, wire_wired}
 
 -- ---- tests of each

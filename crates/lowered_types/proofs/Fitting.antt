@@ -1,7 +1,6 @@
 -- Along a visit of a body of the ingress role's form, expressions have values of the kinds that their places ask for; a visit
 -- that leaves, leaves for the egress role at the own switch.
 use Rattle.std.proofs.Common.{◌≡◌, ◌⊎◌, inl, inr, ℕ, ◌<◌, ◌^◌, ◌||◌, List, [], ◌∷◌, reverse, Bool, true, false, cond, Option, Some, None, if◌then◌else◌, option_map, option_and_then, refl, sym, ap, subst, ◌∙◌}
-use Rattle.std.proofs.lemmas.Bool.{ltb-true}
 use Rattle.cocoon_num.specs.Names.{same_name, named}
 use Rattle.cocoon_num.specs.PacketForms.{FieldsFit, PacketFits}
 use Rattle.cocoon_num.specs.Packets.{Packet}
@@ -23,30 +22,17 @@ use Rattle.sound_types.specs.Literals.{LiteralsFit, literal_fits}
 use Rattle.sound_types.specs.Matching.{HasValue, IsOfSort, Matches}
 use Rattle.sound_types.specs.WellTyped.{HasType, HaveWidths, IsDeclared, IsTyped, IsTypedStmt, scope_at}
 use Rattle.sound_types.proofs.Bodies.{after_scope, after_vars}
+use Rattle.sound_types.proofs.Expressions.{Any, fine}
 use Rattle.sound_types.proofs.Fields.{field_value, written_fits}
 use Rattle.sound_types.proofs.Functions.{HaveValues, NamesDiffer}
 use Rattle.sound_types.proofs.Members.{In, all_at, in_either, in_left, in_right, in_reverse, reverse_in, named_there}
 use Rattle.sound_types.proofs.Options.{both_true, true_both, if_there, same_self, same_text, text_self, then_there}
-use Rattle.sound_types.proofs.Values.{AllFine, Fine, Sees, sound, sounds, value_there}
+use Rattle.sound_types.proofs.Values.{AllFine, Sees, sound, sounds, value_there}
 use Rattle.sound_types.proofs.Variables.{variable_value}
 use Rattle.lowered_types.proofs.Formed.{Formed, FormedStmt, IsNew, one_more}
 use Rattle.lowered_types.proofs.Taking.{Accepts, by_name, fit_all, left_in, right_in, takes, takes_all, takes_in}
 
 -- ---- what expressions see
-
-abbrev pub Any : List ℕ → Type 0
-Any f = Unit {0}
-
-fine : (a : Expr) → literal_fits a ≡ true → Fine Any a
-fine (name at x) h = tt
-fine (field at x f) h = tt
-fine (lit at w n) h = ltb-true n (2 ^ w) h
-fine (true_or_false at b) h = tt
-fine (call at f es) h = tt
-fine (unary at op a) h = tt
-fine (binary at op a b) h = tt
-fine (slice at a high low) h = tt
-fine (pick at c a b) h = tt
 
 pub all_fine : (e : Expr) → LiteralsFit e → AllFine Any (parts e)
 all_fine e h a i = fine a (all_at literal_fits (parts e) h a i)

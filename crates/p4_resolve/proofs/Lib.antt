@@ -5,7 +5,6 @@ pub mod FieldForms
 pub mod KeepFacts
 pub mod LineFacts
 pub mod ScopeFacts
-pub mod TypedFacts
 pub mod TreeFacts
 pub mod StmtFacts
 pub mod NumberFacts

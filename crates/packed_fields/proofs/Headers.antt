@@ -9,7 +9,8 @@ use Rattle.cocoon_num.specs.Packets.{byte_count, cut, eights, enter, header_byte
 use Rattle.cocoon_num.specs.PacketForms.{AllWhole, AreBytes, FieldsFit}
 use Rattle.packed_fields.specs.AtOnce.{bytes_in, entered_at_once, grouped, widths_in}
 use Rattle.packed_fields.specs.Bits.{bytes_number}
-use Rattle.packed_fields.proofs.Packing.{cut_same, packed-append, packed_below, total-append, total-eights}
+use Rattle.cocoon_num.proofs.Packing.{cut_same, packed_below}
+use Rattle.packed_fields.proofs.Packing.{packed-append, total-append, total-eights}
 use Rattle.packed_fields.proofs.Steps.{eights_count}
 
 -- ---- two headers

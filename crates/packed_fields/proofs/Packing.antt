@@ -1,38 +1,8 @@
 -- Numbers packed by their widths, and cut again.
-use Rattle.std.proofs.Common.{◌≡◌, ℕ, zero, suc, ◌+◌, ◌*◌, ◌/◌, ◌%◌, ◌^◌, ◌<◌, List, [], ◌∷◌, ◌++◌, length, refl, sym, ◌∙◌, ap, arith}
-use Rattle.std.proofs.lemmas.Nat.{pow-add, mod-pow-add, field_of, mod_low, shr_high}
-use Rattle.std.proofs.Math.Pow.{pow_pos}
-use Rattle.std.proofs.Math.Nat.{mod-eq_of_lt, mod-lt}
-use Rattle.cocoon_num.specs.Packets.{total, packed, cut, eights}
+use Rattle.std.proofs.Common.{◌≡◌, ℕ, zero, suc, ◌+◌, ◌*◌, ◌^◌, ◌<◌, List, [], ◌∷◌, ◌++◌, length, refl, ◌∙◌, ap, arith}
+use Rattle.std.proofs.lemmas.Nat.{pow-add}
+use Rattle.cocoon_num.specs.Packets.{total, packed, eights}
 use Rattle.cocoon_num.specs.PacketForms.{FieldsFit}
-
-low_of : (w k n : ℕ) → n % 2 ^ (w + k) % 2 ^ k ≡ n % 2 ^ k
-low_of w k n = rw (mod-pow-add n w k) (mod_low (n / 2 ^ k % 2 ^ w) k (n % 2 ^ k) (mod-lt n (pow_pos k)))
-
-pub cut_same : (ws : List ℕ) (m n : ℕ) → m % 2 ^ total ws ≡ n % 2 ^ total ws → cut ws m ≡ cut ws n
-cut_same [] m n h = refl
-cut_same (w ∷ ws) m n h =
-    let head : m / 2 ^ total ws % 2 ^ w ≡ n / 2 ^ total ws % 2 ^ w = sym (field_of m w (total ws)) ∙ ap (λ x. x / 2 ^ total ws) h ∙ field_of n w (total ws) in
-    let low : m % 2 ^ total ws ≡ n % 2 ^ total ws = sym (low_of w (total ws) m) ∙ ap (λ x. x % 2 ^ total ws) h ∙ low_of w (total ws) n in
-    rw (head, cut_same ws m n low) refl
-
-below : (n w p k : ℕ) → n < 2 ^ w → p < 2 ^ k → n * 2 ^ k + p < 2 ^ w * 2 ^ k
-below n w p k h i = grind arith
-
-pub packed_below : (ws ns : List ℕ) → FieldsFit ws ns → packed ws ns < 2 ^ total ws
-packed_below [] [] f = omega arith
-packed_below [] (n ∷ ns) f = absurd f
-packed_below (w ∷ ws) [] f = absurd f
-packed_below (w ∷ ws) (n ∷ ns) f = rw (pow-add 2 w (total ws)) (below n w (packed ws ns) (total ws) f.0 (packed_below ws ns f.1))
-
-pub cut-packed : (ws ns : List ℕ) → FieldsFit ws ns → cut ws (packed ws ns) ≡ ns
-cut-packed [] [] f = refl
-cut-packed [] (n ∷ ns) f = absurd f
-cut-packed (w ∷ ws) [] f = absurd f
-cut-packed (w ∷ ws) (n ∷ ns) f =
-    let p : packed ws ns < 2 ^ total ws = packed_below ws ns f.1 in
-    let same : (n * 2 ^ total ws + packed ws ns) % 2 ^ total ws ≡ packed ws ns % 2 ^ total ws = mod_low n (total ws) (packed ws ns) p ∙ sym (mod-eq_of_lt p) in
-    rw (shr_high n (total ws) (packed ws ns) p, mod-eq_of_lt f.0, cut_same ws _ _ same, cut-packed ws ns f.1) refl
 
 pub total-eights : (n : ℕ) → total (eights n) ≡ 8 * n
 total-eights zero = refl

@@ -9,7 +9,8 @@ use Rattle.cocoon_num.specs.Packets.{byte_count, cut, eights, header_bytes, head
 use Rattle.cocoon_num.specs.PacketForms.{FieldsFit}
 use Rattle.cocoon_num.specs.Sorts.{is_declared_width}
 use Rattle.packed_fields.specs.Bits.{bytes_number}
-use Rattle.packed_fields.proofs.Packing.{cut-packed, eights_one, fit_length, fit_one, packed_one, total-eights, total_one}
+use Rattle.cocoon_num.proofs.Packing.{cut-packed}
+use Rattle.packed_fields.proofs.Packing.{eights_one, fit_length, fit_one, packed_one, total-eights, total_one}
 
 -- ---- reading
 

@@ -2,35 +2,13 @@
 use Rattle.std.specs.Prelude.{◌≡◌, ℕ, zero, suc, ◌+◌, ◌-◌, ◌*◌, ◌/◌, ◌%◌, ◌^◌, ◌<◌, ◌≤◌, List, [], ◌∷◌, ◌++◌, length, take, drop, refl}
 use Rattle.std.proofs.Common.{sym, ◌∙◌, ap, subst, arith, get_or, add-one}
 use Rattle.std.proofs.lemmas.List.{take-append-drop, replicate-append-replicate, length-replicate, length-drop, get_or-drop, drop-replicate, take-replicate, drop_more, length-take-le, append_assoc}
-use Rattle.std.proofs.lemmas.Nat.{pow-add, mod-pow-add, field_of, mod_low, shr_high, shr-shr}
+use Rattle.std.proofs.lemmas.Nat.{pow-add, mod_low, shr_high, shr-shr}
 use Rattle.std.proofs.Math.Pow.{pow_pos}
 use Rattle.std.proofs.Math.Nat.{mod-eq_of_lt, mod-lt, pow-le-pow_right, pow-suc}
 use Rattle.cocoon_num.specs.Packets.{total, packed, cut, eights}
 use Rattle.cocoon_num.specs.PacketForms.{FieldsFit}
+use Rattle.cocoon_num.proofs.Packing.{cut_same, packed-cut, packed_below}
 use Rattle.reference_programs.specs.Widths.{ones, bits_of}
-
-low_of : (w k n : ℕ) → n % 2 ^ (w + k) % 2 ^ k ≡ n % 2 ^ k
-low_of w k n = rw (mod-pow-add n w k) (mod_low (n / 2 ^ k % 2 ^ w) k (n % 2 ^ k) (mod-lt n (pow_pos k)))
-
-pub packed-cut : (ws : List ℕ) (n : ℕ) → packed ws (cut ws n) ≡ n % 2 ^ total ws
-packed-cut [] n = omega arith
-packed-cut (w ∷ ws) n = rw (packed-cut ws n) (sym (mod-pow-add n w (total ws)))
-
-pub cut_same : (ws : List ℕ) (m n : ℕ) → m % 2 ^ total ws ≡ n % 2 ^ total ws → cut ws m ≡ cut ws n
-cut_same [] m n h = refl
-cut_same (w ∷ ws) m n h =
-    let head : m / 2 ^ total ws % 2 ^ w ≡ n / 2 ^ total ws % 2 ^ w = sym (field_of m w (total ws)) ∙ ap (λ x. x / 2 ^ total ws) h ∙ field_of n w (total ws) in
-    let low : m % 2 ^ total ws ≡ n % 2 ^ total ws = sym (low_of w (total ws) m) ∙ ap (λ x. x % 2 ^ total ws) h ∙ low_of w (total ws) n in
-    rw (head, cut_same ws m n low) refl
-
-below : (n w p k : ℕ) → n < 2 ^ w → p < 2 ^ k → n * 2 ^ k + p < 2 ^ w * 2 ^ k
-below n w p k h i = grind arith
-
-pub packed_below : (ws ns : List ℕ) → FieldsFit ws ns → packed ws ns < 2 ^ total ws
-packed_below [] [] f = omega arith
-packed_below [] (n ∷ ns) f = absurd f
-packed_below (w ∷ ws) [] f = absurd f
-packed_below (w ∷ ws) (n ∷ ns) f = rw (pow-add 2 w (total ws)) (below n w (packed ws ns) (total ws) f.0 (packed_below ws ns f.1))
 
 -- what is cut fits
 pub cut_fits : (ws : List ℕ) (n : ℕ) → FieldsFit ws (cut ws n)

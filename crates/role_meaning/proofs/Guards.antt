@@ -1,9 +1,8 @@
 -- Guards, which see no packet, and the roles that they belong to.
-use Rattle.std.proofs.Common.{◌≡◌, ℕ, zero, suc, ◌<◌, ◌≤◌, ◌^◌, ◌==◌, ◌&&◌, List, [], ◌∷◌, Bool, true, false, Option, Some, None, option_map, option_and_then, is_some, slice_get, get_or, length, if◌then◌else◌, refl, sym, ap, subst, ◌∙◌, arith}
+use Rattle.std.proofs.Common.{◌≡◌, ℕ, zero, suc, ◌<◌, ◌≤◌, ◌^◌, List, [], ◌∷◌, Bool, true, false, Option, Some, None, option_map, option_and_then, is_some, get_or, length, if◌then◌else◌, refl, sym, ap, subst, ◌∙◌, arith}
 use Rattle.std.specs.Option.{option_map_or}
 use Rattle.std.proofs.lemmas.Bool.{ltb-true}
 use Rattle.std.proofs.Math.Pow.{pow_mono}
-use Rattle.cocoon_num.specs.Names.{same_name}
 use Rattle.cocoon_num.specs.Packets.{Packet}
 use Rattle.cocoon_num.specs.Tree.{Block, Expr, name, field, lit, true_or_false, call, unary, binary, slice, pick, Exprs, no_exprs, expr, Param, HeaderDecl, Role, Design}
 use Rattle.cocoon_num.specs.Values.{Value, number, truth, apply_unary, apply_binary, apply_slice, apply_pick, as_number, fits_width, with_all, with_both}
@@ -13,7 +12,8 @@ use Rattle.cocoon_types.specs.Runs.{Loc, World}
 use Rattle.cocoon_types.specs.Taken.{if_reached, if_true, Reached}
 use Rattle.cocoon_types.specs.Val.{bind, bound, Env, numbers, value}
 use Rattle.declarations.specs.Declares.{role_number, role_texts}
-use Rattle.declarations.specs.NameNumbers.{firsts, index_of}
+use Rattle.declarations.specs.NameNumbers.{firsts}
+use Rattle.declarations.proofs.NameFacts.{index-at}
 use Rattle.role_meaning.specs.Levels.{AllWords, arrived, entered, entered_with, is_true}
 use Rattle.role_meaning.specs.Located.{role_name}
 use Rattle.role_values.specs.DeclaredWidths.{AllDeclared}
@@ -42,32 +42,9 @@ mutual
 
 -- ---- names of roles
 
-both_true : (a b : Bool) → (a && b) ≡ true → (a ≡ true) × (b ≡ true)
-both_true true b h = (refl, h)
-both_true false b h = absurd (cc)
-
-same_text : (x y : List ℕ) → same_name x y ≡ true → x ≡ y
-same_text [] [] h = refl
-same_text [] (b ∷ y) h = absurd (cc)
-same_text (a ∷ x) [] h = absurd (cc)
-same_text (a ∷ x) (b ∷ y) h =
-    let both = both_true (a == b) (same_name x y) h in
-    let first : a ≡ b = grind (arith, both.0) in
-    (λ i. first i ∷ same_text x y both.1 i)
-
-index_step : (b : Bool) (r : Option ℕ) (n : ℕ) (x y : List ℕ) (ys : List (List ℕ)) → (b ≡ true → x ≡ y) → ((m : ℕ) → r ≡ Some m → slice_get ys m ≡ Some x)
-    → (if b then Some 0 else option_map suc r) ≡ Some n → slice_get (y ∷ ys) n ≡ Some x
-index_step true r n x y ys f g h = let e : 0 ≡ n = cc in ap (slice_get (y ∷ ys)) (sym e) ∙ ap Some (sym (f refl))
-index_step false None n x y ys f g h = absurd (cc)
-index_step false (Some m) n x y ys f g h = let e : suc m ≡ n = cc in ap (slice_get (y ∷ ys)) (sym e) ∙ g m refl
-
-index_there : (x : List ℕ) (ys : List (List ℕ)) (n : ℕ) → index_of x ys ≡ Some n → slice_get ys n ≡ Some x
-index_there x [] n h = absurd (cc)
-index_there x (y ∷ ys) n h = index_step (same_name x y) (index_of x ys) n x y ys (λ e. same_text x y e) (λ m k. index_there x ys m k) h
-
 -- a role's number has its name
 pub role_name_of : (d : Design) (x : List ℕ) (n : ℕ) → role_number d x ≡ Some n → role_name d n ≡ x
-role_name_of d x n h = ap (λ (r : Option (List ℕ)). option_map_or (λ (y : List ℕ). y) r []) (index_there x (firsts (role_texts (roles_of d))) n h)
+role_name_of d x n h = ap (λ (r : Option (List ℕ)). option_map_or (λ (y : List ℕ). y) r []) (index-at x (firsts (role_texts (roles_of d))) n h)
 
 -- ---- numbers that fit
 

@@ -33,8 +33,9 @@ use cocoon_num::NoMemory;
 use cocoon_resolve::Checked;
 use cocoon_types::runs::runs_are_taken;
 use role_values::Scene;
-use role_values::laws::{fields_are_declared, params_are_declared, role_params_are_declared};
+use role_values::laws::{fields_are_declared, role_params_are_declared};
 use runtime_defs::Defs;
+use runtime_defs::laws::params_are_declared;
 use sound_types::laws::{code_literals_fit, fitting_runs_are_runs, runs_by_tables};
 use std::alloc::Global;
 

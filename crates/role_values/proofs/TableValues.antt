@@ -1,5 +1,5 @@
 -- What tables give, the definitions give.
-use Rattle.std.proofs.Common.{◌≡◌, ℕ, zero, suc, ◌≤◌, ◌==◌, ◌&&◌, List, [], ◌∷◌, length, reverse, Bool, true, false, Option, Some, None, if◌then◌else◌, option_and_then, refl, sym, ap, subst, ◌∙◌, add-one, arith}
+use Rattle.std.proofs.Common.{◌≡◌, ℕ, zero, suc, ◌≤◌, List, [], ◌∷◌, length, reverse, Bool, true, false, Option, Some, None, if◌then◌else◌, option_and_then, refl, sym, ap, subst, ◌∙◌, add-one, arith}
 use Rattle.std.proofs.lemmas.List.{take_all}
 use Rattle.cocoon_num.specs.FunTables.{looked}
 use Rattle.cocoon_num.specs.Names.{same_name}
@@ -10,6 +10,7 @@ use Rattle.cocoon_num.specs.declared.fun_table.FunTable.{FunTable}
 use Rattle.cocoon_types.specs.Design.{functions, read_field}
 use Rattle.cocoon_types.specs.Tables.{Defs, look_up}
 use Rattle.cocoon_types.specs.Val.{Context, Env, apply_in, bind, context, numbers, value}
+use Rattle.declarations.proofs.NameFacts.{same-true}
 use Rattle.role_values.specs.ByTables.{all_fit_widths, apply_by, called, context_by, earlier, result_value, table_at, table_value}
 use Rattle.role_values.specs.Stands.{IsTableOf, Stands}
 use Rattle.role_values.proofs.FunctionSteps.{earlier_count, earlier_more, there}
@@ -76,19 +77,6 @@ mutual
 
 -- ---- functions
 
-both_true : (a b : Bool) → (a && b) ≡ true → (a ≡ true) × (b ≡ true)
-both_true true b h = (refl, h)
-both_true false b h = absurd (cc)
-
-same_text : (x y : List ℕ) → same_name x y ≡ true → x ≡ y
-same_text [] [] h = refl
-same_text [] (b ∷ y) h = absurd (cc)
-same_text (a ∷ x) [] h = absurd (cc)
-same_text (a ∷ x) (b ∷ y) h =
-    let both = both_true (a == b) (same_name x y) h in
-    let first : a ≡ b = grind (arith, both.0) in
-    (λ i. first i ∷ same_text x y both.1 i)
-
 if_some : (b : Bool) (x v : Value) → (if b then Some x else None) ≡ Some v → (b ≡ true) × (x ≡ v)
 if_some true x v h = (refl, cc)
 if_some false x v h = absurd (cc)
@@ -121,7 +109,7 @@ apply_up design tables defs st (suc n) l f ns v =
     (λ e. option_and_then (λ env. value (record { headers = []; apply = apply_by tables (earlier design n) }) env [] e) (bind g.0.params ns))
     (λ e. option_and_then (λ env. value (record { headers = design.headers; apply = apply_in design.headers defs (earlier design n) }) env [] e) (bind g.0.params ns))
     v
-    (λ none k. table_up tables defs n g.0 f ns v (st n g.0 g.1 none) (same_text f g.0.name.text same) (ap (λ m. table_value g.0.result (table_at tables m) ns) (sym count) ∙ k))
+    (λ none k. table_up tables defs n g.0 f ns v (st n g.0 g.1 none) (same-true f g.0.name.text same) (ap (λ m. table_value g.0.result (table_at tables m) ns) (sym count) ∙ k))
     (λ e. then_up (bind g.0.params ns) (bind g.0.params ns)
     (λ env. value (record { headers = []; apply = apply_by tables (earlier design n) }) env [] e)
     (λ env. value (record { headers = design.headers; apply = apply_in design.headers defs (earlier design n) }) env [] e) v (λ env k. k)

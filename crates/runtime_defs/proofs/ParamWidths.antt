@@ -13,11 +13,11 @@ use Rattle.cocoon_types.specs.TypeRules.{wide_params}
 use Rattle.cocoon_resolve.specs.Resolved.{Resolves}
 use Rattle.runtime_defs.specs.Places.{AllDeclared}
 
-nil_left : {A : Type 0} (xs ys : List A) → xs ++ ys ≡ [] → xs ≡ []
+pub nil_left : {A : Type 0} (xs ys : List A) → xs ++ ys ≡ [] → xs ≡ []
 nil_left [] ys h = refl
 nil_left (x ∷ xs) ys h = absurd (cc)
 
-nil_right : {A : Type 0} (xs ys : List A) → xs ++ ys ≡ [] → ys ≡ []
+pub nil_right : {A : Type 0} (xs ys : List A) → xs ++ ys ≡ [] → ys ≡ []
 nil_right [] ys h = h
 nil_right (x ∷ xs) ys h = absurd (cc)
 
@@ -28,7 +28,7 @@ one_width : (p : Param) (b : Bool) → is_declared_width p.width ≡ b → unles
 one_width p true e h = declared_of p.width e
 one_width p false e h = absurd (cc)
 
-declared_params : (ps : List Param) → wide_params ps ≡ [] → AllDeclared (widths_of ps)
+pub declared_params : (ps : List Param) → wide_params ps ≡ [] → AllDeclared (widths_of ps)
 declared_params [] h = tt
 declared_params (p ∷ ps) h =
     let rest = flat_map (λ (q : Param). unless_named (is_declared_width q.width) q.name) ps in
@@ -36,11 +36,11 @@ declared_params (p ∷ ps) h =
     (one.0, one.1, declared_params ps (nil_right (unless_named (is_declared_width p.width) p.name) rest h))
 
 -- none of these declarations has a parameter of another width
-abbrev Clean : List Decl → Type 0
+abbrev pub Clean : List Decl → Type 0
 Clean [] = Unit {0}
 Clean (d ∷ ds) = (wide_params (params_of d) ≡ []) × Clean ds
 
-clean_append : (ds es : List Decl) → Clean ds → Clean es → Clean (ds ++ es)
+pub clean_append : (ds es : List Decl) → Clean ds → Clean es → Clean (ds ++ es)
 clean_append [] es h k = k
 clean_append (d ∷ ds) es h k = (h.0, clean_append ds es h.1 k)
 
@@ -65,6 +65,18 @@ clean_from design level before (b ∷ bs) h =
     (clean_sites design level before b.decls (nil_left (flat_map F xs) (flat_map F ys) both))
     (clean_from design (suc level) next bs (nil_right (flat_map F xs) (flat_map F ys) both))
 
+-- the declarations of a design that keeps the rules
+pub clean : (design : Design) → Resolves design → Clean (design.decls ++ flat_map (λ (b : Refine). b.decls) design.refines)
+clean design r =
+    let F = λ (s : DeclSite). wide_params (params_of s.decl) in
+    let xs = sites_of design 0 [] design.decls in
+    let ys = sites_from design 1 (filter_map as_function design.decls) design.refines in
+    let sites : flat_map F (xs ++ ys) ≡ [] = nil_right _ _ (nil_left _ _ (nil_left _ _ (nil_left _ _ (r.rules too_wide)))) in
+    let both : flat_map F xs ++ flat_map F ys ≡ [] = sym (flat_map-append F xs ys) ∙ sites in
+    clean_append design.decls (flat_map (λ (b : Refine). b.decls) design.refines)
+    (clean_sites design 0 [] design.decls (nil_left (flat_map F xs) (flat_map F ys) both))
+    (clean_from design 1 (filter_map as_function design.decls) design.refines (nil_right (flat_map F xs) (flat_map F ys) both))
+
 functions_declared : (ds : List Decl) → Clean ds → (k : ℕ) (d : FunctionDecl) → k < length (filter_map as_function ds) → AllDeclared (widths_of (get_or (filter_map as_function ds) k d).params)
 functions_declared [] h k d l = absurd (omega arith)
 functions_declared (a_function f ∷ ds) h zero d l = declared_params f.params h.0
@@ -77,13 +89,4 @@ functions_declared (a_switch s ∷ ds) h k d l = functions_declared ds h.1 k d l
 pub params_declared : (design : Design) → Resolves design → All (λ (d : FunctionDecl). AllDeclared (widths_of d.params)) (functions design)
 params_declared design r =
     let all : take (length design.refines) design.refines ≡ design.refines = take_all (length design.refines) design.refines (omega arith) in
-    let F = λ (s : DeclSite). wide_params (params_of s.decl) in
-    let xs = sites_of design 0 [] design.decls in
-    let ys = sites_from design 1 (filter_map as_function design.decls) design.refines in
-    let sites : flat_map F (xs ++ ys) ≡ [] = nil_right _ _ (nil_left _ _ (nil_left _ _ (nil_left _ _ (r.rules too_wide)))) in
-    let both : flat_map F xs ++ flat_map F ys ≡ [] = sym (flat_map-append F xs ys) ∙ sites in
-    let blocks = flat_map (λ (b : Refine). b.decls) design.refines in
-    let clean : Clean (design.decls ++ blocks) = clean_append design.decls blocks
-    (clean_sites design 0 [] design.decls (nil_left (flat_map F xs) (flat_map F ys) both))
-    (clean_from design 1 (filter_map as_function design.decls) design.refines (nil_right (flat_map F xs) (flat_map F ys) both)) in
-    functions_declared (all_decls design) (subst (λ bs. Clean (design.decls ++ flat_map (λ (b : Refine). b.decls) bs)) (sym all) clean)
+    functions_declared (all_decls design) (subst (λ bs. Clean (design.decls ++ flat_map (λ (b : Refine). b.decls) bs)) (sym all) (clean design r))

@@ -23,10 +23,10 @@ use Rattle.sound_types.proofs.Values.{Fine, Sees, sound}
 use Rattle.sound_types.proofs.Variables.{variable_value}
 
 -- any name
-abbrev Any : List ℕ → Type 0
+abbrev pub Any : List ℕ → Type 0
 Any f = Unit {0}
 
-fine : (a : Expr) → literal_fits a ≡ true → Fine Any a
+pub fine : (a : Expr) → literal_fits a ≡ true → Fine Any a
 fine (name at x) h = tt
 fine (field at x f) h = tt
 fine (lit at w n) h = ltb-true n (2 ^ w) h

@@ -5,7 +5,7 @@ use Rattle.p4_ir.specs.P4Kinds as rules
 use Rattle.p4_ir.specs.P4Tree as tree
 use Rattle.p4_ir.specs.Program as ir
 use Rattle.p4_resolve.specs.Typed.{Means}
-use Rattle.p4_resolve.proofs.TypedFacts.{no_implication}
+use Rattle.p4_kinds.proofs.Deep.{no_implication}
 use Rattle.std.proofs.Common.{if◌then◌else◌}
 use Rattle.p4_resolve.proofs.exprs.binary.Goals as goal
 
