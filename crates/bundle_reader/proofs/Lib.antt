@@ -3,7 +3,6 @@ mod Prefix
 mod Whole
 mod Put
 mod OldNew
-mod Digests
 mod OneFile
 mod OneSwitch
 mod OneReading

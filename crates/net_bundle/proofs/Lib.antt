@@ -4,7 +4,7 @@ mod JsonObjects
 mod InOrder
 mod Fitting
 mod ReadingLists
-mod ReadingDigests
+pub mod ReadingDigests
 mod ReadingNames
 mod ReadingBack
 mod Held

@@ -1,4 +1,4 @@
-use Rattle.bundle_reader.proofs.Digests.{digest_fits}
+use Rattle.net_bundle.proofs.ReadingDigests.{digest_fits}
 use Rattle.bundle_reader.proofs.OneReading.{Laws}
 use Rattle.bundle_reader.proofs.OneReading as reading
 use Rattle.bundle_reader.proofs.laws.one_reading.Goals as goal
