@@ -11,7 +11,9 @@ use Rattle.cdcl.specs.Marks.{MarksToo, Shows, count_from, is_marked, marked_lite
 use Rattle.cdcl.proofs.Counting.{count-some}
 use Rattle.cdcl.proofs.Trailing.{at-some}
 use Rattle.cdcl.specs.Searching.{IsClosed, IsForcedBy}
-use Rattle.cdcl.proofs.Membership.{each-from, each-has, forced-from, forced-parts, has-append, has-at, has-front, has-last, has-one, has-place, has-take, no-opposite, opposite-opposite, same-is, same-place, same-same, take-place}
+use Rattle.cnf_core.proofs.LiteralFacts.{has-at, has-place, opposite-opposite, same-is, same-same}
+use Rattle.cnf_core.proofs.Weighing.{each-has, has-prefix, has-last}
+use Rattle.cdcl.proofs.Membership.{each-from, forced-from, forced-parts, has-append, has-one, has-take, no-opposite, same-place, take-place}
 
 -- ---- the literals that are marked
 
@@ -100,7 +102,7 @@ module _ (clauses : List (List ℤ)) (ts : List ℤ) where
             shows (us ++ l ∷ [])
                 (λ q lq marked. elim (cases_eq q p) [
                   | inl is ↦ ap (λ r. has_literal (us ++ l ∷ []) (literal_at ts r)) is ∙ has-last us l
-                  | inr other ↦ has-front us (l ∷ []) (literal_at ts q) (covers q lq
+                  | inr other ↦ has-prefix us (l ∷ []) (literal_at ts q) (covers q lq
                       (m.marks q lq ∙ or_left (is_marked unmarked q) (has_literal f.0 (opposite (literal_at ts q)))
                       (ap (λ ms. is_marked ms q) e ∙ get_or-set_other old p q false false other ∙ marked)))
                 ])

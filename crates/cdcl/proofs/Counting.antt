@@ -9,7 +9,8 @@ use Rattle.cnf_core.specs.Deriving.{is_false}
 use Rattle.cnf_core.specs.Literals.{has_literal, opposite, same}
 use Rattle.cnf_core.specs.Trails.{IsApart, literal_at}
 use Rattle.cdcl.specs.Marks.{MarksToo, count_from, is_marked}
-use Rattle.cdcl.proofs.Membership.{has-at, has-one, opposite-opposite, same-place, same-same}
+use Rattle.cnf_core.proofs.LiteralFacts.{has-at, opposite-opposite, same-same}
+use Rattle.cdcl.proofs.Membership.{has-one, same-place}
 
 abbrev pub one : Bool → ℕ
 one b = cond b 1 0

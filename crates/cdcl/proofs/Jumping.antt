@@ -17,10 +17,10 @@ use Rattle.cdcl.specs.Searching.{IsClosed, IsReasoned}
 
 -- ---- lists with one more
 
-pub get-front : {A : Type 0} (xs ys : List A) (k : ℕ) (x : A) → slice_get xs k ≡ Some x → slice_get (xs ++ ys) k ≡ Some x
-get-front [] ys k x e = absurd (none-some x e)
-get-front (a ∷ xs) ys zero x e = e
-get-front (a ∷ xs) ys (suc k) x e = get-front xs ys k x e
+pub get-prefix : {A : Type 0} (xs ys : List A) (k : ℕ) (x : A) → slice_get xs k ≡ Some x → slice_get (xs ++ ys) k ≡ Some x
+get-prefix [] ys k x e = absurd (none-some x e)
+get-prefix (a ∷ xs) ys zero x e = e
+get-prefix (a ∷ xs) ys (suc k) x e = get-prefix xs ys k x e
 
 pub get-last : {A : Type 0} (xs : List A) (x : A) → slice_get (xs ++ x ∷ []) (length xs) ≡ Some x
 get-last [] x = refl
@@ -82,7 +82,7 @@ module _ (clauses : List (List ℤ)) (ts : List ℤ) (reasons starts : List ℕ)
         let less : p < cut = omega (arith, lt, length-take cut ts) in
         let f = h.forced p (omega (arith, less, cut-within)) (not-decided p less none) in (
           f.0,
-          get-front clauses (c ∷ []) (get_or (take cut reasons) p 0) f.0 (ap (slice_get clauses) (get_or-take cut reasons p 0 less) ∙ f.1),
+          get-prefix clauses (c ∷ []) (get_or (take cut reasons) p 0) f.0 (ap (slice_get clauses) (get_or-take cut reasons p 0 less) ∙ f.1),
           subst (λ us. forces us f.0 (literal_at (take cut ts) p) ≡ true) (sym (take-take p cut ts (omega (arith, less))))
               (subst (λ l. forces (take p ts) f.0 l ≡ true) (sym (get_or-take cut ts p (pos 0) less)) f.2),
         );
@@ -107,26 +107,26 @@ known-push cnf steps s = append_assoc (map literals cnf.clauses) (map (λ (s : S
     ∙ ap (λ r. map literals cnf.clauses ++ r) (sym (map-append (λ (s : Step). literals s.clause) steps (s ∷ [])))
 
 module _ (cnf : Cnf) (steps : List Step) (s : Step) where
-  front : (k : ℕ) → k < length steps → take k (steps ++ s ∷ []) ≡ take k steps
-  front k lt = take-append-le k steps (s ∷ []) (omega (arith, lt))
+  prefix : (k : ℕ) → k < length steps → take k (steps ++ s ∷ []) ≡ take k steps
+  prefix k lt = take-append-le k steps (s ∷ []) (omega (arith, lt))
 
   pub derived-push : EachDerived cnf steps → Follows cnf.vars (known cnf steps) (literals s.clause) s.hints → EachDerived cnf (steps ++ s ∷ [])
   derived-push h f k lt = elim (cases_lt k (length steps)) [
     | inl below ↦ let d = h k below in
-        (d.0, get-front steps (s ∷ []) k d.0 d.1, subst (λ ss. Follows cnf.vars (known cnf ss) (literals d.0.clause) d.0.hints) (sym (front k below)) d.2)
+        (d.0, get-prefix steps (s ∷ []) k d.0 d.1, subst (λ ss. Follows cnf.vars (known cnf ss) (literals d.0.clause) d.0.hints) (sym (prefix k below)) d.2)
     | inr above ↦ let is : length steps ≡ k = omega (arith, lt, above, length_push steps s) in
         subst (Derived cnf (steps ++ s ∷ [])) is
         (s, get-last steps s, subst (λ ss. Follows cnf.vars (known cnf ss) (literals s.clause) s.hints) (sym (take_at steps (s ∷ []) (length steps) refl)) f)
   ]
 
-  pub new-front : ((k : ℕ) → k < length steps → BringsNew cnf steps k) → (k : ℕ) → k < length steps → BringsNew cnf (steps ++ s ∷ []) k
-  new-front h k below = let d = h k below in
-      (d.0, get-front steps (s ∷ []) k d.0 d.1, subst (λ ss. IsNew (known cnf ss) (literals d.0.clause)) (sym (front k below)) d.2)
+  pub new-prefix : ((k : ℕ) → k < length steps → BringsNew cnf steps k) → (k : ℕ) → k < length steps → BringsNew cnf (steps ++ s ∷ []) k
+  new-prefix h k below = let d = h k below in
+      (d.0, get-prefix steps (s ∷ []) k d.0 d.1, subst (λ ss. IsNew (known cnf ss) (literals d.0.clause)) (sym (prefix k below)) d.2)
 
   pub new-push : ((k : ℕ) → k < length steps → BringsNew cnf steps k) → IsNew (known cnf steps) (literals s.clause)
       → (k : ℕ) → k < length (steps ++ s ∷ []) → BringsNew cnf (steps ++ s ∷ []) k
   new-push h n k lt = elim (cases_lt k (length steps)) [
-    | inl below ↦ new-front h k below
+    | inl below ↦ new-prefix h k below
     | inr above ↦ let is : length steps ≡ k = omega (arith, lt, above, length_push steps s) in
         subst (BringsNew cnf (steps ++ s ∷ [])) is
         (s, get-last steps s, subst (λ ss. IsNew (known cnf ss) (literals s.clause)) (sym (take_at steps (s ∷ []) (length steps) refl)) n)

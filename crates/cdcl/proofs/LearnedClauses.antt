@@ -12,7 +12,9 @@ use Rattle.cnf_core.specs.Trails.{AllNamed, IsApart, WeighsAs, literal_at}
 use Rattle.cnf_core.specs.declared.weight.Weight.TheVariants.{Open}
 use Rattle.cdcl.specs.Marks.{Shows, is_marked, marked_literals, opposite_at}
 use Rattle.cdcl.specs.Searching.{IsClosed}
-use Rattle.cdcl.proofs.Membership.{IsForced, each-from, each-has, forced-from, forced-parts, has-take, no-opposite-taken, not-taken, opposite-opposite, opposite-same, same-place, variable-opposite}
+use Rattle.cnf_core.proofs.LiteralFacts.{opposite-opposite, variable-opposite}
+use Rattle.cnf_core.proofs.Weighing.{each-has}
+use Rattle.cdcl.proofs.Membership.{IsForced, each-from, forced-from, forced-parts, has-take, no-opposite-taken, not-taken, opposite-same, same-place}
 use Rattle.cdcl.proofs.Conflicts.{has-opposites, marked-at, marked-place, opposites-has, opposites-twice}
 
 -- ---- it is proper

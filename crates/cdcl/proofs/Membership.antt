@@ -1,54 +1,19 @@
 -- Literals of lists, and where they stand.
-use Rattle.std.proofs.Common.{◌≡◌, ◌≢◌, ℕ, zero, suc, ◌+◌, ◌<◌, ◌≤◌, ℤ, pos, negsuc, Bool, true, false, not, ◌&&◌, ◌||◌, List, [], ◌∷◌, ◌++◌, length, get_or, take, refl, sym, ap, ◌∙◌, subst, arith, ◌⊎◌, inl, inr}
+use Rattle.std.proofs.Common.{◌≡◌, ℕ, zero, suc, ◌<◌, ◌≤◌, ℤ, Bool, true, false, not, ◌&&◌, ◌||◌, List, [], ◌∷◌, ◌++◌, length, take, refl, sym, ap, ◌∙◌, arith, ◌⊎◌, inl, inr}
 use Rattle.std.proofs.lemmas.Bool.{false≢true, both_ways, or_cases, or_left, or_right, and_parts, and_from, not-true, not_from_false, false_from_ne_true, cases_order}
-use Rattle.std.proofs.lemmas.Bool.Decides.{Decides-int_eq}
-use Rattle.std.proofs.lemmas.List.{get_or-map, length-map, map-append, take_more}
-use Rattle.std.specs.List.{All}
 use Rattle.cocoon_num.specs.Lists.{each}
-use Rattle.cnf_core.specs.Literals.{Names, has_literal, opposite, same, variable}
+use Rattle.cnf_core.specs.Literals.{has_literal, opposite, same, variable}
 use Rattle.cnf_core.specs.Deriving.{forces, has_no_value, is_false}
-use Rattle.cnf_core.specs.Trails.{AllNamed, IsApart, literal_at, numbers}
-use Rattle.cnf_core.specs.declared.lit.Lit.{Lit}
+use Rattle.cnf_core.specs.Trails.{AllNamed, IsApart, literal_at}
+use Rattle.cnf_core.proofs.LiteralFacts.{has-at, has-place, opposite-opposite, opposite-other, same-is, same-same, variable-opposite}
+use Rattle.cnf_core.proofs.Weighing.{each-has}
 
 -- ---- literals
-
-pub same-same : (l : ℤ) → same l l ≡ true
-same-same l = (Decides-int_eq l l).1 refl
-
-pub same-is : (l m : ℤ) → same l m ≡ true → l ≡ m
-same-is l m h = (Decides-int_eq l m).0 h
-
-pub opposite-opposite : (l : ℤ) → opposite (opposite l) ≡ l
-opposite-opposite (pos zero) = refl
-opposite-opposite (pos (suc n)) = refl
-opposite-opposite (negsuc n) = refl
-
-pub variable-opposite : (l : ℤ) → variable (opposite l) ≡ variable l
-variable-opposite (pos zero) = refl
-variable-opposite (pos (suc n)) = refl
-variable-opposite (negsuc n) = refl
 
 pub opposite-same : (l m : ℤ) → opposite l ≡ opposite m → l ≡ m
 opposite-same l m e = sym (opposite-opposite l) ∙ ap opposite e ∙ opposite-opposite m
 
-pub opposite-other : (l : ℤ) → 1 ≤ variable l → l ≢ opposite l
-opposite-other (pos zero) h e = omega (arith, h)
-opposite-other (pos (suc n)) h e = cc
-opposite-other (negsuc n) h e = cc
-
 -- ---- lists
-
-pub has-at : (ts : List ℤ) (p : ℕ) → p < length ts → has_literal ts (literal_at ts p) ≡ true
-has-at [] p h = absurd (omega (arith, h))
-has-at (t ∷ ts) zero h = or_left (same t t) (has_literal ts t) (same-same t)
-has-at (t ∷ ts) (suc p) h = or_right (same (literal_at ts p) t) (has_literal ts (literal_at ts p)) (has-at ts p (omega (arith, h)))
-
-pub has-place : (ts : List ℤ) (l : ℤ) → has_literal ts l ≡ true → (p : ℕ) × (p < length ts) × (literal_at ts p ≡ l)
-has-place [] l h = absurd (false≢true h)
-has-place (t ∷ ts) l h = elim (or_cases (same l t) (has_literal ts l) h) [
-  | inl e ↦ (0, omega arith, sym (same-is l t e))
-  | inr e ↦ let r = has-place ts l e in (suc r.0, omega (arith, r.1), r.2)
-]
 
 pub has-take : (ts : List ℤ) (n p : ℕ) → p < n → p < length ts → has_literal (take n ts) (literal_at ts p) ≡ true
 has-take [] n p less within = absurd (omega (arith, within))
@@ -72,29 +37,10 @@ has-append (x ∷ xs) ys l h = elim (or_cases (same l x) (has_literal (xs ++ ys)
   | inr e ↦ elim (has-append xs ys l e) [ inl f ↦ inl (or_right (same l x) (has_literal xs l) f) | inr f ↦ inr f ]
 ]
 
-pub has-front : (xs ys : List ℤ) (l : ℤ) → has_literal xs l ≡ true → has_literal (xs ++ ys) l ≡ true
-has-front [] ys l h = absurd (false≢true h)
-has-front (x ∷ xs) ys l h = elim (or_cases (same l x) (has_literal xs l) h) [
-  | inl here ↦ or_left (same l x) (has_literal (xs ++ ys) l) here
-  | inr there ↦ or_right (same l x) (has_literal (xs ++ ys) l) (has-front xs ys l there)
-]
-
-pub has-last : (xs : List ℤ) (l : ℤ) → has_literal (xs ++ l ∷ []) l ≡ true
-has-last [] l = or_left (same l l) false (same-same l)
-has-last (x ∷ xs) l = or_right (same l x) (has_literal (xs ++ l ∷ []) l) (has-last xs l)
-
 pub has-one : (l m : ℤ) → has_literal (m ∷ []) l ≡ true → l ≡ m
 has-one l m h = elim (or_cases (same l m) false h) [ inl e ↦ same-is l m e | inr e ↦ absurd (false≢true e) ]
 
 -- ---- tests of each
-
-pub each-has : (f : ℤ → Bool) (ls : List ℤ) (l : ℤ) → each f ls ≡ true → has_literal ls l ≡ true → f l ≡ true
-each-has f [] l h e = absurd (false≢true e)
-each-has f (m ∷ ls) l h e = let parts = and_parts (f m) (each f ls) h in
-    elim (or_cases (same l m) (has_literal ls l) e) [
-      | inl here ↦ ap f (same-is l m here) ∙ parts.0
-      | inr there ↦ each-has f ls l parts.1 there
-    ]
 
 pub each-from : (f : ℤ → Bool) (ls : List ℤ) → ((l : ℤ) → has_literal ls l ≡ true → f l ≡ true) → each f ls ≡ true
 each-from f [] h = refl
@@ -166,12 +112,3 @@ module _ (ts : List ℤ) (apart : IsApart ts) where
     no-opposite-taken n p h = false_from_ne_true (has_literal (take n ts) (opposite (literal_at ts p))) (λ e.
         let r = take-place ts n (opposite (literal_at ts p)) e in
         both_ways (has_literal ts (opposite (literal_at ts p))) (no-opposite p h) (ap (has_literal ts) (sym r.3) ∙ has-at ts r.0 r.2))
-
--- ---- the literals of a clause, one by one
-
-pub taken-numbers : (lits : List Lit) (i : ℕ) (x : Lit) → i < length lits → x ≡ get_or lits i x → numbers (take (i + 1) lits) ≡ numbers (take i lits) ++ x.number ∷ []
-taken-numbers lits i x h e = ap numbers (take_more lits i x h ∙ ap (λ y. take i lits ++ y ∷ []) (sym e)) ∙ map-append (λ (l : Lit). l.number) (take i lits) (x ∷ [])
-
-pub named-item : (vars : ℕ) (lits : List Lit) (i : ℕ) (x : Lit) → All (Names vars) (numbers lits) → i < length lits → x ≡ get_or lits i x → Names vars x.number
-named-item vars lits i x named h e = subst (Names vars) (get_or-map (λ (l : Lit). l.number) lits i x x.number h ∙ ap (λ (l : Lit). l.number) (sym e))
-    (named i x.number (omega (arith, h, length-map lits (λ (l : Lit). l.number))))

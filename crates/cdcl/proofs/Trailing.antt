@@ -18,7 +18,7 @@ use Rattle.cnf_core.specs.declared.weight.Weight.{Weight}
 use Rattle.cnf_core.specs.declared.weight.Weight.TheVariants.{Conflict, Forces, Open}
 use Rattle.cdcl.specs.Searching.{IsClosed, IsForcedBy, IsReasoned}
 use Rattle.cdcl.specs.States.{WeighsNumber}
-use Rattle.cdcl.proofs.Membership.{same-is}
+use Rattle.cnf_core.proofs.LiteralFacts.{same-is}
 
 module _ (clauses : List (List ℤ)) (ts : List ℤ) (l : ℤ) where
   forced-kept : (p n : ℕ) → p < length ts → IsForcedBy clauses ts p n → IsForcedBy clauses (ts ++ l ∷ []) p n

@@ -1,8 +1,8 @@
 -- Literals, their indices and lists of them.
-use Rattle.std.proofs.Common.{◌≡◌, ◌≢◌, ℕ, zero, suc, ◌+◌, ◌*◌, ◌<◌, ◌≤◌, ℤ, pos, negsuc, true, false, List, [], ◌∷◌, ◌++◌, length, get_or, take, drop, refl, sym, ap, subst, ◌∙◌, arith, ◌⊎◌, inl, inr}
+use Rattle.std.proofs.Common.{◌≡◌, ◌≢◌, ℕ, zero, suc, ◌+◌, ◌*◌, ◌<◌, ◌≤◌, ℤ, pos, negsuc, true, List, [], ◌∷◌, ◌++◌, length, get_or, take, drop, refl, sym, ap, subst, ◌∙◌, arith, ◌⊎◌, inl, inr}
 use Rattle.std.specs.List.{All}
 use Rattle.std.proofs.lemmas.List.{get_or-map, length-map, map-append, take-append-drop, take_more}
-use Rattle.std.proofs.lemmas.Bool.{false≢true, or_cases, or_left, or_right, false_from_ne_true}
+use Rattle.std.proofs.lemmas.Bool.{false≢true, or_cases, or_left, or_right}
 use Rattle.std.proofs.lemmas.Bool.Decides.{Decides-int_eq}
 use Rattle.cnf_core.specs.Literals.{Names, has_literal, index_of, opposite, same, variable}
 use Rattle.cnf_core.specs.Trails.{literal_at, numbers}
@@ -13,9 +13,6 @@ same-same l = (Decides-int_eq l l).1 refl
 
 pub same-is : (l m : ℤ) → same l m ≡ true → l ≡ m
 same-is l m h = (Decides-int_eq l m).0 h
-
-pub same-not : (l m : ℤ) → l ≢ m → same l m ≡ false
-same-not l m h = false_from_ne_true (same l m) (λ e. h (same-is l m e))
 
 pub index_of-injective : (l m : ℤ) → index_of l ≡ index_of m → l ≡ m
 index_of-injective (pos a) (pos b) h = ap pos (omega (arith, h))
@@ -43,13 +40,10 @@ variable-same (pos a) (negsuc b) h = inr (ap pos h)
 variable-same (negsuc a) (pos b) h = inr (ap (λ n. opposite (pos n)) h)
 variable-same (negsuc a) (negsuc b) h = inl (ap negsuc (omega (arith, h)))
 
-pub opposite-other : (l : ℤ) → l ≢ pos 0 → l ≢ opposite l
-opposite-other (pos zero) h e = h refl
+pub opposite-other : (l : ℤ) → 1 ≤ variable l → l ≢ opposite l
+opposite-other (pos zero) h e = omega (arith, h)
 opposite-other (pos (suc n)) h e = cc
 opposite-other (negsuc n) h e = cc
-
-pub opposite-moves : (l m : ℤ) → opposite l ≡ m → l ≡ opposite m
-opposite-moves l m e = sym (opposite-opposite l) ∙ ap opposite e
 
 -- ---- lists
 

@@ -19,10 +19,10 @@ module _ {A : Type 0} (f : A → Bool) where
   each-append (x ∷ xs) ys h k = let parts = and_parts (f x) (each f xs) h in
       and_from (f x) (each f (xs ++ ys)) parts.0 (each-append xs ys parts.1 k)
 
-  pub each-front : (xs ys : List A) → each f (xs ++ ys) ≡ true → each f xs ≡ true
-  each-front [] ys h = refl
-  each-front (x ∷ xs) ys h = let parts = and_parts (f x) (each f (xs ++ ys)) h in
-      and_from (f x) (each f xs) parts.0 (each-front xs ys parts.1)
+  pub each-prefix : (xs ys : List A) → each f (xs ++ ys) ≡ true → each f xs ≡ true
+  each-prefix [] ys h = refl
+  each-prefix (x ∷ xs) ys h = let parts = and_parts (f x) (each f (xs ++ ys)) h in
+      and_from (f x) (each f xs) parts.0 (each-prefix xs ys parts.1)
 
   pub each-back : (xs ys : List A) → each f (xs ++ ys) ≡ true → each f ys ≡ true
   each-back [] ys h = h
@@ -41,11 +41,11 @@ each-has f (m ∷ ls) l h e = let parts = and_parts (f m) (each f ls) h in
       | inr there ↦ each-has f ls l parts.1 there
     ]
 
-pub has-front : (xs ys : List ℤ) (l : ℤ) → has_literal xs l ≡ true → has_literal (xs ++ ys) l ≡ true
-has-front [] ys l h = absurd (false≢true h)
-has-front (x ∷ xs) ys l h = elim (or_cases (same l x) (has_literal xs l) h) [
+pub has-prefix : (xs ys : List ℤ) (l : ℤ) → has_literal xs l ≡ true → has_literal (xs ++ ys) l ≡ true
+has-prefix [] ys l h = absurd (false≢true h)
+has-prefix (x ∷ xs) ys l h = elim (or_cases (same l x) (has_literal xs l) h) [
   | inl here ↦ or_left (same l x) (has_literal (xs ++ ys) l) here
-  | inr there ↦ or_right (same l x) (has_literal (xs ++ ys) l) (has-front xs ys l there)
+  | inr there ↦ or_right (same l x) (has_literal (xs ++ ys) l) (has-prefix xs ys l there)
 ]
 
 pub has-last : (xs : List ℤ) (l : ℤ) → has_literal (xs ++ l ∷ []) l ≡ true
@@ -98,7 +98,7 @@ module _ (ts : List ℤ) where
   pub forced-once : (ls : List ℤ) (l m : ℤ) → IsForced ls l → forces ts ls m ≡ true → m ≡ l
   forced-once ls l m f e = let g = forced-parts ls m e in sym (forced-is ls l m f g.within (open-not_false m g.unset))
 
-  -- ---- what is known of the front of a clause
+  -- ---- what is known of a prefix of a clause
 
   pub weighs-empty : WeighsAs ts [] Conflict
   weighs-empty = (refl, conflict-forces [] refl)
@@ -112,9 +112,9 @@ module _ (ts : List ℤ) where
   -- the rest makes no difference to one that is open
   pub open-longer : (ls more : List ℤ) → WeighsAs ts ls Open → WeighsAs ts (ls ++ more) Open
   open-longer ls more h = (
-    false_from_ne_true (is_conflict ts (ls ++ more)) (λ e. both_ways (is_conflict ts ls) h.0 (each-front (is_false ts) ls more e)),
+    false_from_ne_true (is_conflict ts (ls ++ more)) (λ e. both_ways (is_conflict ts ls) h.0 (each-prefix (is_false ts) ls more e)),
     λ l. false_from_ne_true (forces ts (ls ++ more) l) (λ e. let f = forced-parts (ls ++ more) l e in
-        front l f.unset (each-front (λ m. same l m || is_false ts m) ls more f.others)),
+        none-forced l f.unset (each-prefix (λ m. same l m || is_false ts m) ls more f.others)),
   )
     where
       apart : (l : ℤ) (ms : List ℤ) → has_literal ms l ≡ false → each (λ m. same l m || is_false ts m) ms ≡ true → each (is_false ts) ms ≡ true
@@ -126,8 +126,8 @@ module _ (ts : List ℤ) where
                 (apart l ms (false_from_ne_true (has_literal ms l) (λ there. both_ways (has_literal (m ∷ ms) l) none (or_right (same l m) (has_literal ms l) there))) parts.1)
           ]
 
-      front : (l : ℤ) → has_no_value ts l ≡ true → each (λ m. same l m || is_false ts m) ls ≡ true → ⊥
-      front l unvalued e = elim (cases (has_literal ls l)) [
+      none-forced : (l : ℤ) → has_no_value ts l ≡ true → each (λ m. same l m || is_false ts m) ls ≡ true → ⊥
+      none-forced l unvalued e = elim (cases (has_literal ls l)) [
         | inl held ↦ both_ways (forces ts ls l) (h.1 l) (forced-from ls l (record { within = held; unset = unvalued; others = e }))
         | inr none ↦ both_ways (is_conflict ts ls) h.0 (apart l ls none e)
       ]
@@ -164,7 +164,7 @@ module _ (ts : List ℤ) where
 
   forces-kept : (ls : List ℤ) (l : Lit) (m : ℤ) → WeighsAs ts ls (Forces l) → (same l.number m || is_false ts m) ≡ true → WeighsAs ts (ls ++ m ∷ []) (Forces l)
   forces-kept ls l m h e = let f = forced-parts ls l.number h.1 in weighs-forces (ls ++ m ∷ []) l (record {
-    within = has-front ls (m ∷ []) l.number f.within;
+    within = has-prefix ls (m ∷ []) l.number f.within;
     unset = f.unset;
     others = each-append (λ k. same l.number k || is_false ts k) ls (m ∷ []) f.others (and_from (same l.number m || is_false ts m) true e refl);
   })
@@ -178,11 +178,11 @@ module _ (ts : List ℤ) where
   pub forces-other : (ls : List ℤ) (l : Lit) (m : ℤ) → WeighsAs ts ls (Forces l) → is_false ts m ≡ false → same l.number m ≡ false → WeighsAs ts (ls ++ m ∷ []) Open
   forces-other ls l m h off other = let f = forced-parts ls l.number h.1 in
       blocked ls m off (λ k g e. both_ways (same l.number m) other
-      (ap (same l.number) (sym e ∙ forced-is (ls ++ m ∷ []) k l.number g (has-front ls (m ∷ []) l.number f.within) (open-not_false l.number f.unset)) ∙ same-same l.number))
+      (ap (same l.number) (sym e ∙ forced-is (ls ++ m ∷ []) k l.number g (has-prefix ls (m ∷ []) l.number f.within) (open-not_false l.number f.unset)) ∙ same-same l.number))
 
   -- ---- whole clauses
 
-  pub open-whole : (front more whole : List ℤ) (w : Weight) → is_open w ≡ true → WeighsAs ts front w → whole ≡ front ++ more → WeighsAs ts whole w
-  open-whole front more whole Open o h e = subst (λ ls. WeighsAs ts ls Open) (sym e) (open-longer front more h)
-  open-whole front more whole Conflict o h e = absurd (false≢true o)
-  open-whole front more whole (Forces l) o h e = absurd (false≢true o)
+  pub open-whole : (prefix more whole : List ℤ) (w : Weight) → is_open w ≡ true → WeighsAs ts prefix w → whole ≡ prefix ++ more → WeighsAs ts whole w
+  open-whole prefix more whole Open o h e = subst (λ ls. WeighsAs ts ls Open) (sym e) (open-longer prefix more h)
+  open-whole prefix more whole Conflict o h e = absurd (false≢true o)
+  open-whole prefix more whole (Forces l) o h e = absurd (false≢true o)

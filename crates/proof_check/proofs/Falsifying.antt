@@ -1,39 +1,17 @@
 -- Clauses whose literals are made false one by one.
-use Rattle.std.proofs.Common.{◌≡◌, ◌≢◌, ℕ, zero, suc, ◌+◌, ◌*◌, ◌==◌, ◌<◌, ◌≤◌, ℤ, pos, negsuc, Bool, true, false, not, ◌||◌, List, [], ◌∷◌, ◌++◌, length, get_or, take, drop, map, refl, sym, ap, ◌∙◌, subst, arith, ◌⊎◌, inl, inr}
+use Rattle.std.proofs.Common.{◌≡◌, ◌≢◌, ℕ, zero, suc, ◌+◌, ◌==◌, ◌<◌, ◌≤◌, ℤ, pos, negsuc, Bool, true, false, not, ◌||◌, List, [], ◌∷◌, ◌++◌, length, get_or, take, drop, map, refl, sym, ap, ◌∙◌, subst, arith, ◌⊎◌, inl, inr}
 use Rattle.std.specs.List.{All}
 use Rattle.std.proofs.lemmas.Bool.{false≢true, both_ways, or_cases, or_left, or_right, or_from, and_parts, and_from, not-true, not_from_false, false_from_ne_true, eqb-true, eq-eqb, ne_eqb}
-use Rattle.std.proofs.lemmas.Bool.Decides.{Decides-int_eq}
-use Rattle.std.proofs.lemmas.List.{map-append, get_or-map, length-map, take_more, take-append-drop, append_assoc}
+use Rattle.std.proofs.lemmas.List.{map-append, take-append-drop, append_assoc}
 use Rattle.std.proofs.lemmas.List.Elements.{All-push, All-head, All-tail}
 use Rattle.cocoon_num.specs.Lists.{has_number, no_repeats}
 use Rattle.cnf_core.specs.Deriving.{IsProper, has_no_value, is_false}
-use Rattle.cnf_core.specs.Literals.{Names, has_literal, index_of, opposite, same, variable}
+use Rattle.cnf_core.specs.Literals.{Names, has_literal, opposite, same, variable}
 use Rattle.cnf_core.specs.Trails.{numbers}
 use Rattle.cnf_core.specs.declared.lit.Lit.{Lit}
+use Rattle.cnf_core.proofs.LiteralFacts.{opposite-opposite, same-is, same-same, taken-numbers, variable-opposite, variable-same}
 
 -- ---- literals
-
-same-same : (l : ℤ) → same l l ≡ true
-same-same l = (Decides-int_eq l l).1 refl
-
-same-is : (l m : ℤ) → same l m ≡ true → l ≡ m
-same-is l m h = (Decides-int_eq l m).0 h
-
-pub opposite-opposite : (l : ℤ) → opposite (opposite l) ≡ l
-opposite-opposite (pos zero) = refl
-opposite-opposite (pos (suc n)) = refl
-opposite-opposite (negsuc n) = refl
-
-pub variable-opposite : (l : ℤ) → variable (opposite l) ≡ variable l
-variable-opposite (pos zero) = refl
-variable-opposite (pos (suc n)) = refl
-variable-opposite (negsuc n) = refl
-
-variable-same : (l m : ℤ) → variable l ≡ variable m → (l ≡ m) ⊎ (l ≡ opposite m)
-variable-same (pos a) (pos b) h = inl (ap pos h)
-variable-same (pos a) (negsuc b) h = inr (ap pos h)
-variable-same (negsuc a) (pos b) h = inr (ap (λ n. opposite (pos n)) h)
-variable-same (negsuc a) (negsuc b) h = inl (ap negsuc (omega (arith, h)))
 
 pub open-opposite : (ts : List ℤ) (l : ℤ) → has_no_value ts l ≡ true → has_no_value ts (opposite l) ≡ true
 open-opposite ts l h = let parts = and_parts (not (has_literal ts l)) (not (is_false ts l)) h in
@@ -134,9 +112,6 @@ proper-free vars xs l more p =
 
 -- ---- the literals of a clause, one by one
 
-pub taken-numbers : (lits : List Lit) (i : ℕ) (x : Lit) → i < length lits → x ≡ get_or lits i x → numbers (take (i + 1) lits) ≡ numbers (take i lits) ++ x.number ∷ []
-taken-numbers lits i x h e = ap numbers (take_more lits i x h ∙ ap (λ y. take i lits ++ y ∷ []) (sym e)) ∙ map-append (λ (l : Lit). l.number) (take i lits) (x ∷ [])
-
 pub split-at : (lits : List Lit) (i : ℕ) (x : Lit) → i < length lits → x ≡ get_or lits i x → numbers lits ≡ numbers (take i lits) ++ x.number ∷ numbers (drop (i + 1) lits)
 split-at lits i x h e = ap numbers (sym (take-append-drop (i + 1) lits)) ∙ map-append (λ (l : Lit). l.number) (take (i + 1) lits) (drop (i + 1) lits)
     ∙ ap (λ ys. ys ++ numbers (drop (i + 1) lits)) (taken-numbers lits i x h e) ∙ append_assoc (numbers (take i lits)) (x.number ∷ []) (numbers (drop (i + 1) lits))
@@ -148,10 +123,6 @@ pub named-variable : (l : ℤ) → l ≢ pos 0 → 1 ≤ variable l
 named-variable (pos zero) h = absurd (h refl)
 named-variable (pos (suc n)) h = omega arith
 named-variable (negsuc n) h = omega arith
-
-pub named-item : (vars : ℕ) (lits : List Lit) (i : ℕ) (x : Lit) → All (Names vars) (numbers lits) → i < length lits → x ≡ get_or lits i x → Names vars x.number
-named-item vars lits i x named h e = subst (Names vars) (get_or-map (λ (l : Lit). l.number) lits i x x.number h ∙ ap (λ (l : Lit). l.number) (sym e))
-    (named i x.number (omega (arith, h, length-map lits (λ (l : Lit). l.number))))
 
 has-number : (xs : List ℤ) (m : ℤ) (v : ℕ) → has_literal xs m ≡ true → v ≡ variable m → has_number v (map variable xs) ≡ true
 has-number [] m v h e = absurd (false≢true h)
@@ -172,7 +143,3 @@ proper-value vars xs l more p =
           (not_from_false (is_false xs l) (false_from_ne_true (is_false xs l)
           (λ e. both_ways (has_number (variable l) (map variable xs)) none (has-number xs (opposite l) (variable l) e (sym (variable-opposite l)))))),
     )
-
-pub index_of-below : (l : ℤ) (vars : ℕ) → variable l ≤ vars → index_of l < vars * 2 + 2
-index_of-below (pos n) vars h = omega (arith, h)
-index_of-below (negsuc n) vars h = omega (arith, h)

@@ -8,7 +8,7 @@ use Rattle.cocoon_num.specs.Names.{same_name, named}
 use Rattle.scopes.specs.Widths.{width_in}
 use Rattle.scopes.specs.Kept.{param_of, in_scope, HaveHidden, width_under, IsKept}
 use Rattle.scopes.specs.declared.variables.Bound.{Bound}
-use Rattle.scopes.proofs.NameFacts.{value_at, key_cmp, value-updated, same-refl, same-true}
+use Rattle.name_table.proofs.NameFacts.{value_at, key_cmp, value-updated, same-refl, same-true}
 
 -- one variable more comes first
 pub scope_more : (vs : List Bound) (v : Bound) → in_scope (vs ++ v ∷ []) ≡ param_of v ∷ in_scope vs

@@ -1,2 +1,1 @@
-pub mod NameFacts
 pub mod Keeping

@@ -3,7 +3,7 @@ use Rattle.std.specs.List.{All}
 use Rattle.cnf_core.specs.Literals.{Names}
 use Rattle.cnf_core.specs.Trails.{numbers}
 use Rattle.cnf_core.specs.TrailViews.{room}
-use Rattle.proof_check.proofs.Falsifying.{named-item}
+use Rattle.cnf_core.proofs.LiteralFacts.{named-item}
 use Rattle.proof_check.proofs.distinct.are_true.Goals as goal
 
 pub is_true-requires : goal.is_true-requires

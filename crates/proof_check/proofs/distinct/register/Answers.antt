@@ -4,7 +4,7 @@ use Rattle.cnf_core.specs.Literals.{index_of}
 use Rattle.proof_check.specs.Covering.{AllFilled}
 use Rattle.proof_check.specs.Registering.{Registers, first_index, firsts_of}
 use Rattle.proof_check.proofs.Covers.{clause-named, filled-first, filled-more, firsts-more, taken-clauses}
-use Rattle.proof_check.proofs.Falsifying.{index_of-below}
+use Rattle.cnf_core.proofs.LiteralFacts.{index_of-below}
 use Rattle.proof_check.proofs.distinct.register.Goals as goal
 
 pub add-requires : goal.add-requires

@@ -4,7 +4,8 @@ use Rattle.cnf_core.specs.Deriving.{IsProper, has_no_value}
 use Rattle.cnf_core.specs.Literals.{opposite, variable}
 use Rattle.cnf_core.specs.Trails.{numbers}
 use Rattle.cnf_core.specs.TrailViews.{room, trues}
-use Rattle.proof_check.proofs.Falsifying.{named-variable, opposite-push, proper-free, proper-push, split-at, taken-numbers}
+use Rattle.cnf_core.proofs.LiteralFacts.{taken-numbers}
+use Rattle.proof_check.proofs.Falsifying.{named-variable, opposite-push, proper-free, proper-push, split-at}
 use Rattle.proof_check.proofs.step.make_false.Goals as goal
 
 pub returns-then-not-is_free-clause-proper : goal.returns-then-not-is_free-clause-proper

@@ -4,7 +4,7 @@ use Rattle.cnf_core.specs.Literals.{Names}
 use Rattle.cnf_core.specs.Trails.{numbers}
 use Rattle.cnf_core.specs.TrailViews.{room, trues}
 use Rattle.cdcl.proofs.Counting.{marks-more}
-use Rattle.cdcl.proofs.Membership.{named-item, taken-numbers}
+use Rattle.cnf_core.proofs.LiteralFacts.{named-item, taken-numbers}
 use Rattle.cdcl.proofs.analysis.Analysis.mark_clause.Goals as goal
 
 pub mark_false-requires-clause-named : goal.mark_false-requires-clause-named

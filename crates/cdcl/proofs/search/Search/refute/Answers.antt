@@ -11,7 +11,7 @@ use Rattle.cnf_core.specs.declared.log.Step.{Step}
 use Rattle.cdcl.specs.Marks.{count_from, marked_literals}
 use Rattle.cdcl.specs.States.{clauses_of}
 use Rattle.cdcl.proofs.Counting.{none-marked}
-use Rattle.cdcl.proofs.Jumping.{derived-push, get-last, new-front}
+use Rattle.cdcl.proofs.Jumping.{derived-push, get-last, new-prefix}
 use Rattle.cdcl.proofs.LearnedClauses.{marked-none, learned-follows}
 use Rattle.cdcl.proofs.search.Search.refute.Goals as goal
 
@@ -38,5 +38,5 @@ returns c =
       one = grown;
       derived = subst (EachDerived cnf) (sym pushed) (derived-push cnf s.steps.items step c.requires.sound.derived f);
       ends = (step, ap (slice_get c.push.new.self.items) place ∙ ap (λ ss. slice_get ss (length s.steps.items)) pushed ∙ get-last s.steps.items step, empty);
-      new_before = λ k lt. subst new_before (sym pushed) (new-front cnf s.steps.items step c.requires.sound.new) k (omega (arith, lt, grown));
+      new_before = λ k lt. subst new_before (sym pushed) (new-prefix cnf s.steps.items step c.requires.sound.new) k (omega (arith, lt, grown));
     }

@@ -4,7 +4,7 @@ use Rattle.cnf_core.proofs.trail.Trail.truncate.Given as goal
 
 abbrev pub invariant-loop-self : goal.invariant-loop-self
 invariant-loop-self l = record {
-  front : take l.len (trues l.self) ≡ take l.len (trues l.fn.self);
+  prefix : take l.len (trues l.self) ≡ take l.len (trues l.fn.self);
   same_room : room l.self ≡ room l.fn.self;
 }
 
