@@ -1,5 +1,6 @@
 -- The faults of a call, and its type: what is found of its values one by one decides both.
 use Rattle.std.proofs.Common.{◌≡◌, ℕ, zero, suc, ◌+◌, ◌==◌, ◌&&◌, ◌||◌, Bool, true, false, not, List, [], ◌∷◌, ◌++◌, map, take, drop, length, get_or, ◌<◌, Option, Some, None, option_map, is_none, is_some, if◌then◌else◌, refl, sym, ap, subst, ◌∙◌, arith}
+use Rattle.std.proofs.Math.Bool.{and-false, or-false}
 use Rattle.std.proofs.lemmas.List.{append-nil, append_assoc, length-map, length-take-le, map_more}
 use Rattle.std.proofs.lemmas.Bool.{both_ways, ne_eqb, eqb-true, eqb-false, eq-eqb}
 use Rattle.cocoon_num.specs.Tree.{Name, Param, Expr, call, Exprs, no_exprs, expr, FunctionDecl, token_index}
@@ -20,7 +21,7 @@ use Rattle.type_rules.specs.declared.calls.Args.{Args}
 use Rattle.type_rules.specs.declared.sort.Typed.{Typed}
 use Rattle.type_rules.specs.Typed.{AreArgs, IsTyped, sort_value}
 use Rattle.type_rules.specs.Tests.{fails_if, fails_among, held_if, at_expr, in_expr, in_exprs}
-use Rattle.type_rules.proofs.Membership.{or_false, and_false, number-append, number-unless, number-where_not, any-append}
+use Rattle.type_rules.proofs.Membership.{number-append, number-unless, number-where_not, any-append}
 use Rattle.type_rules.proofs.ExprTests.{site}
 
 -- ---- truth values
@@ -83,7 +84,7 @@ nil-unless false at rest = refl
 
 shuffle : (a o t e n : Bool) → ((a && not o) && ((t && e) && n)) ≡ (((a && t) && e) && (not o && n))
 shuffle false o t e n = refl
-shuffle true true t e n = sym (and_false (t && e))
+shuffle true true t e n = sym (and-false (t && e))
 shuffle true false t e n = refl
 
 suc_eq : (m n : ℕ) → (m == n) ≡ (suc m == suc n)
@@ -98,7 +99,7 @@ pub fit : (s : Scope) (ws : List ℕ) (es : Exprs) → args_fit ws (sorts_of s e
 fit s [] no_exprs = refl
 fit s [] (expr e es) =
     sym (ap (λ b. (all_typed s (expr e es) && b) && true) (ne_eqb 0 (suc (count_of es)) (λ h. omega (arith, h)))
-    ∙ ap (λ b. b && true) (and_false (all_typed s (expr e es))))
+    ∙ ap (λ b. b && true) (and-false (all_typed s (expr e es))))
 fit s (w ∷ ws) no_exprs = sym (ap (λ b. (true && b) && true) (ne_eqb (suc (length ws)) 0 (λ h. omega (arith, h))))
 fit s (w ∷ ws) (expr e es) =
     (λ i. has-some w (sort_of s e) i && fit s ws es i)
@@ -118,15 +119,15 @@ values_test : (rule : Rule) (n at : ℕ) (s : Scope) (g : Name) (es : Exprs) (d 
     || ((all_typed s es && (length d.params == count_of es)) && fails_among wrong_width (wrong_args s (widths_of d.params) es) (record { rule = rule; at = n })))
     ≡ at_expr (site s (call at g es)) (record { rule = rule; at = n })
 values_test wrong_count n at s g es d h =
-    ap (λ b. ((all_typed s es && not (length d.params == count_of es)) && (n == g.at)) || b) (and_false (all_typed s es && (length d.params == count_of es)))
-    ∙ or_false ((all_typed s es && not (length d.params == count_of es)) && (n == g.at))
+    ap (λ b. ((all_typed s es && not (length d.params == count_of es)) && (n == g.at)) || b) (and-false (all_typed s es && (length d.params == count_of es)))
+    ∙ or-false ((all_typed s es && not (length d.params == count_of es)) && (n == g.at))
     ∙ sym (number-where_not n (all_typed s es) (length d.params == count_of es) g.at)
     ∙ sym (ap (λ f. has_number n (elim f [ None ↦ [] | Some x ↦ where_ (all_typed s es) (unless (length x.params == count_of es) g.at) ])) h)
 values_test wrong_width n at s g es d h =
     ap (λ l. (all_typed s es && (l == count_of es)) && has_number n (wrong_args s (widths_of d.params) es)) (sym (length-map d.params (λ (p : Param). p.width)))
     ∙ sym (number-where_all n (all_typed s es && (length (widths_of d.params) == count_of es)) (wrong_args s (widths_of d.params) es))
     ∙ sym (ap (λ f. has_number n (where_ (all_typed s es && (length (found_widths f) == count_of es)) (wrong_args s (found_widths f) es))) h)
-values_test rule n at s g es d h = and_false (all_typed s es && (length d.params == count_of es))
+values_test rule n at s g es d h = and-false (all_typed s es && (length d.params == count_of es))
 
 none_test : (rule : Rule) (n at : ℕ) (s : Scope) (g : Name) (es : Exprs) → function_named s g.text ≡ None
     → at_expr (site s (call at g es)) (record { rule = rule; at = n }) ≡ false
@@ -134,7 +135,7 @@ none_test wrong_count n at s g es h = ap (λ f. has_number n (elim f [ None ↦ 
 none_test wrong_width n at s g es h =
     ap (λ f. has_number n (where_ (all_typed s es && (length (found_widths f) == count_of es)) (wrong_args s (found_widths f) es))) h
     ∙ number-where_all n (all_typed s es && (0 == count_of es)) []
-    ∙ and_false (all_typed s es && (0 == count_of es))
+    ∙ and-false (all_typed s es && (0 == count_of es))
 none_test rule n at s g es h = refl
 
 module _ (laws : NotingLaws) where
@@ -152,7 +153,7 @@ module _ (laws : NotingLaws) where
   pub noted_step : (s : Scope) (xs : List Expr) (x : Expr) (o p q : Option Fault) → Notes (in_exprs s xs) o p → Notes (in_expr s x) p q → Notes (in_exprs s (xs ++ x ∷ [])) o q
   noted_step s xs x o p q m n =
       laws.alike _ (in_exprs s (xs ++ x ∷ [])) o q
-      (λ f. sym (any-append (λ e. in_expr s e f) xs (x ∷ []) ∙ ap (λ b. in_exprs s xs f || b) (or_false (in_expr s x f))))
+      (λ f. sym (any-append (λ e. in_expr s e f) xs (x ∷ []) ∙ ap (λ b. in_exprs s xs f || b) (or-false (in_expr s x f))))
       (laws.in_turn _ _ o p q m n)
 
   -- a value for a parameter
@@ -191,7 +192,7 @@ module _ (laws : NotingLaws) where
   none_held (n ∷ ns) None m =
       let f : Fault = record { rule = wrong_width; at = n } in
       absurd (both_ways _ (laws.first (fails_among wrong_width (n ∷ ns)) None m f) (ap (λ b. b || has_number n ns) (eq-eqb n n refl)))
-  none_held [] (Some f) m = absurd (both_ways _ (and_false (rank f.rule == rank wrong_width)) (laws.first (fails_among wrong_width []) (Some f) m).picked)
+  none_held [] (Some f) m = absurd (both_ways _ (and-false (rank f.rule == rank wrong_width)) (laws.first (fails_among wrong_width []) (Some f) m).picked)
   none_held (n ∷ ns) (Some f) m = refl
 
   -- the type of a call of a function
@@ -240,7 +241,7 @@ pub no_values : NotingLaws → (s : Scope) (ws : List ℕ) (a : Args) → a.type
 no_values laws s ws a ht hw = record {
   typed = ht;
   wrong = subst (λ (o : Option Fault). Notes (fails_among wrong_width (wrong_args s ws no_exprs)) None o) (sym hw)
-      (laws.nothing _ None (λ f. ap (λ (l : List ℕ). fails_among wrong_width l f) (no_args s ws) ∙ and_false (rank f.rule == rank wrong_width)));
+      (laws.nothing _ None (λ f. ap (λ (l : List ℕ). fails_among wrong_width l f) (no_args s ws) ∙ and-false (rank f.rule == rank wrong_width)));
 }
 
 -- one value more

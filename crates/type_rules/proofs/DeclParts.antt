@@ -1,5 +1,6 @@
 -- The faults of declarations, as the walk notes them: those of their widths, of their expressions, of their bodies.
 use Rattle.std.proofs.Common.{◌≡◌, ℕ, ◌==◌, ◌&&◌, ◌||◌, Bool, true, false, not, List, [], ◌++◌, Option, Some, None, refl, sym, ap, subst, ◌∙◌}
+use Rattle.std.proofs.Math.Bool.{or-false}
 use Rattle.std.specs.List.{list_any}
 use Rattle.std.proofs.lemmas.List.{append-nil}
 use Rattle.cocoon_num.specs.Tree.{Name, Param, Expr, ResultKind, of_width, HostDecl, SwitchDecl, Decl, a_function, an_assumption, a_role, a_host, a_switch, Block, Design, token_index}
@@ -14,7 +15,7 @@ use Rattle.cocoon_types.specs.FirstFault.{Fault, rank}
 use Rattle.cocoon_types.specs.Noting.{Notes, NotingLaws}
 use Rattle.type_rules.specs.Tests.{fails_if, fails_among, at_expr, in_expr, in_block, at_decl, in_decl, expr_or_other, wide_kind}
 use Rattle.type_rules.specs.Typed.{Around, scope_of}
-use Rattle.type_rules.proofs.Membership.{or_assoc, or_false, number-append, number-unless, number-unless_not}
+use Rattle.type_rules.proofs.Membership.{or_assoc, number-append, number-unless, number-unless_not}
 use Rattle.type_rules.proofs.ExprTests.{or_turn}
 
 -- a declaration with its scope
@@ -27,7 +28,7 @@ function_test : (rule : Rule) (n : ℕ) (s : Scope) (x : Name) (ps : List Param)
     → ((fails_among too_wide (wide_params ps) (record { rule = rule; at = n }) || fails_among too_wide (wide_kind x k) (record { rule = rule; at = n }))
     || fails_if wrong_width (is_other (result_sort k) (sort_of (with_vars ps s) e)) (token_index e) (record { rule = rule; at = n }))
     ≡ at_decl (record { scope = s; decl = a_function (record { name = x; params = ps; result = k; body = Some e }) }) (record { rule = rule; at = n })
-function_test too_wide n s x ps k e = or_false (has_number n (wide_params ps) || has_number n (wide_kind x k)) ∙ sym (number-append n (wide_params ps) (wide_kind x k))
+function_test too_wide n s x ps k e = or-false (has_number n (wide_params ps) || has_number n (wide_kind x k)) ∙ sym (number-append n (wide_params ps) (wide_kind x k))
 function_test wrong_width n s x ps k e = sym (number-unless n (is_other (result_sort k) (sort_of (with_vars ps s) e)) (token_index e))
 function_test rule n s x ps k e = refl
 
@@ -40,14 +41,14 @@ runtime_test rule n s x ps k = refl
 assume_test : (rule : Rule) (n at : ℕ) (s : Scope) (ps : List Param) (e : Expr)
     → (fails_among too_wide (wide_params ps) (record { rule = rule; at = n }) || fails_if not_bool (is_other truth_sort (sort_of (with_vars ps s) e)) (token_index e) (record { rule = rule; at = n }))
     ≡ at_decl (record { scope = s; decl = an_assumption (record { at = at; params = ps; body = e }) }) (record { rule = rule; at = n })
-assume_test too_wide n at s ps e = or_false (has_number n (wide_params ps)) ∙ sym (ap (has_number n) (append-nil (wide_params ps)))
+assume_test too_wide n at s ps e = or-false (has_number n (wide_params ps)) ∙ sym (ap (has_number n) (append-nil (wide_params ps)))
 assume_test not_bool n at s ps e = sym (number-unless n (is_other truth_sort (sort_of (with_vars ps s) e)) (token_index e))
 assume_test rule n at s ps e = refl
 
 role_test : (rule : Rule) (n : ℕ) (s : Scope) (x : Name) (ps : List Param) (e : Expr) (b : Option Block)
     → (fails_among too_wide (wide_params ps) (record { rule = rule; at = n }) || fails_if not_bool (is_other truth_sort (sort_of (with_vars ps s) e)) (token_index e) (record { rule = rule; at = n }))
     ≡ at_decl (record { scope = s; decl = a_role (record { name = x; params = ps; guard = e; body = b }) }) (record { rule = rule; at = n })
-role_test too_wide n s x ps e b = or_false (has_number n (wide_params ps)) ∙ sym (ap (has_number n) (append-nil (wide_params ps)))
+role_test too_wide n s x ps e b = or-false (has_number n (wide_params ps)) ∙ sym (ap (has_number n) (append-nil (wide_params ps)))
 role_test not_bool n s x ps e b = sym (number-unless n (is_other truth_sort (sort_of (with_vars ps s) e)) (token_index e))
 role_test rule n s x ps e b = refl
 
@@ -76,7 +77,7 @@ module _ (laws : NotingLaws) (w : Around) (d : Design) where
       (fails_if wrong_width (is_other (result_sort k) (sort_of (scope_of w d (ps ++ []) false) e)) (token_index e) f)
       ∙ ap (λ b. b || in_expr (scope_of w d (ps ++ []) false) e f) (function_test f.rule f.at (scope_of w d [] false) x ps k e)
       ∙ ap (λ l. at_decl (decl_site w d (a_function (record { name = x; params = ps; result = k; body = Some e }))) f || list_any (λ y. at_expr y f) l) (sym (append-nil (parts_at (scope_of w d (ps ++ []) false) e)))
-      ∙ sym (or_false _))
+      ∙ sym (or-false _))
       (laws.in_turn _ _ o q r (laws.in_turn _ _ o p q u v) z)
 
   pub runtime_in : (x : Name) (ps : List Param) (k : ResultKind) {o p q : Option Fault}
@@ -84,7 +85,7 @@ module _ (laws : NotingLaws) (w : Around) (d : Design) where
       → Notes (in_decl (decl_site w d (a_function (record { name = x; params = ps; result = k; body = None })))) o q
   runtime_in x ps k {o} {p} {q} u v =
       laws.alike _ _ o q
-      (λ f. runtime_test f.rule f.at (scope_of w d [] false) x ps k ∙ sym (or_false _) ∙ sym (or_false _))
+      (λ f. runtime_test f.rule f.at (scope_of w d [] false) x ps k ∙ sym (or-false _) ∙ sym (or-false _))
       (laws.in_turn _ _ o p q u v)
 
   pub assume_in : (at : ℕ) (ps : List Param) (e : Expr) {o p q : Option Fault}
@@ -94,7 +95,7 @@ module _ (laws : NotingLaws) (w : Around) (d : Design) where
       laws.alike _ _ o q
       (λ f. with_other (fails_among too_wide (wide_params ps) f) (in_expr (scope_of w d (ps ++ []) false) e f) (fails_if not_bool (is_other truth_sort (sort_of (scope_of w d (ps ++ []) false) e)) (token_index e) f)
       ∙ ap (λ b. b || in_expr (scope_of w d (ps ++ []) false) e f) (assume_test f.rule f.at at (scope_of w d [] false) ps e)
-      ∙ sym (or_false _))
+      ∙ sym (or-false _))
       (laws.in_turn _ _ o p q u z)
 
   pub guard_in : (x : Name) (ps : List Param) (e : Expr) {o p q : Option Fault}
@@ -104,7 +105,7 @@ module _ (laws : NotingLaws) (w : Around) (d : Design) where
       laws.alike _ _ o q
       (λ f. with_other (fails_among too_wide (wide_params ps) f) (in_expr (scope_of w d (ps ++ []) false) e f) (fails_if not_bool (is_other truth_sort (sort_of (scope_of w d (ps ++ []) false) e)) (token_index e) f)
       ∙ ap (λ b. b || in_expr (scope_of w d (ps ++ []) false) e f) (role_test f.rule f.at (scope_of w d [] false) x ps e None)
-      ∙ sym (or_false _))
+      ∙ sym (or-false _))
       (laws.in_turn _ _ o p q u z)
 
   pub role_in : (x : Name) (ps : List Param) (e : Expr) (b : Block) {o p q r : Option Fault}
@@ -119,10 +120,10 @@ module _ (laws : NotingLaws) (w : Around) (d : Design) where
       (laws.in_turn _ _ o q r (laws.in_turn _ _ o p q u z) y)
 
   pub switch_in : (x : SwitchDecl) {o p : Option Fault} → Notes (fails_if zero_count (x.ports == 0) x.at) o p → Notes (in_decl (decl_site w d (a_switch x))) o p
-  switch_in x {o} {p} u = laws.alike _ _ o p (λ f. switch_test f.rule f.at (scope_of w d [] false) x ∙ sym (or_false _) ∙ sym (or_false _)) u
+  switch_in x {o} {p} u = laws.alike _ _ o p (λ f. switch_test f.rule f.at (scope_of w d [] false) x ∙ sym (or-false _) ∙ sym (or-false _)) u
 
   pub host_in : (x : HostDecl) (o : Option Fault) → Notes (in_decl (decl_site w d (a_host x))) o o
-  host_in x o = laws.nothing _ o (λ f. or_false _ ∙ or_false _ ∙ host_test f.rule f.at (scope_of w d [] false) x)
+  host_in x o = laws.nothing _ o (λ f. or-false _ ∙ or-false _ ∙ host_test f.rule f.at (scope_of w d [] false) x)
 
   -- ---- the same of what the code has
 

@@ -1,5 +1,6 @@
 -- The faults of an expression and of its parts: those of its operands, and its own.
 use Rattle.std.proofs.Common.{◌≡◌, ℕ, ◌||◌, Bool, true, false, List, [], ◌∷◌, ◌++◌, map, Option, refl, sym, ap, ◌∙◌}
+use Rattle.std.proofs.Math.Bool.{or-false}
 use Rattle.std.specs.List.{list_any}
 use Rattle.std.proofs.lemmas.List.{map-append}
 use Rattle.cocoon_num.specs.Values.{UnaryOp, BinaryOp}
@@ -12,7 +13,7 @@ use Rattle.cocoon_types.specs.FirstFault.{Fault}
 use Rattle.cocoon_types.specs.Noting.{Notes, NotingLaws}
 use Rattle.cocoon_syntax.specs.TreeOf.{exprs_of}
 use Rattle.type_rules.specs.Tests.{at_expr, in_expr, in_exprs}
-use Rattle.type_rules.proofs.Membership.{or_false, any-append}
+use Rattle.type_rules.proofs.Membership.{any-append}
 
 -- an expression with its scope
 abbrev pub site : Scope → Expr → ExprSite
@@ -65,7 +66,7 @@ module _ (laws : NotingLaws) (s : Scope) where
   truth_in at b o = laws.nothing _ o (λ f. truth_none f.rule f.at at b s)
 
   pub field_in : (at : ℕ) (h g : Name) (o p : Option Fault) → Notes (at_expr (site s (field at h g))) o p → Notes (in_expr s (field at h g)) o p
-  field_in at h g o p m = laws.alike _ _ o p (λ f. sym (or_false (at_expr (site s (field at h g)) f))) m
+  field_in at h g o p m = laws.alike _ _ o p (λ f. sym (or-false (at_expr (site s (field at h g)) f))) m
 
   pub unary_in : (at : ℕ) (op : UnaryOp) (a : Expr) (o p q : Option Fault) → Notes (in_expr s a) o p → Notes (at_expr (site s (unary at op a))) p q → Notes (in_expr s (unary at op a)) o q
   unary_in at op a o p q m n =

@@ -1,5 +1,6 @@
 -- Numbers and tests over lists that are put together.
 use Rattle.std.proofs.Common.{◌≡◌, ℕ, ◌==◌, ◌&&◌, ◌||◌, Bool, true, false, not, List, [], ◌∷◌, ◌++◌, map, refl, ap, ◌∙◌}
+use Rattle.std.proofs.Math.Bool.{or-false}
 use Rattle.std.specs.List.{list_any, flat_map}
 use Rattle.cocoon_num.specs.Lists.{has_number}
 use Rattle.cocoon_types.specs.RuleParts.{unless}
@@ -10,14 +11,6 @@ use Rattle.cocoon_types.specs.TypeRules.{where_}
 pub or_assoc : (a b c : Bool) → (a || (b || c)) ≡ ((a || b) || c)
 or_assoc true b c = refl
 or_assoc false b c = refl
-
-pub or_false : (a : Bool) → (a || false) ≡ a
-or_false true = refl
-or_false false = refl
-
-pub and_false : (a : Bool) → (a && false) ≡ false
-and_false true = refl
-and_false false = refl
 
 -- ---- numbers
 
@@ -31,13 +24,13 @@ number-flat_map n f (x ∷ xs) = number-append n (f x) (flat_map f xs) ∙ ap (�
 
 -- where one test fails
 pub number-unless : (n : ℕ) (b : Bool) (at : ℕ) → has_number n (unless (not b) at) ≡ (b && (n == at))
-number-unless n true at = or_false (n == at)
+number-unless n true at = or-false (n == at)
 number-unless n false at = refl
 
 -- where a test holds not
 pub number-unless_not : (n : ℕ) (b : Bool) (at : ℕ) → has_number n (unless b at) ≡ (not b && (n == at))
 number-unless_not n true at = refl
-number-unless_not n false at = or_false (n == at)
+number-unless_not n false at = or-false (n == at)
 
 -- where one of two tests fails, under a third
 pub number-two : (n : ℕ) (c p q : Bool) (at more : ℕ)
@@ -45,8 +38,8 @@ pub number-two : (n : ℕ) (c p q : Bool) (at more : ℕ)
 number-two n false p q at more = refl
 number-two n true false false at more = refl
 number-two n true true false at more = refl
-number-two n true false true at more = or_false (n == more)
-number-two n true true true at more = ap (λ b. (n == at) || b) (or_false (n == more))
+number-two n true false true at more = or-false (n == more)
+number-two n true true true at more = ap (λ b. (n == at) || b) (or-false (n == more))
 
 -- where one test fails, under another
 pub number-where : (n : ℕ) (c p : Bool) (at : ℕ) → has_number n (where_ c (unless (not p) at)) ≡ ((c && p) && (n == at))

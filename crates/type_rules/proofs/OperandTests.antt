@@ -1,5 +1,6 @@
 -- The faults of an expression with operands, as the tests that note them have it.
 use Rattle.std.proofs.Common.{◌≡◌, ℕ, ◌==◌, ◌&&◌, ◌||◌, Bool, false, not, ◌++◌, Option, is_some, refl, sym, ap, subst, ◌∙◌}
+use Rattle.std.proofs.Math.Bool.{or-false}
 use Rattle.cocoon_num.specs.Values.{UnaryOp, flip, not_, BinaryOp, concat, and_, or_, implies}
 use Rattle.cocoon_num.specs.Tree.{Name, Expr, field, unary, binary, slice, pick, token_index}
 use Rattle.cocoon_num.specs.Lists.{has_number}
@@ -12,7 +13,7 @@ use Rattle.cocoon_types.specs.Noting.{Notes, NotingLaws}
 use Rattle.type_rules.specs.declared.sort.Operands.TheVariants.{Numbers, Joined, Truths}
 use Rattle.type_rules.specs.Tests.{fails_if, at_expr}
 use Rattle.type_rules.specs.Typed.{operands_of}
-use Rattle.type_rules.proofs.Membership.{or_false, number-unless, number-unless_not, number-two, number-where, number-where_not, number-where_none}
+use Rattle.type_rules.proofs.Membership.{number-unless, number-unless_not, number-two, number-where, number-where_not, number-where_none}
 
 -- an expression with its scope
 abbrev fault : Rule → ℕ → Fault
@@ -27,7 +28,7 @@ joined_test : (rule : Rule) (n at : ℕ) (s : Scope) (x y : Expr)
     ≡ at_expr (record { scope = s; e = binary at concat x y }) (fault rule n)
 joined_test too_wide n at s x y =
     let w = too_wide_sum (sort_of s x) (sort_of s y) in
-    or_false ((w && (n == at)) || false) ∙ or_false (w && (n == at)) ∙ sym (number-unless n w at)
+    or-false ((w && (n == at)) || false) ∙ or-false (w && (n == at)) ∙ sym (number-unless n w at)
 joined_test wrong_width n at s x y =
     sym (number-two n (both_typed (sort_of s x) (sort_of s y)) (has_sort truth_sort (sort_of s x)) (has_sort truth_sort (sort_of s y)) (token_index x) (token_index y))
 joined_test rule n at s x y = refl
@@ -89,7 +90,7 @@ slice_test : (rule : Rule) (n at high low : ℕ) (s : Scope) (x : Expr)
     → (fails_if wrong_width (has_sort truth_sort (sort_of s x)) (token_index x) (fault rule n)
     || fails_if bad_slice (bad_bounds (sort_of s x) high low) at (fault rule n))
     ≡ at_expr (record { scope = s; e = slice at x high low }) (fault rule n)
-slice_test wrong_width n at high low s x = or_false (has_sort truth_sort (sort_of s x) && (n == token_index x)) ∙ sym (number-unless n (has_sort truth_sort (sort_of s x)) (token_index x))
+slice_test wrong_width n at high low s x = or-false (has_sort truth_sort (sort_of s x) && (n == token_index x)) ∙ sym (number-unless n (has_sort truth_sort (sort_of s x)) (token_index x))
 slice_test bad_slice n at high low s x = sym (number-unless n (bad_bounds (sort_of s x) high low) at)
 slice_test rule n at high low s x = refl
 
@@ -98,7 +99,7 @@ pick_test : (rule : Rule) (n at : ℕ) (s : Scope) (c x y : Expr)
     || fails_if not_bool (both_typed (sort_of s x) (sort_of s y) && is_other truth_sort (sort_of s c)) (token_index c) (fault rule n))
     ≡ at_expr (record { scope = s; e = pick at c x y }) (fault rule n)
 pick_test wrong_width n at s c x y =
-    or_false (((is_some (sort_of s c) && both_typed (sort_of s x) (sort_of s y)) && not (are_same (sort_of s x) (sort_of s y))) && (n == token_index x))
+    or-false (((is_some (sort_of s c) && both_typed (sort_of s x) (sort_of s y)) && not (are_same (sort_of s x) (sort_of s y))) && (n == token_index x))
     ∙ sym (number-where_not n (is_some (sort_of s c) && both_typed (sort_of s x) (sort_of s y)) (are_same (sort_of s x) (sort_of s y)) (token_index x))
 pick_test not_bool n at s c x y = sym (number-where n (both_typed (sort_of s x) (sort_of s y)) (is_other truth_sort (sort_of s c)) (token_index c))
 pick_test rule n at s c x y = refl

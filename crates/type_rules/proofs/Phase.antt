@@ -1,5 +1,6 @@
 -- The faults of the second phase are those that stand at headers, blocks, declarations, statements and expressions.
 use Rattle.std.proofs.Common.{◌≡◌, ℕ, suc, ◌==◌, ◌%◌, ◌||◌, Bool, true, false, not, List, [], ◌∷◌, ◌++◌, map, length, Option, Some, None, refl, sym, ap, ◌∙◌, arith}
+use Rattle.std.proofs.Math.Bool.{or-false}
 use Rattle.std.specs.Prelude.{filter_map, option_to_list}
 use Rattle.std.specs.List.{cons_option}
 use Rattle.std.specs.List.{list_any, flat_map}
@@ -14,7 +15,7 @@ use Rattle.cocoon_types.specs.Sites.{ExprSite, StmtSite, DeclSite, sites_of, sit
 use Rattle.cocoon_types.specs.TypeRules.{wide_params, wide_result, wide_in_expr, wrong_in_expr, wrong_in_stmt, wrong_result, not_bool_in_expr, not_bool_in_stmt, not_bool_in_decl, wrong_count_in_expr, wrong_count_in_stmt, bad_slices, after_sends, packet_used}
 use Rattle.cocoon_types.specs.FirstFault.{is_fault_of}
 use Rattle.type_rules.specs.Tests.{no_ports, in_design}
-use Rattle.type_rules.proofs.Membership.{or_false, number-append, number-flat_map, any-append, any-flat_map, any-same}
+use Rattle.type_rules.proofs.Membership.{number-append, number-flat_map, any-append, any-flat_map, any-same}
 
 -- ---- truth values and lists
 
@@ -179,7 +180,7 @@ wide_decls n sites =
 
 wide_headers : (n : ℕ) (hs : List HeaderDecl) → list_any (λ (h : HeaderDecl). has_number n (wide_params h.fields) || false) hs ≡ has_number n (flat_map (λ (h : HeaderDecl). wide_params h.fields) hs)
 wide_headers n hs =
-    any-same (λ h. has_number n (wide_params h.fields) || false) (λ h. has_number n (wide_params h.fields)) (λ h. or_false (has_number n (wide_params h.fields))) hs
+    any-same (λ h. has_number n (wide_params h.fields) || false) (λ h. has_number n (wide_params h.fields)) (λ h. or-false (has_number n (wide_params h.fields))) hs
     ∙ sym (number-flat_map n (λ (h : HeaderDecl). wide_params h.fields) hs)
 
 wide_of_phase : (d : Design) (n : ℕ) → has_number n (in_headers d ++ in_params d ++ in_results d ++ in_bound d ++ in_sums d)
@@ -193,7 +194,7 @@ wide_of_phase d n =
     ∙ five (has_number n (in_headers d)) (has_number n (in_params d)) (has_number n (in_results d)) (has_number n (in_bound d)) (has_number n (in_sums d))
     ∙ sym ((λ i. (wide_headers n d.headers i || any-none (λ (b : Refine). false) (λ b. refl) d.refines i)
     || decls_have n wide_in_expr (λ y. wide_params (bound_by y.s)) (λ s. wide_params (params_of s.decl) ++ wide_result s) (decl_sites d) i)
-    ∙ (λ i. or_false (has_number n (in_headers d)) i || ((wide_decls n (decl_sites d) i || has_number n (in_sums d)) || has_number n (in_bound d))))
+    ∙ (λ i. or-false (has_number n (in_headers d)) i || ((wide_decls n (decl_sites d) i || has_number n (in_sums d)) || has_number n (in_bound d))))
 
 pub of_phase : (d : Design) (rule : Rule) (n : ℕ) → is_fault_of 2 d (record { rule = rule; at = n }) ≡ in_design d (record { rule = rule; at = n })
 of_phase d zero_count n =
@@ -204,7 +205,7 @@ of_phase d zero_count n =
     ∙ (λ i. list_any (λ (b : Refine). has_number n (unless (not (b.within == 0)) b.at)) d.refines
     || ((has_number n (flat_map (λ (s : DeclSite). no_ports s.decl) (decl_sites d)) || flat-none n (all_exprs d) i) || flat-none n (all_stmts d) i))
     ∙ ap (λ b. list_any (λ (b : Refine). has_number n (unless (not (b.within == 0)) b.at)) d.refines || b)
-    (or_false (has_number n (flat_map (λ (s : DeclSite). no_ports s.decl) (decl_sites d)) || false) ∙ or_false (has_number n (flat_map (λ (s : DeclSite). no_ports s.decl) (decl_sites d)))))
+    (or-false (has_number n (flat_map (λ (s : DeclSite). no_ports s.decl) (decl_sites d)) || false) ∙ or-false (has_number n (flat_map (λ (s : DeclSite). no_ports s.decl) (decl_sites d)))))
 of_phase d wrong_width n =
     number-append n (flat_map wrong_in_expr (all_exprs d) ++ flat_map wrong_in_stmt (all_stmts d)) (flat_map wrong_result (decl_sites d))
     ∙ ap (λ b. b || has_number n (flat_map wrong_result (decl_sites d))) (number-append n (flat_map wrong_in_expr (all_exprs d)) (flat_map wrong_in_stmt (all_stmts d)))
@@ -222,19 +223,19 @@ of_phase d wrong_count n =
 of_phase d bad_slice n =
     sym (decls_only (λ h. false) (λ b. false) d _ (λ h. refl) (λ b. refl) ∙ decls_have n bad_slices (λ x. []) (λ x. []) (decl_sites d)
     ∙ (λ i. (flat-none n (decl_sites d) i || has_number n (flat_map bad_slices (all_exprs d))) || flat-none n (all_stmts d) i)
-    ∙ or_false (has_number n (flat_map bad_slices (all_exprs d))))
+    ∙ or-false (has_number n (flat_map bad_slices (all_exprs d))))
 of_phase d packet_in_guard n =
     sym (decls_only (λ h. false) (λ b. false) d _ (λ h. refl) (λ b. refl) ∙ decls_have n packet_used (λ x. []) (λ x. []) (decl_sites d)
     ∙ (λ i. (flat-none n (decl_sites d) i || has_number n (flat_map packet_used (all_exprs d))) || flat-none n (all_stmts d) i)
-    ∙ or_false (has_number n (flat_map packet_used (all_exprs d))))
+    ∙ or-false (has_number n (flat_map packet_used (all_exprs d))))
 of_phase d after_send n =
     sym (decls_only (λ h. false) (λ b. false) d _ (λ h. refl) (λ b. refl) ∙ decls_have n (λ x. []) after_sends (λ x. []) (decl_sites d)
     ∙ (λ i. (flat-none n (decl_sites d) i || flat-none n (all_exprs d) i) || has_number n (flat_map after_sends (all_stmts d))))
 of_phase d header_width n =
     number-flat_map n (λ (h : HeaderDecl). unless_named (total (widths_of h.fields) % 8 == 0) h.name) d.headers
-    ∙ sym (or_false (list_any (λ (h : HeaderDecl). has_number n (unless_named (total (widths_of h.fields) % 8 == 0) h.name)) d.headers || list_any (λ (b : Refine). false) d.refines)
+    ∙ sym (or-false (list_any (λ (h : HeaderDecl). has_number n (unless_named (total (widths_of h.fields) % 8 == 0) h.name)) d.headers || list_any (λ (b : Refine). false) d.refines)
     ∙ ap (λ b. list_any (λ (h : HeaderDecl). has_number n (unless_named (total (widths_of h.fields) % 8 == 0) h.name)) d.headers || b) (any-none (λ (b : Refine). false) (λ b. refl) d.refines)
-    ∙ or_false (list_any (λ (h : HeaderDecl). has_number n (unless_named (total (widths_of h.fields) % 8 == 0) h.name)) d.headers))
+    ∙ or-false (list_any (λ (h : HeaderDecl). has_number n (unless_named (total (widths_of h.fields) % 8 == 0) h.name)) d.headers))
     ∙ sym (ap (λ b. (list_any (λ (h : HeaderDecl). has_number n (unless_named (total (widths_of h.fields) % 8 == 0) h.name)) d.headers || list_any (λ (b : Refine). false) d.refines) || b)
     (decls_have n (λ x. []) (λ x. []) (λ x. []) (decl_sites d) ∙ (λ i. (flat-none n (decl_sites d) i || flat-none n (all_exprs d) i) || flat-none n (all_stmts d) i)))
 of_phase d too_wide n = wide_of_phase d n

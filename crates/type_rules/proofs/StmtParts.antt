@@ -1,5 +1,6 @@
 -- The faults of a statement with its expressions and blocks: those of its parts, and its own.
 use Rattle.std.proofs.Common.{◌≡◌, ℕ, ◌+◌, ◌<◌, ◌||◌, Bool, true, false, List, [], ◌∷◌, ◌++◌, map, drop, length, get_or, Option, refl, sym, ap, subst, ◌∙◌}
+use Rattle.std.proofs.Math.Bool.{or-false}
 use Rattle.std.proofs.lemmas.List.{append_assoc, drop_more}
 use Rattle.std.specs.List.{list_any, flat_map}
 use Rattle.cocoon_num.specs.Tree.{Name, Param, Design, Expr, Stmt, Block, stmt, let_, set_field, if_, filter, havoc_var, havoc_field, assume, fork, send}
@@ -12,7 +13,7 @@ use Rattle.cocoon_syntax.specs.TreeOf.{block_of, exprs_of, stmt_of}
 use Rattle.cocoon_syntax.specs.declared.stmt.Stmt.{Stmt as Statement}
 use Rattle.type_rules.specs.Typed.{Around, scope_of}
 use Rattle.type_rules.specs.Tests.{at_expr, in_expr, in_exprs, at_stmt, with_exprs, in_stmt, in_block}
-use Rattle.type_rules.proofs.Membership.{or_assoc, or_false, any-append, any-flat_map}
+use Rattle.type_rules.proofs.Membership.{or_assoc, any-append, any-flat_map}
 use Rattle.type_rules.proofs.ExprTests.{or_turn}
 
 -- a statement with its scope
@@ -38,7 +39,7 @@ module _ (laws : NotingLaws) (s : Scope) (ended : Bool) where
       → Notes q o p → Notes (at_stmt (stmt_site s ended a)) p r → Notes (in_stmt s ended a) o r
   plain_in a q {o} {p} {r} same m n =
       laws.alike _ (in_stmt s ended a) o r
-      (λ f. or_turn (q f) (at_stmt (stmt_site s ended a) f) ∙ sym (or_false (at_stmt (stmt_site s ended a) f || q f)) ∙ sym (same f))
+      (λ f. or_turn (q f) (at_stmt (stmt_site s ended a) f) ∙ sym (or-false (at_stmt (stmt_site s ended a) f || q f)) ∙ sym (same f))
       (laws.in_turn _ _ o p r m n)
 
   -- and one without expressions
@@ -46,7 +47,7 @@ module _ (laws : NotingLaws) (s : Scope) (ended : Bool) where
       → Notes (at_stmt (stmt_site s ended a)) o p → Notes (in_stmt s ended a) o p
   alone_in a {o} {p} same n =
       laws.alike _ (in_stmt s ended a) o p
-      (λ f. sym (or_false (at_stmt (stmt_site s ended a) f)) ∙ sym (or_false (at_stmt (stmt_site s ended a) f || false)) ∙ sym (same f)) n
+      (λ f. sym (or-false (at_stmt (stmt_site s ended a) f)) ∙ sym (or-false (at_stmt (stmt_site s ended a) f || false)) ∙ sym (same f)) n
 
   pub let_in : (at : ℕ) (x : Name) (w : ℕ) (e : Expr) {o p r : Option Fault} → Notes (in_expr s e) o p → Notes (at_stmt (stmt_site s ended (let_ at x w e))) p r → Notes (in_stmt s ended (let_ at x w e)) o r
   let_in at x w e m n = plain_in (let_ at x w e) (in_expr s e) (λ f. refl) m n

@@ -1,5 +1,6 @@
 -- The faults of a statement, as the tests that note them have it.
 use Rattle.std.proofs.Common.{◌≡◌, ℕ, ◌==◌, ◌&&◌, ◌||◌, Bool, false, not, List, [], ◌++◌, length, Option, Some, None, refl, sym, ap, subst, ◌∙◌}
+use Rattle.std.proofs.Math.Bool.{and-false, or-false}
 use Rattle.cocoon_num.specs.Tree.{Name, Param, Expr, Exprs, Block, Role, let_, set_field, if_, filter, havoc_var, havoc_field, assume, fork, send, token_index}
 use Rattle.cocoon_num.specs.Lists.{has_number}
 use Rattle.cocoon_num.specs.Sorts.{Sort, bits_sort, truth_sort, is_declared_width}
@@ -14,7 +15,7 @@ use Rattle.cocoon_types.specs.Noting.{Notes, NotingLaws}
 use Rattle.type_rules.specs.Tests.{fails_if, fails_among, held_if, at_stmt}
 use Rattle.type_rules.specs.declared.calls.Args.{Args}
 use Rattle.type_rules.specs.Typed.{AreArgs}
-use Rattle.type_rules.proofs.Membership.{or_false, and_false, number-unless, number-unless_not}
+use Rattle.type_rules.proofs.Membership.{number-unless, number-unless_not}
 use Rattle.type_rules.proofs.CallTests.{number-where_all, held_notes}
 use Rattle.std.proofs.lemmas.List.{append-nil, length-map}
 
@@ -24,7 +25,7 @@ wide n b at = ap (has_number n) (append-nil (unless b at)) ∙ number-unless_not
 
 -- the first of three tests, or of two
 first_of_three : (a : Bool) → ((a || false) || false) ≡ a
-first_of_three a = or_false (a || false) ∙ or_false a
+first_of_three a = or-false (a || false) ∙ or-false a
 
 let_test : (rule : Rule) (n at w : ℕ) (ended : Bool) (s : Scope) (x : Name) (e : Expr)
     → ((fails_if after_send ended at (record { rule = rule; at = n })
@@ -32,14 +33,14 @@ let_test : (rule : Rule) (n at w : ℕ) (ended : Bool) (s : Scope) (x : Name) (e
     || fails_if wrong_width (is_other (bits_sort w) (sort_of s e)) (token_index e) (record { rule = rule; at = n }))
     ≡ at_stmt (record { scope = s; ended = ended; s = let_ at x w e }) (record { rule = rule; at = n })
 let_test after_send n at w ended s x e = first_of_three (ended && (n == at)) ∙ sym (number-unless n ended at)
-let_test too_wide n at w ended s x e = or_false (not (is_declared_width w) && (n == x.at)) ∙ sym (wide n (is_declared_width w) x.at)
+let_test too_wide n at w ended s x e = or-false (not (is_declared_width w) && (n == x.at)) ∙ sym (wide n (is_declared_width w) x.at)
 let_test wrong_width n at w ended s x e = sym (number-unless n (is_other (bits_sort w) (sort_of s e)) (token_index e))
 let_test rule n at w ended s x e = refl
 
 havoc_test : (rule : Rule) (n at w : ℕ) (ended : Bool) (s : Scope) (x : Name)
     → (fails_if after_send ended at (record { rule = rule; at = n }) || fails_if too_wide (not (is_declared_width w)) x.at (record { rule = rule; at = n }))
     ≡ at_stmt (record { scope = s; ended = ended; s = havoc_var at x w }) (record { rule = rule; at = n })
-havoc_test after_send n at w ended s x = or_false (ended && (n == at)) ∙ sym (number-unless n ended at)
+havoc_test after_send n at w ended s x = or-false (ended && (n == at)) ∙ sym (number-unless n ended at)
 havoc_test too_wide n at w ended s x = sym (wide n (is_declared_width w) x.at)
 havoc_test rule n at w ended s x = refl
 
@@ -52,21 +53,21 @@ havoc_field_test rule n at ended s h f = refl
 if_test : (rule : Rule) (n at : ℕ) (ended : Bool) (s : Scope) (e : Expr) (a b : Block)
     → (fails_if after_send ended at (record { rule = rule; at = n }) || fails_if not_bool (is_other truth_sort (sort_of s e)) (token_index e) (record { rule = rule; at = n }))
     ≡ at_stmt (record { scope = s; ended = ended; s = if_ at e a b }) (record { rule = rule; at = n })
-if_test after_send n at ended s e a b = or_false (ended && (n == at)) ∙ sym (number-unless n ended at)
+if_test after_send n at ended s e a b = or-false (ended && (n == at)) ∙ sym (number-unless n ended at)
 if_test not_bool n at ended s e a b = sym (number-unless n (is_other truth_sort (sort_of s e)) (token_index e))
 if_test rule n at ended s e a b = refl
 
 filter_test : (rule : Rule) (n at : ℕ) (ended : Bool) (s : Scope) (e : Expr)
     → (fails_if after_send ended at (record { rule = rule; at = n }) || fails_if not_bool (is_other truth_sort (sort_of s e)) (token_index e) (record { rule = rule; at = n }))
     ≡ at_stmt (record { scope = s; ended = ended; s = filter at e }) (record { rule = rule; at = n })
-filter_test after_send n at ended s e = or_false (ended && (n == at)) ∙ sym (number-unless n ended at)
+filter_test after_send n at ended s e = or-false (ended && (n == at)) ∙ sym (number-unless n ended at)
 filter_test not_bool n at ended s e = sym (number-unless n (is_other truth_sort (sort_of s e)) (token_index e))
 filter_test rule n at ended s e = refl
 
 assume_test : (rule : Rule) (n at : ℕ) (ended : Bool) (s : Scope) (e : Expr)
     → (fails_if after_send ended at (record { rule = rule; at = n }) || fails_if not_bool (is_other truth_sort (sort_of s e)) (token_index e) (record { rule = rule; at = n }))
     ≡ at_stmt (record { scope = s; ended = ended; s = assume at e }) (record { rule = rule; at = n })
-assume_test after_send n at ended s e = or_false (ended && (n == at)) ∙ sym (number-unless n ended at)
+assume_test after_send n at ended s e = or-false (ended && (n == at)) ∙ sym (number-unless n ended at)
 assume_test not_bool n at ended s e = sym (number-unless n (is_other truth_sort (sort_of s e)) (token_index e))
 assume_test rule n at ended s e = refl
 
@@ -76,7 +77,7 @@ fork_test : (rule : Rule) (n at w : ℕ) (ended : Bool) (s : Scope) (x : Name) (
     || fails_if not_bool (is_other truth_sort (sort_of (with_var x w s) e)) (token_index e) (record { rule = rule; at = n }))
     ≡ at_stmt (record { scope = s; ended = ended; s = fork at x w e b }) (record { rule = rule; at = n })
 fork_test after_send n at w ended s x e b = first_of_three (ended && (n == at)) ∙ sym (number-unless n ended at)
-fork_test too_wide n at w ended s x e b = or_false (not (is_declared_width w) && (n == x.at)) ∙ sym (wide n (is_declared_width w) x.at)
+fork_test too_wide n at w ended s x e b = or-false (not (is_declared_width w) && (n == x.at)) ∙ sym (wide n (is_declared_width w) x.at)
 fork_test not_bool n at w ended s x e b = sym (number-unless n (is_other truth_sort (sort_of (with_var x w s) e)) (token_index e))
 fork_test rule n at w ended s x e b = refl
 
@@ -84,7 +85,7 @@ fork_test rule n at w ended s x e b = refl
 set_test : (rule : Rule) (n at w : ℕ) (ended : Bool) (s : Scope) (h f : Name) (e : Expr) → field_width s.design.headers h.text f.text ≡ Some w
     → (fails_if after_send ended at (record { rule = rule; at = n }) || fails_if wrong_width (is_other (bits_sort w) (sort_of s e)) (token_index e) (record { rule = rule; at = n }))
     ≡ at_stmt (record { scope = s; ended = ended; s = set_field at h f e }) (record { rule = rule; at = n })
-set_test after_send n at w ended s h f e k = or_false (ended && (n == at)) ∙ sym (number-unless n ended at)
+set_test after_send n at w ended s h f e k = or-false (ended && (n == at)) ∙ sym (number-unless n ended at)
 set_test wrong_width n at w ended s h f e k =
     sym (number-unless n (is_other (bits_sort w) (sort_of s e)) (token_index e))
     ∙ sym (ap (λ o. has_number n (elim o [ None ↦ [] | Some v ↦ unless_is s (bits_sort v) e ])) k)
@@ -103,18 +104,18 @@ send_test : (rule : Rule) (n at : ℕ) (ended : Bool) (s : Scope) (r : Name) (es
     || ((length d.params == count_of es) && fails_among wrong_width (wrong_args s (widths_of d.params) es) (record { rule = rule; at = n })))
     ≡ at_stmt (record { scope = s; ended = ended; s = send at r es }) (record { rule = rule; at = n })
 send_test after_send n at ended s r es d k =
-    ap (λ b. ((ended && (n == at)) || false) || b) (and_false (length d.params == count_of es))
+    ap (λ b. ((ended && (n == at)) || false) || b) (and-false (length d.params == count_of es))
     ∙ first_of_three (ended && (n == at)) ∙ sym (number-unless n ended at)
 send_test wrong_count n at ended s r es d k =
-    ap (λ b. (not (length d.params == count_of es) && (n == at)) || b) (and_false (length d.params == count_of es))
-    ∙ or_false (not (length d.params == count_of es) && (n == at))
+    ap (λ b. (not (length d.params == count_of es) && (n == at)) || b) (and-false (length d.params == count_of es))
+    ∙ or-false (not (length d.params == count_of es) && (n == at))
     ∙ sym (number-unless_not n (length d.params == count_of es) at)
     ∙ sym (ap (λ o. has_number n (elim o [ None ↦ [] | Some x ↦ unless (length x.params == count_of es) at ])) k)
 send_test wrong_width n at ended s r es d k =
     ap (λ l. (l == count_of es) && has_number n (wrong_args s (widths_of d.params) es)) (sym (length-map d.params (λ (p : Param). p.width)))
     ∙ sym (number-where_all n (length (widths_of d.params) == count_of es) (wrong_args s (widths_of d.params) es))
     ∙ sym (ap (λ o. has_number n (where_ (length (role_widths o) == count_of es) (wrong_args s (role_widths o) es))) k)
-send_test rule n at ended s r es d k = and_false (length d.params == count_of es)
+send_test rule n at ended s r es d k = and-false (length d.params == count_of es)
 
 lost_test : (rule : Rule) (n at : ℕ) (ended : Bool) (s : Scope) (r : Name) (es : Exprs) → first_role s.design r.text ≡ None
     → fails_if after_send ended at (record { rule = rule; at = n }) ≡ at_stmt (record { scope = s; ended = ended; s = send at r es }) (record { rule = rule; at = n })
@@ -122,7 +123,7 @@ lost_test after_send n at ended s r es k = sym (number-unless n ended at)
 lost_test wrong_count n at ended s r es k = sym (ap (λ o. has_number n (elim o [ None ↦ [] | Some x ↦ unless (length x.params == count_of es) at ])) k)
 lost_test wrong_width n at ended s r es k =
     sym (ap (λ o. has_number n (where_ (length (role_widths o) == count_of es) (wrong_args s (role_widths o) es))) k
-    ∙ number-where_all n (0 == count_of es) [] ∙ and_false (0 == count_of es))
+    ∙ number-where_all n (0 == count_of es) [] ∙ and-false (0 == count_of es))
 lost_test rule n at ended s r es k = refl
 
 -- ---- what is noted by the tests of a statement
