@@ -203,16 +203,16 @@ end_named last c net n x (Err r) k = tt
 
 -- those of the bundle were counted, and are about its file
 rose_by : (last : Option ℕ) (old new : ℕ) (fault : ReadFault) → counts.ReadFaultRose last old new fault → ReadFaultRose last old new (unread_as fault)
-rose_by last old new (read.Missing file) h = tt
+rose_by last old new (read.Missing file) h = h
 rose_by last old new (read.Folder file Failed) h = h
-rose_by last old new (read.Folder file (TooLong n)) h = tt
-rose_by last old new (read.Folder file Wanting) h = tt
-rose_by last old new (read.Stale file found old_one) h = tt
-rose_by last old new (read.NotJson file) h = tt
-rose_by last old new (read.P4 file fault) h = tt
-rose_by last old new (read.Shape file pointer) h = tt
-rose_by last old new (read.Load file fault) h = tt
-rose_by last old new read.NoMemory h = tt
+rose_by last old new (read.Folder file (TooLong n)) h = h
+rose_by last old new (read.Folder file Wanting) h = h
+rose_by last old new (read.Stale file found old_one) h = h
+rose_by last old new (read.NotJson file) h = h
+rose_by last old new (read.P4 file fault) h = h
+rose_by last old new (read.Shape file pointer) h = h
+rose_by last old new (read.Load file fault) h = h
+rose_by last old new read.NoMemory h = h
 
 pub rose : (last : Option ℕ) (old new : ℕ) (fault : ReadFault) (r : Refusal) → r ≡ unread_as fault → counts.ReadFaultRose last old new fault → ReadFaultRose last old new r
 rose last old new fault r e h = subst (ReadFaultRose last old new) (sym e) (rose_by last old new fault h)

@@ -6,3 +6,4 @@ pub mod RuleValues
 pub mod Running
 pub mod OneOutcome
 pub mod Forwarded
+pub mod Counted

@@ -18,7 +18,7 @@ use Rattle.command_line.specs.Words.{command}
 use Rattle.cocoon_cli.specs.Headline.{CompiledOf}
 use Rattle.cocoon_cli.specs.Leaves.{Leaves, LeavesSome}
 use Rattle.cocoon_cli.specs.Report.{Ending, Puts, all, a_prefix, nothing, Prints, ending_of, no_memory, usage}
-use Rattle.cocoon_cli.specs.Run.{Call, Counted, Count, inputs_of, InputsAre, Performs, HasFault, IsOnly, Cause, CauseOf, LineNames, NamesFailure, EndsWith, Yields, to_read_fault, to_write_fault, to_no_memory, TheOutcome, OutcomeOf, DoneOf, LeavesOf, MayWrite, done, failed, UsageOf, Keeps}
+use Rattle.cocoon_cli.specs.Run.{Call, Counted, CountsNoOther, Uncounted, MayCount, of_read, of_write, of_memory, Count, inputs_of, InputsAre, Performs, HasFault, IsOnly, Cause, CauseOf, LineNames, NamesFailure, EndsWith, Yields, to_read_fault, to_write_fault, to_no_memory, TheOutcome, OutcomeOf, DoneOf, LeavesOf, MayWrite, done, failed, UsageOf, Keeps}
 use Rattle.cocoon_cli.specs.Run as run
 use Rattle.cocoon_cli.specs.Steps.{Inputs, Step, is_there, is_within, design_reads, design_well_formed, design_within, definitions_read, definitions_fit, definitions_within, design_accepted, lowering_within, level_there, lines_formed, bundle_reads, packets_judged, copies_within, bundle_within, bundle_written, Reports, HasOutcomeFrom, HasOutcome, Stops, AnswersFrom, steps}
 
@@ -200,6 +200,38 @@ write_fault_of (Some c) call h w = elim (sink_fault call (ending_of c h.outcome)
   | inr rose ↦ inr rose
 ]
 
+-- ---- where no fault is counted
+
+-- the ending has the status of a fault of the folder, or none was counted
+none_or_fault : (c : Command) (reads writes : Count) (outcome : Result Report Refusal) → CountsNoOther reads writes outcome → MayCount (ending_of c outcome).status ⊎ (Uncounted reads × Uncounted writes)
+none_or_fault c reads writes (Ok report) h = inr h
+none_or_fault c reads writes (Err (refusal.Language f)) h = inr h
+none_or_fault c reads writes (Err (refusal.Definitions f)) h = inr h
+none_or_fault c reads writes (Err (refusal.ReadFault f)) h = inl (of_read refl)
+none_or_fault c reads writes (Err (refusal.WriteFault f)) h = inl (of_write refl)
+none_or_fault c reads writes (Err (refusal.TooLong f n)) h = inr h
+none_or_fault c reads writes (Err (refusal.OverLimit l m)) h = inr h
+none_or_fault c reads writes (Err (refusal.NoLevel l m)) h = inr h
+none_or_fault c reads writes (Err (refusal.Line f n)) h = inr h
+none_or_fault c reads writes (Err (refusal.NoHost f n)) h = inr h
+none_or_fault c reads writes (Err (refusal.Unread f n)) h = inr h
+none_or_fault c reads writes (Err refusal.NoMemory) h = inr h
+none_or_fault c reads writes (Err (refusal.NoFile f)) h = inr h
+
+ending_counts : (s : Status) → IsEnding s → MayCount s
+ending_counts s (inl e) = of_write e
+ending_counts s (inr e) = of_memory e
+
+none_failed_of : (c : Option Command) (call : Call) → CauseOf c call → MayCount call.status ⊎ (Uncounted call.reads × Uncounted call.writes)
+none_failed_of None call h = inr (h.0.1, h.0.2)
+none_failed_of (Some c) call h = elim (ends call (ending_of c h.outcome) h.prints) [
+  | inr e ↦ inl (ending_counts call.status e)
+  | inl e ↦ elim (none_or_fault c call.reads call.writes h.outcome h.no_other) [
+    | inl m ↦ inl (subst MayCount (sym e) m)
+    | inr n ↦ inr n
+  ]
+]
+
 -- ---- which file the line of a fault names
 
 -- what a command that has the cause of a call says of the folder's last call that failed
@@ -374,7 +406,7 @@ ending_writes s (inl e) = failed e
 ending_writes s (inr e) = run.no_memory e
 
 same_of : (c : Option Command) (call : Call) → CauseOf c call → MayWrite call.status ⊎ (call.content_after ≡ call.content_before)
-same_of None call h = inr h.0
+same_of None call h = inr h.0.0
 same_of (Some c) call h = elim (ends call (ending_of c h.outcome) h.prints) [
   | inr e ↦ inl (ending_writes call.status e)
   | inl e ↦ elim (same_or_writes c h.performs.inputs call.content_before call.content_after h.outcome h.performs.leaves) [
@@ -415,7 +447,7 @@ leaves_some (step d e l f) i before after outcome h = step_same d e l f i before
 leaves_some (forward o p n) i before after outcome h = forward_same o p n i before after outcome h
 
 leaves_of : (c : Option Command) (call : Call) → CauseOf c call → LeavesOf c call
-leaves_of None call h = h.0
+leaves_of None call h = h.0.0
 leaves_of (Some c) call h = (h.performs.inputs, h.performs.inputs_are, leaves_some c h.performs.inputs call.content_before call.content_after h.outcome h.performs.leaves)
 
 -- ---- out of memory while the words are read
@@ -433,9 +465,9 @@ leaves_same (compile d e o) i before after same = inl same
 leaves_same (step d e l f) i before after same = same
 leaves_same (forward o p n) i before after same = same
 
-memory_cause : (last : List ℕ → Type 0) (c : Option Command) (call : Call) → call.content_after ≡ call.content_before → Puts (Counted call.puts) no_memory call.output_before call.output_after call.status → (h : CauseOf c call) × NamedOf last c call h
-memory_cause last None call same p = ((same, inr p), tt)
-memory_cause last (Some c) call same p = (
+memory_cause : (last : List ℕ → Type 0) (c : Option Command) (call : Call) → call.content_after ≡ call.content_before → Uncounted call.reads → Uncounted call.writes → Puts (Counted call.puts) no_memory call.output_before call.output_after call.status → (h : CauseOf c call) × NamedOf last c call h
+memory_cause last None call same r w p = (((same, r, w), inr p), tt)
+memory_cause last (Some c) call same r w p = (
   record {
     outcome = Err refusal.NoMemory;
     performs = record {
@@ -445,6 +477,7 @@ memory_cause last (Some c) call same p = (
       leaves = leaves_same c (any_inputs c call.content_before) call.content_before call.content_after same;
     };
     faults = tt;
+    no_other = (r, w);
     prints = inr p;
   },
   tt,
@@ -477,6 +510,7 @@ keeps one last call h k = record {
   outcome = outcome_of one (command call.words) call h;
   read_fault = read_fault_of (command call.words) call h;
   write_fault = write_fault_of (command call.words) call h;
+  none_failed = none_failed_of (command call.words) call h;
   read_fault_line = read_line_of last (command call.words) call h k;
   write_fault_line = write_line_of last (command call.words) call h k;
   done_leaves = writes_of (command call.words) call h;
@@ -490,9 +524,10 @@ keeps_of one last c call e h k =
     let p = subst (λ (d : Option Command). (h : CauseOf d call) × NamedOf last d call h) e (h, k) in
     keeps one last call p.0 p.1
 
-pub keeps_memory : OneOutcome → (last : List ℕ → Type 0) (call : Call) → call.content_after ≡ call.content_before → Puts (Counted call.puts) no_memory call.output_before call.output_after call.status → Keeps last call
-keeps_memory one last call same p =
-    let m = memory_cause last (command call.words) call same p in
+pub keeps_memory : OneOutcome → (last : List ℕ → Type 0) (call : Call) → call.content_after ≡ call.content_before → Uncounted call.reads → Uncounted call.writes
+    → Puts (Counted call.puts) no_memory call.output_before call.output_after call.status → Keeps last call
+keeps_memory one last call same r w p =
+    let m = memory_cause last (command call.words) call same r w p in
     keeps one last call m.0 m.1
 
 -- the main promise of the command that was read of the words

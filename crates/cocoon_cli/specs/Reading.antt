@@ -47,10 +47,10 @@ FileNotRead content name file most (ReadFault f) = f ≡ file
 FileNotRead content name file most NoMemory = Unit {0}
 FileNotRead content name file most _ = ⊥
 
--- a read fault comes only where the count of read faults rose
+-- a read fault comes only where the count of read faults rose; with any other refusal the count stays
 abbrev pub ReadFaultRose : Option ℕ → (old new : ℕ) → Refusal → Type 0
 ReadFaultRose last old new (ReadFault file) = Rose last old new
-ReadFaultRose last old new _ = Unit {0}
+ReadFaultRose last old new _ = new ≡ old
 
 -- a read fault is about the file of the folder's last call that failed
 abbrev pub NamesReadFailure : (List ℕ → Type 0) → List ℕ → Refusal → Type 0

@@ -49,6 +49,10 @@ count last before after = record { last = last; before = before; after = after }
 abbrev pub Counted : Count → Type 0
 Counted count = Rose count.last count.before count.after
 
+-- none was
+abbrev pub Uncounted : Count → Type 0
+Uncounted count = count.after ≡ count.before
+
 -- a call: its words, the content of the folder and the output of the sink before and after it, the
 -- counts of faults of reads, writes and puts, and the answer
 pub record Call : Type 0 where
@@ -87,6 +91,12 @@ HasFault reads writes (Err (refusal.ReadFault file)) = Counted reads
 HasFault reads writes (Err (refusal.WriteFault file)) = Counted writes
 HasFault reads writes outcome = Unit {0}
 
+-- no other fault of the folder is counted than the one that a refusal speaks of
+abbrev pub CountsNoOther : (reads writes : Count) → Result Report Refusal → Type 0
+CountsNoOther reads writes (Err (refusal.ReadFault file)) = Uncounted writes
+CountsNoOther reads writes (Err (refusal.WriteFault file)) = Uncounted reads
+CountsNoOther reads writes outcome = Uncounted reads × Uncounted writes
+
 -- a refusal that speaks of a fault of the folder is about the file of its last call that failed
 abbrev pub NamesFailure : (List ℕ → Type 0) → Command → Result Report Refusal → Type 0
 NamesFailure last_failure c (Err (refusal.ReadFault file)) = last_failure (name_in c file)
@@ -98,13 +108,14 @@ pub record Cause (c : Command) (call : Call) : Type 0 where
   pub outcome : Result Report Refusal
   pub performs : Performs c call.content_before call.content_after outcome
   pub faults : HasFault call.reads call.writes outcome
+  pub no_other : CountsNoOther call.reads call.writes outcome
   pub prints : Prints (Counted call.puts) (ending_of c outcome)
       call.output_before call.output_after call.status
 
 -- words that are no command touch no file, and the usage line is printed
 abbrev pub CauseOf : Option Command → Call → Type 0
 CauseOf None call =
-    (call.content_after ≡ call.content_before)
+    ((call.content_after ≡ call.content_before) × Uncounted call.reads × Uncounted call.writes)
     × Prints (Counted call.puts) usage call.output_before call.output_after call.status
 CauseOf (Some c) call = Cause c call
 
@@ -176,6 +187,12 @@ pub data MayWrite : Status → Type 0 where
   failed : {s : Status} → s ≡ WriteFault → MayWrite s
   no_memory : {s : Status} → s ≡ NoMemory → MayWrite s
 
+-- only these statuses may come where a fault of the folder was counted
+pub data MayCount : Status → Type 0 where
+  of_read : {s : Status} → s ≡ ReadFault → MayCount s
+  of_write : {s : Status} → s ≡ WriteFault → MayCount s
+  of_memory : {s : Status} → s ≡ NoMemory → MayCount s
+
 -- ---- the whole promise
 
 abbrev pub UsageOf : Option Command → Status → Type 0
@@ -196,6 +213,8 @@ pub record Keeps (last_failure : List ℕ → Type 0) (call : Call) : Type 0 whe
   -- the status of a fault comes only where a fault was counted
   pub read_fault : call.status ≡ ReadFault → Counted call.reads
   pub write_fault : call.status ≡ WriteFault → Counted call.writes ⊎ Counted call.puts
+  -- where none of these statuses comes, no read and no write failed
+  pub none_failed : MayCount call.status ⊎ (Uncounted call.reads × Uncounted call.writes)
   -- and its line names the very file, unless the sink failed
   pub read_fault_line : call.status ≡ ReadFault
       → LineNames last_failure (codes "read fault ") (command call.words) call

@@ -4,7 +4,7 @@ ghost use Rattle.std.specs.Prelude.{◌≡◌, IfOk, Some};
 ghost use Rattle.p4_ir.specs.NetOf.{net_of};
 ghost use Rattle.command_line.specs.Command as spec;
 ghost use Rattle.cocoon_cli.specs.Headline.{CompiledOf};
-ghost use Rattle.cocoon_cli.specs.Run.{HasFault, NamesFailure, Performs, count};
+ghost use Rattle.cocoon_cli.specs.Run.{CountsNoOther, HasFault, NamesFailure, Performs, count};
 ghost use Rattle.cocoon_cli.specs.Steps.{totals_of};
 
 use crate::files::CommandFile;
@@ -45,6 +45,10 @@ pub fn compile<F: Folder>(
         (Some (spec.compile names.now.design.now names.now.defs.now names.now.out.now))
         (F.content folder.old) (F.content folder.new)) }
     ensures faults { HasFault
+        (count F.last_read_fault (F.read_faults folder.old) (F.read_faults folder.new))
+        (count F.last_write_fault (F.write_faults folder.old) (F.write_faults folder.new))
+        result }
+    ensures no_other { CountsNoOther
         (count F.last_read_fault (F.read_faults folder.old) (F.read_faults folder.new))
         (count F.last_write_fault (F.write_faults folder.old) (F.write_faults folder.new))
         result }

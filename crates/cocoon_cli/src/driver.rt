@@ -3,7 +3,7 @@
 ghost use Rattle.std.specs.Prelude.{◌≡◌, IfOk, Some, map, string_bytes};
 ghost use Rattle.cocoon_cli.specs.Headline.{CompiledOf, Headline};
 ghost use Rattle.cocoon_cli.specs.Report.{Prints, Puts, ending_of, no_memory};
-ghost use Rattle.cocoon_cli.specs.Run.{HasFault, Keeps, NamesFailure, Performs, count};
+ghost use Rattle.cocoon_cli.specs.Run.{CountsNoOther, HasFault, Keeps, NamesFailure, Performs, count};
 ghost use Rattle.command_line.specs.Stands.{stands_for};
 ghost use Rattle.cocoon_io.specs.Calls.{Rose};
 
@@ -71,6 +71,10 @@ fn perform<F: Folder>(
     ensures headline { IfOk result (λ report.
         CompiledOf (Some (stands_for command.now)) (F.content folder.old) (F.content folder.new)) }
     ensures faults { HasFault
+        (count F.last_read_fault (F.read_faults folder.old) (F.read_faults folder.new))
+        (count F.last_write_fault (F.write_faults folder.old) (F.write_faults folder.new))
+        result }
+    ensures no_other { CountsNoOther
         (count F.last_read_fault (F.read_faults folder.old) (F.read_faults folder.new))
         (count F.last_write_fault (F.write_faults folder.old) (F.write_faults folder.new))
         result }

@@ -6,7 +6,7 @@ ghost use Rattle.p4_ir.specs.Wiring.{host_numbers};
 ghost use Rattle.packet_file.specs.Judging.{packet_in};
 ghost use Rattle.packet_file.specs.Packets.{AllKnown, packets_in};
 ghost use Rattle.cocoon_cli.specs.Forwarding.{NotRun, NotSaid, RunsPackets};
-ghost use Rattle.cocoon_cli.specs.Run.{HasFault, NamesFailure, Performs, count};
+ghost use Rattle.cocoon_cli.specs.Run.{CountsNoOther, HasFault, NamesFailure, Performs, count};
 
 use crate::files::CommandFile;
 use crate::reading::{PACKETS_MOST, read_file, read_network};
@@ -62,6 +62,10 @@ pub fn forward<F: Folder>(
         (spec.forward asked.now.out.now asked.now.packets.now asked.now.hops)
         (F.content folder.old) (F.content folder.new) result }
     ensures faults { HasFault
+        (count F.last_read_fault (F.read_faults folder.old) (F.read_faults folder.new))
+        (count F.last_write_fault (F.write_faults folder.old) (F.write_faults folder.new))
+        result }
+    ensures no_other { CountsNoOther
         (count F.last_read_fault (F.read_faults folder.old) (F.read_faults folder.new))
         (count F.last_write_fault (F.write_faults folder.old) (F.write_faults folder.new))
         result }

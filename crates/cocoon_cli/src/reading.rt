@@ -46,6 +46,7 @@ pub fn read_file<F: Folder>(
     ensures err { IfErr result (FileNotRead (F.content folder.old) name.now file most) }
     ensures failed { IfErr result (ReadFaultRose F.last_read_fault
         (F.read_faults folder.old) (F.read_faults folder.new)) }
+    ensures counted { IfOk result (λ _. F.read_faults folder.new ≡ F.read_faults folder.old) }
     ensures named { IfErr result (NamesReadFailure (F.last_failure folder.new) name.now) }
     ensures same { F.content folder.new ≡ F.content folder.old }
     ensures reads { F.read_faults folder.old ≤ F.read_faults folder.new }
@@ -66,6 +67,7 @@ pub fn read_network<F: Folder>(alloc: Global, folder: &mut F, out: &str) -> Resu
     ensures err { IfErr result (IsUnread (F.content folder.old) out.now) }
     ensures failed { IfErr result (ReadFaultRose F.last_read_fault
         (F.read_faults folder.old) (F.read_faults folder.new)) }
+    ensures counted { IfOk result (λ _. F.read_faults folder.new ≡ F.read_faults folder.old) }
     ensures named { IfErr result (NamesBundleFailure (F.last_failure folder.new) out.now) }
     ensures same { F.content folder.new ≡ F.content folder.old }
     ensures reads { F.read_faults folder.old ≤ F.read_faults folder.new }

@@ -4,7 +4,7 @@ ghost use Rattle.case_file.specs.Agrees.{CanRun, IsCaseOf};
 ghost use Rattle.cocoon_syntax.specs.TreeOf.{design_of};
 ghost use Rattle.cocoon_types.specs.Design.{last_level};
 ghost use Rattle.command_line.specs.Command as spec;
-ghost use Rattle.cocoon_cli.specs.Run.{HasFault, NamesFailure, Performs, count};
+ghost use Rattle.cocoon_cli.specs.Run.{CountsNoOther, HasFault, NamesFailure, Performs, count};
 ghost use Rattle.cocoon_cli.specs.Stepping.{NotCase, NotStepped, StepsTexts};
 
 use crate::files::CommandFile;
@@ -64,6 +64,10 @@ pub fn step<F: Folder>(alloc: Global, asked: &Step<'_>, folder: &mut F) -> Resul
         (spec.step asked.now.design.now asked.now.defs.now asked.now.level asked.now.file.now)
         (F.content folder.old) (F.content folder.new) result }
     ensures faults { HasFault
+        (count F.last_read_fault (F.read_faults folder.old) (F.read_faults folder.new))
+        (count F.last_write_fault (F.write_faults folder.old) (F.write_faults folder.new))
+        result }
+    ensures no_other { CountsNoOther
         (count F.last_read_fault (F.read_faults folder.old) (F.read_faults folder.new))
         (count F.last_write_fault (F.write_faults folder.old) (F.write_faults folder.new))
         result }

@@ -1,8 +1,8 @@
-use Rattle.std.proofs.Common.{◌∙◌, ap, subst}
+use Rattle.std.proofs.Common.{◌∙◌, ap, refl, subst}
 use Rattle.p4_ir.specs.NetOf.{net_of}
 use Rattle.net_bundle.specs.Bundle.{bundle}
 use Rattle.net_bundle.specs.Writing.{AllFit, with_files}
-use Rattle.std.specs.Prelude.{None}
+use Rattle.std.specs.Prelude.{None, Ok}
 use Rattle.cocoon_cli.specs.Reading.{FileNotRead}
 use Rattle.cocoon_cli.specs.Steps.{definitions_most}
 use Rattle.cocoon_cli.specs.declared.files.CommandFile.TheVariants.{Definitions}
@@ -11,6 +11,8 @@ use Rattle.cocoon_cli.specs.LowerTexts.{LowersTexts, NotMade}
 use Rattle.command_line.specs.Command.{compile as command}
 use Rattle.cocoon_cli.proofs.Compiling.{passed, design_refused, defs_refused, has_both, moved, texts_refused, write_refused, done, same_refused, same_held, design_named, defs_named, texts_named, write_named, named_passed}
 use Rattle.cocoon_cli.proofs.Headlines.{headline}
+use Rattle.cocoon_cli.specs.Run.{count}
+use Rattle.cocoon_cli.proofs.Counted as counted
 use Rattle.cocoon_cli.proofs.compile.compile.Goals as goal
 
 pub returns-in_err-design-clause-performs : goal.returns-in_err-design-clause-performs
@@ -86,3 +88,30 @@ returns-in_err-write_bundle-clause-named g c =
     let names = c.args.names.now in
     named_passed last (command names.design.now names.defs.now names.out.now) _ _ c.from_residual-in_err-write_bundle.ensures.1
     (write_named last names.design.now names.defs.now names.out.now c.in_err-write_bundle.field-0.0 c.in_err-write_bundle.ensures.named)
+
+pub returns-in_err-design-clause-no_other : goal.returns-in_err-design-clause-no_other
+returns-in_err-design-clause-no_other g c =
+    counted.passed (count g.F.Folder.last_read_fault _ _) (count g.F.Folder.last_write_fault _ _) _ c.in_err-design.field-0.0 c.from_residual.ensures.1
+    (counted.read g.F.Folder.last_read_fault _ _ _ (count g.F.Folder.last_write_fault _ _) c.in_err-design.field-0.0 refl c.in_err-design.ensures.failed
+    (counted.file_writes_none _ _ _ _ c.in_err-design.field-0.0 c.in_err-design.ensures.err) c.in_err-design.ensures.writes)
+
+pub returns-in_err-defs-clause-no_other : goal.returns-in_err-defs-clause-no_other
+returns-in_err-defs-clause-no_other g c =
+    counted.passed (count g.F.Folder.last_read_fault _ _) (count g.F.Folder.last_write_fault _ _) _ c.in_err-defs.field-0.0 c.from_residual-in_err-defs.ensures.1
+    (counted.read g.F.Folder.last_read_fault _ _ _ (count g.F.Folder.last_write_fault _ _) c.in_err-defs.field-0.0 c.in_ok-design.ensures.counted c.in_err-defs.ensures.failed
+    (counted.file_writes_none _ _ _ _ c.in_err-defs.field-0.0 c.in_err-defs.ensures.err) (c.in_err-defs.ensures.writes ∙ c.in_ok-design.ensures.writes))
+
+pub returns-in_err-net-clause-no_other : goal.returns-in_err-net-clause-no_other
+returns-in_err-net-clause-no_other g c =
+    counted.none (count g.F.Folder.last_read_fault _ _) (count g.F.Folder.last_write_fault _ _) _ (c.in_ok-defs.ensures.counted ∙ c.in_ok-design.ensures.counted) (c.in_ok-defs.ensures.writes ∙ c.in_ok-design.ensures.writes)
+
+pub returns-in_err-write_bundle-clause-no_other : goal.returns-in_err-write_bundle-clause-no_other
+returns-in_err-write_bundle-clause-no_other g c =
+    counted.passed (count g.F.Folder.last_read_fault _ _) (count g.F.Folder.last_write_fault _ _) _ _ c.from_residual-in_err-write_bundle.ensures.1
+    (counted.written g.F.Folder.last_write_fault _ _ _ (count g.F.Folder.last_read_fault _ _) c.in_err-write_bundle.field-0.0 (c.in_ok-defs.ensures.writes ∙ c.in_ok-design.ensures.writes) c.in_err-write_bundle.ensures.failed
+    (c.in_err-write_bundle.ensures.reads ∙ c.in_ok-defs.ensures.counted ∙ c.in_ok-design.ensures.counted))
+
+pub returns-clause-no_other : goal.returns-clause-no_other
+returns-clause-no_other g c =
+    counted.none (count g.F.Folder.last_read_fault _ _) (count g.F.Folder.last_write_fault _ _) (Ok (Compiled c.totals.result)) (c.in_ok-write_bundle.ensures.reads ∙ c.in_ok-defs.ensures.counted ∙ c.in_ok-design.ensures.counted)
+    (c.in_ok-write_bundle.ensures.counted ∙ c.in_ok-defs.ensures.writes ∙ c.in_ok-design.ensures.writes)

@@ -9,6 +9,7 @@ returns-in-Ok-Some-clause-keeps g c =
       outcome = c.perform-outcome.result;
       performs = c.perform-outcome.ensures.performs;
       faults = c.perform-outcome.ensures.faults;
+      no_other = c.perform-outcome.ensures.no_other;
       prints = c.print.ensures;
     }) c.perform-outcome.ensures.named
 
@@ -29,7 +30,7 @@ returns-in-Ok-Some-clause-headline g c done =
 
 pub returns-in-Ok-None-clause-keeps : goal.returns-in-Ok-None-clause-keeps
 returns-in-Ok-None-clause-keeps g c =
-    keeps_of c.one_outcome.ensures _ _ _ (ap (option_map stands_for) (sym c.in-Ok-None.field-0-is) ∙ c.in-Ok-None.ensures) (refl, inl c.put.ensures) tt
+    keeps_of c.one_outcome.ensures _ _ _ (ap (option_map stands_for) (sym c.in-Ok-None.field-0-is) ∙ c.in-Ok-None.ensures) ((refl, refl, refl), inl c.put.ensures) tt
 
 pub returns-in-Err-clause-keeps : goal.returns-in-Err-clause-keeps
-returns-in-Err-clause-keeps g c = keeps_memory c.one_outcome.ensures _ _ refl c.tell_no_memory.ensures
+returns-in-Err-clause-keeps g c = keeps_memory c.one_outcome.ensures _ _ refl refl refl c.tell_no_memory.ensures

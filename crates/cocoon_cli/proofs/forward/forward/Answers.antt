@@ -1,4 +1,4 @@
-use Rattle.std.proofs.Common.{◌∙◌, IfErr, IfOk, subst}
+use Rattle.std.proofs.Common.{◌∙◌, IfErr, IfOk, refl, subst}
 use Rattle.bundle_reader.specs.Readings.{ContentReads}
 use Rattle.command_line.specs.Command.{forward as command}
 use Rattle.loaded_net.specs.Nets.{net_in}
@@ -8,6 +8,8 @@ use Rattle.cocoon_cli.specs.declared.files.CommandFile.TheVariants.{Packets}
 use Rattle.cocoon_cli.proofs.Compiling.{named_passed, passed}
 use Rattle.cocoon_cli.proofs.Stepped.{named}
 use Rattle.cocoon_cli.proofs.Forwarded.{bundle_named, bundle_refused, end_counts, end_named, moved, packets_refused, text_end}
+use Rattle.cocoon_cli.specs.Run.{count}
+use Rattle.cocoon_cli.proofs.Counted as counted
 use Rattle.cocoon_cli.proofs.forward.forward.Goals as goal
 
 pub returns-in_err-packets-clause-performs : goal.returns-in_err-packets-clause-performs
@@ -62,3 +64,20 @@ returns-clause-named g c =
     let asked = c.args.asked.now in
     let asks = command asked.out.now asked.packets.now asked.hops in
     end_named last asks (net_in c.in_ok-net.net) asked.hops _ c.run_text.result c.run_text.ensures.refused
+
+pub returns-in_err-packets-clause-no_other : goal.returns-in_err-packets-clause-no_other
+returns-in_err-packets-clause-no_other g c =
+    counted.passed (count g.F.Folder.last_read_fault _ _) (count g.F.Folder.last_write_fault _ _) _ c.in_err-packets.field-0.0 c.from_residual.ensures.1
+    (counted.read g.F.Folder.last_read_fault _ _ _ (count g.F.Folder.last_write_fault _ _) c.in_err-packets.field-0.0 refl c.in_err-packets.ensures.failed
+    (counted.file_writes_none _ _ _ _ c.in_err-packets.field-0.0 c.in_err-packets.ensures.err) c.in_err-packets.ensures.writes)
+
+pub returns-in_err-net-clause-no_other : goal.returns-in_err-net-clause-no_other
+returns-in_err-net-clause-no_other g c =
+    counted.passed (count g.F.Folder.last_read_fault _ _) (count g.F.Folder.last_write_fault _ _) _ c.in_err-net.field-0.0 c.from_residual-in_err-net.ensures.1
+    (counted.read g.F.Folder.last_read_fault _ _ _ (count g.F.Folder.last_write_fault _ _) c.in_err-net.field-0.0 c.in_ok-packets.ensures.counted c.in_err-net.ensures.failed
+    (counted.bundle_writes_none (g.F.Folder.last_failure c.read_network.new.folder) c.args.asked.now.out.now c.in_err-net.field-0.0 c.in_err-net.ensures.named) (c.in_err-net.ensures.writes ∙ c.in_ok-packets.ensures.writes))
+
+pub returns-clause-no_other : goal.returns-clause-no_other
+returns-clause-no_other g c =
+    counted.none (count g.F.Folder.last_read_fault _ _) (count g.F.Folder.last_write_fault _ _) c.run_text.result (c.in_ok-net.ensures.counted ∙ c.in_ok-packets.ensures.counted)
+    (c.in_ok-net.ensures.writes ∙ c.in_ok-packets.ensures.writes)

@@ -1,4 +1,4 @@
-use Rattle.std.proofs.Common.{◌∙◌, IfErr, IfOk, subst}
+use Rattle.std.proofs.Common.{◌∙◌, IfErr, IfOk, refl, subst}
 use Rattle.command_line.specs.Command.{step as command}
 use Rattle.cocoon_cli.specs.Reading.{FileNotRead, HasFile}
 use Rattle.cocoon_cli.specs.Stepping.{NotStepped, StepsTexts}
@@ -6,6 +6,8 @@ use Rattle.cocoon_cli.specs.Steps.{case_most, definitions_most}
 use Rattle.cocoon_cli.specs.declared.files.CommandFile.TheVariants.{Case, Definitions, Design}
 use Rattle.cocoon_cli.proofs.Compiling.{named_passed, passed}
 use Rattle.cocoon_cli.proofs.Stepped.{case_refused, defs_refused, design_refused, end_counts, end_named, has_three, moved, named, texts_end}
+use Rattle.cocoon_cli.specs.Run.{count}
+use Rattle.cocoon_cli.proofs.Counted as counted
 use Rattle.cocoon_cli.proofs.step.step.Goals as goal
 
 pub returns-in_err-design-clause-performs : goal.returns-in_err-design-clause-performs
@@ -81,3 +83,27 @@ returns-clause-named g c =
     let asked = c.args.asked.now in
     let asks = command asked.design.now asked.defs.now asked.level asked.file.now in
     end_named last asks asked.level _ _ _ c.step_texts.result c.step_texts.ensures.refused
+
+pub returns-in_err-design-clause-no_other : goal.returns-in_err-design-clause-no_other
+returns-in_err-design-clause-no_other g c =
+    counted.passed (count g.F.Folder.last_read_fault _ _) (count g.F.Folder.last_write_fault _ _) _ c.in_err-design.field-0.0 c.from_residual.ensures.1
+    (counted.read g.F.Folder.last_read_fault _ _ _ (count g.F.Folder.last_write_fault _ _) c.in_err-design.field-0.0 refl c.in_err-design.ensures.failed
+    (counted.file_writes_none _ _ _ _ c.in_err-design.field-0.0 c.in_err-design.ensures.err) c.in_err-design.ensures.writes)
+
+pub returns-in_err-defs-clause-no_other : goal.returns-in_err-defs-clause-no_other
+returns-in_err-defs-clause-no_other g c =
+    counted.passed (count g.F.Folder.last_read_fault _ _) (count g.F.Folder.last_write_fault _ _) _ c.in_err-defs.field-0.0 c.from_residual-in_err-defs.ensures.1
+    (counted.read g.F.Folder.last_read_fault _ _ _ (count g.F.Folder.last_write_fault _ _) c.in_err-defs.field-0.0 c.in_ok-design.ensures.counted c.in_err-defs.ensures.failed
+    (counted.file_writes_none _ _ _ _ c.in_err-defs.field-0.0 c.in_err-defs.ensures.err) (c.in_err-defs.ensures.writes ∙ c.in_ok-design.ensures.writes))
+
+pub returns-in_err-case-clause-no_other : goal.returns-in_err-case-clause-no_other
+returns-in_err-case-clause-no_other g c =
+    counted.passed (count g.F.Folder.last_read_fault _ _) (count g.F.Folder.last_write_fault _ _) _ c.in_err-case.field-0.0 c.from_residual-in_err-case.ensures.1
+    (counted.read g.F.Folder.last_read_fault _ _ _ (count g.F.Folder.last_write_fault _ _) c.in_err-case.field-0.0 (c.in_ok-defs.ensures.counted ∙ c.in_ok-design.ensures.counted) c.in_err-case.ensures.failed
+    (counted.file_writes_none _ _ _ _ c.in_err-case.field-0.0 c.in_err-case.ensures.err)
+    (c.in_err-case.ensures.writes ∙ c.in_ok-defs.ensures.writes ∙ c.in_ok-design.ensures.writes))
+
+pub returns-clause-no_other : goal.returns-clause-no_other
+returns-clause-no_other g c =
+    counted.none (count g.F.Folder.last_read_fault _ _) (count g.F.Folder.last_write_fault _ _) c.step_texts.result (c.in_ok-case.ensures.counted ∙ c.in_ok-defs.ensures.counted ∙ c.in_ok-design.ensures.counted)
+    (c.in_ok-case.ensures.writes ∙ c.in_ok-defs.ensures.writes ∙ c.in_ok-design.ensures.writes)
