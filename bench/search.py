@@ -142,7 +142,7 @@ def instructions(words, function, text):
         return None
     with tempfile.NamedTemporaryFile() as file:
         run(["valgrind", "--tool=callgrind", f"--callgrind-out-file={file.name}", *words], text)
-        found = re.search(rf"^ *([\d,]+) .*{function}", run(["callgrind_annotate", file.name]), re.MULTILINE)
+        found = re.search(rf"^ *([\d,]+) .*{function}", run(["callgrind_annotate", "--inclusive=yes", file.name]), re.MULTILINE)
     return int(found[1].replace(",", "")) if found else None
 
 

@@ -111,11 +111,13 @@ def check_believed():
 # ---- the clauses that pages name
 
 FUNCTION = re.compile(r"^(?P<indent> *)(?:pub(?:\([^)]*\))? )?(?:const )?fn (?P<name>\w+)", re.M)
+OWNER = re.compile(r"^(?:pub )?(?:impl(?:<[^>]*>)? (?:.* for )?(\w+)|trait (\w+))", re.M)
 CLAUSE = re.compile(r"\b(ensures|requires)(?: (\w+))? \{")
 
 
 def functions_of(crate):
-    """The names of a crate's functions, each with the names of its clauses; `` is a clause without a name."""
+    """The names of a crate's functions, each with the names of its clauses; `` is a clause without a name. A method stands under its
+    own name, with the clauses of all methods of that name, and under `TYPE::NAME` with its own."""
     found = {}
     for path in sorted((CRATES / crate / "src").rglob("*.rt")):
         text = path.read_text()
@@ -124,7 +126,9 @@ def functions_of(crate):
             part = text[one.start() : after.start() if after else len(text)]
             body = re.search(rf"^{one['indent']}\{{$", part, re.M)
             head = part[: body.start()] if body else part
-            found.setdefault(one["name"], set()).update((kind, name) for kind, name in CLAUSE.findall(head))
+            owners = [name for pair in OWNER.findall(text[: one.start()]) for name in pair if name] if one["indent"] else []
+            for name in [one["name"], *(f"{owner}::{one['name']}" for owner in owners[-1:])]:
+                found.setdefault(name, set()).update(CLAUSE.findall(head))
     return found
 
 
@@ -153,7 +157,9 @@ class Names:
         return last in self.functions[crate] or last in self.types[crate]
 
     def lacks_clause(self, crate, function, kind, clause):
-        return (kind, clause) not in self.functions[crate].get(function.split("::")[-1], set())
+        functions = self.functions[crate]
+        name = function if function in functions else function.split("::")[-1]
+        return (kind, clause) not in functions.get(name, set())
 
 
 def wrong_in_cell(cell, crate, names):
