@@ -1,4 +1,4 @@
-use Rattle.std.proofs.Common.{◌∙◌, ap, sym}
+use Rattle.std.proofs.Common.{ap, sym}
 use Rattle.cnf_core.specs.Clauses.{literals}
 use Rattle.cnf_core.specs.Trails.{numbers}
 use Rattle.proof_check.proofs.Subsumed.{top-some}
