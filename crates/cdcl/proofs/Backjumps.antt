@@ -1,16 +1,17 @@
 -- What makes a learned clause new, where one literal of the last level is marked.
 use Rattle.std.proofs.Common.{◌≡◌, ℕ, ◌+◌, ◌-◌, ◌<◌, ◌≤◌, ℤ, Bool, true, false, List, length, take, map, arith, ◌⊎◌, inl, inr}
 use Rattle.std.proofs.lemmas.Bool.{cases_lt, both_ways}
+use Rattle.std.specs.List.{All}
 use Rattle.cnf_core.specs.Licensing.{IsNew}
-use Rattle.cnf_core.specs.Literals.{opposite}
-use Rattle.cnf_core.specs.Trails.{AllNamed, IsApart, WeighsAs}
+use Rattle.cnf_core.specs.Literals.{Names, opposite}
+use Rattle.cnf_core.specs.Trails.{IsApart, WeighsAs}
 use Rattle.cnf_core.specs.declared.weight.Weight.TheVariants.{Open}
 use Rattle.cdcl.specs.Marks.{count_from, is_marked, marked_literals}
 use Rattle.cdcl.specs.Searching.{IsClosed}
 use Rattle.cdcl.proofs.Counting.{OneMarked, one-marked}
 use Rattle.cdcl.proofs.LearnedClauses.{learned-new, learned-open}
 
-module _ (cs : List (List ℤ)) (ts : List ℤ) (apart : IsApart ts) (vars : ℕ) (named : AllNamed vars ts) (marks : List Bool) (floor second : ℕ)
+module _ (cs : List (List ℤ)) (ts : List ℤ) (apart : IsApart ts) (vars : ℕ) (named : All (Names vars) ts) (marks : List Bool) (floor second : ℕ)
     (sized : length marks ≡ length ts) (counted : count_from floor marks ≡ 1) (low : second ≤ floor)
     (none : (p : ℕ) → second ≤ p → p < floor → is_marked marks p ≡ false) where
   last : OneMarked floor marks

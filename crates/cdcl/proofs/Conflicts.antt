@@ -3,9 +3,10 @@ use Rattle.std.proofs.Common.{◌≡◌, ℕ, zero, suc, ◌+◌, ◌<◌, ◌�
 use Rattle.std.specs.Prelude.{slice_get}
 use Rattle.std.proofs.lemmas.Bool.{cases_eq, cases_lt, both_ways, false≢true, or_left, or_right, or_cases, false_from_ne_true}
 use Rattle.std.proofs.lemmas.List.{get_or-set_same, get_or-set_other, reverse-append}
+use Rattle.std.specs.List.{All}
 use Rattle.cnf_core.specs.Deriving.{Refutes, is_conflict, is_false}
-use Rattle.cnf_core.specs.Literals.{has_literal, opposite, same}
-use Rattle.cnf_core.specs.Trails.{AllNamed, IsApart, WeighsAs, literal_at}
+use Rattle.cnf_core.specs.Literals.{Names, has_literal, opposite, same}
+use Rattle.cnf_core.specs.Trails.{IsApart, WeighsAs, literal_at}
 use Rattle.cnf_core.specs.declared.weight.Weight.TheVariants.{Open}
 use Rattle.cdcl.specs.Marks.{MarksToo, Shows, count_from, is_marked, marked_literals}
 use Rattle.cdcl.proofs.Counting.{count-some}
@@ -71,7 +72,7 @@ module _ (clauses : List (List ℤ)) (ts : List ℤ) where
     ),
   )
 
-  module _ (apart : IsApart ts) (vars : ℕ) (named : AllNamed vars ts) where
+  module _ (apart : IsApart ts) (vars : ℕ) (named : All (Names vars) ts) where
     pub shows-reason : (p n : ℕ) (hints : List ℕ) (old unmarked marks : List Bool) → p < length ts → p < length old → IsForcedBy clauses ts p n
         → unmarked ≡ set old p false → (f : IsForcedBy clauses ts p n) → MarksToo f.0 ts unmarked marks
         → Shows clauses ts old (p + 1) hints → Shows clauses ts marks p (hints ++ n ∷ [])

@@ -3,12 +3,12 @@ use Rattle.std.proofs.Common.{◌≡◌, ◌≢◌, ℕ, zero, suc, ◌+◌, ◌
 use Rattle.std.specs.List.{All}
 use Rattle.std.proofs.lemmas.Bool.{cases_Bool, both_ways, or_from, and_from, false_from_ne_true, not_from_false, ne_eqb}
 use Rattle.std.proofs.lemmas.List.{take_all}
-use Rattle.std.proofs.lemmas.List.Elements.{All-nil, All-cons}
+use Rattle.std.proofs.lemmas.List.Elements.{All-cons, All-head, All-nil, All-tail}
 use Rattle.cocoon_num.specs.Lists.{has_number, no_repeats}
 use Rattle.cnf_core.specs.Deriving.{Follows, Refutes, forces, is_conflict, is_false}
-use Rattle.cnf_core.specs.Licensing.{IsNew, contains}
+use Rattle.cnf_core.specs.Licensing.{IsNew, subsumed_by}
 use Rattle.cnf_core.specs.Literals.{Names, has_literal, opposite, variable}
-use Rattle.cnf_core.specs.Trails.{AllNamed, IsApart, WeighsAs, literal_at}
+use Rattle.cnf_core.specs.Trails.{IsApart, WeighsAs, literal_at}
 use Rattle.cnf_core.specs.declared.weight.Weight.TheVariants.{Open}
 use Rattle.cdcl.specs.Marks.{Shows, is_marked, marked_literals, opposite_at}
 use Rattle.cdcl.specs.Searching.{IsClosed}
@@ -19,16 +19,16 @@ use Rattle.cdcl.proofs.Conflicts.{has-opposites, marked-at, marked-place, opposi
 
 -- ---- it is proper
 
-marked-named : (vars : ℕ) (marks : List Bool) (ts : List ℤ) → AllNamed vars ts → All (Names vars) (map opposite (marked_literals marks ts))
+marked-named : (vars : ℕ) (marks : List Bool) (ts : List ℤ) → All (Names vars) ts → All (Names vars) (map opposite (marked_literals marks ts))
 marked-named vars [] ts h = All-nil (Names vars)
 marked-named vars (true ∷ marks) [] h = All-nil (Names vars)
 marked-named vars (false ∷ marks) [] h = All-nil (Names vars)
 marked-named vars (true ∷ marks) (t ∷ ts) h =
-    let n = h 0 (omega arith) in
+    let n = All-head (Names vars) t ts h in
     All-cons (Names vars) (opposite t) (map opposite (marked_literals marks ts))
     (subst (λ v. 1 ≤ v) (sym (variable-opposite t)) n.0, subst (λ v. v ≤ vars) (sym (variable-opposite t)) n.1)
-    (marked-named vars marks ts (λ p lt. h (suc p) (omega (arith, lt))))
-marked-named vars (false ∷ marks) (t ∷ ts) h = marked-named vars marks ts (λ p lt. h (suc p) (omega (arith, lt)))
+    (marked-named vars marks ts (All-tail (Names vars) t ts h))
+marked-named vars (false ∷ marks) (t ∷ ts) h = marked-named vars marks ts (All-tail (Names vars) t ts h)
 
 marked-other : (v : ℕ) (marks : List Bool) (ts : List ℤ) → ((p : ℕ) → p < length ts → v ≢ variable (literal_at ts p)) → has_number v (map variable (map opposite (marked_literals marks ts))) ≡ false
 marked-other v [] ts h = refl
@@ -55,7 +55,7 @@ marked-distinct (false ∷ marks) (t ∷ ts) h = marked-distinct marks ts (apart
 
 -- ---- it follows
 
-module _ (clauses : List (List ℤ)) (ts : List ℤ) (apart : IsApart ts) (vars : ℕ) (named : AllNamed vars ts) (marks : List Bool) where
+module _ (clauses : List (List ℤ)) (ts : List ℤ) (apart : IsApart ts) (vars : ℕ) (named : All (Names vars) ts) (marks : List Bool) where
   learned : List ℤ
   learned = map opposite (marked_literals marks ts)
 
@@ -86,10 +86,10 @@ module _ (clauses : List (List ℤ)) (ts : List ℤ) (apart : IsApart ts) (vars 
     pub learned-new : (cut : ℕ) → second ≤ cut → cut ≤ u → IsClosed clauses (take cut ts) → IsNew clauses (map opposite (marked_literals marks ts))
     learned-new cut le above closed = (
       (λ e. both_ways (has_literal (map opposite (marked_literals marks ts)) (opposite (literal_at ts u))) (ap (λ c. has_literal c (opposite (literal_at ts u))) e) asserting),
-      λ k d lt. false_from_ne_true (contains (map opposite (marked_literals marks ts)) (get_or clauses k d)) (λ all. none (get_or clauses k d) (closed k d lt) all),
+      λ k d lt. false_from_ne_true (subsumed_by (map opposite (marked_literals marks ts)) (get_or clauses k d)) (λ all. none (get_or clauses k d) (closed k d lt) all),
     )
       where
-        none : (c : List ℤ) → WeighsAs (take cut ts) c Open → contains (map opposite (marked_literals marks ts)) c ≡ true → ⊥
+        none : (c : List ℤ) → WeighsAs (take cut ts) c Open → subsumed_by (map opposite (marked_literals marks ts)) c ≡ true → ⊥
         none c unforced all = elim (cases_Bool (has_literal c (opposite (literal_at ts u)))) [
           | inl on ↦ both_ways (forces (take cut ts) c (opposite (literal_at ts u))) (unforced.1 (opposite (literal_at ts u)))
               (forced-from (take cut ts) c (opposite (literal_at ts u)) (record {

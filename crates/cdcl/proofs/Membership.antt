@@ -1,10 +1,11 @@
 -- Literals of lists, and where they stand.
-use Rattle.std.proofs.Common.{◌≡◌, ℕ, zero, suc, ◌<◌, ◌≤◌, ℤ, Bool, true, false, not, ◌&&◌, ◌||◌, List, [], ◌∷◌, ◌++◌, length, take, refl, sym, ap, ◌∙◌, arith, ◌⊎◌, inl, inr}
+use Rattle.std.proofs.Common.{◌≡◌, ℕ, zero, suc, ◌<◌, ◌≤◌, ℤ, pos, Bool, true, false, not, ◌&&◌, ◌||◌, List, [], ◌∷◌, ◌++◌, length, take, refl, sym, ap, ◌∙◌, arith, ◌⊎◌, inl, inr}
 use Rattle.std.proofs.lemmas.Bool.{false≢true, both_ways, or_cases, or_left, or_right, and_parts, and_from, not-true, not_from_false, false_from_ne_true, cases_order}
+use Rattle.std.specs.List.{All}
 use Rattle.cocoon_num.specs.Lists.{each}
-use Rattle.cnf_core.specs.Literals.{has_literal, opposite, same, variable}
+use Rattle.cnf_core.specs.Literals.{Names, has_literal, opposite, same, variable}
 use Rattle.cnf_core.specs.Deriving.{forces, has_no_value, is_false}
-use Rattle.cnf_core.specs.Trails.{AllNamed, IsApart, literal_at}
+use Rattle.cnf_core.specs.Trails.{IsApart, literal_at}
 use Rattle.cnf_core.proofs.LiteralFacts.{has-at, has-place, opposite-opposite, opposite-other, same-is, same-same, variable-opposite}
 use Rattle.cnf_core.proofs.Weighing.{each-has}
 
@@ -100,13 +101,13 @@ module _ (ts : List ℤ) (apart : IsApart ts) where
       let r = take-place ts n (literal_at ts p) e in
       omega (arith, h, r.1, same-place r.0 p r.2 k r.3))
 
-  module _ (vars : ℕ) (named : AllNamed vars ts) where
+  module _ (vars : ℕ) (named : All (Names vars) ts) where
     -- no literal stands with its opposite
     pub no-opposite : (p : ℕ) → p < length ts → has_literal ts (opposite (literal_at ts p)) ≡ false
     no-opposite p h = false_from_ne_true (has_literal ts (opposite (literal_at ts p))) (λ e.
         let r = has-place ts (opposite (literal_at ts p)) e in
         let is = one-place r.0 p r.1 h (ap variable r.2 ∙ variable-opposite (literal_at ts p)) in
-        opposite-other (literal_at ts p) (named p h).0 (ap (literal_at ts) (sym is) ∙ r.2))
+        opposite-other (literal_at ts p) (named p (pos 0) h).0 (ap (literal_at ts) (sym is) ∙ r.2))
 
     pub no-opposite-taken : (n p : ℕ) → p < length ts → has_literal (take n ts) (opposite (literal_at ts p)) ≡ false
     no-opposite-taken n p h = false_from_ne_true (has_literal (take n ts) (opposite (literal_at ts p))) (λ e.

@@ -1,5 +1,4 @@
 pub mod Searching
-pub mod Passes
 pub mod States
 pub mod Marks
 pub mod Analyses

@@ -1,5 +1,5 @@
 //! The answers of a search.
-ghost use Rattle.std.specs.Prelude.{◌+◌, ◌<◌, ◌≤◌, ◌^◌, IfOk, length};
+ghost use Rattle.std.specs.Prelude.{◌+◌, ◌<◌, ◌^◌, IfOk, length};
 ghost use Rattle.cnf_core.specs.Satisfying.{WellNamed};
 ghost use Rattle.cdcl.specs.Answering.{Answers};
 
@@ -22,7 +22,6 @@ pub enum Answer {
 /// Searches until it has an answer or has met this many conflicts.
 pub fn solve(alloc: Global, cnf: &Cnf, conflicts: u64) -> Result<Answer, NoMemory>
     requires named { WellNamed cnf.now }
-    requires some { 1 ≤ conflicts }
     requires numbered { length cnf.now.clauses + conflicts < 2 ^ 32 }
     ensures { IfOk result (λ answer. Answers cnf.now conflicts answer) }
 {

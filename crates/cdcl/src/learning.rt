@@ -214,12 +214,7 @@ impl Search {
     pub fn into_log(self) -> Log
         ensures { result.steps ≡ self.steps.items }
     {
-        let Search {
-            steps,
-            trail: _,
-            reasons: _,
-            starts: _,
-        } = self;
+        let Search { steps, .. } = self;
         Log {
             steps: List::from(steps),
         }

@@ -1,18 +1,17 @@
 //! What is forced, and decisions where nothing is.
-ghost use Rattle.std.specs.Prelude.{[], ◌+◌, ◌<◌, ◌≡◌, ◌≤◌, ◌++◌, ◌∷◌, ◌^◌, false, IfOk, IsTrue, length, OnOk, option_map, pos, slice_get, ◌||◌};
+ghost use Rattle.std.specs.Prelude.{[], ◌+◌, ◌<◌, ◌≡◌, ◌≤◌, ◌++◌, ◌∷◌, ◌^◌, IfOk, IsTrue, length, OnOk, option_map, pos, slice_get};
 ghost use Rattle.cnf_core.specs.Clauses.{literals};
-ghost use Rattle.cnf_core.specs.Deriving.{has_no_value, is_false};
-ghost use Rattle.cnf_core.specs.Literals.{has_literal, Names, variable};
+ghost use Rattle.cnf_core.specs.Deriving.{has_no_value};
+ghost use Rattle.cnf_core.specs.Literals.{Names};
 ghost use Rattle.cnf_core.specs.Satisfying.{HasAllValues, Satisfies, WellNamed};
 ghost use Rattle.cnf_core.specs.TrailViews.{not_true, room, trues};
 ghost use Rattle.cdcl.specs.Searching.{IsClosed, IsForcedBy, IsTotal};
 ghost use Rattle.cdcl.specs.States.{CanDecide, clauses_of, Decides, FoundSoFar, IsSound, PassedAs, RanAs, SameSteps, Settled, WeighsNumber};
-ghost use Rattle.cdcl.specs.Passes.{is_conflict};
 ghost use Rattle.cdcl.specs.declared.search.Search.{Search};
 
 use crate::order::Order;
 use crate::search::{Pass, Search};
-use cnf_core::{Assignment, Clause, Cnf, Lit, Trail, Weight};
+use cnf_core::{Assignment, Clause, Cnf, Lit, Trail, Weight, known_clause};
 use cocoon_num::{List, NoMemory};
 use std::alloc::Global;
 
@@ -45,15 +44,7 @@ impl Search {
         ensures { option_map (λ c. literals c.now) result
             ≡ slice_get (clauses_of cnf.now self.now) number }
     {
-        let given = cnf.clauses.items();
-        if number < given.len() {
-            given.get(number)
-        } else {
-            match self.steps.get(number - given.len()) {
-                Some(step) => Some(&step.clause),
-                None => None,
-            }
-        }
+        known_clause(cnf, &self.steps, number)
     }
 
     /// What the clause of this number is under the literals that are true.
@@ -101,7 +92,7 @@ impl Search {
         let mut pass = Pass::Closed;
         for number in 0..self.count(cnf) {
             pass = self.take(cnf, number, pass)?;
-            if pass.is_conflict() {
+            if matches!(pass, Pass::Conflict(_)) {
                 return Ok(pass);
             }
         }
@@ -114,7 +105,6 @@ impl Search {
         requires named { WellNamed cnf.now }
         requires numbered { length (clauses_of cnf.now self.old) < 2 ^ 32 }
         requires within { number < length (clauses_of cnf.now self.old) }
-        requires calm { is_conflict pass ≡ false }
         ensures sound { OnOk result (IsSound cnf.now self.new) }
         ensures steps { SameSteps self.old self.new }
         ensures fewer { OnOk result (not_true self.new.trail ≤ not_true self.old.trail) }
@@ -159,7 +149,7 @@ impl Search {
     {
         for index in (0..self.trail.vars()).rev() {
             let lit = positive(index + 1);
-            if !has_value(&self.trail, lit) {
+            if !self.trail.has_value(lit) {
                 return Some(lit);
             }
         }
@@ -174,7 +164,7 @@ impl Search {
         let mut first = last;
         for index in (0..self.trail.vars()).rev() {
             let lit = positive(index + 1);
-            if !has_value(&self.trail, lit) && order.is_before(lit, first) {
+            if !self.trail.has_value(lit) && order.is_before(lit, first) {
                 first = lit;
             }
         }
@@ -257,15 +247,4 @@ fn positive(variable: u32) -> Lit
     Lit {
         number: variable as i32,
     }
-}
-
-fn has_value(trail: &Trail, lit: Lit) -> bool
-    requires { variable lit.number ≤ room trail.now }
-    ensures { result ≡ (has_literal (trues trail.now) lit.number
-        || is_false (trues trail.now) lit.number) }
-{
-    if trail.is_true(lit) {
-        return true;
-    }
-    trail.is_false(lit)
 }

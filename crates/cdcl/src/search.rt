@@ -1,7 +1,4 @@
 //! The state of a search: what is true, why, and what was learned.
-ghost use Rattle.std.specs.Prelude.{◌≡◌};
-ghost use Rattle.cdcl.specs.Passes.{is_conflict};
-
 use cnf_core::{Step, Trail};
 
 /// A state of the search. A level is what one decision made true, with all that it forced; before the first decision
@@ -26,16 +23,4 @@ pub(crate) enum Pass {
     Forced,
     /// Nothing is forced any more.
     Closed,
-}
-
-impl Pass {
-    pub fn is_conflict(self) -> bool
-        ensures { result ≡ is_conflict self }
-    {
-        match self {
-            Pass::Conflict(_) => true,
-            Pass::Forced => false,
-            Pass::Closed => false,
-        }
-    }
 }

@@ -2,11 +2,12 @@
 use Rattle.std.proofs.Common.{◌≡◌, ◌≢◌, ℕ, zero, suc, ◌+◌, ◌-◌, ◌==◌, ◌<◌, ◌≤◌, ℤ, pos, negsuc, cond, true, false, not, List, [], ◌∷◌, ◌++◌, length, get_or, set, refl, sym, ap, ◌∙◌, subst, arith, inl, inr}
 use Rattle.std.proofs.lemmas.Bool.{cases_eq, cases_lt, cases_Bool, both_ways, eq-eqb, ne_eqb}
 use Rattle.std.proofs.lemmas.List.{get_or-set_same, get_or-set_other, get_or_append_left, get_or_push, get_or_past, length_push, get_or_read, map-append}
-use Rattle.std.specs.List.{count_by}
+use Rattle.std.specs.List.{All, count_by}
+use Rattle.std.proofs.lemmas.List.Elements.{All-append, All-cons, All-nil}
 use Rattle.std.proofs.lemmas.List.Sums.{sum_by-set}
 use Rattle.cnf_core.specs.Deriving.{has_no_value}
 use Rattle.cnf_core.specs.Literals.{Names, has_literal, index_of, opposite, variable}
-use Rattle.cnf_core.specs.Trails.{AllNamed, IsApart, Placed, literal_at, numbers}
+use Rattle.cnf_core.specs.Trails.{IsApart, Placed, literal_at, numbers}
 use Rattle.cnf_core.specs.declared.lit.Lit.{Lit}
 use Rattle.cnf_core.proofs.Weighing.{open-not_true, open-not_false}
 use Rattle.cnf_core.proofs.LiteralFacts.{has-at, has-place, index_of-injective, variable-same}
@@ -122,14 +123,8 @@ pub apart-pop : (ts : List ℤ) (l : ℤ) → IsApart (ts ++ l ∷ []) → IsApa
 apart-pop ts l h p q less within e = h p q less (omega (arith, within, length_push ts l))
     (ap variable (get_or_append_left ts (l ∷ []) (pos 0) p (omega (arith, less, within))) ∙ e ∙ ap variable (sym (get_or_append_left ts (l ∷ []) (pos 0) q within)))
 
-pub named-push : (vars : ℕ) (ts : List ℤ) (l : ℤ) → AllNamed vars ts → Names vars l → AllNamed vars (ts ++ l ∷ [])
-named-push vars ts l h n p within = elim (cases_lt p (length ts)) [
-  | inl below ↦ subst (Names vars) (sym (get_or_append_left ts (l ∷ []) (pos 0) p below)) (h p below)
-  | inr above ↦ subst (Names vars) (sym (get_or_push ts l (pos 0) p (omega (arith, within, above, length_push ts l)))) n
-]
-
-pub named-pop : (vars : ℕ) (ts : List ℤ) (l : ℤ) → AllNamed vars (ts ++ l ∷ []) → AllNamed vars ts
-named-pop vars ts l h p within = subst (Names vars) (get_or_append_left ts (l ∷ []) (pos 0) p within) (h p (omega (arith, within, length_push ts l)))
+pub named-pop : (vars : ℕ) (ts : List ℤ) (l : ℤ) → All (Names vars) (ts ++ l ∷ []) → All (Names vars) ts
+named-pop vars ts l h p d within = subst (Names vars) (get_or_append_left ts (l ∷ []) d p within) (h p d (omega (arith, within, length_push ts l)))
 
 -- ---- what reads and writes of the places give
 
@@ -178,8 +173,8 @@ placed-more ts ps l more i n h within unset e k m = subst (λ us. Placed us (set
 pub apart-more : (ts : List ℤ) (l : ℤ) (more : List ℤ) → IsApart ts → has_no_value ts l ≡ true → more ≡ ts ++ l ∷ [] → IsApart more
 apart-more ts l more h unset e = subst IsApart (sym e) (apart-push ts l h (open-not_true ts l unset) (open-not_false ts l unset))
 
-pub named-more : (vars : ℕ) (ts : List ℤ) (l : ℤ) (more : List ℤ) → AllNamed vars ts → Names vars l → more ≡ ts ++ l ∷ [] → AllNamed vars more
-named-more vars ts l more h n e = subst (AllNamed vars) (sym e) (named-push vars ts l h n)
+pub named-more : (vars : ℕ) (ts : List ℤ) (l : ℤ) (more : List ℤ) → All (Names vars) ts → Names vars l → more ≡ ts ++ l ∷ [] → All (Names vars) more
+named-more vars ts l more h n e = subst (All (Names vars)) (sym e) (All-append (Names vars) ts (l ∷ []) h (All-cons (Names vars) l [] n (All-nil (Names vars))))
 
 pub placed-less : (ts : List ℤ) (ps : List ℕ) (l : ℤ) (less : List ℤ) (i : ℕ) → Placed ts ps → ts ≡ less ++ l ∷ [] → i ≡ index_of l → Placed less (set ps i 0)
 placed-less ts ps l less i h e k = subst (λ j. Placed less (set ps j 0)) (sym k) (placed-pop less ps l (subst (λ us. Placed us ps) e h))

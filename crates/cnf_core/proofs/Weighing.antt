@@ -5,9 +5,7 @@ use Rattle.cocoon_num.specs.Lists.{each}
 use Rattle.cnf_core.specs.Literals.{has_literal, same}
 use Rattle.cnf_core.specs.Deriving.{forces, has_no_value, is_conflict, is_false}
 use Rattle.cnf_core.specs.Trails.{WeighsAs}
-use Rattle.cnf_core.specs.Weights.{is_open}
 use Rattle.cnf_core.specs.declared.lit.Lit.{Lit}
-use Rattle.cnf_core.specs.declared.weight.Weight.{Weight}
 use Rattle.cnf_core.specs.declared.weight.Weight.TheVariants.{Conflict, Forces, Open}
 use Rattle.cnf_core.proofs.LiteralFacts.{same-is, same-same}
 
@@ -182,7 +180,5 @@ module _ (ts : List ℤ) where
 
   -- ---- whole clauses
 
-  pub open-whole : (prefix more whole : List ℤ) (w : Weight) → is_open w ≡ true → WeighsAs ts prefix w → whole ≡ prefix ++ more → WeighsAs ts whole w
-  open-whole prefix more whole Open o h e = subst (λ ls. WeighsAs ts ls Open) (sym e) (open-longer prefix more h)
-  open-whole prefix more whole Conflict o h e = absurd (false≢true o)
-  open-whole prefix more whole (Forces l) o h e = absurd (false≢true o)
+  pub open-whole : (prefix more whole : List ℤ) → WeighsAs ts prefix Open → whole ≡ prefix ++ more → WeighsAs ts whole Open
+  open-whole prefix more whole h e = subst (λ ls. WeighsAs ts ls Open) (sym e) (open-longer prefix more h)

@@ -5,4 +5,3 @@ pub mod Deriving
 pub mod Licensing
 pub mod Trails
 pub mod TrailViews
-pub mod Weights

@@ -10,13 +10,13 @@ use Rattle.cnf_core.specs.declared.clauses.Cnf.{Cnf}
 use Rattle.cnf_core.specs.declared.log.Log.{Log}
 use Rattle.cnf_core.specs.declared.log.Step.{Step}
 
--- the clause has all literals of the other
-abbrev pub contains : (clause other : List ℤ) → Bool
-contains clause other = each (has_literal clause) other
+-- the clause has all literals of the other, which subsumes it
+abbrev pub subsumed_by : (clause other : List ℤ) → Bool
+subsumed_by clause other = each (has_literal clause) other
 
 -- the clause is not empty, and has not all literals of a clause that is known
 abbrev pub IsNew : (clauses : List (List ℤ)) → (clause : List ℤ) → Type 0
-IsNew clauses clause = (clause ≢ []) × All (λ other. IsFalse (contains clause other)) clauses
+IsNew clauses clause = (clause ≢ []) × All (λ other. IsFalse (subsumed_by clause other)) clauses
 
 -- step k brings a new clause
 abbrev pub BringsNew : Cnf → List Step → (k : ℕ) → Type 0

@@ -1,7 +1,7 @@
 -- Cited by the clauses of `Trail`: the literals that are true, and where each stands among them.
 use Rattle.std.specs.Prelude.{◌≡◌, ◌≢◌, ℕ, ◌+◌, ◌<◌, ℤ, pos, IsTrue, IsFalse, List, map, length, slice_index_or}
 use Rattle.cnf_core.specs.Deriving.{forces, is_conflict}
-use Rattle.cnf_core.specs.Literals.{Names, index_of, variable}
+use Rattle.cnf_core.specs.Literals.{index_of, variable}
 use Rattle.cnf_core.specs.declared.lit.Lit.{Lit}
 use Rattle.cnf_core.specs.declared.weight.Weight.{Weight}
 use Rattle.cnf_core.specs.declared.weight.Weight.TheVariants.{Conflict, Forces, Open}
@@ -21,9 +21,6 @@ pub record Placed (trues : List ℤ) (places : List ℕ) : Type 0 where
 -- no variable has two literals there
 abbrev pub IsApart : List ℤ → Type 0
 IsApart trues = (p q : ℕ) → p < q → q < length trues → variable (literal_at trues p) ≢ variable (literal_at trues q)
-
-abbrev pub AllNamed : (vars : ℕ) → List ℤ → Type 0
-AllNamed vars trues = (p : ℕ) → p < length trues → Names vars (literal_at trues p)
 
 -- what a clause is under the literals that are true
 abbrev pub WeighsAs : (trues clause : List ℤ) → Weight → Type 0

@@ -1,6 +1,6 @@
 //! Clauses over variables, and which assignments of the variables satisfy them.
 ghost use Rattle.std.specs.Prelude.{◌≡◌, ◌↔◌, false, IsTrue, slice_index_or};
-ghost use Rattle.cnf_core.specs.Satisfying.{HasAllValues, Satisfies, WellNamed};
+ghost use Rattle.cnf_core.specs.Satisfying.{Satisfies};
 ghost use Rattle.cnf_core.specs.Satisfying as spec;
 
 use crate::lit::Lit;
@@ -57,8 +57,6 @@ fn is_set_at(values: &[bool], at: usize) -> bool
 
 /// Whether every clause has a true literal.
 pub fn satisfies(cnf: &Cnf, assignment: &Assignment) -> bool
-    requires named { WellNamed cnf.now }
-    requires values { HasAllValues cnf.now assignment.now }
     ensures { IsTrue result ↔ Satisfies assignment.now cnf.now }
 {
     for clause in cnf.clauses.items() {

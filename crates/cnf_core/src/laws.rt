@@ -1,7 +1,6 @@
 //! What logs show. The function does nothing; its contract is the law.
-ghost use Rattle.std.specs.Prelude.{ℕ};
 ghost use Rattle.cnf_core.specs.Deriving.{Derives};
-ghost use Rattle.cnf_core.specs.Satisfying.{HasAllValues, Satisfies, WellNamed};
+ghost use Rattle.cnf_core.specs.Satisfying.{Satisfies, WellNamed};
 ghost use Rattle.cnf_core.specs.declared.clauses.Assignment.{Assignment};
 ghost use Rattle.cnf_core.specs.declared.clauses.Cnf.{Cnf};
 ghost use Rattle.cnf_core.specs.declared.log.Log.{Log};
@@ -9,5 +8,5 @@ ghost use Rattle.cnf_core.specs.declared.log.Log.{Log};
 /// No assignment satisfies clauses from which a log derives the empty clause.
 pub fn derived_clauses_have_no_model()
     ensures { (cnf : Cnf) (log : Log) (a : Assignment)
-        → WellNamed cnf → HasAllValues cnf a → Derives cnf log → Satisfies a cnf → ⊥ }
+        → WellNamed cnf → Derives cnf log → Satisfies a cnf → ⊥ }
 {}

@@ -11,6 +11,6 @@ pub mod weight;
 
 pub use clauses::{Assignment, Clause, Cnf, satisfies};
 pub use lit::Lit;
-pub use log::{Log, Step};
+pub use log::{Log, Step, known_clause};
 pub use trail::Trail;
 pub use weight::Weight;

@@ -1,6 +1,8 @@
 //! The literals that are true, in the order in which they became so.
 ghost use Rattle.std.specs.Prelude.{◌≡◌, ◌+◌, ◌*◌, ◌<◌, ◌≤◌, ◌^◌, length};
-ghost use Rattle.cnf_core.specs.Trails.{AllNamed, IsApart, numbers, Placed};
+ghost use Rattle.std.specs.List.{All};
+ghost use Rattle.cnf_core.specs.Literals.{Names};
+ghost use Rattle.cnf_core.specs.Trails.{IsApart, numbers, Placed};
 
 use crate::clauses::Clause;
 use crate::lit::Lit;
@@ -17,16 +19,15 @@ pub struct Trail {
     ghost few: { vars < 2 ^ 31 },
     ghost sized: { length places.items ≡ vars * 2 + 2 },
     ghost placed: { Placed (numbers lits.items) places.items },
-    pub ghost named: { AllNamed vars (numbers lits.items) },
+    pub ghost named: { All (Names vars) (numbers lits.items) },
     pub ghost apart: { IsApart (numbers lits.items) },
 }
 
 impl Trail {
-    ghost use Rattle.std.specs.Prelude.{[], ◌++◌, ◌∷◌, ◌-◌, IfOk, IsTrue, List, OnOk, OnErr, take, ℤ};
-    ghost use Rattle.std.specs.List.{All};
+    ghost use Rattle.std.specs.Prelude.{[], ◌++◌, ◌∷◌, ◌-◌, ◌||◌, IfOk, IsTrue, List, OnOk, OnErr, take, ℤ};
     ghost use Rattle.cnf_core.specs.Deriving.{has_no_value, is_false};
     ghost use Rattle.cnf_core.specs.Clauses.{literals};
-    ghost use Rattle.cnf_core.specs.Literals.{Names, has_literal, variable};
+    ghost use Rattle.cnf_core.specs.Literals.{has_literal, variable};
     ghost use Rattle.cnf_core.specs.Trails.{literal_at, WeighsAs};
     ghost use Rattle.cnf_core.specs.TrailViews.{not_true, room, trues};
 
@@ -88,6 +89,14 @@ impl Trail {
         self.is_true(lit.opposite())
     }
 
+    pub fn has_value(&self, lit: Lit) -> bool
+        requires { variable lit.number ≤ room self.now }
+        ensures { result ≡ (has_literal (trues self.now) lit.number
+            || is_false (trues self.now) lit.number) }
+    {
+        self.is_true(lit) || self.is_false(lit)
+    }
+
     /// Makes a literal true.
     pub fn push(&mut self, lit: Lit) -> Result<(), NoMemory>
         requires named { variable lit.number ≤ room self.old }
@@ -130,7 +139,7 @@ impl Trail {
         let mut weight = Weight::Conflict;
         for lit in clause.lits.items() {
             weight = self.weigh_with(weight, *lit);
-            if weight.is_open() {
+            if matches!(weight, Weight::Open) {
                 return weight;
             }
         }

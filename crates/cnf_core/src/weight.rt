@@ -1,7 +1,4 @@
 //! What a clause is under the literals that are true.
-ghost use Rattle.std.specs.Prelude.{◌≡◌};
-ghost use Rattle.cnf_core.specs.Weights.{is_open};
-
 use crate::lit::Lit;
 
 #[derive(Clone, Copy)]
@@ -12,16 +9,4 @@ pub enum Weight {
     Forces(Lit),
     /// Neither: it has a true literal, or two without a value.
     Open,
-}
-
-impl Weight {
-    pub fn is_open(self) -> bool
-        ensures { result ≡ is_open self }
-    {
-        match self {
-            Weight::Open => true,
-            Weight::Conflict => false,
-            Weight::Forces(_) => false,
-        }
-    }
 }

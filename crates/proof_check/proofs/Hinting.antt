@@ -20,7 +20,7 @@ use Rattle.cnf_core.specs.declared.weight.Weight.{Weight}
 use Rattle.cnf_core.specs.declared.weight.Weight.TheVariants.{Conflict, Forces, Open}
 use Rattle.proof_check.specs.Hinted.{AllNamed, WeighsHint}
 
-named-literal : {vars : ℕ} (ls : List ℤ) → All (Names vars) ls → (l : ℤ) → has_literal ls l ≡ true → Names vars l
+pub named-literal : {vars : ℕ} (ls : List ℤ) → All (Names vars) ls → (l : ℤ) → has_literal ls l ≡ true → Names vars l
 named-literal [] named l h = absurd (false≢true h)
 named-literal {vars} (m ∷ ls) named l h = elim (or_cases (same l m) (has_literal ls l) h) [
   | inl here ↦ subst (Names vars) (sym ((Decides-int_eq l m).0 here)) (All-head (Names vars) m ls named)

@@ -1,4 +1,4 @@
 pub mod Hinting
 pub mod Falsifying
 pub mod Chaining
-pub mod Covers
+pub mod Subsumed

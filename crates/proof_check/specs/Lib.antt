@@ -1,4 +1,4 @@
 pub mod Hinted
 pub mod KnownClauses
 pub mod Registering
-pub mod Covering
+pub mod Subsuming

@@ -3,7 +3,7 @@ ghost use Rattle.std.specs.Prelude.{◌≡◌, option_map, slice_get};
 ghost use Rattle.cnf_core.specs.Clauses.{literals};
 ghost use Rattle.proof_check.specs.KnownClauses.{clauses_of};
 
-use cnf_core::{Clause, Cnf, Step};
+use cnf_core::{Clause, Cnf, Step, known_clause};
 
 /// The clauses that are given, and the steps so far.
 #[derive(Clone, Copy)]
@@ -18,21 +18,6 @@ impl<'k> Known<'k> {
         ensures { option_map (λ c. literals c.now) result
             ≡ slice_get (clauses_of self.now) number }
     {
-        let given = self.cnf.clauses.items();
-        if number < given.len() {
-            given.get(number)
-        } else {
-            step_clause(self.so_far, number - given.len())
-        }
-    }
-}
-
-fn step_clause(steps: &[Step], index: usize) -> Option<&Clause>
-    ensures { option_map (λ c. literals c.now) result
-        ≡ option_map (λ s. literals s.clause) (slice_get steps.now index) }
-{
-    match steps.get(index) {
-        Some(step) => Some(&step.clause),
-        None => None,
+        known_clause(self.cnf, self.so_far, number)
     }
 }

@@ -1,6 +1,5 @@
 //! Whether each step of a log follows from what is known before it.
 ghost use Rattle.std.specs.Prelude.{[], ◌≡◌, ◌↔◌, ◌≤◌, IfOk, IsTrue, length, map, Ok, take, true};
-ghost use Rattle.std.specs.List.{All};
 ghost use Rattle.cnf_core.specs.Deriving.{Derives, EachDerived, EndsEmpty, Follows, has_no_value, IsProper, Refutes};
 ghost use Rattle.cnf_core.specs.Clauses.{literals};
 ghost use Rattle.cnf_core.specs.Literals.{opposite, variable};
@@ -125,10 +124,7 @@ fn is_free(trail: &Trail, lit: Lit) -> bool
     if lit.variable() > trail.vars() {
         return false;
     }
-    if trail.is_true(lit) {
-        return false;
-    }
-    !trail.is_false(lit)
+    !trail.has_value(lit)
 }
 
 /// Whether the hinted clauses, taken in order, each force a literal, and the last one is the conflict.

@@ -3,7 +3,7 @@ use crate::reading::{is_well_named, read};
 use case_files::first_word;
 use cdcl::{Answer, solve};
 use cnf_core::{Assignment, Cnf, Log, satisfies};
-use proof_check::{check_distinct, check_log};
+use proof_check::{check_log, check_new};
 use std::alloc::Global;
 
 /// What a search answered.
@@ -16,20 +16,17 @@ enum Outcome {
 }
 
 fn is_satisfied(cnf: &Cnf, assignment: &Assignment) -> bool {
-    if !is_well_named(cnf) || assignment.values.items().len() != cnf.vars as usize {
-        return false;
-    }
-    satisfies(cnf, assignment)
+    assignment.values.items().len() == cnf.vars as usize && satisfies(cnf, assignment)
 }
 
-/// The answers of `check_log` and of `check_distinct`.
+/// The answers of `check_log` and of `check_new`.
 fn checked(alloc: Global, cnf: &Cnf, log: &Log) -> Option<(bool, bool)> {
     if !is_well_named(cnf) {
         return None;
     }
     let derives = check_log(alloc, cnf, log).ok()?;
-    let is_distinct = check_distinct(alloc, cnf, log).ok()?;
-    Some((derives, is_distinct))
+    let is_new = check_new(alloc, cnf, log).ok()?;
+    Some((derives, is_new))
 }
 
 /// The answer, if what comes with it is accepted.
@@ -50,7 +47,7 @@ fn judged(alloc: Global, cnf: &Cnf, answer: &Answer) -> Option<Outcome> {
 
 /// What a search through so many conflicts answers.
 fn searched(alloc: Global, cnf: &Cnf, conflicts: u64) -> Option<Outcome> {
-    if !is_well_named(cnf) || conflicts < 1 || conflicts > 1_000_000 {
+    if !is_well_named(cnf) || conflicts > 1_000_000 {
         return None;
     }
     if cnf.clauses.items().len() > 1_000_000 {
@@ -61,8 +58,8 @@ fn searched(alloc: Global, cnf: &Cnf, conflicts: u64) -> Option<Outcome> {
 
 /// Whether a search that needs so many steps makes as many with that budget, and spends a smaller one.
 fn keeps_budgets(alloc: Global, cnf: &Cnf, steps: u64) -> bool {
-    for conflicts in [1, 2, steps.saturating_sub(1)] {
-        let is_less = conflicts >= 1 && conflicts < steps;
+    for conflicts in [0, 1, 2, steps.saturating_sub(1)] {
+        let is_less = conflicts < steps;
         if is_less && searched(alloc, cnf, conflicts) != Some(Outcome::Spent(conflicts)) {
             return false;
         }
@@ -87,12 +84,12 @@ fn word(holds: bool) -> &'static str {
     if holds { "true" } else { "false" }
 }
 
-/// Whether the two checks answer what the first line says, `c DERIVES DISTINCT NAME`.
+/// Whether the two checks answer what the first line says, `c DERIVES NEW NAME`.
 pub fn is_judgement(alloc: Global, case: &str) -> Option<bool> {
     let (head, _) = case.split_once('\n')?;
     let (derives, rest) = first_word(first_word(head).1);
-    let (is_distinct, _) = first_word(rest);
+    let (is_new, _) = first_word(rest);
     let (cnf, log) = read(alloc, case)?;
     let answers = checked(alloc, &cnf, &log)?;
-    Some(word(answers.0) == derives && word(answers.1) == is_distinct)
+    Some(word(answers.0) == derives && word(answers.1) == is_new)
 }

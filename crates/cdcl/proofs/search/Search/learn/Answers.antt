@@ -1,10 +1,11 @@
 use Rattle.std.proofs.Common.{◌≡◌, ◌≤◌, ◌+◌, ◌-◌, ◌<◌, ◌∙◌, ℕ, ap, arith, false, get_or, inl, inr, length, map, refl, subst, sym, take}
 use Rattle.std.proofs.lemmas.Bool.{cases_lt}
 use Rattle.std.proofs.lemmas.List.{get_or_read}
+use Rattle.std.specs.List.{All}
 use Rattle.cnf_core.specs.Deriving.{Follows}
 use Rattle.cnf_core.specs.Licensing.{IsNew}
-use Rattle.cnf_core.specs.Literals.{opposite}
-use Rattle.cnf_core.specs.Trails.{AllNamed, WeighsAs}
+use Rattle.cnf_core.specs.Literals.{Names, opposite}
+use Rattle.cnf_core.specs.Trails.{WeighsAs}
 use Rattle.cnf_core.specs.TrailViews.{trues}
 use Rattle.cnf_core.specs.declared.weight.Weight.TheVariants.{Open}
 use Rattle.cdcl.specs.Marks.{count_from, is_marked, marked_literals}
@@ -41,7 +42,7 @@ go_back-requires-clause-follows c =
     let analyzed = c.in_ok-analysis.ensures.analyzed in
     subst (λ ls. Follows cnf.vars cs ls c.in_ok-hints.hints) (sym c.in_ok-clause.ensures)
     (subst (Follows cnf.vars cs (map opposite (marked_literals a.marks.items ts))) (sym c.in_ok-hints.ensures)
-    (learned-follows cs ts s.trail.apart cnf.vars (subst (λ v. AllNamed v ts) c.requires.sound.same_room s.trail.named) a.marks.items analyzed.0 a.hints.items analyzed.1.below analyzed.1.shows))
+    (learned-follows cs ts s.trail.apart cnf.vars (subst (λ v. All (Names v) ts) c.requires.sound.same_room s.trail.named) a.marks.items analyzed.0 a.hints.items analyzed.1.below analyzed.1.shows))
 
 pub go_back-requires-clause-new : goal.go_back-requires-clause-new
 go_back-requires-clause-new c =
@@ -70,7 +71,7 @@ go_back-requires-clause-new c =
       | inr late ↦ let is : level ≡ last = omega (arith, late, before) in omega (arith, ap (λ i. get_or s.starts.items i 0) is, start)
     ] in
     subst (IsNew cs) (sym c.in_ok-clause.ensures)
-    (back-new cs ts s.trail.apart cnf.vars (subst (λ v. AllNamed v ts) c.requires.sound.same_room s.trail.named) marks floor c.second.result res.analyzed.1.sized counted low none
+    (back-new cs ts s.trail.apart cnf.vars (subst (λ v. All (Names v) ts) c.requires.sound.same_room s.trail.named) marks floor c.second.result res.analyzed.1.sized counted low none
     (get_or s.starts.items level 0) (c.level_before-level.ensures.above inside) cut_low (c.requires.sound.reasoned.closed level inside))
 
 pub go_back-requires-clause-unforced : goal.go_back-requires-clause-unforced
@@ -86,5 +87,5 @@ go_back-requires-clause-unforced c = λ i lt.
     let low : c.second.result ≤ floor = omega (arith, c.second.ensures.within, res.at_floor) in
     let none : (p : ℕ) → c.second.result ≤ p → p < floor → is_marked marks p ≡ false = λ p le lt. c.second.ensures.none p le (omega (arith, lt, res.at_floor)) in
     subst (λ ls. WeighsAs (take (get_or s.starts.items i 0) ts) ls Open) (sym c.in_ok-clause.ensures)
-    (back-open (clauses_of cnf s) ts s.trail.apart cnf.vars (subst (λ v. AllNamed v ts) c.requires.sound.same_room s.trail.named) marks floor c.second.result res.analyzed.1.sized counted low none
+    (back-open (clauses_of cnf s) ts s.trail.apart cnf.vars (subst (λ v. All (Names v) ts) c.requires.sound.same_room s.trail.named) marks floor c.second.result res.analyzed.1.sized counted low none
     c.second.ensures.marked (get_or s.starts.items i 0) (c.level_before-level.ensures.below i lt))

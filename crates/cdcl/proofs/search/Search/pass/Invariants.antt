@@ -1,6 +1,5 @@
-use Rattle.std.proofs.Common.{◌≡◌, ◌≤◌, false}
+use Rattle.std.proofs.Common.{◌≤◌}
 use Rattle.cnf_core.specs.TrailViews.{not_true}
-use Rattle.cdcl.specs.Passes.{is_conflict}
 use Rattle.cdcl.specs.States.{FoundSoFar, IsSound, SameSteps}
 use Rattle.cdcl.proofs.search.Search.pass.Given as goal
 
@@ -9,6 +8,5 @@ invariant-loop-number l = record {
   sound : IsSound l.cnf l.self;
   same : SameSteps l.fn.self l.self;
   fewer : not_true l.self.trail ≤ not_true l.fn.self.trail;
-  calm : is_conflict l.pass ≡ false;
   found : FoundSoFar l.cnf l.fn.self l.self l.number l.pass;
 }

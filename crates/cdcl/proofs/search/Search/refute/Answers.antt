@@ -1,11 +1,11 @@
 use Rattle.std.proofs.Common.{◌≡◌, ◌-◌, ◌<◌, ◌∙◌, [], List, ap, arith, length, map, subst, sym, ℕ}
 use Rattle.std.specs.Prelude.{slice_get}
 use Rattle.std.proofs.lemmas.List.{length_push}
+use Rattle.std.specs.List.{All}
 use Rattle.cnf_core.specs.Clauses.{literals}
 use Rattle.cnf_core.specs.Deriving.{EachDerived, Follows}
 use Rattle.cnf_core.specs.Licensing.{BringsNew}
-use Rattle.cnf_core.specs.Literals.{opposite}
-use Rattle.cnf_core.specs.Trails.{AllNamed}
+use Rattle.cnf_core.specs.Literals.{Names, opposite}
 use Rattle.cnf_core.specs.TrailViews.{trues}
 use Rattle.cnf_core.specs.declared.log.Step.{Step}
 use Rattle.cdcl.specs.Marks.{count_from, marked_literals}
@@ -30,7 +30,7 @@ returns c =
     let empty : literals c.in_ok-clause.clause ≡ [] = c.in_ok-clause.ensures ∙ ap (map opposite) (marked-none marks ts (none-marked marks counted)) in
     let f = subst (λ ls. Follows cnf.vars cs ls c.in_ok-hints.hints) (sym c.in_ok-clause.ensures)
     (subst (Follows cnf.vars cs (map opposite (marked_literals marks ts))) (sym c.in_ok-hints.ensures)
-    (learned-follows cs ts s.trail.apart cnf.vars (subst (λ v. AllNamed v ts) c.requires.sound.same_room s.trail.named) marks res.analyzed.0 a.hints.items res.analyzed.1.below res.analyzed.1.shows)) in
+    (learned-follows cs ts s.trail.apart cnf.vars (subst (λ v. All (Names v) ts) c.requires.sound.same_room s.trail.named) marks res.analyzed.0 a.hints.items res.analyzed.1.below res.analyzed.1.shows)) in
     let grown = ap length pushed ∙ length_push s.steps.items step in
     let place : length c.push.new.self.items - 1 ≡ length s.steps.items = omega (arith, grown) in
     let new_before : List Step → Type 0 = λ ss. (k : ℕ) → k < length s.steps.items → BringsNew cnf ss k in

@@ -5,9 +5,9 @@ use Rattle.proof_check.specs.Registering.{IsLast}
 use Rattle.proof_check.proofs.chains.Chains.last.Goals as goal
 
 pub returns : goal.returns
-returns c = λ vars firsts r.
+returns c = λ vars tops r.
     let hs = c.args.self.now.heads.items in
-    let f = index_of c.args.first.number in
+    let f = index_of c.args.top.number in
     let within : c.index-at.result < length hs = omega (arith, c.index-at.ensures, c.requires) in
     let value : c.index.result.now ≡ get_or hs f 0 = get_or_read hs c.index-at.result c.index.result.now within c.index.ensures 0 ∙ ap (λ i. get_or hs i 0) c.index-at.ensures in
-    subst (IsLast firsts f (length firsts)) (sym value) (r.heads f)
+    subst (IsLast tops f (length tops)) (sym value) (r.heads f)
