@@ -9,7 +9,7 @@ use Rattle.cocoon_num.specs.Values.{Value, number, apply_unary, apply_slice, fli
 use Rattle.bv_terms.specs.declared.node.TermOp.{TermOp}
 use Rattle.bv_terms.specs.declared.node.TermOp.TheVariants.{Add, Sub, And, Or, Xor, Concat, Equal, Less}
 use Rattle.bv_terms.specs.TermTrees.{Term, constant, input, apply, not_, binary, slice, pick, width, joined_width, OperandsFit, IsTerm}
-use Rattle.bv_terms.specs.TermValues.{Functions, Inputs, as_number, number_in, operated, term_value}
+use Rattle.bv_terms.specs.TermValues.{Functions, Inputs, term_number, number_in, operated, term_value}
 use Rattle.bv_terms.proofs.ValueFacts.{compared, computed, sliced-width}
 use Rattle.cnf_core.specs.Literals.{opposite}
 use Rattle.bit_blast.specs.Gates.{and_gate, or_gate, xor_gate, same_gate, choice_gate, carry_gate, bitwise, sums, equals, equals_from, less_from, constant_bits, true_bit, false_bit}
@@ -288,13 +288,13 @@ module _ (v : ℤ → Bool) (is : IsValuation v) where
       part-means n (input i w) l h u named counts holds parts reads = ap (number w) reads
       part-means n (apply f args w) l h u named counts holds parts reads = absurd u
       part-means n (not_ a) l h u named counts holds parts reads =
-          ap (λ x. as_number (apply_unary flip x)) parts
+          ap (λ x. term_number (apply_unary flip x)) parts
           ∙ ap (number (width a)) (let f = flipped n (bits a) named in let p = ap (λ k. 2 ^ k) counts in omega arith)
       part-means n (binary op a b) l h u named counts holds parts reads =
           ap (λ x. operated op x (term_value F ins b)) parts.0 ∙ ap (operated op (number (width a) (number_read v (bits a)))) parts.1
           ∙ joined-means op n (width a) (width b) (bits a) (bits b) l named.0 named.1 counts.0 counts.1 (Rattle.bit_blast.proofs.OrderFacts.is-wide a h.0) h.2 holds
       part-means n (slice a high low) l h u named counts holds parts reads =
-          ap (λ x. as_number (apply_slice x high low)) parts ∙ sliced-width (width a) (number_read v (bits a)) high low h.1 h.2
+          ap (λ x. term_number (apply_slice x high low)) parts ∙ sliced-width (width a) (number_read v (bits a)) high low h.1 h.2
           ∙ ap (number (high - low + 1)) (sym (taken low (high - low + 1) (bits a) (let q = h.2 in let r = h.1 in omega arith)))
       part-means n (pick c a b) l h u named counts holds parts reads =
           let choice = first_bit (bits c) in

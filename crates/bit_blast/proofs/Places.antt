@@ -1,10 +1,14 @@
 -- The places of terms that a walk has left.
-use Rattle.std.proofs.Common.{◌≡◌, ℕ, ◌+◌, ◌<◌, ◌≤◌, true, false, List, [], ◌∷◌, ◌++◌, length, Option, Some, None, slice_get, slice_set, refl, ap, sym, ◌∙◌, subst, arith, get_or, zero, suc, inl, inr, ◌⊎◌}
-use Rattle.std.proofs.Math.Nat.{max-le}
+use Rattle.std.proofs.Common.{◌≡◌, ℕ, ◌+◌, ◌<◌, ◌≤◌, true, false, List, [], ◌∷◌, ◌++◌, length, ◌*◌, Option, Some, None, slice_get, slice_set, refl, ap, sym, ◌∙◌, subst, arith, get_or, zero, suc, inl, inr, ◌⊎◌, Bool, ap₂, ◌/◌, ◌%◌, slice_index, map, if◌then◌else◌}
 use Rattle.std.specs.List.{AllByRecursion}
 use Rattle.std.specs.Option.{option_map, unwrap_or}
 use Rattle.std.proofs.Math.ListN.{length-set}
 use Rattle.std.proofs.lemmas.List.{map-append, length-map}
+use Rattle.std.proofs.lemmas.Nat.{div-add-mod'}
+use Rattle.cocoon_num.specs.Names.{same_name}
+use Rattle.name_table.proofs.NameFacts.{same-refl, same-true}
+use Rattle.key_table.specs.declared.KeyTable.{KeyTable}
+use Rattle.key_table.specs.KeyPlaces.{first_place, Holds}
 use Rattle.std.proofs.lemmas.List.Elements.{recursion_from_All, All-from_recursion, All-append, All-cons, All-nil, All-weaker}
 use Rattle.std.proofs.lemmas.List.Folds.{list_any-append}
 use Rattle.std.proofs.lemmas.Option.{slice_get-map, slice_get_within, slice_get-get_or}
@@ -13,12 +17,11 @@ use Rattle.bv_terms.specs.declared.node.Node.{Node}
 use Rattle.bv_terms.specs.declared.node.Node.TheVariants.{Constant, Input, Apply, Not, Binary, Slice, Pick}
 use Rattle.bv_terms.specs.TermTrees.{Term, Args, constant, input, apply, not_, binary, slice, pick, no_args, arg}
 use Rattle.bv_terms.specs.Arenas.{parts, term_at, made_of}
-use Rattle.bit_blast.specs.declared.walk.Key.{Key}
 use Rattle.bit_blast.specs.Clauses.{op_number, same_term, is_among}
 use Rattle.bit_blast.specs.Goals.{IsUnapplied}
 use Rattle.bit_blast.specs.Orders.{first_index, terms_of, IsBefore}
 use Rattle.bit_blast.specs.Seen.{Seen, ArgsSeen}
-use Rattle.bit_blast.specs.Walks.{index_in, IsIndexed, index_of, node_key, start_of, IsWalked, CanLeave, IsNumbered, IsLeft}
+use Rattle.bit_blast.specs.Walks.{half, index_in, IsIndexed, index_of, key_at, node_key, IsWalked, CanLeave, IsNumbered, IsLeft}
 use Rattle.bit_blast.proofs.WalkFacts.{same-itself, same-only, same-op}
 use Rattle.bit_blast.proofs.OrderFacts.{option-suc, each}
 use Rattle.bv_terms.proofs.ArenaFacts.{snoc-cases}
@@ -50,29 +53,6 @@ first-more (t ∷ ts) us u i e =
           cond-false (same_term t u) (Some 0) (option_map suc (first_index (ts ++ us) u)) b
           ∙ ap (option_map suc) (first-more ts us u p.0 p.1) ∙ ap Some (sym p.2)
     ]
-
--- no equal term stands before a place
-abbrev pub NoneBefore : List Term → Term → ℕ → Type 0
-NoneBefore ts u n = (j : ℕ) → j < n → slice_get ts j ≡ Some u → ⊥
-
-not-same : (ts : List Term) (t u : Term) (n : ℕ) → NoneBefore (t ∷ ts) u (suc n) → same_term t u ≡ false
-not-same ts t u n h = elim (cases_Bool (same_term t u)) [ inl b ↦ absurd (h 0 (omega arith) (ap Some (same-only t u b))) | inr b ↦ b ]
-
-pub first-here : (ts : List Term) (u : Term) (n : ℕ) → NoneBefore ts u n → slice_get ts n ≡ Some u → first_index ts u ≡ Some n
-first-here [] u n h e = absurd cc
-first-here (t ∷ ts) u zero h e =
-    let q : t ≡ u = cc in
-    cond-true (same_term t u) (Some 0) (option_map suc (first_index ts u)) (subst (λ x. same_term t x ≡ true) q (same-itself t))
-first-here (t ∷ ts) u (suc n) h e =
-    cond-false (same_term t u) (Some 0) (option_map suc (first_index ts u)) (not-same ts t u n h)
-    ∙ ap (option_map suc) (first-here ts u n (λ j l. h (suc j) (omega arith)) e)
-
-pub first-none : (ts : List Term) (u : Term) (n : ℕ) → length ts ≤ n → NoneBefore ts u n → first_index ts u ≡ None
-first-none [] u n l h = refl
-first-none (t ∷ ts) u zero l h = absurd (omega arith)
-first-none (t ∷ ts) u (suc n) l h =
-    cond-false (same_term t u) (Some 0) (option_map suc (first_index ts u)) (not-same ts t u n h)
-    ∙ ap (option_map suc) (first-none ts u n (omega arith) (λ j k. h (suc j) (omega arith)))
 
 option-none : (o : Option ℕ) → option_map suc o ≡ None → o ≡ None
 option-none None e = refl
@@ -142,14 +122,17 @@ both-each P Q R f (p ∷ ps) h k = (f p h.0 k.0, both-each P Q R f ps h.1 k.1)
 
 -- ---- keys
 
-abbrev pub term_key : (Term → ℕ) → Term → Key
-term_key at (constant w n) = record { kind = 0; first = w; second = 0; third = 0; value = n }
-term_key at (input i w) = record { kind = 1; first = i; second = w; third = 0; value = 0 }
-term_key at (apply f args w) = record { kind = 2; first = 0; second = 0; third = 0; value = 0 }
-term_key at (not_ a) = record { kind = 3; first = at a; second = 0; third = 0; value = 0 }
-term_key at (binary op a b) = record { kind = 4; first = at a; second = at b; third = op_number op; value = 0 }
-term_key at (slice a high low) = record { kind = 5; first = at a; second = high; third = low; value = 0 }
-term_key at (pick c a b) = record { kind = 6; first = at c; second = at a; third = at b; value = 0 }
+abbrev pub term_key : (Term → ℕ) → Term → List ℕ
+term_key at (constant w n) = 0 ∷ w ∷ n % half ∷ n / half ∷ []
+term_key at (input i w) = 1 ∷ i ∷ w ∷ 0 ∷ []
+term_key at (apply f args w) = 2 ∷ 0 ∷ 0 ∷ 0 ∷ []
+term_key at (not_ a) = 3 ∷ at a ∷ 0 ∷ 0 ∷ []
+term_key at (binary op a b) = 4 ∷ at a ∷ at b ∷ op_number op ∷ []
+term_key at (slice a high low) = 5 ∷ at a ∷ high ∷ low ∷ []
+term_key at (pick c a b) = 6 ∷ at c ∷ at a ∷ at b ∷ []
+
+same-halves : (m n k : ℕ) → m % k ≡ n % k → m / k ≡ n / k → m ≡ n
+same-halves m n k low high = sym (div-add-mod' m k) ∙ ap₂ (λ q r. q * k + r) high low ∙ div-add-mod' n k
 
 node-key-is : (ix : ℕ → ℕ) (at : Term → ℕ) (f : ℕ → Term) (node : Node) → AllByRecursion (λ p. ix p ≡ at (f p)) (parts node) → node_key ix node ≡ term_key at (made_of f node)
 node-key-is ix at f (Constant b) h = refl
@@ -160,25 +143,30 @@ node-key-is ix at f (Binary op a b) h = rw (h.0, h.1.0) refl
 node-key-is ix at f (Slice a high low) h = rw (h.0) refl
 node-key-is ix at f (Pick c a b) h = rw (h.0, h.1.0, h.1.1.0) refl
 
+nth : (i : ℕ) {x y : List ℕ} → x ≡ y → slice_index x i ≡ slice_index y i
+nth i h = ap (λ (k : List ℕ). slice_index k i) h
+
 module _ (at : Term → ℕ) (P : Term → Type 0) (only : (t u : Term) → P t → P u → at t ≡ at u → t ≡ u) where
   pub key-only : (t u : Term) → OfParts P t → OfParts P u → IsUnapplied t → term_key at t ≡ term_key at u → t ≡ u
   key-only (apply f args w) u p q n h = absurd n
-  key-only (constant v m) (constant w n) p q z h = let e = ap (λ (k : Key). k.first) h in let d = ap (λ (k : Key). k.value) h in cc
-  key-only (input i v) (input j w) p q n h = let e = ap (λ (k : Key). k.first) h in let d = ap (λ (k : Key). k.second) h in cc
-  key-only (not_ a) (not_ b) p q n h = let e = only a b p q (ap (λ (k : Key). k.first) h) in cc
+  key-only (constant v m) (constant w n) p q z h =
+      let e : v ≡ w = nth 1 h in
+      let d : m ≡ n = same-halves m n half (nth 2 h) (nth 3 h) in cc
+  key-only (input i v) (input j w) p q n h = let e : i ≡ j = nth 1 h in let d : v ≡ w = nth 2 h in cc
+  key-only (not_ a) (not_ b) p q n h = let e = only a b p q (nth 1 h) in cc
   key-only (binary o a b) (binary r c d) p q n h =
-      let e = only a c p.0 q.0 (ap (λ (k : Key). k.first) h) in
-      let g = only b d p.1 q.1 (ap (λ (k : Key). k.second) h) in
-      let s = same-op o r (ap (λ (k : Key). k.third) h) in cc
+      let e = only a c p.0 q.0 (nth 1 h) in
+      let g = only b d p.1 q.1 (nth 2 h) in
+      let s = same-op o r (nth 3 h) in cc
   key-only (slice a i j) (slice b k l) p q n h =
-      let e = only a b p q (ap (λ (k : Key). k.first) h) in
-      let g = ap (λ (k : Key). k.second) h in
-      let s = ap (λ (k : Key). k.third) h in cc
+      let e = only a b p q (nth 1 h) in
+      let g : i ≡ k = nth 2 h in
+      let s : j ≡ l = nth 3 h in cc
   key-only (pick a b c) (pick x y z) p q n h =
-      let e = only a x p.0 q.0 (ap (λ (k : Key). k.first) h) in
-      let g = only b y p.1 q.1 (ap (λ (k : Key). k.second) h) in
-      let s = only c z p.2 q.2 (ap (λ (k : Key). k.third) h) in cc
-  key-only t u p q n h = absurd (let e = ap (λ (k : Key). k.kind) h in omega (arith, e))
+      let e = only a x p.0 q.0 (nth 1 h) in
+      let g = only b y p.1 q.1 (nth 2 h) in
+      let s = only c z p.2 q.2 (nth 3 h) in cc
+  key-only t u p q n h = absurd (let e = nth 0 h in omega (arith, e))
 
 -- ---- equal keys, equal terms
 
@@ -207,9 +195,9 @@ module _ (nodes : List Node) (order : List ℕ) (indices : List (Option ℕ)) (w
   node-at : (id : ℕ) (node : Node) → slice_get nodes id ≡ Some node → term_at nodes id ≡ made_of (term_at nodes) node
   node-at id node n = walked.order_.arena.made id node n
 
-  key-at : (id : ℕ) (node : Node) → slice_get nodes id ≡ Some node → AllByRecursion (IsIndexed indices) (parts node)
+  node-key-at : (id : ℕ) (node : Node) → slice_get nodes id ≡ Some node → AllByRecursion (IsIndexed indices) (parts node)
       → node_key (index_of indices) node ≡ term_key (position terms) (term_at nodes id)
-  key-at id node n h =
+  node-key-at id node n h =
       node-key-is (index_of indices) (position terms) (term_at nodes) node (each at-place (parts node) h)
       ∙ ap (term_key (position terms)) (sym (node-at id node n))
 
@@ -227,85 +215,70 @@ module _ (nodes : List Node) (order : List ℕ) (indices : List (Option ℕ)) (w
       each (λ p (b : IsBefore nodes order indices j p). (b.index, b.has)) (parts node)
       (recursion_from_All (IsBefore nodes order indices j) (parts node) (walked.order_.before_ j (get_or order j d) node (order-at j d l) n))
 
-  term-there : (j d : ℕ) → j < length order → slice_get terms j ≡ Some (term_at nodes (get_or order j d))
-  term-there j d l = slice_get-map (term_at nodes) order j ∙ ap (option_map (term_at nodes)) (order-at j d l)
+  -- a term under a number, all parts of which have places
+  abbrev pub Keyed : ℕ → Type 0
+  Keyed id = (node : Node) × (slice_get nodes id ≡ Some node) × AllByRecursion (IsIndexed indices) (parts node)
 
-  pub same-key : (id j d : ℕ) (node other : Node) → CanLeave nodes indices id → slice_get nodes id ≡ Some node → j < length order → slice_get nodes (get_or order j d) ≡ Some other
-      → node_key (index_of indices) other ≡ node_key (index_of indices) node → slice_get terms j ≡ Some (term_at nodes id)
-  same-key id j d node other can n l o e =
-      let oid = get_or order j d in
-      let ps = order-parts j d other l o in
-      let same : term_at nodes id ≡ term_at nodes oid
-      = key-only (position terms) (IsPlaced terms) (placed-only terms) (term_at nodes id) (term_at nodes oid)
-      (parts-at id node n (can.parts_ node n)) (parts-at oid other o ps) can.unapplied
-      (sym (key-at id node n (can.parts_ node n)) ∙ sym e ∙ key-at oid other o ps) in
-      term-there j d l ∙ ap Some (sym same)
+  pub order-keyed : AllByRecursion Keyed order
+  order-keyed = recursion_from_All Keyed order (λ j d l.
+      let id = get_or order j d in
+      let node = get_or nodes id (Input 0 0) in
+      let n : slice_get nodes id ≡ Some node = slice_get-get_or nodes id (Input 0 0) (walked.order_.there j d l) in
+      (node, n, order-parts j d node l n))
 
-  pub other-key : (id j d : ℕ) (node other : Node) → CanLeave nodes indices id → slice_get nodes id ≡ Some node → j < length order → slice_get nodes (get_or order j d) ≡ Some other
-      → slice_get terms j ≡ Some (term_at nodes id) → node_key (index_of indices) other ≡ node_key (index_of indices) node
-  other-key id j d node other can n l o e =
-      let oid = get_or order j d in
-      let same : term_at nodes oid ≡ term_at nodes id = (let q : Some (term_at nodes oid) ≡ Some (term_at nodes id) = sym (term-there j d l) ∙ e in cc) in
-      key-at oid other o (order-parts j d other l o) ∙ ap (term_key (position terms)) same ∙ sym (key-at id node n (can.parts_ node n))
+  pub key-is : (id : ℕ) → Keyed id → key_at nodes indices id ≡ term_key (position terms) (term_at nodes id)
+  key-is id h = ap (λ o. unwrap_or (option_map (node_key (index_of indices)) o) []) h.1 ∙ node-key-at id h.0 h.1 h.2
 
-  -- ---- where an equal term can stand
+  keyed-parts : (id : ℕ) → Keyed id → OfParts (IsPlaced terms) (term_at nodes id)
+  keyed-parts id h = parts-at id h.0 h.1 h.2
 
-  abbrev pub Below : ℕ → Term → Type 0
-  Below j t = (i : ℕ) × (first_index terms t ≡ Some i) × (i < j)
+  same-key : (id other : ℕ) → Keyed id → Keyed other → IsUnapplied (term_at nodes id)
+      → same_name (key_at nodes indices id) (key_at nodes indices other) ≡ same_term (term_at nodes other) (term_at nodes id)
+  same-key id other h k u =
+      let t = term_at nodes id in
+      let v = term_at nodes other in
+      let x = key_at nodes indices id in
+      let y = key_at nodes indices other in
+      elim (cases_Bool (same_term v t)) [
+        | inl b ↦
+            let same : x ≡ y = key-is id h ∙ ap (term_key (position terms)) (sym (same-only v t b)) ∙ sym (key-is other k) in
+            subst (λ z. same_name x z ≡ true) same (same-refl x) ∙ sym b
+        | inr b ↦ elim (cases_Bool (same_name x y)) [
+          | inl c ↦
+              let same : t ≡ v = key-only (position terms) (IsPlaced terms) (placed-only terms) t v (keyed-parts id h) (keyed-parts other k) u
+              (sym (key-is id h) ∙ same-true x y c ∙ key-is other k) in
+              absurd (let d : same_term v t ≡ true = subst (λ z. same_term z t ≡ true) same (same-itself t) in let f : true ≡ false = sym d ∙ b in cc)
+          | inr c ↦ c ∙ sym b
+        ]
+      ]
 
-  is-below : (j p : ℕ) → IsIndexed indices p → Below j (term_at nodes p) → index_of indices p < j
-  is-below j p h b =
-      let e : index_of indices p ≡ b.0 = at-place p h ∙ ap (λ o. unwrap_or o 0) b.1 in
-      let l = b.2 in omega arith
+  same-place : (id : ℕ) → Keyed id → IsUnapplied (term_at nodes id) → (ids : List ℕ) → AllByRecursion Keyed ids
+      → first_place (key_at nodes indices id) (map (key_at nodes indices) ids) ≡ first_index (terms_of nodes ids) (term_at nodes id)
+  same-place id k u [] h = refl
+  same-place id k u (o ∷ ids) h =
+      ap₂ (λ (b : Bool) (p : Option ℕ). if b then Some 0 else option_map suc p) (same-key id o k h.0 u) (same-place id k u ids h.1)
 
-  start-below : (j : ℕ) (node : Node) → AllByRecursion (λ p. index_of indices p ≤ j) (parts node) → start_of (index_of indices) node ≤ j
-  start-below j (Constant b) h = omega arith
-  start-below j (Input i w) h = omega arith
-  start-below j (Apply g args w) h = omega arith
-  start-below j (Not a) h = h.0
-  start-below j (Binary op a b) h = max-le h.0 h.1.0
-  start-below j (Slice a high low) h = h.0
-  start-below j (Pick c a b) h = max-le h.0 (max-le h.1.0 h.1.1.0)
+  -- the place of its key is that of the first equal term
+  found : (id : ℕ) (node : Node) (key : List ℕ) → CanLeave nodes indices id → slice_get nodes id ≡ Some node → key ≡ node_key (index_of indices) node
+      → first_place key (map (key_at nodes indices) order) ≡ first_index terms (term_at nodes id)
+  found id node key can n e =
+      let same : key ≡ key_at nodes indices id = e ∙ sym (ap (λ o. unwrap_or (option_map (node_key (index_of indices)) o) []) n) in
+      ap (λ k. first_place k (map (key_at nodes indices) order)) same ∙ same-place id (node, n, can.parts_ node n) can.unapplied order order-keyed
 
-  before-order : (j d : ℕ) (node : Node) → j < length order → slice_get nodes (get_or order j d) ≡ Some node → OfParts (Below j) (term_at nodes (get_or order j d))
-  before-order j d node l n =
-      let oid = get_or order j d in
-      subst (OfParts (Below j)) (sym (node-at oid node n))
-      (of-parts (Below j) (term_at nodes) node
-      (each (λ p (b : IsBefore nodes order indices j p). (b.index, b.first, b.smaller)) (parts node)
-      (recursion_from_All (IsBefore nodes order indices j) (parts node) (walked.order_.before_ j oid node (order-at j d l) n))))
+  pub numbered-old : (id index : ℕ) (node : Node) (key : List ℕ) → CanLeave nodes indices id → slice_get nodes id ≡ Some node → key ≡ node_key (index_of indices) node
+      → Some index ≡ first_place key (map (key_at nodes indices) order) → IsNumbered nodes order order id index
+  numbered-old id index node key can n e p = inl (refl, sym (p ∙ found id node key can n e))
 
-  pub start-none : (id : ℕ) (node : Node) → CanLeave nodes indices id → slice_get nodes id ≡ Some node → NoneBefore terms (term_at nodes id) (start_of (index_of indices) node)
-  start-none id node can n j l e =
-      let inside : j < length order = (let q = slice_get_within terms j (term_at nodes id) e in let r : length terms ≡ length order = length-map order (term_at nodes) in omega arith) in
-      let oid = get_or order j 0 in
-      let same : term_at nodes oid ≡ made_of (term_at nodes) node
-      = (let q : Some (term_at nodes oid) ≡ Some (term_at nodes id) = sym (term-there j 0 inside) ∙ e in let r : term_at nodes oid ≡ term_at nodes id = cc in r ∙ node-at id node n) in
-      let there = walked.order_.there j 0 inside in
-      let other = get_or nodes oid node in
-      let before = before-order j 0 other inside (slice_get-get_or nodes oid node there) in
-      let below = to-parts (Below j) (term_at nodes) node (subst IsUnapplied (node-at id node n) can.unapplied) (subst (OfParts (Below j)) same before) in
-      let indexed = can.parts_ node n in
-      let least = start-below j node (both-each (IsIndexed indices) (λ p. Below j (term_at nodes p)) (λ p. index_of indices p ≤ j)
-      (λ p h b. (let q = is-below j p h b in omega arith)) (parts node) indexed below) in
-      absurd (omega (arith, l, least))
+  pub numbered-new : (id index : ℕ) (node : Node) (key more : List ℕ) → CanLeave nodes indices id → slice_get nodes id ≡ Some node → key ≡ node_key (index_of indices) node
+      → None ≡ first_place key (map (key_at nodes indices) order) → more ≡ order ++ id ∷ [] → index ≡ length order → IsNumbered nodes order more id index
+  numbered-new id index node key more can n e p m l = inr (m, sym (p ∙ found id node key can n e), l)
 
-  pub start-from : (id n : ℕ) (node : Node) → CanLeave nodes indices id → slice_get nodes id ≡ Some node → n ≡ start_of (index_of indices) node → NoneBefore terms (term_at nodes id) n
-  start-from id n node can h e = subst (NoneBefore terms (term_at nodes id)) (sym e) (start-none id node can h)
+  keys-by-terms : (ids : List ℕ) → AllByRecursion Keyed ids → map (key_at nodes indices) ids ≡ map (λ o. term_key (position terms) (term_at nodes o)) ids
+  keys-by-terms [] h = refl
+  keys-by-terms (o ∷ ids) h = ap₂ (λ (k : List ℕ) (ks : List (List ℕ)). k ∷ ks) (key-is o h.0) (keys-by-terms ids h.1)
 
-  pub found-at : (id j d : ℕ) (node other : Node) → CanLeave nodes indices id → slice_get nodes id ≡ Some node → j < length order → slice_get nodes (get_or order j d) ≡ Some other
-      → NoneBefore terms (term_at nodes id) j → node_key (index_of indices) other ≡ node_key (index_of indices) node → Some j ≡ first_index terms (term_at nodes id)
-  found-at id j d node other can n l o before e = sym (first-here terms (term_at nodes id) j before (same-key id j d node other can n l o e))
-
-  pub not-found : (id j d : ℕ) (node other : Node) → CanLeave nodes indices id → slice_get nodes id ≡ Some node → j < length order → slice_get nodes (get_or order j d) ≡ Some other
-      → NoneBefore terms (term_at nodes id) j → (node_key (index_of indices) other ≡ node_key (index_of indices) node → ⊥) → NoneBefore terms (term_at nodes id) (j + 1)
-  not-found id j d node other can n l o before e k m there = elim (cases_lt k j) [
-    | inl b ↦ before k b there
-    | inr b ↦ e (other-key id j d node other can n l o (ap (slice_get terms) (let q : j ≡ k = omega arith in q) ∙ there))
-  ]
-
-  pub found-none : (id n : ℕ) → length order ≤ n → NoneBefore terms (term_at nodes id) n → None ≡ first_index terms (term_at nodes id)
-  found-none id n l before = sym (first-none terms (term_at nodes id) n (let c : length terms ≡ length order = length-map order (term_at nodes) in omega arith) before)
+  pub order-keys : map (key_at nodes indices) order ≡ map (λ o. term_key (position terms) (term_at nodes o)) order
+  order-keys = keys-by-terms order order-keyed
 
 -- ---- one more term
 
@@ -425,6 +398,12 @@ add-term nodes order indices id w can =
       seen = λ p i e. subst (λ xs. Seen xs (term_at nodes p)) (sym more) (seen-more ts (t ∷ []) (term_at nodes p) (w.seen p i e));
     }
 
+-- the term has its parts' places, and the first equal term stands in the order
+pub numbered-walks : (nodes : List Node) (old new : List ℕ) (indices : List (Option ℕ)) (id index : ℕ) → IsWalked nodes old indices → CanLeave nodes indices id
+    → IsNumbered nodes old new id index → IsWalked nodes new indices
+numbered-walks nodes old new indices id index w can (inl s) = subst (λ o. IsWalked nodes o indices) (sym s.0) w
+numbered-walks nodes old new indices id index w can (inr s) = subst (λ o. IsWalked nodes o indices) (sym s.0) (add-term nodes old indices id w can)
+
 pub left-is : (nodes : List Node) (old new : List ℕ) (indices news : List (Option ℕ)) (id index : ℕ) → IsWalked nodes old indices → CanLeave nodes indices id
     → IsNumbered nodes old new id index → news ≡ slice_set indices id (Some index) → IsLeft nodes old new indices news id
 left-is nodes old new indices news id index w can numbered e =
@@ -435,7 +414,7 @@ left-is nodes old new indices news id index w can numbered e =
     let n : slice_get nodes id ≡ Some node = slice_get-get_or nodes id (Input 0 0) there in
     elim numbered [
       | inl s ↦ record {
-        walked = subst (IsWalked nodes new) (sym e) (set-place nodes new indices id index (subst (λ o. IsWalked nodes o indices) (sym s.0) w) can node n (ap (λ o. first_index (terms_of nodes o) t) s.0 ∙ s.1));
+        walked = subst (IsWalked nodes new) (sym e) (set-place nodes new indices id index (numbered-walks nodes old new indices id index w can (inl s)) can node n (ap (λ o. first_index (terms_of nodes o) t) s.0 ∙ s.1));
         terms = ap (terms_of nodes) s.0 ∙ sym (cond-true (is_among ts t) ts (ts ++ t ∷ []) (among-first ts t index s.1));
         placed = (index, e);
         order_ = inl s.0;
@@ -444,10 +423,15 @@ left-is nodes old new indices news id index w can numbered e =
           let more : terms_of nodes new ≡ ts ++ t ∷ [] = ap (terms_of nodes) s.0 ∙ map-append (term_at nodes) old (id ∷ []) in
           let c : length ts ≡ index = length-map old (term_at nodes) ∙ sym s.2 in
           record {
-            walked = subst (IsWalked nodes new) (sym e) (set-place nodes new indices id index (subst (λ o. IsWalked nodes o indices) (sym s.0) (add-term nodes old indices id w can)) can node n
+            walked = subst (IsWalked nodes new) (sym e) (set-place nodes new indices id index (numbered-walks nodes old new indices id index w can (inr s)) can node n
                 (ap (λ xs. first_index xs t) more ∙ first-new ts t s.1 ∙ ap Some c));
             terms = more ∙ sym (cond-false (is_among ts t) ts (ts ++ t ∷ []) (among-none ts t s.1));
             placed = (index, e);
             order_ = inr s.0;
           }
     ]
+
+-- its place changes no key
+pub keys-left : (nodes : List Node) (order : List ℕ) (indices news : List (Option ℕ)) (keys : KeyTable) → IsWalked nodes order indices → IsWalked nodes order news
+    → Holds keys (map (key_at nodes indices) order) → Holds keys (map (key_at nodes news) order)
+keys-left nodes order indices news keys w v h = subst (Holds keys) (order-keys nodes order indices w ∙ sym (order-keys nodes order news v)) h

@@ -1,5 +1,5 @@
 -- A walk, task by task.
-use Rattle.std.proofs.Common.{◌≡◌, ℕ, ◌+◌, ◌<◌, ◌≤◌, List, [], ◌∷◌, ◌++◌, length, Option, Some, None, slice_get, slice_set, refl, ap, sym, ◌∙◌, subst, arith, zero, suc, inl, inr, ◌⊎◌}
+use Rattle.std.proofs.Common.{◌≡◌, ℕ, ◌+◌, ◌<◌, ◌≤◌, List, [], ◌∷◌, ◌++◌, length, map, Option, Some, None, slice_get, slice_set, refl, ap, sym, ◌∙◌, subst, arith, zero, suc, inl, inr, ◌⊎◌}
 use Rattle.std.specs.Prelude.{Vec, reverse, replicate}
 use Rattle.std.specs.declared.alloc.Global.{Global}
 use Rattle.std.specs.List.{AllByRecursion}
@@ -14,10 +14,11 @@ use Rattle.bv_terms.specs.Arenas.{IsArena, parts, term_at, made_of}
 use Rattle.bit_blast.specs.declared.walk.Task.{Task}
 use Rattle.bit_blast.specs.declared.walk.Task.TheVariants.{Enter, Leave}
 use Rattle.bit_blast.specs.declared.walk.Walk.{Walk}
+use Rattle.key_table.specs.KeyPlaces.{Holds}
 use Rattle.bit_blast.specs.Clauses.{leave, walk}
 use Rattle.bit_blast.specs.Goals.{IsUnapplied}
 use Rattle.bit_blast.specs.Orders.{terms_of}
-use Rattle.bit_blast.specs.Walks.{index_in, IsIndexed, IsWalked, CanLeave, IsLeft, entered, CanStep, AreEntered, IsStep, WalkDone}
+use Rattle.bit_blast.specs.Walks.{HasKeys, index_in, IsIndexed, IsWalked, key_at, CanLeave, IsLeft, entered, CanStep, AreEntered, IsStep, WalkDone}
 use Rattle.bit_blast.proofs.WalkFacts.{walk-seen}
 use Rattle.bit_blast.proofs.OrderFacts.{each}
 use Rattle.bit_blast.proofs.Defining.{every-append}
@@ -50,6 +51,18 @@ pub record Walking (nodes : List Node) (goal : ℕ) (order : List ℕ) (indices 
   pub rest : all_done nodes (reverse tasks) (terms_of nodes order) ≡ walk (term_at nodes goal) []
   pub pending : Pending nodes goal indices [] (reverse tasks)
   pub placed : AllByRecursion (IsIndexed indices) order
+
+-- ---- the keys
+
+pub keys-kept : (nodes : List Node) (old new : Walk) → new.keys ≡ old.keys → new.order ≡ old.order → new.indices ≡ old.indices → HasKeys nodes old → HasKeys nodes new
+keys-kept nodes old new k o i h =
+    subst (λ t. Holds t (map (key_at nodes new.indices.items) new.order.items)) (sym k)
+    (subst (λ (v : Vec ℕ Global). Holds old.keys (map (key_at nodes new.indices.items) v.items)) (sym o)
+    (subst (λ (v : Vec (Option ℕ) Global). Holds old.keys (map (key_at nodes v.items) old.order.items)) (sym i) h))
+
+pub keys-start : (nodes : List Node) (old new : Walk) → Holds old.keys [] → old.order.items ≡ [] → new.keys ≡ old.keys → new.order ≡ old.order → new.indices ≡ old.indices → HasKeys nodes new
+keys-start nodes old new h e k o i =
+    keys-kept nodes old new k o i (subst (λ ids. Holds old.keys (map (key_at nodes old.indices.items) ids)) (sym e) h)
 
 -- ---- how much is left
 

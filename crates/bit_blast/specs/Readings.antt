@@ -13,8 +13,8 @@ abbrev pub number_read : (ℤ → Bool) → List ℤ → ℕ
 number_read v [] = 0
 number_read v (b ∷ bits) = (if v b then 1 else 0) + 2 * number_read v bits
 
-abbrev pub HasInput : Term → (i w : ℕ) → Type 0
-HasInput goal i w = is_among (walk goal []) (input i w) ≡ true
+abbrev pub Mentions : Term → (i w : ℕ) → Type 0
+Mentions goal i w = is_among (walk goal []) (input i w) ≡ true
 
 -- the literals of an input: none, if the goal does not have it
 abbrev pub input_bits : Term → (i w : ℕ) → List ℤ
@@ -22,10 +22,10 @@ input_bits goal i w = bits_in (goal_blasted goal).table (input i w)
 
 -- each input of the goal is the number of its literals
 abbrev pub ReadsAs : Term → (ℤ → Bool) → Inputs → Type 0
-ReadsAs goal v ins = (i w : ℕ) → HasInput goal i w → ins i ≡ number_read v (input_bits goal i w)
+ReadsAs goal v ins = (i w : ℕ) → Mentions goal i w → ins i ≡ number_read v (input_bits goal i w)
 
 abbrev pub InputsFit : Term → Inputs → Type 0
-InputsFit goal ins = (i w : ℕ) → HasInput goal i w → ins i < 2 ^ w
+InputsFit goal ins = (i w : ℕ) → Mentions goal i w → ins i < 2 ^ w
 
 -- an assignment of all variables, under which the clauses hold and the inputs are these
 pub record Extends (goal : Term) (ins : Inputs) (a : Assignment) : Type 0 where

@@ -1,10 +1,10 @@
 -- Cited by private clauses: how far a walk has come, and what it has still to do.
-use Rattle.std.specs.Prelude.{◌≡◌, ℕ, ◌<◌, ◌≤◌, ◌⊎◌, max, List, [], ◌∷◌, ◌++◌, length, Option, Some, None, unwrap_or, option_and_then, slice_get, slice_set}
+use Rattle.std.specs.Prelude.{◌≡◌, ℕ, ◌<◌, ◌≤◌, ◌⊎◌, ◌^◌, ◌/◌, ◌%◌, List, [], ◌∷◌, ◌++◌, length, map, Option, Some, None, unwrap_or, option_map, option_and_then, slice_get, slice_set}
 use Rattle.std.specs.List.{AllByRecursion}
 use Rattle.bv_terms.specs.declared.node.Node.{Node}
 use Rattle.bv_terms.specs.declared.node.Node.TheVariants.{Constant, Input, Apply, Not, Binary, Slice, Pick}
 use Rattle.bv_terms.specs.Arenas.{parts, term_at}
-use Rattle.bit_blast.specs.declared.walk.Key.{Key}
+use Rattle.key_table.specs.KeyPlaces.{Holds}
 use Rattle.bit_blast.specs.declared.walk.Task.{Task}
 use Rattle.bit_blast.specs.declared.walk.Walk.{Walk}
 use Rattle.bit_blast.specs.declared.walk.Task.TheVariants.{Enter, Leave}
@@ -26,25 +26,26 @@ index_of indices p = unwrap_or (index_in indices p) 0
 
 -- ---- keys
 
--- how a node is built, given the places of its parts
-abbrev pub node_key : (ℕ → ℕ) → Node → Key
-node_key ix (Constant b) = record { kind = 0; first = b.width; second = 0; third = 0; value = b.value }
-node_key ix (Input i w) = record { kind = 1; first = i; second = w; third = 0; value = 0 }
-node_key ix (Apply f args w) = record { kind = 2; first = 0; second = 0; third = 0; value = 0 }
-node_key ix (Not a) = record { kind = 3; first = ix a; second = 0; third = 0; value = 0 }
-node_key ix (Binary op a b) = record { kind = 4; first = ix a; second = ix b; third = op_number op; value = 0 }
-node_key ix (Slice a high low) = record { kind = 5; first = ix a; second = high; third = low; value = 0 }
-node_key ix (Pick c a b) = record { kind = 6; first = ix c; second = ix a; third = ix b; value = 0 }
+-- a number of up to 128 bits is given by its lower and its upper 64
+abbrev pub half : ℕ
+half = 2 ^ 64
 
--- where the last of its parts stands; an equal term stands later
-abbrev pub start_of : (ℕ → ℕ) → Node → ℕ
-start_of ix (Constant b) = 0
-start_of ix (Input i w) = 0
-start_of ix (Apply f args w) = 0
-start_of ix (Not a) = ix a
-start_of ix (Binary op a b) = max (ix a) (ix b)
-start_of ix (Slice a high low) = ix a
-start_of ix (Pick c a b) = max (ix c) (max (ix a) (ix b))
+-- how a node is built, given the places of its parts
+abbrev pub node_key : (ℕ → ℕ) → Node → List ℕ
+node_key ix (Constant b) = 0 ∷ b.width ∷ b.value % half ∷ b.value / half ∷ []
+node_key ix (Input i w) = 1 ∷ i ∷ w ∷ 0 ∷ []
+node_key ix (Apply f args w) = 2 ∷ 0 ∷ 0 ∷ 0 ∷ []
+node_key ix (Not a) = 3 ∷ ix a ∷ 0 ∷ 0 ∷ []
+node_key ix (Binary op a b) = 4 ∷ ix a ∷ ix b ∷ op_number op ∷ []
+node_key ix (Slice a high low) = 5 ∷ ix a ∷ high ∷ low ∷ []
+node_key ix (Pick c a b) = 6 ∷ ix c ∷ ix a ∷ ix b ∷ []
+
+abbrev pub key_at : List Node → List (Option ℕ) → ℕ → List ℕ
+key_at nodes indices id = unwrap_or (option_map (node_key (index_of indices)) (slice_get nodes id)) []
+
+-- the keys are those of the terms in the order
+abbrev pub HasKeys : List Node → Walk → Type 0
+HasKeys nodes w = Holds w.keys (map (key_at nodes w.indices.items) w.order.items)
 
 -- ---- terms that were left
 

@@ -1,5 +1,5 @@
 //! Terms' gates in their order.
-ghost use Rattle.std.specs.Prelude.{◌≡◌, ◌<◌, ◌^◌, IfOk, length};
+ghost use Rattle.std.specs.Prelude.{◌<◌, ◌^◌, IfOk, length};
 ghost use Rattle.bv_terms.specs.Arenas.{term_at};
 ghost use Rattle.bit_blast.specs.Blasting.{IsClauses, MapsInputs};
 ghost use Rattle.bit_blast.specs.Orders.{IsEmitted, IsOrder};

@@ -1,5 +1,5 @@
 //! Terms' bits by gates, from bit 0 on.
-ghost use Rattle.std.specs.Prelude.{◌≡◌, ◌+◌, ◌++◌, ◌∷◌, [], ℤ, pos, map, IfOk, length};
+ghost use Rattle.std.specs.Prelude.{◌≡◌, ◌+◌, ◌++◌, ◌∷◌, [], pos, map, IfOk, length};
 ghost use Rattle.cnf_core.specs.Literals.{opposite};
 ghost use Rattle.bit_blast.specs.Gates as gates;
 ghost use Rattle.bit_blast.specs.Emitted.{AreGates, IsGate, IsPair, IsSumBit, gate_of, numbers};

@@ -9,7 +9,7 @@ ghost use Rattle.bit_blast.specs.Gates.{and_gate, carry_gate, choice_gate, or_ga
 ghost use Rattle.bit_blast.specs.Meanings.{IsValuation, all_hold};
 ghost use Rattle.bit_blast.specs.Blasting.{IsClauses};
 ghost use Rattle.bit_blast.specs.Goals.{IsGoal};
-ghost use Rattle.bit_blast.specs.Readings.{Extends, HasInput, InputsFit, ReadsAs, input_bits};
+ghost use Rattle.bit_blast.specs.Readings.{Extends, InputsFit, Mentions, ReadsAs, input_bits};
 ghost use Rattle.bv_terms.specs.TermValues.{Functions, Inputs, term_value};
 ghost use Rattle.cnf_core.specs.Satisfying.{Satisfies, makes_true};
 ghost use Rattle.cnf_core.specs.declared.clauses.Assignment.{Assignment};
@@ -73,8 +73,8 @@ pub fn satisfying_is_making_hold()
 
 /// An input of a goal has a literal for each of its bits. Any other has none, so it is read as 0.
 pub fn inputs_have_their_bits()
-    ensures present { (goal : Term) → IsGoal goal → (i w : ℕ) → HasInput goal i w
+    ensures present { (goal : Term) → IsGoal goal → (i w : ℕ) → Mentions goal i w
         → length (input_bits goal i w) ≡ w }
-    ensures absent { (goal : Term) → IsGoal goal → (i w : ℕ) → (HasInput goal i w → ⊥)
+    ensures absent { (goal : Term) → IsGoal goal → (i w : ℕ) → (Mentions goal i w → ⊥)
         → input_bits goal i w ≡ [] }
 {}

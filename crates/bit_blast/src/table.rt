@@ -1,5 +1,5 @@
 //! The bits of the terms so far.
-ghost use Rattle.std.specs.Prelude.{◌≡◌, IfOk, length};
+ghost use Rattle.std.specs.Prelude.{◌≡◌, IfOk};
 ghost use Rattle.bit_blast.specs.Emitted.{AreGates, numbers};
 ghost use Rattle.bit_blast.specs.Tables.{HasBits, HasRow, bits_at, index_at, circuit_of_node};
 
@@ -28,9 +28,7 @@ impl Table {
             None => unreachable!(),
         }
     }
-}
 
-impl Table {
     fn index(&self, term: TermId) -> Option<usize>
         ensures { result ≡ index_at self.now term }
     {

@@ -1,14 +1,15 @@
 //! The distinct terms of a goal, in the order in which a walk leaves them.
-ghost use Rattle.std.specs.Prelude.{◌≡◌, ◌+◌, ◌<◌, [], ◌++◌, ◌∷◌, IfOk, OnOk, IsTrue, None, length, replicate};
+ghost use Rattle.std.specs.Prelude.{◌≡◌, ◌+◌, ◌<◌, ◌/◌, ◌%◌, [], ◌++◌, IfOk, OnOk, None, length, replicate};
 ghost use Rattle.bv_terms.specs.Arenas.{parts, term_at};
 ghost use Rattle.bit_blast.specs.Clauses.{op_number};
-ghost use Rattle.bit_blast.specs.Orders.{first_index, terms_of};
-ghost use Rattle.bit_blast.specs.Walks.{CanLeave, CanStep, IsIndexed, IsLeft, IsNumbered, IsStep, IsWalked, WalkDone, entered, index_of, node_key, start_of};
+ghost use Rattle.bit_blast.specs.Walks.{CanLeave, CanStep, HasKeys, IsIndexed, IsLeft, IsNumbered, IsStep, IsWalked, WalkDone, entered, half, index_of, node_key};
+ghost use Rattle.key_table.specs.KeyPlaces.{Holds};
 ghost use Rattle.bit_blast.specs.Goals.{IsUnapplied};
 ghost use Rattle.std.specs.List.{AllByRecursion};
 
 use bv_terms::{Node, TermId, TermOp, Terms};
 use cocoon_num::NoMemory;
+use key_table::KeyTable;
 use std::alloc::Global;
 
 /// What a walk has still to do.
@@ -26,46 +27,15 @@ pub(crate) struct Walk {
     pub(crate) order: Vec<TermId>,
     /// For each term that was left, the place of the first equal one in that order.
     pub(crate) indices: Vec<Option<usize>>,
+    /// The key of each term of the order.
+    keys: KeyTable,
     tasks: Vec<Task>,
 }
 
-/// How a term is built of terms that were left: two terms are equal where their keys are.
-#[derive(Clone, Copy, Drop)]
-struct Key {
-    kind: u8,
-    first: usize,
-    second: usize,
-    third: usize,
-    value: u128,
-}
+/// Above the lower half of the bits of a number.
+const HALF: u128 = 1 << 64;
 
-impl Key {
-    fn new(kind: u8, first: usize, second: usize, third: usize) -> Key
-        ensures { (result.kind ≡ kind) × (result.first ≡ first) × (result.second ≡ second)
-            × (result.third ≡ third) × (result.value ≡ 0) }
-    {
-        Key {
-            kind,
-            first,
-            second,
-            third,
-            value: 0,
-        }
-    }
-
-    fn is_same(&self, other: &Key) -> bool
-        ensures same { IsTrue result → self.now ≡ other.now }
-        ensures all { self.now ≡ other.now → IsTrue result }
-    {
-        self.kind == other.kind
-            && self.first == other.first
-            && self.second == other.second
-            && self.third == other.third
-            && self.value == other.value
-    }
-}
-
-fn operator(op: TermOp) -> usize
+fn operator(op: TermOp) -> u64
     ensures { result ≡ op_number op }
 {
     match op {
@@ -81,79 +51,45 @@ fn operator(op: TermOp) -> usize
 }
 
 /// The place of a term that was left, or of its equal.
-fn place(indices: &[Option<usize>], id: TermId) -> usize
+fn place(indices: &[Option<usize>], id: TermId) -> u64
     requires { IsIndexed indices.now id }
     ensures { result ≡ index_of indices.now id }
 {
     match indices[id as usize] {
-        Some(index) => index,
+        Some(index) => index as u64,
         None => unreachable!(),
     }
 }
 
-fn key_of(indices: &[Option<usize>], node: &Node) -> Key
+/// The lower and the upper 64 bits of a number.
+fn halves(value: u128) -> (u64, u64)
+    ensures { (result.0 ≡ value % half) × (result.1 ≡ value / half) }
+{
+    ((value % HALF) as u64, (value / HALF) as u64)
+}
+
+/// How a node is built of terms that were left: two terms are equal where these numbers are.
+fn key_of(indices: &[Option<usize>], node: &Node) -> [u64; 4]
     requires { AllByRecursion (IsIndexed indices.now) (parts node.now) }
     ensures { result ≡ node_key (index_of indices.now) node.now }
 {
     match node {
-        Node::Constant(bits) => Key {
-            kind: 0,
-            first: bits.width as usize,
-            second: 0,
-            third: 0,
-            value: bits.value,
-        },
-        Node::Input(input, width) => Key::new(1, *input as usize, *width as usize, 0),
-        Node::Apply(_, _, _) => Key::new(2, 0, 0, 0),
-        Node::Not(a) => Key::new(3, place(indices, *a), 0, 0),
-        Node::Binary(op, a, b) => {
-            Key::new(4, place(indices, *a), place(indices, *b), operator(*op))
+        Node::Constant(bits) => {
+            let (low, high) = halves(bits.value);
+            [0, u64::from(bits.width), low, high]
         }
-        Node::Slice(a, high, low) => {
-            Key::new(5, place(indices, *a), *high as usize, *low as usize)
-        }
-        Node::Pick(c, a, b) => {
-            Key::new(
-                6,
-                place(indices, *c),
-                place(indices, *a),
-                place(indices, *b),
-            )
-        }
+        Node::Input(input, width) => [1, u64::from(*input), u64::from(*width), 0],
+        Node::Apply(_, _, _) => [2, 0, 0, 0],
+        Node::Not(a) => [3, place(indices, *a), 0, 0],
+        Node::Binary(op, a, b) => [4, place(indices, *a), place(indices, *b), operator(*op)],
+        Node::Slice(a, high, low) => [5, place(indices, *a), u64::from(*high), u64::from(*low)],
+        Node::Pick(c, a, b) => [
+            6,
+            place(indices, *c),
+            place(indices, *a),
+            place(indices, *b),
+        ],
     }
-}
-
-/// No equal of a term stands before this place: it stands behind all parts.
-fn start(indices: &[Option<usize>], node: &Node) -> usize
-    requires { AllByRecursion (IsIndexed indices.now) (parts node.now) }
-    ensures { result ≡ start_of (index_of indices.now) node.now }
-{
-    match node {
-        Node::Constant(_) | Node::Input(_, _) | Node::Apply(_, _, _) => 0,
-        Node::Not(a) | Node::Slice(a, _, _) => place(indices, *a),
-        Node::Binary(_, a, b) => place(indices, *a).max(place(indices, *b)),
-        Node::Pick(c, a, b) => {
-            let below = place(indices, *a).max(place(indices, *b));
-            place(indices, *c).max(below)
-        }
-    }
-}
-
-/// The place of the first term in the order that is equal to this one.
-fn find(terms: &Terms, order: &[TermId], indices: &[Option<usize>], id: TermId) -> Option<usize>
-    requires walked { IsWalked terms.now order.now indices.now }
-    requires next { CanLeave terms.now indices.now id }
-    ensures { result ≡ first_index (terms_of terms.now order.now) (term_at terms.now id) }
-{
-    let wanted = key_of(indices, terms.node(id));
-    let mut at = start(indices, terms.node(id));
-    while at < order.len() {
-        if key_of(indices, terms.node(order[at])).is_same(&wanted) {
-            return Some(at);
-        }
-        at += 1;
-    }
-    None
 }
 
 impl Walk {
@@ -161,6 +97,7 @@ impl Walk {
     fn new(alloc: Global, goal: TermId) -> Result<Walk, NoMemory>
         ensures order { IfOk result (λ w. w.order.items ≡ []) }
         ensures indices { IfOk result (λ w. w.indices.items ≡ replicate (goal + 1) None) }
+        ensures keys { IfOk result (λ w. Holds w.keys []) }
         ensures tasks { IfOk result (λ w. w.tasks.items ≡ []) }
     {
         let mut indices = Vec::new(alloc);
@@ -168,6 +105,7 @@ impl Walk {
         Ok(Walk {
             order: Vec::new(alloc),
             indices,
+            keys: KeyTable::new(alloc),
             tasks: Vec::new(alloc),
         })
     }
@@ -176,6 +114,7 @@ impl Walk {
     fn enter(&mut self, id: TermId, node: &Node) -> Result<(), NoMemory>
         ensures order { self.new.order ≡ self.old.order }
         ensures indices { self.new.indices ≡ self.old.indices }
+        ensures keys { self.new.keys ≡ self.old.keys }
         ensures tasks { OnOk result
             (self.new.tasks.items ≡ self.old.tasks.items ++ entered id node.now) }
     {
@@ -200,15 +139,20 @@ impl Walk {
     fn number(&mut self, terms: &Terms, id: TermId) -> Result<usize, NoMemory>
         requires walked { IsWalked terms.now self.old.order.items self.old.indices.items }
         requires next { CanLeave terms.now self.old.indices.items id }
+        requires keys { HasKeys terms.now self.old }
         ensures numbered { IfOk result (λ index. IsNumbered terms.now self.old.order.items
             self.new.order.items id index) }
+        ensures keys { OnOk result (HasKeys terms.now self.new) }
         ensures indices { self.new.indices ≡ self.old.indices }
         ensures tasks { self.new.tasks ≡ self.old.tasks }
     {
-        if let Some(index) = find(terms, &self.order, &self.indices, id) {
-            return Ok(index);
+        let key = key_of(&self.indices, terms.node(id));
+        if let Some(index) = self.keys.place(&key) {
+            return Ok(index as usize);
         }
         let index = self.order.len();
+        let alloc = *self.order.allocator();
+        self.keys.append(alloc, &key)?;
         self.order.push(id)?;
         Ok(index)
     }
@@ -216,8 +160,10 @@ impl Walk {
     fn leave(&mut self, terms: &Terms, id: TermId) -> Result<(), NoMemory>
         requires walked { IsWalked terms.now self.old.order.items self.old.indices.items }
         requires next { CanLeave terms.now self.old.indices.items id }
+        requires keys { HasKeys terms.now self.old }
         ensures left { OnOk result (IsLeft terms.now self.old.order.items self.new.order.items
             self.old.indices.items self.new.indices.items id) }
+        ensures keys { OnOk result (HasKeys terms.now self.new) }
         ensures tasks { self.new.tasks ≡ self.old.tasks }
     {
         let index = self.number(terms, id)?;
@@ -227,8 +173,10 @@ impl Walk {
 
     /// One task.
     fn step(&mut self, terms: &Terms, task: Task) -> Result<(), NoMemory>
-        requires { CanStep terms.now task self.old }
-        ensures { OnOk result (IsStep terms.now task self.old self.new) }
+        requires can { CanStep terms.now task self.old }
+        requires keys { HasKeys terms.now self.old }
+        ensures step { OnOk result (IsStep terms.now task self.old self.new) }
+        ensures keys { OnOk result (HasKeys terms.now self.new) }
     {
         match task {
             Task::Leave(id) => self.leave(terms, id),

@@ -12,7 +12,7 @@ use Rattle.bv_terms.specs.declared.node.Node.{Node}
 use Rattle.bv_terms.specs.declared.node.Node.TheVariants.{Constant, Input, Apply, Not, Binary, Slice, Pick}
 use Rattle.bv_terms.specs.declared.eval.Env.{Env}
 use Rattle.bv_terms.specs.TermTrees.{Term, width, arg_widths, IsTerm, AreArgs, OperandsFit}
-use Rattle.bv_terms.specs.TermValues.{number_in, as_number, operated, term_value, arg_numbers}
+use Rattle.bv_terms.specs.TermValues.{number_in, term_number, operated, term_value, arg_numbers}
 use Rattle.bv_terms.specs.Arenas.{parts, args_of, made_of, term_at, width_at, WidthsFit, IsArena}
 use Rattle.bv_terms.specs.Environments.{Covers, CoversArgs, HasTable, functions_of, inputs_of}
 use Rattle.bv_terms.specs.Needed.{AreNeeded, IsMarked}
@@ -120,10 +120,10 @@ made-value : (env : Env) (values : List Bits) (f : ℕ → Term) (n : Node)
 made-value env values f (Constant b) e = refl
 made-value env values f (Input i w) e = refl
 made-value env values f (Apply g args w) e = ap (λ xs. number w (functions_of env g xs)) (arg-numbers env values f args e)
-made-value env values f (Not a) e = ap (λ v. as_number (apply_unary flip v)) e.0
+made-value env values f (Not a) e = ap (λ v. term_number (apply_unary flip v)) e.0
 made-value env values f (Binary op a b) e =
     ap (λ v. operated op v (value_in values b)) e.0 ∙ ap (operated op (term_value (functions_of env) (inputs_of env) (f a))) e.1.0
-made-value env values f (Slice a high low) e = ap (λ v. as_number (apply_slice v high low)) e.0
+made-value env values f (Slice a high low) e = ap (λ v. term_number (apply_slice v high low)) e.0
 made-value env values f (Pick c a b) e = rw (e.0, e.1.0, e.1.1.0) refl
 
 -- ---- what is ready

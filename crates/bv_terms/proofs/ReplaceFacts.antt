@@ -1,5 +1,5 @@
 -- Terms that are rebuilt over others.
-use Rattle.std.proofs.Common.{◌≡◌, ℕ, ◌-◌, ◌+◌, ◌<◌, ◌≤◌, Bool, List, [], ◌∷◌, ◌++◌, length, map, Option, Some, None, slice_get, slice_index, refl, ap, sym, ◌∙◌, subst, arith, get_or, zero, suc, length-append, append_assoc, take, ◌==◌, true, inl, inr, ◌≢◌, slice_set, drop, replicate, if◌then◌else◌}
+use Rattle.std.proofs.Common.{◌≡◌, ℕ, ◌-◌, ◌+◌, ◌<◌, ◌≤◌, Bool, List, [], ◌∷◌, ◌++◌, length, map, Option, Some, None, slice_get, slice_index, refl, ap, sym, ◌∙◌, subst, arith, get_or, zero, suc, length-append, append_assoc, take, ◌==◌, true, inl, inr, ◌⊎◌, ◌≢◌, slice_set, drop, replicate, if◌then◌else◌}
 use Rattle.std.specs.List.{All, AllByRecursion, AllZip, fold}
 use Rattle.std.specs.Option.{option_map, unwrap_or, option_and_then}
 use Rattle.std.proofs.lemmas.List.Elements.{recursion_from_All, All-from_recursion}
@@ -13,9 +13,9 @@ use Rattle.bv_terms.specs.TermTrees.{Term, input, apply, not_, slice, width, joi
 use Rattle.bv_terms.specs.Arenas.{parts, args_of, made_of, term_at, width_at, node_width, inputs_in, WidthsFit, IsArena, IsAppended, KeepsTerms, CanFollow, count_input, GrowsBy}
 use Rattle.bv_terms.specs.Replacements.{Replacing, replaced, replaced_args, beside, HasWidthOf}
 use Rattle.bv_terms.specs.Needed.{AreNeeded, IsMarked}
-use Rattle.bv_terms.specs.Rebuilt.{with_parts, in_place_of, IsRebuilt, CanRebuild, IsTable, IsReplaced, AreReplaced}
+use Rattle.bv_terms.specs.Rebuilt.{with_parts, in_place_of, IsRebuilt, IsUnchanged, CanRebuild, IsTable, IsReplaced, AreReplaced}
 use Rattle.bv_terms.proofs.EvalFacts.{fit-of}
-use Rattle.bv_terms.proofs.NodeFacts.{node-width}
+use Rattle.bv_terms.proofs.NodeFacts.{made-same, node-width}
 
 -- ---- nodes with other parts
 
@@ -245,6 +245,32 @@ appended-replaced orig now new r id marks ids node next h m e z a =
       term = a.term ∙ made-with (term_at orig) (term_at now) r ids node z terms ∙ ap (replaced r) (sym made);
     }
 
+-- the same node, over terms that stay
+unchanged-replaced : (orig now new : List Node) (r : Replacing) (id : ℕ) (marks : List Bool) (ids : List ℕ) (node : Node) (next : ℕ)
+    → Rebuilding orig now r id marks ids → IsMarked marks (length ids) → slice_get orig (length ids) ≡ Some node → count_input 0 node ≡ 0
+    → IsUnchanged now new ids (length ids) node next → IsReplaced orig new r (length ids) next
+unchanged-replaced orig now new r id marks ids node next h m e z s =
+    let k = length ids in
+    let here : k < length orig = slice_get_within orig k node e in
+    let done = parts-done orig now r id marks ids node h m e in
+    let terms = weaker (λ p. IsReplaced orig now r p (slice_index ids p)) (λ p. term_at now (slice_index ids p) ≡ replaced r (term_at orig p)) (parts node) (λ p q. q.term) done in
+    let made : term_at orig k ≡ made_of (term_at orig) node = h.arena.made k node e in
+    let below = h.arena.below k node e in
+    let same : made_of (term_at orig) node ≡ made_of (term_at now) node
+    = made-same (term_at orig) (term_at now) node (λ i d l. sym (h.keeps.terms (get_or (parts node) i d) (let b = below i d l in omega arith))) in
+    let kept : term_at new next ≡ term_at orig k = ap (λ ns. term_at ns next) s.0 ∙ ap (term_at now) s.1 ∙ h.keeps.terms k here in
+    record {
+      there = (let g = grown-length orig now h.keeps in let l = s.1 in omega (arith, ap length s.0));
+      width = ap width kept;
+      term = kept ∙ made ∙ same ∙ ap (made_of (term_at now)) (sym s.2) ∙ made-with (term_at orig) (term_at now) r ids node z terms ∙ ap (replaced r) (sym made);
+    }
+
+other-replaced : (orig now new : List Node) (r : Replacing) (id : ℕ) (marks : List Bool) (ids : List ℕ) (node : Node) (next : ℕ)
+    → Rebuilding orig now r id marks ids → IsMarked marks (length ids) → slice_get orig (length ids) ≡ Some node → count_input 0 node ≡ 0
+    → IsAppended now new (with_parts ids node) next ⊎ IsUnchanged now new ids (length ids) node next → IsReplaced orig new r (length ids) next
+other-replaced orig now new r id marks ids node next h m e z (inl a) = appended-replaced orig now new r id marks ids node next h m e z a
+other-replaced orig now new r id marks ids node next h m e z (inr s) = unchanged-replaced orig now new r id marks ids node next h m e z s
+
 input-replaced : (orig now new : List Node) (r : Replacing) (id : ℕ) (marks : List Bool) (table : List (Option ℕ)) (from to ids : List ℕ) (i w next : ℕ)
     → Rebuilding orig now r id marks ids → IsTable orig from to table → r ≡ beside from (map (term_at orig) to)
     → AllByRecursion (λ t. t < length orig) to → AllZip (HasWidthOf orig) from to
@@ -283,12 +309,12 @@ pub next-replaced : (orig now new : List Node) (r : Replacing) (id : ℕ) (marks
     → IsMarked marks (length ids) → slice_get orig (length ids) ≡ Some node → IsRebuilt now new table ids (length ids) node next
     → IsReplaced orig new r (length ids) next
 next-replaced orig now new r id marks table from to ids (Input i w) next h t q a z m e b = input-replaced orig now new r id marks table from to ids i w next h t q a z e b.0 b.1 (beside from to i) refl
-next-replaced orig now new r id marks table from to ids (Constant v) next h t q a z m e b = appended-replaced orig now new r id marks ids (Constant v) next h m e refl b
-next-replaced orig now new r id marks table from to ids (Apply f args w) next h t q a z m e b = appended-replaced orig now new r id marks ids (Apply f args w) next h m e refl b
-next-replaced orig now new r id marks table from to ids (Not x) next h t q a z m e b = appended-replaced orig now new r id marks ids (Not x) next h m e refl b
-next-replaced orig now new r id marks table from to ids (Binary op x y) next h t q a z m e b = appended-replaced orig now new r id marks ids (Binary op x y) next h m e refl b
-next-replaced orig now new r id marks table from to ids (Slice x high low) next h t q a z m e b = appended-replaced orig now new r id marks ids (Slice x high low) next h m e refl b
-next-replaced orig now new r id marks table from to ids (Pick c x y) next h t q a z m e b = appended-replaced orig now new r id marks ids (Pick c x y) next h m e refl b
+next-replaced orig now new r id marks table from to ids (Constant v) next h t q a z m e b = other-replaced orig now new r id marks ids (Constant v) next h m e refl b
+next-replaced orig now new r id marks table from to ids (Apply f args w) next h t q a z m e b = other-replaced orig now new r id marks ids (Apply f args w) next h m e refl b
+next-replaced orig now new r id marks table from to ids (Not x) next h t q a z m e b = other-replaced orig now new r id marks ids (Not x) next h m e refl b
+next-replaced orig now new r id marks table from to ids (Binary op x y) next h t q a z m e b = other-replaced orig now new r id marks ids (Binary op x y) next h m e refl b
+next-replaced orig now new r id marks table from to ids (Slice x high low) next h t q a z m e b = other-replaced orig now new r id marks ids (Slice x high low) next h m e refl b
+next-replaced orig now new r id marks table from to ids (Pick c x y) next h t q a z m e b = other-replaced orig now new r id marks ids (Pick c x y) next h m e refl b
 
 -- one more number
 pub replaced-more : (orig now new : List Node) (r : Replacing) (id : ℕ) (marks : List Bool) (ids more : List ℕ) (next : ℕ)

@@ -5,16 +5,16 @@ use Rattle.cocoon_num.specs.Values.{Value, number, truth, apply_unary, apply_sli
 use Rattle.bv_terms.specs.declared.node.TermOp.{TermOp}
 use Rattle.bv_terms.specs.declared.node.TermOp.TheVariants.{Add, Sub, And, Or, Xor, Concat, Equal, Less}
 use Rattle.bv_terms.specs.TermTrees.{Term, constant, input, apply, not_, binary, slice, pick, width, joined_width, OperandsFit, IsTerm}
-use Rattle.bv_terms.specs.TermValues.{Functions, Inputs, number_in, as_number, operated, term_value}
+use Rattle.bv_terms.specs.TermValues.{Functions, Inputs, number_in, term_number, operated, term_value}
 
 -- a number of the width
 pub HasWidth : ℕ → Value → Type 0
 HasWidth w v = (n : ℕ) × (v ≡ number w n)
 
-pub computed : (f : ℕ → ℕ → ℕ → ℕ) (v w m n : ℕ) → v ≡ w → as_number (worked (computes f) (number v m) (number w n)) ≡ number v (f w m n)
+pub computed : (f : ℕ → ℕ → ℕ → ℕ) (v w m n : ℕ) → v ≡ w → term_number (worked (computes f) (number v m) (number w n)) ≡ number v (f w m n)
 computed f v w m n e = rw (eq-eqb v w e) (ap (λ k. number k (f w m n)) (sym e))
 
-pub compared : (f : ℕ → ℕ → Bool) (v w m n : ℕ) → v ≡ w → as_number (worked (compares f) (number v m) (number w n)) ≡ number 1 (number_in (truth (f m n)))
+pub compared : (f : ℕ → ℕ → Bool) (v w m n : ℕ) → v ≡ w → term_number (worked (compares f) (number v m) (number w n)) ≡ number 1 (number_in (truth (f m n)))
 compared f v w m n e = rw (eq-eqb v w e) refl
 
 operated-width : (op : TermOp) (v w m n : ℕ) → OperandsFit op v w → (k : ℕ) × (operated op (number v m) (number w n) ≡ number (joined_width op v w) k)
@@ -27,7 +27,7 @@ operated-width Concat v w m n e = (m * 2 ^ w + n, rw (le-leb (v + w) 128 e) refl
 operated-width Equal v w m n e = (_, compared (λ a b. a == b) v w m n e)
 operated-width Less v w m n e = (_, compared (λ a b. nat_lt a b) v w m n e)
 
-pub sliced-width : (w n high low : ℕ) → low ≤ high → high < w → as_number (apply_slice (number w n) high low) ≡ number (high - low + 1) (n / 2 ^ low % 2 ^ (high - low + 1))
+pub sliced-width : (w n high low : ℕ) → low ≤ high → high < w → term_number (apply_slice (number w n) high low) ≡ number (high - low + 1) (n / 2 ^ low % 2 ^ (high - low + 1))
 sliced-width w n high low h k = rw (and_from (nat_le low high) (nat_lt high w) (le-leb low high h) (lt-ltb high w k)) refl
 
 pub HasWidth-along : (v w : ℕ) (x : Value) → v ≡ w → (n : ℕ) × (x ≡ number v n) → (n : ℕ) × (x ≡ number w n)
@@ -38,7 +38,7 @@ value-width F ins (constant w n) h = (n, refl)
 value-width F ins (input i w) h = (ins i, refl)
 value-width F ins (apply f args w) h = (_, refl)
 value-width F ins (not_ a) h =
-    let r = value-width F ins a h in (_, ap (λ v. as_number (apply_unary flip v)) r.1)
+    let r = value-width F ins a h in (_, ap (λ v. term_number (apply_unary flip v)) r.1)
 value-width F ins (binary op a b) h =
     let r = value-width F ins a h.0 in
     let s = value-width F ins b h.1 in
@@ -46,7 +46,7 @@ value-width F ins (binary op a b) h =
     (t.0, ap (λ v. operated op v (term_value F ins b)) r.1 ∙ ap (operated op (number (width a) r.0)) s.1 ∙ t.1)
 value-width F ins (slice a high low) h =
     let r = value-width F ins a h.0 in
-    (_, ap (λ v. as_number (apply_slice v high low)) r.1 ∙ sliced-width (width a) r.0 high low h.1 h.2)
+    (_, ap (λ v. term_number (apply_slice v high low)) r.1 ∙ sliced-width (width a) r.0 high low h.1 h.2)
 value-width F ins (pick c a b) h =
     elim (cases_Bool (number_in (term_value F ins c) == 1)) [
       | inl e ↦ let r = value-width F ins a h.1 in (r.0, cond-true _ _ _ e ∙ r.1)

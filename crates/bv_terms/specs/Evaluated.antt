@@ -6,7 +6,7 @@ use Rattle.cocoon_num.specs.declared.bits.Bits.{Bits}
 use Rattle.bv_terms.specs.declared.node.Node.{Node}
 use Rattle.bv_terms.specs.declared.node.Node.TheVariants.{Constant, Input, Apply, Not, Binary, Slice, Pick}
 use Rattle.bv_terms.specs.declared.eval.Env.{Env}
-use Rattle.bv_terms.specs.TermValues.{number_in, as_number, operated, term_value}
+use Rattle.bv_terms.specs.TermValues.{number_in, term_number, operated, term_value}
 use Rattle.bv_terms.specs.Arenas.{parts, term_at, WidthsFit}
 use Rattle.bv_terms.specs.Environments.{HasInput, HasTable, functions_of, inputs_of}
 use Rattle.bv_terms.specs.Needed.{IsMarked}
@@ -27,9 +27,9 @@ abbrev pub node_value : Env → List Bits → Node → Value
 node_value env values (Constant b) = value_of b
 node_value env values (Input i w) = number w (inputs_of env i)
 node_value env values (Apply f args w) = number w (functions_of env f (numbers_in values args))
-node_value env values (Not a) = as_number (apply_unary flip (value_in values a))
+node_value env values (Not a) = term_number (apply_unary flip (value_in values a))
 node_value env values (Binary op a b) = operated op (value_in values a) (value_in values b)
-node_value env values (Slice a high low) = as_number (apply_slice (value_in values a) high low)
+node_value env values (Slice a high low) = term_number (apply_slice (value_in values a) high low)
 node_value env values (Pick c a b) =
     if number_in (value_in values c) == 1 then value_in values a else value_in values b
 

@@ -1,5 +1,5 @@
 -- Cited by private clauses of `Terms::substitute`: nodes with other parts, and what a node becomes.
-use Rattle.std.specs.Prelude.{◌≡◌, ℕ, ◌<◌, Bool, List, All, length, map, Option, Some, unwrap_or, option_and_then, slice_get, slice_index}
+use Rattle.std.specs.Prelude.{◌≡◌, ℕ, ◌<◌, ◌⊎◌, Bool, List, All, length, map, Option, Some, unwrap_or, option_and_then, slice_get, slice_index}
 use Rattle.bv_terms.specs.declared.node.Node.{Node}
 use Rattle.bv_terms.specs.declared.node.Node.TheVariants.{Constant, Input, Apply, Not, Binary, Slice, Pick}
 use Rattle.bv_terms.specs.Arenas.{parts, term_at, width_at, node_width, inputs_in, CanFollow, IsAppended}
@@ -20,10 +20,15 @@ with_parts ids (Pick c a b) = Pick (slice_index ids c) (slice_index ids a) (slic
 abbrev pub in_place_of : List (Option ℕ) → ℕ → ℕ → ℕ
 in_place_of table i own = unwrap_or (option_and_then (λ t. t) (slice_get table i)) own
 
+-- the same term, if its parts stay
+abbrev pub IsUnchanged : (old new : List Node) → List ℕ → (own : ℕ) → Node → ℕ → Type 0
+IsUnchanged old new ids own node id = (new ≡ old) × (id ≡ own) × (with_parts ids node ≡ node)
+
 -- what the term under a number becomes
 abbrev pub IsRebuilt : (old new : List Node) → List (Option ℕ) → List ℕ → (own : ℕ) → Node → ℕ → Type 0
 IsRebuilt old new table ids own (Input i w) id = (new ≡ old) × (id ≡ in_place_of table i own)
-IsRebuilt old new table ids own node id = IsAppended old new (with_parts ids node) id
+IsRebuilt old new table ids own node id =
+    IsAppended old new (with_parts ids node) id ⊎ IsUnchanged old new ids own node id
 
 -- and when it can
 abbrev pub CanRebuild : List Node → List (Option ℕ) → List ℕ → Node → Type 0

@@ -20,10 +20,10 @@ number_in (number w n) = n
 number_in (truth b) = if b then 1 else 0
 
 -- what an operation gives: truth is a number of width 1. A term has only operations that give something
-abbrev pub as_number : Option Value → Value
-as_number (Some (number w n)) = number w n
-as_number (Some (truth b)) = number 1 (number_in (truth b))
-as_number None = number 0 0
+abbrev pub term_number : Option Value → Value
+term_number (Some (number w n)) = number w n
+term_number (Some (truth b)) = number 1 (number_in (truth b))
+term_number None = number 0 0
 
 abbrev pub operator : TermOp → BinaryOp
 operator Add = values.add
@@ -37,16 +37,16 @@ operator Less = values.less
 
 -- a value that an operator gives of two
 abbrev pub operated : TermOp → Value → Value → Value
-operated op a b = as_number (apply_binary (operator op) a b)
+operated op a b = term_number (apply_binary (operator op) a b)
 
 abbrev mutual
   pub term_value : Functions → Inputs → Term → Value
   term_value F ins (constant w n) = number w n
   term_value F ins (input i w) = number w (ins i)
   term_value F ins (apply f args w) = number w (F f (arg_numbers F ins args))
-  term_value F ins (not_ a) = as_number (apply_unary flip (term_value F ins a))
+  term_value F ins (not_ a) = term_number (apply_unary flip (term_value F ins a))
   term_value F ins (binary op a b) = operated op (term_value F ins a) (term_value F ins b)
-  term_value F ins (slice a high low) = as_number (apply_slice (term_value F ins a) high low)
+  term_value F ins (slice a high low) = term_number (apply_slice (term_value F ins a) high low)
   term_value F ins (pick c a b) =
       if number_in (term_value F ins c) == 1 then term_value F ins a else term_value F ins b
 

@@ -1,5 +1,5 @@
 //! Terms under numbers.
-ghost use Rattle.std.specs.Prelude.{◌≡◌, ◌≤◌, ◌<◌, ◌+◌, ◌^◌, ◌++◌, [], ◌∷◌, All, IfOk, OnOk, OnErr, Ok, Err, Some, length, slice_get};
+ghost use Rattle.std.specs.Prelude.{◌≡◌, ◌≤◌, ◌<◌, ◌+◌, ◌^◌, ◌++◌, [], ◌∷◌, All, IfOk, OnOk, OnErr, Some, length, slice_get};
 ghost use Rattle.bv_terms.specs.TermTrees.{IsWidth, OperandsFit, joined_width};
 ghost use Rattle.bv_terms.specs.Arenas.{CanFollow, GrowsBy, IsAppended, IsArena, IsInputTerm, KeepsTerms, count_input, inputs_in, node_width, width_at};
 

@@ -3,7 +3,7 @@ ghost use Rattle.std.specs.Prelude.{◌≡◌, ◌<◌, ◌≤◌, ◌==◌, ◌
 ghost use Rattle.cocoon_num.specs.Values as values;
 ghost use Rattle.cocoon_num.specs.BitsOf.{value_of};
 ghost use Rattle.bv_terms.specs.TermTrees.{OperandsFit};
-ghost use Rattle.bv_terms.specs.TermValues.{as_number, number_in, operated, term_value};
+ghost use Rattle.bv_terms.specs.TermValues.{term_number, number_in, operated, term_value};
 ghost use Rattle.bv_terms.specs.Arenas.{term_at};
 ghost use Rattle.bv_terms.specs.Environments.{Covers, HasInput, HasTable, functions_of, inputs_of};
 ghost use Rattle.bv_terms.specs.declared.node.Node.{Node as NodeOf};
@@ -23,7 +23,7 @@ pub struct Env {
 
 /// Truth as a number of width 1.
 fn truth(holds: bool) -> Bits
-    ensures { value_of result ≡ as_number (Some (values.truth holds)) }
+    ensures { value_of result ≡ term_number (Some (values.truth holds)) }
 {
     Bits::new(1, u128::from(holds))
 }

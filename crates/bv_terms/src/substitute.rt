@@ -30,6 +30,40 @@ fn all_renamed(alloc: Global, ids: &[TermId], parts: &[TermId]) -> Result<Vec<Te
     Ok(others)
 }
 
+/// Whether a part stands in its own place.
+fn stays(ids: &[TermId], part: TermId) -> bool
+    requires { part < length ids.now }
+    ensures { IsTrue result → slice_index ids.now part ≡ part }
+{
+    renamed(ids, part) == part
+}
+
+fn all_stay(ids: &[TermId], parts: &[TermId]) -> bool
+    requires { All (λ p. p < length ids.now) parts.now }
+    ensures { IsTrue result → map (slice_index ids.now) parts.now ≡ parts.now }
+{
+    for part in parts {
+        if !stays(ids, *part) {
+            return false;
+        }
+    }
+    true
+}
+
+/// Whether the node has the same parts then.
+fn keeps_parts(ids: &[TermId], node: &Node) -> bool
+    requires { All (λ p. p < length ids.now) (parts node.now) }
+    ensures { IsTrue result → with_parts ids.now node.now ≡ node.now }
+{
+    match node {
+        Node::Constant(_) | Node::Input(_, _) => true,
+        Node::Apply(_, args, _) => all_stay(ids, args.items()),
+        Node::Not(a) | Node::Slice(a, _, _) => stays(ids, *a),
+        Node::Binary(_, a, b) => stays(ids, *a) && stays(ids, *b),
+        Node::Pick(c, a, b) => stays(ids, *c) && stays(ids, *a) && stays(ids, *b),
+    }
+}
+
 /// The node with other parts, each in the place of an old one.
 fn with_parts(alloc: Global, ids: &[TermId], node: &Node) -> Result<Node, NoMemory>
     requires { All (λ p. p < length ids.now) (parts node.now) }
@@ -79,7 +113,7 @@ impl Terms {
         Ok(table)
     }
 
-    /// Puts in what the term under `own` becomes, if it is needed.
+    /// What the next term becomes, if it is needed: the same term where its parts stay, else one that is put in.
     fn rebuild(
         &mut self,
         alloc: Global,
@@ -104,6 +138,9 @@ impl Terms {
         }
         if let Node::Input(input, _) = self.node(own) {
             return Ok(in_place_of(table, *input, own));
+        }
+        if keeps_parts(ids, self.node(own)) {
+            return Ok(own);
         }
         let node = with_parts(alloc, ids, self.node(own))?;
         self.append(node, self.width(own))
