@@ -3,12 +3,14 @@
 
     bench/forward.py [RUNS]             runs `cocoon forward` on both so often (3), and prints the least wall times and the most memory
     bench/forward.py instructions N     prints how many instructions each of N packets takes, by cachegrind of valgrind
+    bench/forward.py groups ..          the same of a network of 8,000 groups, of which each packet chooses one
 
 It needs the program of crates/cocoon: `rt run` there builds it; or COCOON names one. The network has 64 switches of 256 ports, 512
-hosts and 7,680 rows; each switch is linked to the eight that follow it in a ring, so a packet visits up to nine of them. All files
-are in memory where the machine has a folder for that, and each run reads the bundle and the packets, and prints. What it prints is
-compared with where each packet has to go. Where a compiler `cc` is there, the C program visits.c reads the same network in its
-plain form and the same packets, and has to print the same.
+hosts and 7,680 rows; each switch is linked to the eight that follow it in a ring, so a packet visits up to nine of them. The network of
+groups has one switch of 4 ports with a host at each: a packet's first 16 bits are the number of its group, and its one copy leaves at the
+member. All files are in memory where the machine has a folder for that, and each run reads the bundle and the packets, and prints.
+What it prints is compared with where each packet has to go. Where a compiler `cc` is there, the C program visits.c reads the same
+network in its plain form and the same packets, and has to print the same; it looks at one group after another.
 """
 
 import os
@@ -31,52 +33,90 @@ HOSTS = SWITCHES * HOSTS_AT_EACH
 LAST = 4294967295
 PACKETS = 100_000
 PAYLOAD = bytes(range(56)).hex()
+GROUPS = 8_000
+# Each value of `tag` has a group.
+GROUPS_DESIGN = """packet { header e { tag: bit<16>; } }
+function h(a: bit<16>): bool;
+function g(s: bit<16>): bool;
+function m(t: bit<16>, x: bit<16>): bool;
+role Out[a: bit<16>] | h(a) = { send SwIn[16w1, a]; }
+role In[a: bit<16>] | h(a);
+host (Out, In);
+role SwIn[s: bit<16>, p: bit<16>] | g(s) and p < 16w4 = {
+  fork (x: bit<16> | m(pkt.e.tag, x)) { send SwOut[s, x]; }
+}
+role SwOut[s: bit<16>, p: bit<16>] | g(s) and p < 16w4 = { send In[p]; }
+switch (SwIn, SwOut) ports 4;
+"""
 
 
-def definitions():
-    """A packet goes as far round the ring as a link leads, and then to its host. A route is found by the inverted address."""
-    lines = [f"default {f} = false;" for f in ("h", "g", "isLink")]
-    lines += [f"default {f} = 16w0;" for f in ("switchOf", "portOf", "peer", "route")] + [f"default hostAt = 32w{LAST};"]
-    lines += [f"define g(16w{s}) = true;" for s in range(1, SWITCHES + 1)]
-    for a in range(HOSTS):
-        s, p = a // HOSTS_AT_EACH + 1, a % HOSTS_AT_EACH
-        lines += [f"define h(32w{a}) = true;", f"define switchOf(32w{a}) = 16w{s};", f"define portOf(32w{a}) = 16w{p};"]
-        lines += [f"define hostAt(16w{s}, 16w{p}) = 32w{a};", f"define route(16w{s}, 32w{LAST - a}) = 16w{p};"]
-    block = LAST - HOSTS_AT_EACH + 1
-    for s in range(1, SWITCHES + 1):
-        for p in range(FIRST_LINK, 256):
-            peer = (s + p - FIRST_LINK) % SWITCHES + 1
-            lines += [f"define isLink(16w{s}, 16w{p}) = true;", f"define peer(16w{s}, 16w{p}) = 16w{peer};"]
-        for steps in range(1, SWITCHES):
-            first = (s - 1 + steps) % SWITCHES * HOSTS_AT_EACH
-            port = FIRST_LINK + min(steps, LINKS) - 1
-            lines.append(f"define route(16w{s}, 32w{LAST - first} &&& 32w{block}) = 16w{port};")
-    return "\n".join(lines) + "\n"
+class Ring:
+    """Switches in a ring."""
+
+    name = f"switches {SWITCHES} hosts {HOSTS} links {SWITCHES * (HOSTS_AT_EACH + LINKS)}"
+    design = design(1)
+
+    @staticmethod
+    def definitions():
+        """A packet goes as far round the ring as a link leads, and then to its host. A route is found by the inverted address."""
+        lines = [f"default {f} = false;" for f in ("h", "g", "isLink")]
+        lines += [f"default {f} = 16w0;" for f in ("switchOf", "portOf", "peer", "route")] + [f"default hostAt = 32w{LAST};"]
+        lines += [f"define g(16w{s}) = true;" for s in range(1, SWITCHES + 1)]
+        for a in range(HOSTS):
+            s, p = a // HOSTS_AT_EACH + 1, a % HOSTS_AT_EACH
+            lines += [f"define h(32w{a}) = true;", f"define switchOf(32w{a}) = 16w{s};", f"define portOf(32w{a}) = 16w{p};"]
+            lines += [f"define hostAt(16w{s}, 16w{p}) = 32w{a};", f"define route(16w{s}, 32w{LAST - a}) = 16w{p};"]
+        block = LAST - HOSTS_AT_EACH + 1
+        for s in range(1, SWITCHES + 1):
+            for p in range(FIRST_LINK, 256):
+                peer = (s + p - FIRST_LINK) % SWITCHES + 1
+                lines += [f"define isLink(16w{s}, 16w{p}) = true;", f"define peer(16w{s}, 16w{p}) = 16w{peer};"]
+            for steps in range(1, SWITCHES):
+                first = (s - 1 + steps) % SWITCHES * HOSTS_AT_EACH
+                port = FIRST_LINK + min(steps, LINKS) - 1
+                lines.append(f"define route(16w{s}, 32w{LAST - first} &&& 32w{block}) = 16w{port};")
+        return "\n".join(lines) + "\n"
+
+    @staticmethod
+    def packet(number):
+        """The host, the host that it sends to, and the bytes. Each pair of hosts comes before any comes again."""
+        source, target = number % HOSTS, (number * 37 + number // HOSTS) % HOSTS
+        return source, target, f"{source:08x}{target:08x}{PAYLOAD}"
 
 
-def packet(number):
-    """The host and the host that it sends to, each pair before any comes again."""
-    return number % HOSTS, (number * 37 + number // HOSTS) % HOSTS
+class Copied:
+    """One switch, which copies each packet for the members of a group."""
+
+    name = "switches 1 hosts 4 links 4"
+    design = GROUPS_DESIGN
+
+    @staticmethod
+    def definitions():
+        lines = [f"default {f} = false;" for f in ("h", "g", "m")] + ["define g(16w1) = true;"]
+        lines += [f"define h(16w{a}) = true;" for a in range(4)]
+        return "\n".join(lines + [f"define m(16w{k}, 16w{k % 4}) = true;" for k in range(GROUPS)]) + "\n"
+
+    @staticmethod
+    def packet(number):
+        """All groups come before any comes again."""
+        group = number * 37 % GROUPS
+        return number % 4, group % 4, f"{group:04x}{PAYLOAD}"
 
 
-def bytes_of(number):
-    source, target = packet(number)
-    return f"{source:08x}{target:08x}{PAYLOAD}"
-
-
-def compiled(program, folder):
-    (folder / "n.ccn").write_text(design(1))
-    (folder / "n.defs").write_text(definitions())
+def compiled(program, folder, network):
+    (folder / "n.ccn").write_text(network.design)
+    (folder / "n.defs").write_text(network.definitions())
     done = subprocess.run([program, "compile", "n.ccn", "n.defs", "out"], cwd=folder, stdout=subprocess.PIPE, check=False)
-    wanted = f"compiled switches {SWITCHES} hosts {HOSTS} links {SWITCHES * (HOSTS_AT_EACH + LINKS)} obligations 0"
+    wanted = f"compiled {network.name} obligations 0"
     if done.stdout.decode().strip() != wanted:
         sys.exit(f"forward.py: compile printed {done.stdout!r}, wanted {wanted!r}")
 
 
-def write_packets(folder, count):
+def write_packets(folder, network, count):
     """A file of so many packets; what is to be printed of them."""
-    (folder / "packets").write_text("".join(f"{packet(n)[0]} {bytes_of(n)}\n" for n in range(count)))
-    return "".join(f"{n + 1} delivered 1 travelling 0\n> {packet(n)[1]} {bytes_of(n)}\n" for n in range(count))
+    packets = [network.packet(n) for n in range(count)]
+    (folder / "packets").write_text("".join(f"{source} {sent}\n" for source, _, sent in packets))
+    return "".join(f"{n + 1} delivered 1 travelling 0\n> {target} {sent}\n" for n, (_, target, sent) in enumerate(packets))
 
 
 def one_run(words, folder, wanted):
@@ -91,18 +131,18 @@ def one_run(words, folder, wanted):
     return taken, used.ru_maxrss / 1024
 
 
-def measured(commands, folder, count, runs):
+def measured(commands, folder, network, count, runs):
     """For each command the least time and the most memory for so many packets. They run in turn."""
-    wanted = write_packets(folder, count)
+    wanted = write_packets(folder, network, count)
     found = [[one_run(words, folder, wanted) for words in commands] for _ in range(runs)]
     return [(min(taken for taken, _ in of), max(memory for _, memory in of)) for of in zip(*found)]
 
 
-def instructions(words, folder, count):
+def instructions(words, folder, network, count):
     """How many a packet takes: those of so many packets, without those of none."""
     totals = []
     for packets in (0, count):
-        wanted = write_packets(folder, packets)
+        wanted = write_packets(folder, network, packets)
         asked = ["valgrind", "--tool=cachegrind", "--cache-sim=no", f"--cachegrind-out-file={folder / 'counts'}", *words]
         done = subprocess.run(asked, cwd=folder, stdout=subprocess.PIPE, stderr=subprocess.PIPE, check=False)
         if done.returncode != 0 or done.stdout.decode() != wanted:
@@ -121,18 +161,18 @@ def commands_for(program, folder):
     return found
 
 
-def print_instructions(commands, folder, count):
+def print_instructions(commands, folder, network, count):
     print("| Program | Instructions for a packet | For the bundle |\n|---|---|---|")
     for words in commands:
-        each, bundle = instructions(words, folder, count)
+        each, bundle = instructions(words, folder, network, count)
         print(f"| {pathlib.Path(words[0]).name} | {each:,} | {bundle:,} |", flush=True)
 
 
-def print_times(commands, folder, runs):
+def print_times(commands, folder, network, runs):
     print("| Packets | Time | Memory | In C | Memory | Ratio |\n|---|---|---|---|---|---|")
     whole = None
     for count in (0, PACKETS // 2, PACKETS):
-        half, whole = whole, measured(commands, folder, count, runs)
+        half, whole = whole, measured(commands, folder, network, count, runs)
         line = f"| {count:,}"
         for taken, memory in whole:
             line += f" | {taken:.2f} s | {memory:,.0f} MiB"
@@ -141,18 +181,22 @@ def print_times(commands, folder, runs):
 
 
 def main():
+    words = sys.argv[1:]
+    network = Ring
+    if words[:1] == ["groups"]:
+        words, network = words[1:], Copied
     program = os.environ.get("COCOON") or TOP / "crates" / "cocoon" / "out" / "cocoon"
     if not os.access(program, os.X_OK):
         sys.exit("forward.py: build the program first: `rt run` in crates/cocoon")
     memory_folder = "/dev/shm" if os.access("/dev/shm", os.W_OK) else None
     with tempfile.TemporaryDirectory(dir=memory_folder) as name:
         folder = pathlib.Path(name)
-        compiled(program, folder)
+        compiled(program, folder, network)
         commands = commands_for(program, folder)
-        if sys.argv[1:2] == ["instructions"]:
-            print_instructions(commands, folder, int(sys.argv[2]))
+        if words[:1] == ["instructions"]:
+            print_instructions(commands, folder, network, int(words[1]))
         else:
-            print_times(commands, folder, int(sys.argv[1]) if len(sys.argv) > 1 else 3)
+            print_times(commands, folder, network, int(words[0]) if words else 3)
 
 
 if __name__ == "__main__":

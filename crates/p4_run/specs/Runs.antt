@@ -1,10 +1,12 @@
 -- Cited by what loading keeps, and by the private clauses of visits: resolved statements leave what the control leaves, in
 -- all registers that fit. The facts are equations, which have one proof each, so that a loaded program can hold them.
-use Rattle.std.specs.Prelude.{◌≡◌, ℕ, ◌&&◌, Bool, true, List, [], ◌∷◌, length, option_map, slice_get, slice_set, Some}
+use Rattle.std.specs.Prelude.{◌≡◌, ℕ, ◌&&◌, Bool, true, List, [], ◌∷◌, length, map, option_map, slice_get, slice_set, Some}
 use Rattle.flat_rows.specs.Keyed.{keyed}
+use Rattle.number_table.specs.NumberPlaces.{place_in, place_of}
+use Rattle.number_table.specs.declared.NumberTable.{NumberTable}
 use Rattle.packed_fields.specs.AtOnce.{widths_in}
 use Rattle.p4_ir.specs.Loading.{all_tables, table_rows_fit}
-use Rattle.p4_ir.specs.P4Tree.{field_widths, P4Table, Program, program_layout, TableRows}
+use Rattle.p4_ir.specs.P4Tree.{field_widths, Group, P4Table, Program, program_layout, TableRows}
 use Rattle.p4_ir.specs.Switch.{p4_run_all, State, state_of, table_numbered, table_result}
 use Rattle.p4_code.specs.Held.{Held}
 use Rattle.p4_code.specs.Running.{control_in, running_in}
@@ -46,3 +48,9 @@ Runs p rows in_ingress tables f =
     → (option_map (λ o. listed (state_of o)) (p4_run_all (running_in p rows in_ingress h.own) (control_in p in_ingress).body (state_at (program_layout p) h))
     ≡ Some (listed (state_at (program_layout p) (left (f tables h)))))
     × (held_fits p (left (f tables h)) ≡ true)
+
+-- ---- groups
+
+-- each number has the place of the first group that it is of, or that behind all groups
+abbrev pub ArePlaced : NumberTable → List Group → Type 0
+ArePlaced places groups = (n : ℕ) → place_in places n ≡ place_of (map (λ (g : Group). g.number) groups) n

@@ -8,8 +8,9 @@ ghost use Rattle.p4_ir.specs.P4Tree.{program_layout};
 ghost use Rattle.p4_ir.specs.Program.{program_of};
 ghost use Rattle.p4_steps.specs.Effects.{stmt_by, stmts_by};
 ghost use Rattle.std.proofs.Props.{props};
-ghost use Rattle.p4_run.specs.Runs.{Runs};
+ghost use Rattle.p4_run.specs.Runs.{ArePlaced, Runs};
 
+use number_table::NumberTable;
 use p4_ir::{Program, RowsFile};
 use p4_steps::{Application, StmtCode};
 
@@ -26,6 +27,8 @@ pub struct Loaded {
     /// The statements of both controls, resolved.
     pub(crate) ingress: Vec<StmtCode>,
     pub(crate) egress: Vec<StmtCode>,
+    /// Where the group of each number stands.
+    pub(crate) groups: NumberTable,
     ghost kinds: { IsTrue (kinds_fit (program_of program)) },
     ghost loads: { IsTrue (rows_load (program_of program) (rows_of rows)) },
     ghost widths_are: { widths.items ≡ widths_in (program_layout (program_of program)) },
@@ -34,4 +37,5 @@ pub struct Loaded {
         (stmts_by (map stmt_by ingress.items)) } by { Prim.hlevel props },
     ghost egress_runs: { Runs (program_of program) (rows_of rows).tables false tables.items
         (stmts_by (map stmt_by egress.items)) } by { Prim.hlevel props },
+    ghost groups_are: { ArePlaced groups (rows_of rows).groups } by { Prim.hlevel props },
 }

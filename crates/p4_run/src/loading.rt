@@ -15,7 +15,7 @@ ghost use Rattle.p4_run.specs.Runs.{AreApplied, Runs};
 
 use crate::faults::{LoadFault, load_fault};
 use crate::loaded::Loaded;
-use crate::places::{FieldWidths, field_widths};
+use crate::places::{FieldWidths, field_widths, group_places};
 use crate::tables::tables_with;
 use cocoon_num::NoMemory;
 use p4_code::Names;
@@ -89,6 +89,7 @@ fn placed(
     let header_bytes = byte_count(&widths)?;
     let ingress = ingress_steps(alloc, &program, &rows, &starts, &tables)?;
     let egress = egress_steps(alloc, &program, &rows, &starts, &tables)?;
+    let groups = group_places(alloc, &rows)?;
     Ok(Loaded {
         program,
         rows,
@@ -97,6 +98,7 @@ fn placed(
         tables,
         ingress,
         egress,
+        groups,
     })
 }
 

@@ -157,16 +157,16 @@ impl Loaded {
         next_after_egress(&frame.current)
     }
 
-    /// The members of a group, ascending; none of a group that is not there.
+    /// The members of a group, ascending; none of a group that is not there. The time grows with the logarithm of the number
+    /// of groups.
     pub fn members(&self, group: u16) -> &[u64]
         ensures members { result.now ≡ switch.members (rows_in self.now).groups group }
         ensures ascend { IsTrue (ascend result.now) }
     {
-        for known in self.rows.groups.items() {
-            if known.number == group {
-                return known.members.items();
-            }
+        let place = self.groups.place(u32::from(group));
+        match self.rows.groups.items().get(place) {
+            Some(known) => known.members.items(),
+            None => &[],
         }
-        &[]
     }
 }
