@@ -1,8 +1,8 @@
 -- From what is read of the tokens of the code to what the text is, or which its first fault is.
-use Rattle.std.specs.Prelude.{◌≡◌, ℕ, suc, ◌+◌, ◌≤◌, ◌<◌, Bool, true, false, nat_lt, if◌then◌else◌, IsTrue, List, [], ◌∷◌, length, map, Option, Some, None, Ok, Err, ◌^◌, refl}
+use Rattle.std.specs.Prelude.{◌≡◌, ℕ, suc, ◌≤◌, Bool, true, false, nat_lt, if◌then◌else◌, IsTrue, List, [], ◌∷◌, length, map, Option, Some, None, Ok, Err, refl}
 use Rattle.std.proofs.Common.{sym, ◌∙◌, ap, subst, arith}
 use Rattle.std.proofs.lemmas.Bool.{ltb-true}
-use Rattle.std.proofs.lemmas.List.{length-map, length-take, take-map}
+use Rattle.std.proofs.lemmas.List.{length-map}
 use Rattle.cocoon_num.specs.Tree.{DefsText, Design}
 use Rattle.cocoon_num.specs.Tokens.{Kind, kinds, lex, language, is_shallow, language_bounds}
 use Rattle.cocoon_num.specs.Reads.{DefsAt, DesignAt, Reads, ReadsDefs}
@@ -10,38 +10,28 @@ use Rattle.cocoon_num.specs.FirstFaults.{BeginsDefs, BeginsDesign, Unexpected, T
 use Rattle.cocoon_lex.specs.Kinds.{token_of}
 use Rattle.cocoon_lex.specs.declared.token.Token.{Token}
 use Rattle.plain_parser.specs.PlainParser.{Outcome, good, defs_from, design_from}
-use Rattle.plain_parser.specs.Reading.{Fails, Ended, TokensOf, reach, Reading}
-use Rattle.plain_parser.specs.Reading as reading
-use Rattle.cocoon_parse.specs.Depth.{FirstDeep}
-use Rattle.cocoon_parse.specs.Faults.{fault_of, IsFirstFault, IndexFits}
+use Rattle.plain_parser.specs.Reading.{Fails, Ended, TokensOf, Reading}
+use Rattle.parsing.specs.Depth.{FirstDeep, FirstDeepOf, reach}
+use Rattle.parsing.specs.Faults.{fault_of}
+use Rattle.parsing.proofs.Reaches.{reach_map}
+use Rattle.cocoon_parse.specs.Faults.{IsFirstFault}
 use Rattle.expr_parser.specs.Agrees.{AgreesDeep, kind_at, kinds_at}
-use Rattle.cocoon_parse.specs.declared.fault.ParseFault.{ParseFault}
-use Rattle.cocoon_parse.specs.declared.fault.ParseFault.TheVariants as fault
-use Rattle.expr_parser.specs.declared.stop.Stop.{Stop}
-use Rattle.expr_parser.specs.declared.stop.Stop.TheVariants as stops
+use Rattle.parsing.specs.declared.fault.ParseFault.{ParseFault}
+use Rattle.parsing.specs.declared.fault.ParseFault.TheVariants as fault
+use Rattle.parsing.specs.declared.stop.Stop.{Stop}
+use Rattle.parsing.specs.declared.stop.Stop.TheVariants as stops
 
 pub kinds_are : (text : List ℕ) (tokens : List Token) → kinds (map (token_of text) tokens) ≡ kinds_at text tokens
 kinds_are text [] = refl
 kinds_are text (t ∷ ts) = ap (λ ks. kind_at text t ∷ ks) (kinds_are text ts)
 
-reach_kinds : (text : List ℕ) (deep : Option ℕ) (tokens : List Token) → kinds_at text (reach deep tokens) ≡ reach deep (kinds_at text tokens)
-reach_kinds text None tokens = refl
-reach_kinds text (Some d) tokens = sym (take-map (kind_at text) (d + 1) tokens)
-
 pub few_tokens : (text : List ℕ) (tokens : List Token) → TokensOf (length text) (map (token_of text) tokens) → length tokens ≤ suc (length text)
 few_tokens text tokens e = let f = e.few in omega (arith, f, length-map tokens (token_of text))
-
-pub deep_within : (tokens : List Token) (d : ℕ) → FirstDeep tokens (Some d) → d < length tokens
-deep_within tokens d f = let h = (f []).within in omega (arith, h, length-map tokens (kind_at []))
-
-pub reach_few : (tokens : List Token) (deep : Option ℕ) → length (reach deep tokens) ≤ length tokens
-reach_few tokens None = omega arith
-reach_few tokens (Some d) = omega (arith, length-take (d + 1) tokens)
 
 -- what was read of a text: its tokens are those of the code, and the first deep one is known
 pub record Read (text : List ℕ) (tokens : List Token) (deep : Option ℕ) (source : List Kind) : Type 0 where
   pub tokens_of : TokensOf (length text) (map (token_of text) tokens)
-  pub first_deep : FirstDeep tokens deep
+  pub first_deep : FirstDeepOf language_bounds kind_at tokens deep
   pub source_is : source ≡ kinds_at text (reach deep tokens)
 
 ended : (text : List ℕ) (tokens : List Token) (deep : Option ℕ) (source : List Kind) → Read text tokens deep source → Ended (kinds_at text tokens)
@@ -51,7 +41,7 @@ whole : {A : Type 0} (R : List Kind → ℕ → Outcome A) {Holds : List Kind �
     Holds (kinds (map (token_of text) tokens)) x × IsTrue (is_shallow language_bounds (kinds (map (token_of text) tokens)))
 whole R {Holds = Holds} reading text tokens deep source r n x j g =
     let ts = kinds_at text tokens in
-    let h = reading.reads ts deep (ended text tokens deep source r) (r.first_deep text) n x j (subst (λ us. R us n ≡ good x j) (r.source_is ∙ reach_kinds text deep tokens) g) in
+    let h = reading.reads ts deep (ended text tokens deep source r) (r.first_deep text) n x j (subst (λ us. R us n ≡ good x j) (r.source_is ∙ reach_map (kind_at text) deep tokens) g) in
     subst (λ us. Holds us x × IsTrue (is_shallow language_bounds us)) (sym (kinds_are text tokens)) h
 
 pub definitions_read : Reading defs_from DefsAt BeginsDefs → (text : List ℕ) (tokens : List Token) (deep : Option ℕ) (source : List Kind) → lex language text ≡ Ok (map (token_of text) tokens) → Read text tokens deep source → (n : ℕ) (x : DefsText) (j : ℕ) → defs_from source n ≡ good x j → ReadsDefs text x
@@ -64,7 +54,7 @@ design_read law text tokens deep source e p n x j g =
 
 -- ---- first faults
 
-first_fault : {A : Type 0} (R : List Kind → ℕ → Outcome A) {Holds : List Kind → A → Type 0} {Begins : List Kind → Type 0} → Reading R Holds Begins → (ts : List Kind) (deep : Option ℕ) → Ended ts → reading.FirstDeep ts deep → (i : ℕ) → Fails (R (reach deep ts)) i → IsFirstFault Begins ts (fault_of deep (stops.Unexpected i))
+first_fault : {A : Type 0} (R : List Kind → ℕ → Outcome A) {Holds : List Kind → A → Type 0} {Begins : List Kind → Type 0} → Reading R Holds Begins → (ts : List Kind) (deep : Option ℕ) → Ended ts → FirstDeep language_bounds ts deep → (i : ℕ) → Fails (R (reach deep ts)) i → IsFirstFault Begins ts (fault_of deep (stops.Unexpected i))
 first_fault R r ts None e p i f = r.unexpected ts None e p i f refl
 first_fault R {Begins = Begins} r ts (Some d) e p i f = by (nat_lt d i) refl
   where
@@ -76,18 +66,12 @@ pub whole_fault : {A B : Type 0} (R : List Kind → ℕ → Outcome B) {Holds : 
     IsFirstFault Begins (kinds (map (token_of text) tokens)) (fault_of deep s)
 whole_fault R {Begins = Begins} reading text tokens deep source r f (stops.Unexpected i) g =
     subst (λ us. IsFirstFault Begins us (fault_of deep (stops.Unexpected i))) (sym (kinds_are text tokens))
-    (first_fault R reading (kinds_at text tokens) deep (ended text tokens deep source r) (r.first_deep text) i (subst (λ us. Fails (R us) i) (r.source_is ∙ reach_kinds text deep tokens) (record { depth = g.depth; equal = g.agrees })))
+    (first_fault R reading (kinds_at text tokens) deep (ended text tokens deep source r) (r.first_deep text) i (subst (λ us. Fails (R us) i) (r.source_is ∙ reach_map (kind_at text) deep tokens) (record { depth = g.depth; equal = g.agrees })))
 whole_fault R {Begins = Begins} reading text tokens deep source r f stops.NoMemory g = by deep
   where
     by : (d : Option ℕ) → IsFirstFault Begins (kinds (map (token_of text) tokens)) (fault_of d stops.NoMemory)
     by None = tt
     by (Some d) = tt
-
--- the token index of a fault is below these bounds
-pub fault_fits : (Begins : List Kind → Type 0) (ts : List Kind) (f : ParseFault) → length ts ≤ 2 ^ 32 → IsFirstFault Begins ts f → IndexFits f
-fault_fits Begins ts (fault.Unexpected i) h g = let w = g.within in omega arith
-fault_fits Begins ts (fault.TooDeep i) h g = let w = g.within in omega arith
-fault_fits Begins ts fault.NoMemory h g = tt
 
 pub is_unexpected : (Begins : List Kind → Type 0) (ts : List Kind) (f : ParseFault) (i : ℕ) → IsFirstFault Begins ts f → f ≡ fault.Unexpected i → Unexpected language_bounds Begins ts i
 is_unexpected Begins ts f i g e = subst (IsFirstFault Begins ts) e g

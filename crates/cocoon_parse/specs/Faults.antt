@@ -1,27 +1,9 @@
--- The first fault of a text, by where a reading of its tokens up to the first deep one stops. Private clauses of
--- `whole_text` cite it, and of cocoon_text.
-use Rattle.std.specs.Prelude.{◌<◌, ◌^◌, ℕ, nat_lt, List, Option, Some, None, if◌then◌else◌}
+-- The first fault of a text of designs or definitions. Private clauses of cocoon_text cite it.
+use Rattle.std.specs.Prelude.{List}
 use Rattle.cocoon_num.specs.Tokens.{Kind, language_bounds}
-use Rattle.cocoon_num.specs.FirstFaults as first_faults
-use Rattle.cocoon_parse.specs.declared.fault.ParseFault.{ParseFault}
-use Rattle.cocoon_parse.specs.declared.fault.ParseFault.TheVariants as fault
-use Rattle.expr_parser.specs.declared.stop.Stop.{Stop}
-use Rattle.expr_parser.specs.declared.stop.Stop.TheVariants as stop
-
--- a reading that stops past the first deep token has met no other fault
-abbrev pub fault_of : Option ℕ → Stop → ParseFault
-fault_of None (stop.Unexpected i) = fault.Unexpected i
-fault_of (Some d) (stop.Unexpected i) = if nat_lt d i then fault.TooDeep d else fault.Unexpected i
-fault_of deep stop.NoMemory = fault.NoMemory
-
--- the index of the token of a fault is one that faults have
-abbrev pub IndexFits : ParseFault → Type 0
-IndexFits (fault.Unexpected i) = i < 2 ^ 32
-IndexFits (fault.TooDeep i) = i < 2 ^ 32
-IndexFits fault.NoMemory = Unit {0}
+use Rattle.parsing.specs.Faults as faults
+use Rattle.parsing.specs.declared.fault.ParseFault.{ParseFault}
 
 -- the fault is the first of these tokens
 abbrev pub IsFirstFault : (List Kind → Type 0) → List Kind → ParseFault → Type 0
-IsFirstFault Begins ts (fault.Unexpected i) = first_faults.Unexpected language_bounds Begins ts i
-IsFirstFault Begins ts (fault.TooDeep i) = first_faults.TooDeep language_bounds Begins ts i
-IsFirstFault Begins ts fault.NoMemory = Unit {0}
+IsFirstFault Begins ts fault = faults.IsFirstFault language_bounds Begins ts fault

@@ -1,74 +1,60 @@
-//! The depth of texts: how many brackets are open, and how many operators have come.
-ghost use Rattle.std.specs.Prelude.{◌≡◌, ◌≤◌, ◌+◌, ℕ, List};
-ghost use Rattle.cocoon_num.specs.Tokens.{brackets_after, is_kind_of, language_bounds, operators_after};
-ghost use Rattle.cocoon_lex.specs.Kinds.{kind_of};
+//! Which tokens of designs and definitions count for the depth of a text.
+ghost use Rattle.std.specs.Prelude.{◌≡◌};
+ghost use Rattle.cocoon_num.specs.Tokens.{is_kind_of, language_bounds};
 ghost use Rattle.expr_parser.specs.Agrees.{keyword_kind, mark_kind};
-ghost use Rattle.cocoon_parse.specs.Depth.{FirstDeep, closing, opening, restarting};
+ghost use Rattle.parsing.specs.Depth.{closing, opening, restarting};
 
 use cocoon_lex::{Keyword, Mark, Token, TokenKind};
+use parsing::Depth;
 
-// the most brackets that may be open, and the most operators since the last `;`, `{` or `}`
-const MOST_OPEN: u32 = 64;
+/// Designs and definitions.
+pub struct Language;
 
-const MOST_OPERATORS: u32 = 128;
+impl Depth for Language {
+    ghost use Rattle.cocoon_num.specs.Tokens.{language_bounds};
+    ghost use Rattle.expr_parser.specs.Agrees.{kind_at as kind_in};
 
-/// The first token that is deep.
-pub fn first_deep(tokens: &[Token]) -> Option<usize>
-    ensures { FirstDeep tokens.now result }
-{
-    let mut brackets = 0;
-    let mut operators = 0;
-    for (at, token) in tokens.iter().enumerate() {
-        brackets = open_after(brackets, token.kind);
-        operators = count_after(operators, token.kind);
-        if brackets > MOST_OPEN || operators > MOST_OPERATORS {
-            return Some(at);
+    type Token = Token;
+
+    ghost kind_at = { kind_in };
+
+    ghost bounds = { language_bounds };
+
+    fn most_open() -> u32 {
+        64
+    }
+
+    fn most_operators() -> u32 {
+        128
+    }
+
+    fn opens(token: &Token) -> bool {
+        match token.kind {
+            TokenKind::Mark(mark) => opens(mark),
+            _ => false,
         }
     }
-    None
-}
 
-fn open_after(brackets: u32, kind: TokenKind) -> u32
-    requires { brackets ≤ 64 }
-    ensures is { (bytes : List ℕ) → result ≡ brackets_after brackets (kind_of kind bytes) }
-    ensures most { result ≤ brackets + 1 }
-{
-    match kind {
-        TokenKind::Mark(mark) => {
-            if opens(mark) {
-                brackets + 1
-            } else if closes(mark) {
-                brackets.saturating_sub(1)
-            } else {
-                brackets
-            }
+    fn closes(token: &Token) -> bool {
+        match token.kind {
+            TokenKind::Mark(mark) => closes(mark),
+            _ => false,
         }
-        _ => brackets,
     }
-}
 
-fn count_after(operators: u32, kind: TokenKind) -> u32
-    requires { operators ≤ 128 }
-    ensures is { (bytes : List ℕ)
-        → result ≡ operators_after language_bounds.operators operators (kind_of kind bytes) }
-    ensures most { result ≤ operators + 1 }
-{
-    match kind {
-        TokenKind::Mark(mark) => {
-            if restarts(mark) {
-                0
-            } else if is_operator(mark) {
-                operators + 1
-            } else {
-                operators
-            }
+    fn restarts(token: &Token) -> bool {
+        match token.kind {
+            TokenKind::Mark(mark) => restarts(mark),
+            _ => false,
         }
-        TokenKind::Keyword(keyword) => if is_reserved_operator(keyword) {
-            operators + 1
-        } else {
-            operators
-        },
-        _ => operators,
+    }
+
+    fn is_operator(token: &Token) -> bool {
+        match token.kind {
+            TokenKind::Mark(mark) => is_operator(mark),
+            TokenKind::Keyword(keyword) => is_reserved_operator(keyword),
+            _ => false,
+        }
     }
 }
 

@@ -4,8 +4,7 @@
 #![tactic(auto)]
 
 mod deep;
-pub mod fault;
 pub mod whole_text;
 
-pub use fault::ParseFault;
+pub use parsing::ParseFault;
 pub use whole_text::{parse_defs, parse_design};

@@ -1,21 +1,16 @@
 //! Whole texts of designs and of definitions.
-ghost use Rattle.std.specs.Prelude.{◌≡◌, ◌<◌, ◌≤◌, ◌^◌, ℕ, Err, IfOk, Ok, length, map};
+ghost use Rattle.std.specs.Prelude.{◌≡◌, ◌<◌, ◌^◌, ℕ, Err, IfOk, Ok, length, map};
 ghost use Rattle.cocoon_num.specs.Reads.{Reads, ReadsDefs};
 ghost use Rattle.cocoon_num.specs.FirstFaults.{BeginsDefs, BeginsDesign, TooDeep, Unexpected};
 ghost use Rattle.cocoon_num.specs.Tokens.{kinds, language, lex, language_bounds};
 ghost use Rattle.cocoon_lex.specs.Kinds.{token_of};
 ghost use Rattle.cocoon_syntax.specs.TreeOf.{design_of, entries_of};
-ghost use Rattle.cocoon_parse.specs.Depth.{FirstDeep};
-ghost use Rattle.cocoon_parse.specs.Faults as spec;
-ghost use Rattle.cocoon_parse.specs.Faults.{IndexFits};
-ghost use Rattle.plain_parser.specs.Reading.{reach};
 
-use crate::deep::first_deep;
-use crate::fault::ParseFault;
+use crate::deep::Language;
 use cocoon_lex::Token;
 use cocoon_syntax::{DefsText, Design};
 use expr_parser::source::Source;
-use expr_parser::stop::Stop;
+use parsing::{ParseFault, fault_of, first_deep, up_to};
 use plain_parser::text_laws::{definitions, designs, tokens_end};
 use std::alloc::Global;
 use tree_parser::decls::design;
@@ -33,7 +28,7 @@ pub fn parse_design(alloc: Global, text: &[u8], tokens: &[Token]) -> Result<Desi
 {
     tokens_end();
     designs();
-    let deep = first_deep(tokens);
+    let deep = first_deep::<Language>(tokens);
     let source = Source::new(text, up_to(tokens, deep));
     match design(alloc, &source) {
         Ok((design, _)) => Ok(design),
@@ -53,42 +48,10 @@ pub fn parse_defs(alloc: Global, text: &[u8], tokens: &[Token]) -> Result<DefsTe
 {
     tokens_end();
     definitions();
-    let deep = first_deep(tokens);
+    let deep = first_deep::<Language>(tokens);
     let source = Source::new(text, up_to(tokens, deep));
     match entries(alloc, &source) {
         Ok((entries, _)) => Ok(DefsText { entries }),
         Err(stop) => Err(fault_of(stop, deep)),
-    }
-}
-
-/// The tokens up to and with the first deep one, or all.
-fn up_to(tokens: &[Token], deep: Option<usize>) -> &[Token]
-    requires small { length tokens.now ≤ 2 ^ 32 }
-    requires deep { FirstDeep tokens.now deep }
-    ensures { result.now ≡ reach deep tokens.now }
-{
-    match deep {
-        Some(at) => &tokens[..at + 1],
-        None => tokens,
-    }
-}
-
-/// The fault of a text, of which no more is read than the first deep token.
-fn fault_of(stop: Stop, deep: Option<usize>) -> ParseFault
-    requires { IndexFits (spec.fault_of deep stop) }
-    ensures { result ≡ spec.fault_of deep stop }
-{
-    match stop {
-        Stop::Unexpected(at) => match deep {
-            Some(first) => {
-                if first < at {
-                    ParseFault::TooDeep(first as u32)
-                } else {
-                    ParseFault::Unexpected(at as u32)
-                }
-            }
-            None => ParseFault::Unexpected(at as u32),
-        },
-        Stop::NoMemory => ParseFault::NoMemory,
     }
 }

@@ -8,8 +8,8 @@ use Rattle.cocoon_lex.specs.declared.token.Token.{Token}
 use Rattle.cocoon_lex.specs.Kinds.{token_of}
 use Rattle.cocoon_lex.specs.Position.{column_of, line_of}
 use Rattle.cocoon_parse.specs.Faults.{IsFirstFault}
-use Rattle.cocoon_parse.specs.declared.fault.ParseFault.{ParseFault}
-use Rattle.cocoon_parse.specs.declared.fault.ParseFault.TheVariants as parse
+use Rattle.parsing.specs.declared.fault.ParseFault.{ParseFault}
+use Rattle.parsing.specs.declared.fault.ParseFault.TheVariants as parse
 use Rattle.cocoon_text.specs.OfToken.{OfToken}
 use Rattle.cocoon_text.specs.TextFaults.{FaultAt, FirstFault, unexpected, too_deep}
 use Rattle.cocoon_text.specs.declared.fault.FaultKind.{FaultKind}

@@ -10,10 +10,11 @@ use Rattle.cocoon_syntax.specs.TreeOf.{expr_of, exprs_of}
 use Rattle.cocoon_syntax.specs.declared.expr.Expr.{Expr as CodeExpr}
 use Rattle.expr_parser.specs.ExprPhrases.{level_of, name_or_call, part_of, then_mark, Sides, sides_from, sides_of, RangeAt, leaf_from}
 use Rattle.plain_parser.specs.PlainParser.{Outcome, good, bad, spent, after, marked, named, name_at, picked, bracketed, implied, is_mark, is_keyword, op_at, expr_from, rest_from, exprs_from, commas_from, sliced, by_op, prim_of, path_from, reserved}
-use Rattle.expr_parser.specs.Agrees.{Agrees, AgreesDeep, Makes, is_name_token, with_first, with_mark}
+use Rattle.expr_parser.specs.Agrees.{Agrees, AgreesDeep, is_name_token, with_mark}
+use Rattle.parsing.specs.Joins.{Makes, with_first}
 use Rattle.cocoon_num.specs.Names.{same_name}
-use Rattle.expr_parser.specs.declared.stop.Stop.{Stop}
-use Rattle.expr_parser.specs.declared.stop.Stop.TheVariants.{Unexpected, NoMemory}
+use Rattle.parsing.specs.declared.stop.Stop.{Stop}
+use Rattle.parsing.specs.declared.stop.Stop.TheVariants.{Unexpected, NoMemory}
 use Rattle.expr_parser.specs.declared.operators.Chain.{Chain}
 use Rattle.expr_parser.specs.declared.operators.Chain.TheVariants.{Or, And, Concat, Bits, Sum}
 use Rattle.expr_parser.proofs.Eventually.{Eventually, by_one, by_two, deeper, flat, agrees_deeper, eventual_read, fails_as, agrees_as, agrees_made, agrees_marked, agrees_with_first, after_read, then_same}

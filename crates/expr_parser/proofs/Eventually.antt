@@ -6,9 +6,10 @@ use Rattle.std.proofs.lemmas.Option.{slice_get_within}
 use Rattle.cocoon_num.specs.Tokens.{Kind}
 use Rattle.plain_parser.specs.PlainParser.{Outcome, good, bad, spent, after, marked, is_mark, many_from, some_from, commas_from}
 use Rattle.expr_parser.specs.ExprPhrases.{then_mark}
-use Rattle.expr_parser.specs.Agrees.{Agrees, AgreesDeep, Moves, Advances, Makes, TokenAt, with_mark, with_first}
-use Rattle.expr_parser.specs.declared.stop.Stop.{Stop}
-use Rattle.expr_parser.specs.declared.stop.Stop.TheVariants.{Unexpected, NoMemory}
+use Rattle.expr_parser.specs.Agrees.{Agrees, AgreesDeep, Moves, Advances, TokenAt, with_mark}
+use Rattle.parsing.specs.Joins.{Makes, with_first}
+use Rattle.parsing.specs.declared.stop.Stop.{Stop}
+use Rattle.parsing.specs.declared.stop.Stop.TheVariants.{Unexpected, NoMemory}
 
 -- from some depth on a reading gives this
 pub record Eventually {A : Type 0} (F : ℕ → Outcome A) (r : Outcome A) : Type 0 where

@@ -9,8 +9,8 @@ use Rattle.cocoon_lex.specs.declared.token.Mark.{Mark}
 use Rattle.cocoon_lex.specs.declared.token.Token.{Token}
 use Rattle.cocoon_syntax.specs.declared.name.Name.{Name}
 use Rattle.cocoon_syntax.specs.TreeOf.{name_of}
-use Rattle.expr_parser.specs.declared.stop.Stop.{Stop}
-use Rattle.expr_parser.specs.declared.stop.Stop.TheVariants.{Unexpected, NoMemory}
+use Rattle.parsing.specs.declared.stop.Stop.{Stop}
+use Rattle.parsing.specs.declared.stop.Stop.TheVariants.{Unexpected, NoMemory}
 use Rattle.plain_parser.specs.PlainParser as parser
 use Rattle.plain_parser.specs.PlainParser.{Outcome, good, bad, Path, is_mark, name_at, plain_of}
 
@@ -97,14 +97,3 @@ Advances pos end (Err stop) = Unit {0}
 abbrev pub with_mark : {A : Type 0} → List Kind → List ℕ → Result (A × ℕ) Stop → Result (A × ℕ) Stop
 with_mark ts m (Ok found) = if is_mark m (slice_get ts found.1) then Ok (found.0, found.1 + 1) else Err (Unexpected found.1)
 with_mark ts m (Err stop) = Err stop
-
--- what was read, and this before it
-abbrev pub with_first : {A B : Type 0} → A → Result (B × ℕ) Stop → Result ((A × B) × ℕ) Stop
-with_first x (Ok found) = Ok ((x, found.0), found.1)
-with_first x (Err stop) = Err stop
-
--- the tree that is made of what was read, unless memory ran out
-abbrev pub Makes : {A B C D : Type 0} → (A → C) → (B → D) → (C → D) → Result (A × ℕ) Stop → Result (B × ℕ) Stop → Type 0
-Makes f g make (Ok found) (Ok made) = (g made.0 ≡ make (f found.0)) × (made.1 ≡ found.1)
-Makes f g make (Ok found) (Err stop) = stop ≡ NoMemory
-Makes f g make (Err stop) result = result ≡ Err stop

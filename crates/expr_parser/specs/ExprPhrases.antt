@@ -7,8 +7,8 @@ use Rattle.cocoon_num.specs.Reads.{Level, of_or, of_and, of_cmp, of_cat, of_bit,
 use Rattle.plain_parser.specs.PlainParser.{Outcome, Literal, good, bad, after, is_mark, is_keyword, marked, literal_of, path_from, sliced}
 use Rattle.cocoon_syntax.specs.TreeOf.{expr_of}
 use Rattle.cocoon_syntax.specs.declared.expr.Expr.{Expr as CodeExpr}
-use Rattle.expr_parser.specs.declared.stop.Stop.{Stop}
-use Rattle.expr_parser.specs.declared.stop.Stop.TheVariants.{Unexpected, NoMemory}
+use Rattle.parsing.specs.declared.stop.Stop.{Stop}
+use Rattle.parsing.specs.declared.stop.Stop.TheVariants.{Unexpected, NoMemory}
 use Rattle.expr_parser.specs.declared.operators.Chain.{Chain}
 use Rattle.expr_parser.specs.declared.operators.Chain.TheVariants.{Or, And, Concat, Bits, Sum}
 

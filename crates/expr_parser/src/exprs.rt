@@ -6,16 +6,17 @@ ghost use Rattle.cocoon_lex.specs.Kinds.{mark_text};
 ghost use Rattle.cocoon_syntax.specs.TreeOf.{binary_of, expr_of, exprs_of, kind_of, name_of, unary_of};
 ghost use Rattle.expr_parser.specs.ExprPhrases.{RangeAt, leaf_from, level_of, name_or_call, part_of, sides_from, sides_of, then_mark};
 ghost use Rattle.plain_parser.specs.PlainParser as parser;
-ghost use Rattle.expr_parser.specs.Agrees.{Makes, Moves, Agrees, AgreesDeep};
+ghost use Rattle.expr_parser.specs.Agrees.{Moves, Agrees, AgreesDeep};
+ghost use Rattle.parsing.specs.Joins.{Makes};
 
-use crate::joins::{both, then};
+use crate::joins::then;
 use crate::names::path;
 use crate::operators::Chain;
 use crate::source::Source;
-use crate::stop::Stop;
 use cocoon_lex::{Keyword, Mark};
 use cocoon_num::{NoMemory, Text};
 use cocoon_syntax::{BinaryOp, Expr, ExprKind, Name, UnaryOp};
+use parsing::{Stop, both};
 use std::alloc::Global;
 
 /// An expression of any form: `a => b`, or what binds tighter.

@@ -8,4 +8,3 @@ pub mod joins;
 pub mod names;
 pub mod operators;
 pub mod source;
-pub mod stop;

@@ -5,9 +5,9 @@ ghost use Rattle.plain_parser.specs.PlainParser as parser;
 ghost use Rattle.expr_parser.specs.Agrees.{Moves, Agrees, AgreesDeep, path_of};
 
 use crate::source::Source;
-use crate::stop::Stop;
 use cocoon_lex::{Keyword, Mark};
 use cocoon_syntax::{Name, Param};
+use parsing::Stop;
 use std::alloc::Global;
 
 /// `pkt.h.f`: the header and its field.

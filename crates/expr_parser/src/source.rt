@@ -1,5 +1,5 @@
 //! Tokens of a text, by their indices.
-ghost use Rattle.std.specs.Prelude.{◌≡◌, ◌<◌, ◌≤◌, ◌^◌, ℕ, List, IfOk, IsSome, Some, option_map, length, slice_get, slice_range, true};
+ghost use Rattle.std.specs.Prelude.{◌≡◌, ◌<◌, ◌≤◌, ◌^◌, ℕ, List, IfOk, IsSome, Some, option_map, length, slice_get, true};
 ghost use Rattle.cocoon_lex.specs.Kinds.{keyword_text, kind_of, mark_text};
 ghost use Rattle.cocoon_syntax.specs.TreeOf.{binary_of};
 ghost use Rattle.cocoon_num.specs.Reads.{of_cmp, of_expr};
@@ -8,10 +8,10 @@ ghost use Rattle.plain_parser.specs.PlainParser as parser;
 ghost use Rattle.expr_parser.specs.Agrees.{LiteralAt, NameAt, NumberAt, TokenAt, kind_at, kinds_at, is_name_token, literal_of, name_bytes};
 
 use crate::operators::{Chain, chained, compared, implied};
-use crate::stop::Stop;
 use cocoon_lex::{Keyword, Mark, Token, TokenKind};
 use cocoon_num::{Bits, NoMemory, Text};
 use cocoon_syntax::{BinaryOp, Name};
+use parsing::{Stop, bytes_between};
 use std::alloc::Global;
 use std::marker::Model;
 
@@ -286,16 +286,7 @@ fn name_bytes<'a>(text: &'a [u8], token: &Token) -> Option<&'a [u8]>
         name_bytes (Some (kind_at text.now token.now)) }
 {
     match token.kind {
-        TokenKind::Name => Some(bytes_of(text, token)),
+        TokenKind::Name => Some(bytes_between(text, token.start, token.end)),
         _ => None,
     }
-}
-
-/// The bytes of a token.
-fn bytes_of<'a>(text: &'a [u8], token: &Token) -> &'a [u8]
-    ensures { result.now ≡ slice_range text.now token.now.start token.now.end }
-{
-    let start = text.len().min(token.start as usize);
-    let end = text.len().min(token.end as usize).max(start);
-    &text[start..end]
 }

@@ -6,8 +6,8 @@ use Rattle.p4_texts.specs.Machine.{Goals}
 use Rattle.p4_texts.specs.Written.{ExprText}
 use Rattle.p4_parse.specs.Phrases.{Fixed, ReadExpr, Refused, Phrase, RefusedExpr, ExprAt}
 use Rattle.p4_written.specs.declared.WrittenExpr.{WrittenExpr}
-use Rattle.p4_parse.specs.declared.fault.Stop.{Stop}
-use Rattle.p4_parse.specs.declared.fault.Stop.TheVariants.{Unexpected, NoMemory}
+use Rattle.parsing.specs.declared.stop.Stop.{Stop}
+use Rattle.parsing.specs.declared.stop.Stop.TheVariants.{Unexpected, NoMemory}
 
 -- an answer that passes on why something was not read
 pub expr_fails : {A : Type 0} (gs : Goals) (f : A → List Kind → List Kind) (ts : List Kind) (p q : ℕ) (r : Result (WrittenExpr × ℕ) Stop) (stop : Stop)

@@ -12,10 +12,11 @@ use Rattle.p4_texts.specs.Machine.{Follow, to_close, to_operator, to_colon, Goal
 use Rattle.p4_texts.specs.Written.{ExprText, w_lit, w_meta, w_field, w_unary, w_binary, w_pick, expr_then}
 use Rattle.p4_texts.proofs.Complete.{passes, op_pass}
 use Rattle.p4_written.specs.TreeOf.{expr_of}
-use Rattle.p4_parse.specs.Phrases.{Read, Refused, Phrase, ReadExpr, RefusedExpr, ExprAt, ReadOpened, OpenedAt, Literal, Sign, Sides, among, signs, operator_at, mark_in, is_mark, is_word, literal_in, range_goals, dotted_goals, dotted_then, path_goals, path_then, sides_goals, sides_then, sides_of, with_mark, Makes}
+use Rattle.p4_parse.specs.Phrases.{Read, Refused, Phrase, ReadExpr, RefusedExpr, ExprAt, ReadOpened, OpenedAt, Literal, Sign, Sides, among, signs, operator_at, mark_in, is_mark, is_word, literal_in, range_goals, dotted_goals, dotted_then, path_goals, path_then, sides_goals, sides_then, sides_of, with_mark}
+use Rattle.parsing.specs.Joins.{Makes}
 use Rattle.p4_written.specs.declared.WrittenExpr.{WrittenExpr}
-use Rattle.p4_parse.specs.declared.fault.Stop.{Stop}
-use Rattle.p4_parse.specs.declared.fault.Stop.TheVariants.{Unexpected, NoMemory}
+use Rattle.parsing.specs.declared.stop.Stop.{Stop}
+use Rattle.parsing.specs.declared.stop.Stop.TheVariants.{Unexpected, NoMemory}
 use Rattle.p4_parse.proofs.Tokens.{drop_some, drop_none, left, refused_at, taken_at, mark_is, word_is, literal_is, same_text}
 
 -- ---- from an expression to what follows

@@ -1,5 +1,4 @@
 pub mod Compose
-pub mod Depths
 pub mod ExprPhrases
 pub mod FieldPhrases
 pub mod LinePhrases

@@ -7,8 +7,8 @@ use Rattle.p4_texts.specs.Machine.{Goals, fixed, lines, stuck}
 use Rattle.p4_texts.specs.Written.{each_then}
 use Rattle.p4_parse.specs.Onward.{Onward}
 use Rattle.p4_parse.specs.Phrases.{Phrase, Read, Refused}
-use Rattle.p4_parse.specs.declared.fault.Stop.{Stop}
-use Rattle.p4_parse.specs.declared.fault.Stop.TheVariants.{Unexpected, NoMemory}
+use Rattle.parsing.specs.declared.stop.Stop.{Stop}
+use Rattle.parsing.specs.declared.stop.Stop.TheVariants.{Unexpected, NoMemory}
 use Rattle.p4_parse.proofs.Sequences.{before, one_more, onward, refused_before, stopped}
 
 -- what begins with fixed tokens and goes on with a phrase

@@ -24,8 +24,8 @@ use Rattle.p4_parse.specs.Tables.{tables_tokens}
 use Rattle.p4_parse.specs.Tails.{block_ended}
 use Rattle.p4_parse.specs.declared.pieces.Piece.{Piece}
 use Rattle.p4_parse.specs.declared.pieces.Piece.TheVariants as piece
-use Rattle.p4_parse.specs.declared.fault.Stop.{Stop}
-use Rattle.p4_parse.specs.declared.fault.Stop.TheVariants.{Unexpected, NoMemory}
+use Rattle.parsing.specs.declared.stop.Stop.{Stop}
+use Rattle.parsing.specs.declared.stop.Stop.TheVariants.{Unexpected, NoMemory}
 use Rattle.p4_parse.proofs.LinePhrases.{one_longer}
 use Rattle.p4_parse.proofs.Sequences.{before, each_map, joined, one_more, onward, refused_before, stopped}
 use Rattle.p4_parse.proofs.TablePhrases.{alike, by_one, with_more}

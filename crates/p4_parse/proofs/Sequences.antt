@@ -7,8 +7,8 @@ use Rattle.p4_texts.specs.Machine.{Goals, stuck}
 use Rattle.p4_texts.specs.Written.{each_then}
 use Rattle.p4_parse.specs.Phrases.{Phrase, Read, Refused}
 use Rattle.p4_parse.specs.Onward.{Onward, Onwards}
-use Rattle.p4_parse.specs.declared.fault.Stop.{Stop}
-use Rattle.p4_parse.specs.declared.fault.Stop.TheVariants.{Unexpected, NoMemory}
+use Rattle.parsing.specs.declared.stop.Stop.{Stop}
+use Rattle.parsing.specs.declared.stop.Stop.TheVariants.{Unexpected, NoMemory}
 
 pub onward : {A : Type 0} {gs : Goals} {f : A → List Kind → List Kind} {ts : List Kind} {p : ℕ} {x : A} {q : ℕ} → Read gs f ts p x q → Onward gs [] f ts p x q
 onward r = let a = r.after in record { forward = omega (arith, a); within = r.within; are = r.are; goes = r.goes }

@@ -14,8 +14,8 @@ use Rattle.p4_written.specs.declared.WrittenExpr.{WrittenExpr}
 use Rattle.p4_parse.specs.Phrases.{NoName, Read, Refused, Phrase, Fixed, else_at, is_mark, is_word, name_in}
 use Rattle.p4_parse.specs.Tails.{ReadTail, TailAt, SoFar, after_if, braced_goals, braced_then, guarded_then, call_goals, setting_goals, assignment_goals, verdict_goals, if_goals, guarded_goals}
 use Rattle.p4_written.specs.declared.WrittenStmt.{WrittenStmt}
-use Rattle.p4_parse.specs.declared.fault.Stop.{Stop}
-use Rattle.p4_parse.specs.declared.fault.Stop.TheVariants.{Unexpected, NoMemory}
+use Rattle.parsing.specs.declared.stop.Stop.{Stop}
+use Rattle.parsing.specs.declared.stop.Stop.TheVariants.{Unexpected, NoMemory}
 use Rattle.p4_parse.proofs.Tokens.{drop_some, drop_none, left, refused_at, mark_is, word_is, same_text}
 
 -- these goals, with statements after them, are met as those are

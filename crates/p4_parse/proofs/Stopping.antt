@@ -8,8 +8,8 @@ use Rattle.p4_parse.specs.Onward.{Onwards}
 use Rattle.p4_parse.specs.Phrases.{Fixed, Phrase, Refused}
 use Rattle.p4_parse.specs.Program.{EndAt, ProgramAt, WholeStuck}
 use Rattle.p4_parse.specs.Lines.{ended_goals}
-use Rattle.p4_parse.specs.declared.fault.Stop.{Stop}
-use Rattle.p4_parse.specs.declared.fault.Stop.TheVariants.{Unexpected, NoMemory}
+use Rattle.parsing.specs.declared.stop.Stop.{Stop}
+use Rattle.parsing.specs.declared.stop.Stop.TheVariants.{Unexpected, NoMemory}
 
 abbrev pub Stopping : Goals → List Kind → ℕ → Stop → Type 0
 Stopping gs ts p (Unexpected i) = Refused gs ts p i

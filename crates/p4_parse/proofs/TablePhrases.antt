@@ -15,8 +15,8 @@ use Rattle.p4_parse.specs.Fields.{action_goals, action_tokens, actions_goals, ac
 use Rattle.p4_parse.specs.Onward.{Onward}
 use Rattle.p4_parse.specs.Phrases.{Phrase, Read, Refused, is_mark, is_word}
 use Rattle.p4_parse.specs.Tables.{after_kind, declaration_goals, declaration_tokens, first_key_goals, key_goals, keys_tokens, kind_tokens, tables_tokens}
-use Rattle.p4_parse.specs.declared.fault.Stop.{Stop}
-use Rattle.p4_parse.specs.declared.fault.Stop.TheVariants.{Unexpected, NoMemory}
+use Rattle.parsing.specs.declared.stop.Stop.{Stop}
+use Rattle.parsing.specs.declared.stop.Stop.TheVariants.{Unexpected, NoMemory}
 use Rattle.p4_parse.proofs.Sequences.{before, each_map, one_more, onward, refused_before, stopped}
 use Rattle.p4_parse.proofs.Tokens.{drop_none, drop_some, left, mark_is, one_refused, taken_at, word_is}
 

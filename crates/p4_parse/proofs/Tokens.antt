@@ -1,7 +1,6 @@
 -- Single tokens, as goals take them.
-use Rattle.std.specs.Prelude.{◌≡◌, ℕ, zero, suc, ◌+◌, ◌≤◌, ◌==◌, ◌&&◌, nat_eq, true, false, List, [], ◌∷◌, ◌++◌, length, drop, slice_get, Option, Some, None, refl}
+use Rattle.std.specs.Prelude.{◌≡◌, ℕ, zero, suc, ◌+◌, ◌≤◌, true, false, List, [], ◌∷◌, ◌++◌, length, drop, slice_get, Option, Some, None, refl}
 use Rattle.std.proofs.Common.{sym, ◌∙◌, ap, arith, rules, add-one}
-use Rattle.std.specs.Cmp.Lexicographic.{pointwise}
 use Rattle.std.proofs.lemmas.Slice.Eq.{compares_Decides}
 use Rattle.cocoon_num.specs.Names.{same_name}
 use Rattle.cocoon_num.specs.Tokens.{Kind, a_name, plain, literal, mark}
@@ -9,13 +8,6 @@ use Rattle.p4_texts.specs.Machine.{Goal, Goals, any_name, any_plain, any_literal
 use Rattle.std.proofs.lemmas.Option.{slice_get_within}
 use Rattle.p4_texts.proofs.Complete.{same}
 use Rattle.p4_parse.specs.Phrases.{Literal, Read, Refused, is_mark, is_word, literal_in, name_in, plain_in}
-
--- `==` on bytes is that of names
-pub same_is : (p s : List ℕ) → pointwise nat_eq p s ≡ same_name p s
-same_is [] [] = refl
-same_is [] (y ∷ s) = refl
-same_is (x ∷ p) [] = refl
-same_is (x ∷ p) (y ∷ s) = ap (λ r. (x == y) && r) (same_is p s)
 
 pub same_text : (x y : List ℕ) → same_name x y ≡ true → x ≡ y
 same_text x y = (compares_Decides same_name (search rules) x y).0

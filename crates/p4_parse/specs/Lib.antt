@@ -1,4 +1,3 @@
-pub mod Depth
 pub mod Faults
 pub mod Fields
 pub mod Lines

@@ -4,8 +4,8 @@ use Rattle.std.specs.Prelude.{◌≡◌, ℕ, ◌≤◌, List, [], ◌++◌, len
 use Rattle.cocoon_num.specs.Tokens.{Kind}
 use Rattle.p4_texts.specs.Machine.{Goals, stuck}
 use Rattle.p4_parse.specs.Phrases.{Refused}
-use Rattle.p4_parse.specs.declared.fault.Stop.{Stop}
-use Rattle.p4_parse.specs.declared.fault.Stop.TheVariants.{Unexpected, NoMemory}
+use Rattle.parsing.specs.declared.stop.Stop.{Stop}
+use Rattle.parsing.specs.declared.stop.Stop.TheVariants.{Unexpected, NoMemory}
 
 -- the tokens from one index up to another are those of the tree, and they leave these goals in place of those
 pub record Onward {A : Type 0} (gs more : Goals) (tokens : A → List Kind → List Kind) (ts : List Kind) (pos : ℕ) (x : A) (next : ℕ) : Type 0 where

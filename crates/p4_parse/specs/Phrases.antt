@@ -6,14 +6,15 @@ use Rattle.cocoon_num.specs.Tokens.{Kind, a_name, plain, literal, mark}
 use Rattle.cocoon_num.specs.declared.bits.Bits.{Bits}
 use Rattle.p4_ir.specs.declared.program.P4Binary.{P4Binary}
 use Rattle.p4_ir.specs.declared.program.P4Binary.TheVariants as op
-use Rattle.p4_lex.specs.Kinds.{kind_of}
+use Rattle.p4_lex.specs.Kinds.{kind_of, mark_text}
+use Rattle.p4_lex.specs.declared.token.Mark.{Mark}
 use Rattle.p4_lex.specs.declared.token.Token.{Token}
 use Rattle.p4_texts.specs.Machine.{Follow, Goals, an_expr, any_name, any_plain, opened, stuck, the_mark, to_close, to_colon}
 use Rattle.p4_texts.specs.Written.{ExprText, expr_then}
 use Rattle.p4_written.specs.TreeOf.{expr_of}
 use Rattle.p4_written.specs.declared.WrittenExpr.{WrittenExpr}
-use Rattle.p4_parse.specs.declared.fault.Stop.{Stop}
-use Rattle.p4_parse.specs.declared.fault.Stop.TheVariants.{Unexpected, NoMemory}
+use Rattle.parsing.specs.declared.stop.Stop.{Stop}
+use Rattle.parsing.specs.declared.stop.Stop.TheVariants.{Unexpected, NoMemory}
 
 -- ---- tokens
 
@@ -24,6 +25,10 @@ kind_at text t = kind_of t.kind (slice_range text t.start t.end)
 -- the kinds of tokens of a text
 abbrev pub kinds_at : List ℕ → List Token → List Kind
 kinds_at text tokens = map (kind_at text) tokens
+
+-- the kind of a mark
+abbrev pub mark_kind : Mark → Kind
+mark_kind m = mark (mark_text m)
 
 abbrev pub is_mark : List ℕ → Option Kind → Bool
 is_mark m (Some (mark x)) = same_name m x
@@ -181,14 +186,3 @@ sides_then p ks = mark (codes "?") ∷ expr_then (expr_of p.0) (mark (codes ":")
 abbrev pub with_mark : {A : Type 0} → List Kind → List ℕ → Result (A × ℕ) Stop → Result (A × ℕ) Stop
 with_mark ts m (Ok found) = if is_mark m (slice_get ts found.1) then Ok (found.0, found.1 + 1) else Err (Unexpected found.1)
 with_mark ts m (Err stop) = Err stop
-
--- what was read, and this before it
-abbrev pub with_first : {A B : Type 0} → A → Result (B × ℕ) Stop → Result ((A × B) × ℕ) Stop
-with_first x (Ok found) = Ok ((x, found.0), found.1)
-with_first x (Err stop) = Err stop
-
--- the tree that is made of what was read, unless memory ran out
-abbrev pub Makes : {A B C D : Type 0} → (A → C) → (B → D) → (C → D) → Result (A × ℕ) Stop → Result (B × ℕ) Stop → Type 0
-Makes f g make (Ok found) (Ok made) = (g made.0 ≡ make (f found.0)) × (made.1 ≡ found.1)
-Makes f g make (Ok found) (Err stop) = stop ≡ NoMemory
-Makes f g make (Err stop) result = result ≡ Err stop

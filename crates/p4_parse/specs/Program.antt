@@ -8,8 +8,8 @@ use Rattle.p4_written.specs.TreeOf.{text_of}
 use Rattle.p4_written.specs.declared.WrittenProgram.{WrittenProgram}
 use Rattle.p4_parse.specs.Lines.{ended_goals, ended_tokens}
 use Rattle.p4_parse.specs.Phrases.{Refused}
-use Rattle.p4_parse.specs.declared.fault.Stop.{Stop}
-use Rattle.p4_parse.specs.declared.fault.Stop.TheVariants.{Unexpected, NoMemory}
+use Rattle.parsing.specs.declared.stop.Stop.{Stop}
+use Rattle.parsing.specs.declared.stop.Stop.TheVariants.{Unexpected, NoMemory}
 
 -- the end of a text, which stands at an index, and what follows it
 pub record ReadEnd (ts : List Kind) (pos next : ℕ) : Type 0 where

@@ -9,8 +9,8 @@ use Rattle.p4_written.specs.TreeOf.{body_of, expr_of, stmt_of}
 use Rattle.p4_parse.specs.Phrases.{Refused}
 use Rattle.p4_written.specs.declared.WrittenExpr.{WrittenExpr}
 use Rattle.p4_written.specs.declared.WrittenStmt.{WrittenStmt}
-use Rattle.p4_parse.specs.declared.fault.Stop.{Stop}
-use Rattle.p4_parse.specs.declared.fault.Stop.TheVariants.{Unexpected, NoMemory}
+use Rattle.parsing.specs.declared.stop.Stop.{Stop}
+use Rattle.parsing.specs.declared.stop.Stop.TheVariants.{Unexpected, NoMemory}
 
 -- the rest of a statement, after these tokens: the goals are met, and statements may follow
 pub record ReadTail (gs : Goals) (before : List Kind → List Kind) (ts : List Kind) (pos : ℕ) (s : StmtText) (next : ℕ) : Type 0 where

@@ -1,69 +1,60 @@
-//! The depth of texts: how many brackets are open, and how many operators have come.
-ghost use Rattle.std.specs.Prelude.{◌≡◌, ◌≤◌, ◌+◌, ℕ, List};
-ghost use Rattle.cocoon_num.specs.Tokens.{brackets_after, is_kind_of, operators_after};
+//! Which tokens of P4 texts count for the depth of a text.
+ghost use Rattle.std.specs.Prelude.{◌≡◌};
+ghost use Rattle.cocoon_num.specs.Tokens.{is_kind_of};
 ghost use Rattle.p4_ir.specs.P4Text.{p4_bounds};
-ghost use Rattle.p4_lex.specs.Kinds.{kind_of};
-ghost use Rattle.p4_parse.specs.Depth.{FirstDeepOf, closing, mark_kind, opening, restarting};
+ghost use Rattle.p4_parse.specs.Phrases.{mark_kind};
+ghost use Rattle.parsing.specs.Depth.{closing, opening, restarting};
 
 use p4_lex::{Mark, Token, TokenKind};
+use parsing::Depth;
 
-// the most brackets that may be open, and the most operators since the last `;`, `{` or `}`
-const MOST_OPEN: u32 = 512;
+/// P4 texts.
+pub struct P4;
 
-const MOST_OPERATORS: u32 = 1024;
+impl Depth for P4 {
+    ghost use Rattle.p4_ir.specs.P4Text.{p4_bounds};
+    ghost use Rattle.p4_parse.specs.Phrases.{kind_at as kind_in};
 
-/// The first token that is deep.
-pub fn first_deep(tokens: &[Token]) -> Option<usize>
-    ensures { FirstDeepOf tokens.now result }
-{
-    let mut brackets = 0;
-    let mut operators = 0;
-    for (at, token) in tokens.iter().enumerate() {
-        brackets = open_after(brackets, token.kind);
-        operators = count_after(operators, token.kind);
-        if brackets > MOST_OPEN || operators > MOST_OPERATORS {
-            return Some(at);
+    type Token = Token;
+
+    ghost kind_at = { kind_in };
+
+    ghost bounds = { p4_bounds };
+
+    fn most_open() -> u32 {
+        512
+    }
+
+    fn most_operators() -> u32 {
+        1024
+    }
+
+    fn opens(token: &Token) -> bool {
+        match token.kind {
+            TokenKind::Mark(mark) => opens(mark),
+            _ => false,
         }
     }
-    None
-}
 
-fn open_after(brackets: u32, kind: TokenKind) -> u32
-    requires { brackets ≤ 512 }
-    ensures is { (bytes : List ℕ) → result ≡ brackets_after brackets (kind_of kind bytes) }
-    ensures most { result ≤ brackets + 1 }
-{
-    match kind {
-        TokenKind::Mark(mark) => {
-            if opens(mark) {
-                brackets + 1
-            } else if closes(mark) {
-                brackets.saturating_sub(1)
-            } else {
-                brackets
-            }
+    fn closes(token: &Token) -> bool {
+        match token.kind {
+            TokenKind::Mark(mark) => closes(mark),
+            _ => false,
         }
-        _ => brackets,
     }
-}
 
-fn count_after(operators: u32, kind: TokenKind) -> u32
-    requires { operators ≤ 1024 }
-    ensures is { (bytes : List ℕ)
-        → result ≡ operators_after p4_bounds.operators operators (kind_of kind bytes) }
-    ensures most { result ≤ operators + 1 }
-{
-    match kind {
-        TokenKind::Mark(mark) => {
-            if restarts(mark) {
-                0
-            } else if is_operator(mark) {
-                operators + 1
-            } else {
-                operators
-            }
+    fn restarts(token: &Token) -> bool {
+        match token.kind {
+            TokenKind::Mark(mark) => restarts(mark),
+            _ => false,
         }
-        _ => operators,
+    }
+
+    fn is_operator(token: &Token) -> bool {
+        match token.kind {
+            TokenKind::Mark(mark) => is_operator(mark),
+            _ => false,
+        }
     }
 }
 

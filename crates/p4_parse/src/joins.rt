@@ -2,11 +2,11 @@
 //! phrase with few early returns.
 ghost use Rattle.std.specs.Prelude.{◌≡◌};
 ghost use Rattle.p4_lex.specs.Kinds.{mark_text};
-ghost use Rattle.p4_parse.specs.Phrases.{with_first, with_mark};
+ghost use Rattle.p4_parse.specs.Phrases.{with_mark};
 
-use crate::fault::Stop;
 use crate::source::Source;
 use p4_lex::Mark;
+use parsing::Stop;
 
 /// What was read, where this mark comes after it.
 pub fn then<T: Drop>(
@@ -22,15 +22,4 @@ pub fn then<T: Drop>(
     } else {
         Err(Stop::Unexpected(next))
     }
-}
-
-/// What was read, with this before it.
-pub fn both<A: Drop, B: Drop>(
-    first: A,
-    read: Result<(B, usize), Stop>,
-) -> Result<((A, B), usize), Stop>
-    ensures { result ≡ with_first first read }
-{
-    let (second, next) = read?;
-    Ok(((first, second), next))
 }

@@ -4,7 +4,6 @@
 mod decls;
 mod deep;
 mod exprs;
-pub mod fault;
 mod joins;
 mod lines;
 mod pieces;
@@ -14,5 +13,5 @@ mod stmts;
 mod tables;
 pub mod whole_text;
 
-pub use fault::ParseFault;
+pub use parsing::ParseFault;
 pub use whole_text::parse;

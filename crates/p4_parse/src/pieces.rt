@@ -5,9 +5,9 @@ ghost use Rattle.p4_texts.specs.Machine.{fixed};
 ghost use Rattle.p4_parse.specs.Phrases.{Fixed, kinds_at};
 ghost use Rattle.p4_parse.specs.Pieces.{piece_text, piece_tokens};
 
-use crate::fault::Stop;
 use crate::source::Source;
 use p4_lex::{LexFault, Token, lex};
+use parsing::Stop;
 use std::alloc::Global;
 
 /// A fixed piece of a text.

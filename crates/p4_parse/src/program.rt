@@ -7,7 +7,6 @@ ghost use Rattle.p4_parse.specs.Phrases.{Phrase};
 ghost use Rattle.p4_parse.specs.Program.{EndAt, ProgramAt};
 
 use crate::decls::{fields, header};
-use crate::fault::Stop;
 use crate::lines::{lines, members};
 use crate::pieces::{Piece, expect_piece};
 use crate::source::Source;
@@ -16,6 +15,7 @@ use crate::tables::tables;
 use cocoon_num::{List, Text};
 use p4_lex::Mark;
 use p4_written::{WrittenControl, WrittenField, WrittenHeader, WrittenMember, WrittenProgram};
+use parsing::Stop;
 use std::alloc::Global;
 
 /// Headers up to `struct`.

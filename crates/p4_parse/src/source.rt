@@ -1,7 +1,6 @@
 //! Tokens of a text, by their indices.
-ghost use Rattle.std.specs.Prelude.{◌≡◌, ◌<◌, ◌≤◌, ◌+◌, ◌^◌, ℕ, List, [], ◌∷◌, IfOk, IsSome, Some, false, option_map, length, slice_get, slice_range, true};
+ghost use Rattle.std.specs.Prelude.{◌≡◌, ◌<◌, ◌≤◌, ◌+◌, ◌^◌, ℕ, List, [], ◌∷◌, IfOk, IsSome, Some, false, option_map, length, slice_get, true};
 ghost use Rattle.cocoon_num.specs.Tokens.{a_name, finish, literal, mark as the_kind, plain};
-ghost use Rattle.cocoon_num.specs.Names.{same_name};
 ghost use Rattle.cocoon_num.specs.declared.bits.Bits.{Bits as CodeBits};
 ghost use Rattle.p4_lex.specs.Kinds.{kind_of, mark_text};
 ghost use Rattle.p4_texts.specs.Machine.{any_literal, any_name, any_plain, exactly, same_token, the_mark, the_word};
@@ -9,10 +8,11 @@ ghost use Rattle.p4_texts.specs.Reading.{is_end as is_the_end};
 ghost use Rattle.p4_parse.specs.Phrases.{Fixed, NoName, Phrase, is_mark, is_word, kind_at, kinds_at, literal_in, literal_of, among, mark_in, name_in, plain_in, signs};
 ghost use Rattle.p4_parse.specs.Pieces.{ends_at, has_end, is_some_literal, is_some_name, is_some_number, same_at};
 
-use crate::fault::Stop;
 use cocoon_num::{Bits, Text};
+use lexing::bytes::same_bytes;
 use p4_ir::P4Binary;
 use p4_lex::{Mark, Token, TokenKind};
+use parsing::{Stop, bytes_between};
 use std::alloc::Global;
 use std::marker::Model;
 
@@ -227,20 +227,16 @@ impl<'a> Source<'a> {
     }
 }
 
-#[tactic(auto, using(crate::proofs::Tokens::same_is))]
-pub fn same_bytes(one: &[u8], other: &[u8]) -> bool
-    ensures { result ≡ same_name one.now other.now }
-{
-    one == other
-}
-
 /// Whether a token of one text is that of another.
 fn is_token(wanted_text: &[u8], wanted: &Token, text: &[u8], token: &Token) -> bool
     ensures { result ≡
         same_token (kind_at wanted_text.now wanted.now) (kind_at text.now token.now) }
 {
     match wanted.kind {
-        TokenKind::Name => is_name(bytes_of(wanted_text, wanted), name_of(text, token)),
+        TokenKind::Name => is_name(
+            bytes_between(wanted_text, wanted.start, wanted.end),
+            name_of(text, token),
+        ),
         TokenKind::Plain(number) => is_number(number, plain_of(token.kind)),
         TokenKind::Literal(bits) => is_literal(bits, bits_of(token.kind)),
         TokenKind::Mark(mark) => has_mark(token.kind, mark),
@@ -327,18 +323,9 @@ fn name_of<'a>(text: &'a [u8], token: &Token) -> Option<&'a [u8]>
         name_in (Some (kind_at text.now token.now)) }
 {
     match token.kind {
-        TokenKind::Name => Some(bytes_of(text, token)),
+        TokenKind::Name => Some(bytes_between(text, token.start, token.end)),
         _ => None,
     }
-}
-
-/// The bytes of a token.
-fn bytes_of<'a>(text: &'a [u8], token: &Token) -> &'a [u8]
-    ensures { result.now ≡ slice_range text.now token.now.start token.now.end }
-{
-    let start = text.len().min(token.start as usize);
-    let end = text.len().min(token.end as usize).max(start);
-    &text[start..end]
 }
 
 /// The operator that a mark is.

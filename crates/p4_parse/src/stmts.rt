@@ -8,12 +8,13 @@ ghost use Rattle.p4_parse.specs.Phrases.{Fixed, Phrase, else_at, is_mark};
 ghost use Rattle.p4_parse.specs.Tails.{TailAt, after_dot as past_dot, after_if, assignment_goals, assignment_then, after_name as past_name, after_names, block_ended, braced_goals, braced_then, call_goals, call_tokens, guarded_goals, guarded_then, if_goals, nothing, setting_goals, setting_then, value_then, verdict_goals, verdict_then};
 
 use crate::exprs::{expr, operand};
-use crate::fault::Stop;
-use crate::joins::{both, then};
-use crate::source::{Source, same_bytes};
+use crate::joins::then;
+use crate::source::Source;
 use cocoon_num::{Bits, Text};
+use lexing::bytes::same_bytes;
 use p4_lex::Mark;
 use p4_written::{WrittenExpr, WrittenStmt};
+use parsing::{Stop, both};
 use std::alloc::Global;
 
 /// Statements up to and with `}`.

@@ -10,11 +10,11 @@ ghost use Rattle.p4_parse.specs.Tables.{after_first_key, after_kind, declaration
 
 use crate::decls::{action, actions, default, result, table};
 use crate::exprs::dotted;
-use crate::fault::Stop;
 use crate::source::Source;
 use cocoon_num::{List, Text};
 use p4_lex::Mark;
 use p4_written::WrittenTable;
+use parsing::Stop;
 use std::alloc::Global;
 
 /// `m.NAME :`

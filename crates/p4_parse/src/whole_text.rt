@@ -1,22 +1,20 @@
 //! Whole texts.
-ghost use Rattle.std.specs.Prelude.{◌≡◌, ◌<◌, ◌≤◌, ◌^◌, IfErr, IfOk, IsTrue, length};
+ghost use Rattle.std.specs.Prelude.{◌≤◌, ◌^◌, IfErr, IfOk, IsTrue, length};
 ghost use Rattle.cocoon_num.specs.Tokens.{is_shallow};
 ghost use Rattle.p4_ir.specs.P4Text.{p4_bounds};
 ghost use Rattle.p4_texts.specs.Reading.{Ended};
 ghost use Rattle.p4_texts.specs.Written.{P4TextAt};
 ghost use Rattle.p4_written.specs.TreeOf.{text_of};
-ghost use Rattle.p4_parse.specs.Depth.{FirstDeepOf, reach};
-ghost use Rattle.p4_parse.specs.Faults as spec;
-ghost use Rattle.p4_parse.specs.Faults.{IndexFits, IsFirstFault};
+ghost use Rattle.p4_parse.specs.Faults.{IsFirstFault};
 ghost use Rattle.p4_parse.specs.Phrases.{kinds_at};
 
-use crate::deep::first_deep;
-use crate::fault::{ParseFault, Stop};
+use crate::deep::P4;
 use crate::program::program;
 use crate::source::Source;
 use p4_lex::Token;
 use p4_texts::reader_laws::reading;
 use p4_written::WrittenProgram;
+use parsing::{ParseFault, fault_of, first_deep, up_to};
 use std::alloc::Global;
 
 /// The tree of a text with these tokens, or its first fault, at a token index from 0.
@@ -29,42 +27,10 @@ pub fn parse(alloc: Global, text: &[u8], tokens: &[Token]) -> Result<WrittenProg
     ensures fault { IfErr result (IsFirstFault (kinds_at text.now tokens.now)) }
 {
     reading();
-    let deep = first_deep(tokens);
+    let deep = first_deep::<P4>(tokens);
     let source = Source::new(text, up_to(tokens, deep));
     match program(alloc, &source) {
         Ok(program) => Ok(program),
         Err(stop) => Err(fault_of(stop, deep)),
-    }
-}
-
-/// The tokens up to and with the first deep one, or all.
-fn up_to(tokens: &[Token], deep: Option<usize>) -> &[Token]
-    requires small { length tokens.now ≤ 2 ^ 32 }
-    requires deep { FirstDeepOf tokens.now deep }
-    ensures { result.now ≡ reach deep tokens.now }
-{
-    match deep {
-        Some(at) => &tokens[..at + 1],
-        None => tokens,
-    }
-}
-
-/// The fault of a text, of which no more is read than the first deep token.
-fn fault_of(stop: Stop, deep: Option<usize>) -> ParseFault
-    requires { IndexFits (spec.fault_of deep stop) }
-    ensures { result ≡ spec.fault_of deep stop }
-{
-    match stop {
-        Stop::Unexpected(at) => match deep {
-            Some(first) => {
-                if first < at {
-                    ParseFault::TooDeep(first as u32)
-                } else {
-                    ParseFault::Unexpected(at as u32)
-                }
-            }
-            None => ParseFault::Unexpected(at as u32),
-        },
-        Stop::NoMemory => ParseFault::NoMemory,
     }
 }

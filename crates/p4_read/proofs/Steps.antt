@@ -14,8 +14,8 @@ use Rattle.p4_names.specs.Meant.{program_of_text}
 use Rattle.p4_names.specs.ReadText.{StandsFor}
 use Rattle.p4_parse.specs.Faults as parsing
 use Rattle.p4_parse.specs.Phrases.{kind_at, kinds_at}
-use Rattle.p4_parse.specs.declared.fault.ParseFault.{ParseFault}
-use Rattle.p4_parse.specs.declared.fault.ParseFault.TheVariants as parsed
+use Rattle.parsing.specs.declared.fault.ParseFault.{ParseFault}
+use Rattle.parsing.specs.declared.fault.ParseFault.TheVariants as parsed
 use Rattle.p4_resolve.specs.FirstKind.{IsFirstKind}
 use Rattle.p4_resolve.specs.declared.fault.KindFault.{KindFault}
 use Rattle.p4_resolve.specs.declared.fault.KindFault.TheVariants as resolved

@@ -10,8 +10,8 @@ use Rattle.p4_lex.specs.Kinds.{FaultAt}
 use Rattle.p4_lex.specs.declared.lexer.LexFault.{LexFault}
 use Rattle.p4_lex.specs.declared.lexer.LexFault.TheVariants as lexed
 use Rattle.p4_names.specs.KindFaults.{kind_faults}
-use Rattle.p4_parse.specs.declared.fault.ParseFault.{ParseFault}
-use Rattle.p4_parse.specs.declared.fault.ParseFault.TheVariants as parsed
+use Rattle.parsing.specs.declared.fault.ParseFault.{ParseFault}
+use Rattle.parsing.specs.declared.fault.ParseFault.TheVariants as parsed
 use Rattle.p4_resolve.specs.FirstKind.{first_of}
 use Rattle.p4_resolve.specs.declared.fault.KindFault.{KindFault}
 use Rattle.p4_resolve.specs.declared.fault.KindFault.TheVariants as resolved

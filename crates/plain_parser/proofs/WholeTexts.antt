@@ -1,14 +1,16 @@
 -- From what is read up to the first deep token to what the whole text is, or which its first fault is.
-use Rattle.std.specs.Prelude.{◌≡◌, ℕ, zero, suc, ◌+◌, ◌≤◌, ◌<◌, Bool, true, false, nat_le, ◌&&◌, IsTrue, List, [], ◌∷◌, ◌++◌, length, take, slice_get, Option, Some, None, refl}
+use Rattle.std.specs.Prelude.{◌≡◌, ℕ, zero, suc, ◌+◌, ◌≤◌, ◌<◌, true, false, IsTrue, List, [], ◌∷◌, ◌++◌, length, take, slice_get, Option, Some, None, refl}
 use Rattle.std.proofs.Common.{sym, ◌∙◌, ap, subst, add-one, arith}
-use Rattle.std.proofs.lemmas.Bool.{and_parts, ltb-false}
+use Rattle.std.proofs.lemmas.Bool.{ltb-false}
 use Rattle.std.proofs.lemmas.Option.{slice_get_within}
 use Rattle.std.proofs.lemmas.List.{length-take-le, take-take, take_all}
-use Rattle.cocoon_num.specs.Tokens.{Kind, is_shallow, none_deep, brackets_after, operators_after, language_bounds, finish}
+use Rattle.cocoon_num.specs.Tokens.{Kind, is_shallow, language_bounds, finish}
 use Rattle.cocoon_num.specs.Reads.{DefsAt, DesignAt}
 use Rattle.cocoon_num.specs.FirstFaults.{BeginsDefs, BeginsDesign, Unexpected, TooDeep}
 use Rattle.plain_parser.specs.PlainParser.{Outcome, good, bad, defs_from, design_from}
-use Rattle.plain_parser.specs.Reading.{Fails, Ended, DeepAt, FirstDeep, reach, is_past, Reading}
+use Rattle.parsing.proofs.Depths.{is_true, shallow_prefix}
+use Rattle.parsing.specs.Depth.{DeepAt, FirstDeep, reach}
+use Rattle.plain_parser.specs.Reading.{Fails, Ended, is_past, Reading}
 use Rattle.plain_parser.proofs.Ends.{ended_is, ends_last, end_is_shallow}
 use Rattle.plain_parser.proofs.Exact.{Agree}
 use Rattle.plain_parser.proofs.ExactParts.{defs_exact, design_exact}
@@ -31,28 +33,6 @@ length_last : (before : List Kind) → length (before ++ finish ∷ []) ≡ suc 
 length_last [] = refl
 length_last (k ∷ before) = ap suc (length_last before)
 
-is_true : (b : Bool) → IsTrue b → b ≡ true
-is_true true h = refl
-is_true false h = h
-
-as_true : (b : Bool) → b ≡ true → IsTrue b
-as_true true e = refl
-as_true false e = e
-
--- a prefix of tokens that are not deep
-shallow_from : (ts : List Kind) (i b o : ℕ) → none_deep language_bounds b o ts ≡ true → none_deep language_bounds b o (take i ts) ≡ true
-shallow_from ts zero b o h = refl
-shallow_from [] (suc i) b o h = refl
-shallow_from (k ∷ ts) (suc i) b o h =
-    let b' = brackets_after b k in
-    let o' = operators_after language_bounds.operators o k in
-    let p = and_parts (nat_le b' 64 && nat_le o' 128) (none_deep language_bounds b' o' ts) h in
-    let q = and_parts (nat_le b' 64) (nat_le o' 128) p.0 in
-    rw (q.0, q.1) (shallow_from ts i b' o' p.1)
-
-shallow_prefix : (ts : List Kind) (i : ℕ) → IsTrue (is_shallow language_bounds ts) → IsTrue (is_shallow language_bounds (take i ts))
-shallow_prefix ts i h = as_true (is_shallow language_bounds (take i ts)) (shallow_from ts i 0 0 (is_true (is_shallow language_bounds ts) h))
-
 -- ---- what a reading of a whole text is
 
 record Whole {A : Type 0} (R : List Kind → ℕ → Outcome A) (Holds : List Kind → A → Type 0) (Begins : List Kind → Type 0) : Type 0 where
@@ -63,7 +43,7 @@ record Whole {A : Type 0} (R : List Kind → ℕ → Outcome A) (Holds : List Ki
   unexpected : (ts : List Kind) (i : ℕ) (before : List Kind) → ts ≡ before ++ finish ∷ [] → Fails (R ts) i → IsTrue (is_shallow language_bounds (take i ts)) → Unexpected language_bounds Begins ts i
 
 -- the text does not end up to the first deep token
-no_end_before : (ts : List Kind) (d j : ℕ) → Ended ts → DeepAt ts d → slice_get (take (d + 1) ts) j ≡ Some finish → ⊥
+no_end_before : (ts : List Kind) (d j : ℕ) → Ended ts → DeepAt language_bounds ts d → slice_get (take (d + 1) ts) j ≡ Some finish → ⊥
 no_end_before ts d j e p f =
     let whole = ended_is e in
     let long : length (take (d + 1) ts) ≡ d + 1 = length-take-le (d + 1) ts (let h = p.within in omega arith) in
@@ -78,19 +58,19 @@ no_end_before ts d j e p f =
     let yes : is_shallow language_bounds (take (d + 1) ts) ≡ true = ap (is_shallow language_bounds) all ∙ end_is_shallow whole.0 quiet in
     let no = p.deep in cc
 
-read_whole : {A : Type 0} (R : List Kind → ℕ → Outcome A) {Holds : List Kind → A → Type 0} {Begins : List Kind → Type 0} → Whole R Holds Begins → (ts : List Kind) (deep : Option ℕ) → Ended ts → FirstDeep ts deep → (n : ℕ) (x : A) (j : ℕ) → R (reach deep ts) n ≡ good x j → Holds ts x × IsTrue (is_shallow language_bounds ts)
+read_whole : {A : Type 0} (R : List Kind → ℕ → Outcome A) {Holds : List Kind → A → Type 0} {Begins : List Kind → Type 0} → Whole R Holds Begins → (ts : List Kind) (deep : Option ℕ) → Ended ts → FirstDeep language_bounds ts deep → (n : ℕ) (x : A) (j : ℕ) → R (reach deep ts) n ≡ good x j → Holds ts x × IsTrue (is_shallow language_bounds ts)
 read_whole R r ts None e p n x j g = (r.sound ts n x j g, p)
 read_whole R r ts (Some d) e p n x j g = let f = r.ends (take (d + 1) ts) x (r.sound (take (d + 1) ts) n x j g) in absurd (no_end_before ts d f.0 e p f.1)
 
-unexpected_whole : {A : Type 0} (R : List Kind → ℕ → Outcome A) {Holds : List Kind → A → Type 0} {Begins : List Kind → Type 0} → Whole R Holds Begins → (ts : List Kind) (deep : Option ℕ) → Ended ts → FirstDeep ts deep → (i : ℕ) → Fails (R (reach deep ts)) i → is_past deep i ≡ false → Unexpected language_bounds Begins ts i
-unexpected_whole R r ts None e p i f h = let whole = ended_is e in r.unexpected ts i whole.0 whole.1 f (shallow_prefix ts i p)
+unexpected_whole : {A : Type 0} (R : List Kind → ℕ → Outcome A) {Holds : List Kind → A → Type 0} {Begins : List Kind → Type 0} → Whole R Holds Begins → (ts : List Kind) (deep : Option ℕ) → Ended ts → FirstDeep language_bounds ts deep → (i : ℕ) → Fails (R (reach deep ts)) i → is_past deep i ≡ false → Unexpected language_bounds Begins ts i
+unexpected_whole R r ts None e p i f h = let whole = ended_is e in r.unexpected ts i whole.0 whole.1 f (shallow_prefix language_bounds ts i p)
 unexpected_whole R r ts (Some d) e p i f h =
     let whole = ended_is e in
     let low : i ≤ d = ltb-false d i h in
     let prefix : take i (take d ts) ≡ take i ts = take-take i d ts low in
-    r.unexpected ts i whole.0 whole.1 (r.stays (take (d + 1) ts) ts i (λ k l. agree_take ts (d + 1) k (omega arith)) f) (subst (λ z. IsTrue (is_shallow language_bounds z)) prefix (shallow_prefix (take d ts) i p.before))
+    r.unexpected ts i whole.0 whole.1 (r.stays (take (d + 1) ts) ts i (λ k l. agree_take ts (d + 1) k (omega arith)) f) (subst (λ z. IsTrue (is_shallow language_bounds z)) prefix (shallow_prefix language_bounds (take d ts) i p.before))
 
-too_deep_whole : {A : Type 0} (R : List Kind → ℕ → Outcome A) {Holds : List Kind → A → Type 0} {Begins : List Kind → Type 0} → Whole R Holds Begins → (ts : List Kind) (d : ℕ) → Ended ts → DeepAt ts d → (i : ℕ) → Fails (R (take (d + 1) ts)) i → d < i → TooDeep language_bounds Begins ts d
+too_deep_whole : {A : Type 0} (R : List Kind → ℕ → Outcome A) {Holds : List Kind → A → Type 0} {Begins : List Kind → Type 0} → Whole R Holds Begins → (ts : List Kind) (d : ℕ) → Ended ts → DeepAt language_bounds ts d → (i : ℕ) → Fails (R (take (d + 1) ts)) i → d < i → TooDeep language_bounds Begins ts d
 too_deep_whole R {Begins = Begins} r ts d e p i f h =
     let long : length (take (d + 1) ts) ≡ d + 1 = length-take-le (d + 1) ts (let l = p.within in omega arith) in
     let stop = r.stops (take (d + 1) ts) f.depth i (f.equal f.depth (omega arith)) in

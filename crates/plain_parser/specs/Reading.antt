@@ -3,6 +3,7 @@
 use Rattle.std.specs.Prelude.{◌≡◌, ◌+◌, ◌<◌, ◌≤◌, ℕ, Bool, false, List, [], ◌∷◌, length, take, Option, Some, None, IsTrue, nat_lt}
 use Rattle.cocoon_num.specs.Tokens.{Kind, Token, finish, is_shallow, kinds, language_bounds}
 use Rattle.cocoon_num.specs.FirstFaults.{TooDeep, Unexpected}
+use Rattle.parsing.specs.Depth.{DeepAt, FirstDeep, reach}
 use Rattle.plain_parser.specs.PlainParser.{Outcome, good, bad, is_finish}
 
 -- from some depth of calls on a reading stops at this token
@@ -20,22 +21,6 @@ pub record TokensOf (bytes : ℕ) (tokens : List Token) : Type 0 where
   pub ended : Ended (kinds tokens)
   pub few : length tokens ≤ bytes + 1
 
--- the tokens before are not deep, and with this one they are
-pub record DeepAt (ks : List Kind) (d : ℕ) : Type 0 where
-  pub within : d < length ks
-  pub before : IsTrue (is_shallow language_bounds (take d ks))
-  pub deep : is_shallow language_bounds (take (d + 1) ks) ≡ false
-
--- the first deep token, or none
-abbrev pub FirstDeep : List Kind → Option ℕ → Type 0
-FirstDeep ks None = IsTrue (is_shallow language_bounds ks)
-FirstDeep ks (Some d) = DeepAt ks d
-
--- the tokens up to and with the first deep one, or all
-abbrev pub reach : {A : Type 0} → Option ℕ → List A → List A
-reach None ts = ts
-reach (Some d) ts = take (d + 1) ts
-
 -- whether a token comes after the first deep one
 abbrev pub is_past : Option ℕ → ℕ → Bool
 is_past None i = false
@@ -44,6 +29,6 @@ is_past (Some d) i = nat_lt d i
 -- what the answers of R say of the text whose tokens it reads: a tree is one of which Holds says that it is the text's; a token
 -- at which R stops is unexpected, or comes after the first deep one, which is then too deep. That R answers it does not say
 pub record Reading {A : Type 0} (R : List Kind → ℕ → Outcome A) (Holds : List Kind → A → Type 0) (Begins : List Kind → Type 0) : Type 0 where
-  pub reads : (ts : List Kind) (deep : Option ℕ) → Ended ts → FirstDeep ts deep → (n : ℕ) (x : A) (j : ℕ) → R (reach deep ts) n ≡ good x j → Holds ts x × IsTrue (is_shallow language_bounds ts)
-  pub unexpected : (ts : List Kind) (deep : Option ℕ) → Ended ts → FirstDeep ts deep → (i : ℕ) → Fails (R (reach deep ts)) i → is_past deep i ≡ false → Unexpected language_bounds Begins ts i
-  pub too_deep : (ts : List Kind) (d : ℕ) → Ended ts → DeepAt ts d → (i : ℕ) → Fails (R (take (d + 1) ts)) i → d < i → TooDeep language_bounds Begins ts d
+  pub reads : (ts : List Kind) (deep : Option ℕ) → Ended ts → FirstDeep language_bounds ts deep → (n : ℕ) (x : A) (j : ℕ) → R (reach deep ts) n ≡ good x j → Holds ts x × IsTrue (is_shallow language_bounds ts)
+  pub unexpected : (ts : List Kind) (deep : Option ℕ) → Ended ts → FirstDeep language_bounds ts deep → (i : ℕ) → Fails (R (reach deep ts)) i → is_past deep i ≡ false → Unexpected language_bounds Begins ts i
+  pub too_deep : (ts : List Kind) (d : ℕ) → Ended ts → DeepAt language_bounds ts d → (i : ℕ) → Fails (R (take (d + 1) ts)) i → d < i → TooDeep language_bounds Begins ts d

@@ -11,9 +11,10 @@ use Rattle.cocoon_syntax.specs.declared.stmt.Stmt.{Stmt as CodeStmt}
 use Rattle.plain_parser.specs.PlainParser.{Outcome, good, bad, spent, after, marked, is_mark, is_keyword, param_from, expr_from, many_from, closes, stmt_from, stmts_from, block_from, if_from, fork_from}
 use Rattle.expr_parser.specs.ExprPhrases.{then_mark}
 use Rattle.tree_parser.specs.Phrases.{Guarded, Choosing, tested_from, guarded_from, guarded_of, otherwise_from, choosing_from, choosing_of}
-use Rattle.expr_parser.specs.Agrees.{Agrees, AgreesDeep, Makes, with_first, with_mark}
-use Rattle.expr_parser.specs.declared.stop.Stop.{Stop}
-use Rattle.expr_parser.specs.declared.stop.Stop.TheVariants.{Unexpected, NoMemory}
+use Rattle.expr_parser.specs.Agrees.{Agrees, AgreesDeep, with_mark}
+use Rattle.parsing.specs.Joins.{Makes, with_first}
+use Rattle.parsing.specs.declared.stop.Stop.{Stop}
+use Rattle.parsing.specs.declared.stop.Stop.TheVariants.{Unexpected, NoMemory}
 use Rattle.expr_parser.proofs.Chains.{listed}
 use Rattle.expr_parser.proofs.Eventually.{Eventually, by_one, eventual_read, agrees_deeper, agrees_as, agrees_made, agrees_marked, agrees_with_first, after_read}
 

@@ -14,9 +14,10 @@ use Rattle.cocoon_syntax.specs.declared.decl.Decl.{Decl as CodeDecl}
 use Rattle.expr_parser.specs.ExprPhrases.{then_mark}
 use Rattle.tree_parser.specs.Phrases.{assigned_from, havoc_field_from, havoc_variable_from, paired, PairAt, counted, PortsAt}
 use Rattle.plain_parser.specs.PlainParser.{Outcome, good, bad, after, marked, reserved, numbered, is_mark, expr_from, ended, Path, path_from, param_from, let_from, setting_from, body_from, optional_params_from, assumption_from, host_from, switch_from}
-use Rattle.expr_parser.specs.Agrees.{Agrees, AgreesDeep, Makes, path_of, with_mark}
-use Rattle.expr_parser.specs.declared.stop.Stop.{Stop}
-use Rattle.expr_parser.specs.declared.stop.Stop.TheVariants.{Unexpected, NoMemory}
+use Rattle.expr_parser.specs.Agrees.{Agrees, AgreesDeep, path_of, with_mark}
+use Rattle.parsing.specs.Joins.{Makes}
+use Rattle.parsing.specs.declared.stop.Stop.{Stop}
+use Rattle.parsing.specs.declared.stop.Stop.TheVariants.{Unexpected, NoMemory}
 use Rattle.expr_parser.proofs.Eventually.{Eventually, flat, by_one, by_two, agrees_as, agrees_made, agrees_marked, after_read, at_once, once, then_same}
 
 -- ---- an expression up to ";"

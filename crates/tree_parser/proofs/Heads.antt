@@ -14,8 +14,9 @@ use Rattle.plain_parser.specs.PlainParser.{Outcome, good, bad, spent, after, mar
 use Rattle.cocoon_num.specs.Reads.{of_expr}
 use Rattle.expr_parser.specs.ExprPhrases.{then_mark}
 use Rattle.tree_parser.specs.Phrases.{Head, head_from, head_of, Answer, answer_from, answer_of, Duty, duty_from, duty_of}
-use Rattle.expr_parser.specs.Agrees.{AgreesDeep, Makes}
-use Rattle.expr_parser.specs.declared.stop.Stop.{Stop}
+use Rattle.expr_parser.specs.Agrees.{AgreesDeep}
+use Rattle.parsing.specs.Joins.{Makes}
+use Rattle.parsing.specs.declared.stop.Stop.{Stop}
 use Rattle.expr_parser.proofs.Eventually.{Eventually, by_one, eventual_read, agrees_as, agrees_made, after_read}
 
 abbrev head : Name → List Param → ℕ → Outcome Head

@@ -12,9 +12,10 @@ use Rattle.cocoon_syntax.specs.declared.name.Name.{Name as CodeName}
 use Rattle.plain_parser.specs.PlainParser.{Outcome, good, after, marked, reserved, named, name_at, is_mark, is_keyword, closes, commas_from, many_from, some_from, name_from, decl_from, header_field_from, header_from, refine_from}
 use Rattle.expr_parser.specs.ExprPhrases.{then_mark}
 use Rattle.tree_parser.specs.Phrases.{limited, LimitAt, refinement, headed}
-use Rattle.expr_parser.specs.Agrees.{AgreesDeep, Makes, with_mark}
-use Rattle.expr_parser.specs.declared.stop.Stop.{Stop}
-use Rattle.expr_parser.specs.declared.stop.Stop.TheVariants.{Unexpected, NoMemory}
+use Rattle.expr_parser.specs.Agrees.{AgreesDeep, with_mark}
+use Rattle.parsing.specs.Joins.{Makes}
+use Rattle.parsing.specs.declared.stop.Stop.{Stop}
+use Rattle.parsing.specs.declared.stop.Stop.TheVariants.{Unexpected, NoMemory}
 use Rattle.expr_parser.proofs.Eventually.{Eventually, eventual_read, agrees_as, agrees_made, agrees_marked, after_read, then_same}
 
 -- what follows the names of a refinement

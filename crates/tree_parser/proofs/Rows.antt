@@ -11,8 +11,9 @@ use Rattle.cocoon_syntax.specs.declared.expr.Expr.{Expr as CodeExpr}
 use Rattle.cocoon_syntax.specs.declared.stmt.Stmt.{Stmt as CodeStmt}
 use Rattle.plain_parser.specs.PlainParser.{Outcome, good, bad, after, marked, named, name_at, is_mark, exprs_from, send_from, commas_from, pattern_from, const_from, row_from}
 use Rattle.expr_parser.specs.ExprPhrases.{then_mark}
-use Rattle.expr_parser.specs.Agrees.{Agrees, AgreesDeep, Makes, with_mark}
-use Rattle.expr_parser.specs.declared.stop.Stop.{Stop}
+use Rattle.expr_parser.specs.Agrees.{Agrees, AgreesDeep, with_mark}
+use Rattle.parsing.specs.Joins.{Makes}
+use Rattle.parsing.specs.declared.stop.Stop.{Stop}
 use Rattle.expr_parser.proofs.Eventually.{Eventually, by_one, at_once, eventual_read, agrees_as, agrees_made, agrees_marked, after_read, then_same, two_marks}
 
 pub sent : (ts : List Kind) (i at : ℕ) (x : Name) (read one two : Result (Vec CodeExpr Global × ℕ) Stop) (result : Result (CodeStmt × ℕ) Stop) → at ≡ i → name_at (i + 1) (slice_get ts (i + 1)) ≡ Some x → is_mark (codes "[") (slice_get ts (i + 2)) ≡ true →

@@ -13,8 +13,8 @@ use Rattle.cocoon_syntax.specs.declared.decl.Param.{Param as CodeParam}
 use Rattle.cocoon_syntax.specs.declared.decl.ResultKind.{ResultKind as CodeResultKind}
 use Rattle.cocoon_syntax.specs.declared.stmt.Stmt.{Stmt as CodeStmt}
 use Rattle.expr_parser.specs.ExprPhrases.{then_mark}
-use Rattle.expr_parser.specs.declared.stop.Stop.{Stop}
-use Rattle.expr_parser.specs.declared.stop.Stop.TheVariants.{Unexpected, NoMemory}
+use Rattle.parsing.specs.declared.stop.Stop.{Stop}
+use Rattle.parsing.specs.declared.stop.Stop.TheVariants.{Unexpected, NoMemory}
 use Rattle.tree_parser.specs.declared.decls.Until.{Until}
 use Rattle.tree_parser.specs.declared.decls.Until.TheVariants.{Brace, Refine as UntilRefine}
 

@@ -5,7 +5,8 @@ ghost use Rattle.cocoon_lex.specs.Kinds.{mark_text};
 ghost use Rattle.cocoon_syntax.specs.TreeOf.{body_of, decl_of, design_of, expr_of, header_of, name_of, param_of, refine_of, result_of};
 ghost use Rattle.tree_parser.specs.Phrases.{LimitAt, PairAt, PortsAt, answer_from, answer_of, duty_from, duty_of, head_from, head_of, headed, refinement, stops_of};
 ghost use Rattle.plain_parser.specs.PlainParser as parser;
-ghost use Rattle.expr_parser.specs.Agrees.{Advances, Makes, Moves, Agrees, AgreesDeep};
+ghost use Rattle.expr_parser.specs.Agrees.{Advances, Moves, Agrees, AgreesDeep};
+ghost use Rattle.parsing.specs.Joins.{Makes};
 
 use crate::stmts::{assigned, block};
 use cocoon_lex::{Keyword, Mark};
@@ -14,10 +15,10 @@ use cocoon_syntax::{
     ResultKind, Role, Stmt, SwitchDecl,
 };
 use expr_parser::exprs::{expr, expr_then};
-use expr_parser::joins::{both, then};
+use expr_parser::joins::then;
 use expr_parser::names::{bits, names, param, params};
 use expr_parser::source::Source;
-use expr_parser::stop::Stop;
+use parsing::{Stop, both};
 use std::alloc::Global;
 
 /// `bool` or `bit<N>`.

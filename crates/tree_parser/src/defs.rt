@@ -3,13 +3,14 @@ ghost use Rattle.std.specs.Prelude.{◌<◌, ◌^◌, length, map};
 ghost use Rattle.cocoon_num.specs.Tree.{a_row};
 ghost use Rattle.cocoon_syntax.specs.TreeOf.{const_of, entry_of, name_of, pattern_of};
 ghost use Rattle.plain_parser.specs.PlainParser as parser;
-ghost use Rattle.expr_parser.specs.Agrees.{Makes, Moves, Agrees, AgreesDeep};
+ghost use Rattle.expr_parser.specs.Agrees.{Moves, Agrees, AgreesDeep};
+ghost use Rattle.parsing.specs.Joins.{Makes};
 
 use cocoon_lex::{Keyword, Mark};
 use cocoon_syntax::{Const, Entry, Name, Pattern};
 use expr_parser::joins::then;
 use expr_parser::source::Source;
-use expr_parser::stop::Stop;
+use parsing::Stop;
 use std::alloc::Global;
 
 #[tactic(auto, unfolding(plain_parser::specs::PlainParser::const_from))]

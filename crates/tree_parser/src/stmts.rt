@@ -5,15 +5,16 @@ ghost use Rattle.cocoon_num.specs.Tree as tree;
 ghost use Rattle.cocoon_syntax.specs.TreeOf.{block_of, expr_of, exprs_of, name_of, param_of, stmt_of};
 ghost use Rattle.tree_parser.specs.Phrases.{assigned_from, choosing_from, choosing_of, guarded_from, guarded_of, havoc_field_from, havoc_variable_from, otherwise_from, tested_from};
 ghost use Rattle.plain_parser.specs.PlainParser as parser;
-ghost use Rattle.expr_parser.specs.Agrees.{Advances, Makes, Moves, Agrees, AgreesDeep, path_of};
+ghost use Rattle.expr_parser.specs.Agrees.{Advances, Moves, Agrees, AgreesDeep, path_of};
+ghost use Rattle.parsing.specs.Joins.{Makes};
 
 use cocoon_lex::{Keyword, Mark};
 use cocoon_syntax::{Expr, Name, Param, Stmt, StmtKind};
 use expr_parser::exprs::{expr, expr_then, exprs};
-use expr_parser::joins::{both, then};
+use expr_parser::joins::then;
 use expr_parser::names::{param, path};
 use expr_parser::source::Source;
-use expr_parser::stop::Stop;
+use parsing::{Stop, both};
 use std::alloc::Global;
 
 /// One statement.

@@ -1,7 +1,7 @@
 use Rattle.std.proofs.Common.{arith, ◌+◌, length, subst}
 use Rattle.cocoon_num.specs.Tree.{assume}
 use Rattle.cocoon_syntax.specs.TreeOf.{expr_of, stmt_of}
-use Rattle.expr_parser.specs.Agrees.{Makes}
+use Rattle.parsing.specs.Joins.{Makes}
 use Rattle.tree_parser.proofs.Closings.{ended_made}
 use Rattle.expr_parser.proofs.Eventually.{moves_made}
 use Rattle.tree_parser.proofs.stmts.assume.Goals as goal

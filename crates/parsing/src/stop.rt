@@ -1,16 +1,6 @@
-//! Why a text was not read.
+//! Why a phrase was not read.
 use cocoon_num::NoMemory;
 use std::alloc::AllocFailed;
-
-/// The first fault of a text, with the index of its token.
-#[derive(Clone, Copy, Drop)]
-pub enum ParseFault {
-    /// The tokens before this one begin some text, and those up to and with it begin none.
-    Unexpected(u32),
-    /// More brackets are open here, or more operators have come, than may be.
-    TooDeep(u32),
-    NoMemory,
-}
 
 /// Why a phrase was not read.
 #[derive(Clone, Copy, Drop)]
@@ -22,7 +12,7 @@ pub enum Stop {
 
 impl From<NoMemory> for Stop {
     ghost use Rattle.std.specs.Prelude.{◌≡◌};
-    ghost use Rattle.p4_parse.specs.declared.fault.Stop.TheVariants.{NoMemory as Wanting};
+    ghost use Rattle.parsing.specs.declared.stop.Stop.TheVariants.{NoMemory as Wanting};
 
     ghost from_gives = { λ _ stop. stop ≡ Wanting };
 
@@ -33,7 +23,7 @@ impl From<NoMemory> for Stop {
 
 impl<T: Drop> From<AllocFailed<T>> for Stop {
     ghost use Rattle.std.specs.Prelude.{◌≡◌};
-    ghost use Rattle.p4_parse.specs.declared.fault.Stop.TheVariants.{NoMemory as Wanting};
+    ghost use Rattle.parsing.specs.declared.stop.Stop.TheVariants.{NoMemory as Wanting};
 
     ghost from_gives = { λ _ stop. stop ≡ Wanting };
 
