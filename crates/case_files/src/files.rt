@@ -33,6 +33,22 @@ pub fn sole_word<R: Env + AllocGlobal>(rt: &R) -> Option<String> {
     }
 }
 
+/// Prints what this puts of the standard input.
+pub fn print_of_input<R: Input + Print + AllocGlobal, F: FnOnce(&[u8], &mut Printer)>(
+    rt: &R,
+    put: F,
+) -> ExitCode
+    requires { F.IsAlwaysCallable put }
+{
+    let mut answer = Printer::new(rt.alloc());
+    let bytes = input(rt);
+    if bytes.is_none() {
+        answer.lose();
+    }
+    put(bytes.as_deref().unwrap_or_default(), &mut answer);
+    print(rt, &answer, 0)
+}
+
 /// Prints a text. Answers how the process ends: with 2 where there was no memory for the text, or where it cannot be printed.
 pub fn print<R: Print>(rt: &R, text: &Printer, status: u8) -> ExitCode {
     let whole = text.text();

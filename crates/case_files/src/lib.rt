@@ -6,10 +6,14 @@ mod digits;
 mod files;
 mod lines;
 mod printer;
+mod shorthand;
+mod sweep;
 mod trial;
 
-pub use digits::number;
-pub use files::{file, input, print, sole_word};
+pub use digits::{number, numbers, wide_number};
+pub use files::{file, input, print, print_of_input, sole_word};
 pub use lines::{first_word, last_line};
 pub use printer::Printer;
+pub use shorthand::{put_expanded, put_framed, put_repeated};
+pub use sweep::swept;
 pub use trial::{Subject, try_words};

@@ -34,6 +34,13 @@ impl Printer {
         self.is_whole = false;
     }
 
+    /// The same where there was none for all of another text.
+    pub fn lose_with(&mut self, other: &Printer) {
+        if !other.is_whole {
+            self.lose();
+        }
+    }
+
     /// Takes memory for so many more bytes.
     pub fn reserve(&mut self, bytes: usize) {
         if self.text.reserve(bytes).is_err() {
@@ -71,6 +78,13 @@ impl Printer {
     /// A byte in two hexadecimal digits.
     pub fn put_hex(&mut self, byte: u8) {
         if write!(self.text, "{byte:02x}").is_err() {
+            self.lose();
+        }
+    }
+
+    /// A number with its width, as `8w1`.
+    pub fn put_bits(&mut self, width: u8, value: u128) {
+        if write!(self.text, "{width}w{value}").is_err() {
             self.lose();
         }
     }

@@ -49,9 +49,7 @@ impl Trial {
             self.printed.put(found);
             self.printed.put("\n");
         }
-        if !given.is_whole() {
-            self.printed.lose();
-        }
+        self.printed.lose_with(given);
         self.add(found != wanted);
     }
 

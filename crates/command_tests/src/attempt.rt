@@ -184,9 +184,7 @@ fn try_over(
     found.reserve(4096);
     run_words(alloc, case.words, folder, sink, &mut found);
     judge(case, folder, found.text(), wanted, out);
-    if !found.is_whole() {
-        out.lose();
-    }
+    out.lose_with(&found);
 }
 
 /// Runs a case once, and reports what differs.

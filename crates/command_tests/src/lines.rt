@@ -1,6 +1,6 @@
 //! What the lines of a case say of files, one after another. What is wrong about a line is reported.
 use crate::fields::{LINE, Line, count_fields, line_of};
-use case_files::{Printer, file, number};
+use case_files::{Printer, file, number, put_repeated};
 use cocoon_io::HonestFolder;
 use std::alloc::Global;
 use std::str;
@@ -74,9 +74,7 @@ fn edit(
     edited.put(before);
     edited.put(new);
     edited.put(behind);
-    if !edited.is_whole() {
-        out.lose();
-    }
+    out.lose_with(&edited);
     store_file(folder, name, edited.text().as_bytes(), out);
 }
 
@@ -94,32 +92,13 @@ pub fn number_in(field: &str, out: &mut Printer) -> u64 {
     }
 }
 
-/// Puts a text with a number for each `#` in it.
-fn put_numbered(text: &str, number: u64, all: &mut Printer) {
-    let mut pieces = text.split('#');
-    all.put(pieces.next().unwrap_or_default());
-    for piece in pieces {
-        all.put_number(number);
-        all.put(piece);
-    }
-}
-
-/// Puts a text so many times, with a number for each `#` in it, which goes up from the first.
-fn put_repeated(text: &str, count: u64, first: u64, all: &mut Printer) {
-    for index in 0..count {
-        put_numbered(text, first.saturating_add(index), all);
-    }
-}
-
 /// Does what a line `repeat` says, or a line `after-repeat`.
 fn repeat(alloc: Global, folder: &mut HonestFolder, line: Line<'_>, out: &mut Printer) {
     let mut all = Printer::new(alloc);
     let count = number_in(line.count, out);
     let first = number_in(line.first, out);
     put_repeated(line.new, count, first, &mut all);
-    if !all.is_whole() {
-        out.lose();
-    }
+    out.lose_with(&all);
     edit(alloc, folder, (line.name, line.old, all.text()), out);
 }
 

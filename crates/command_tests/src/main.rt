@@ -111,9 +111,7 @@ fn run_case(data: Data<'_>, common: &str, case: &str, totals: &mut Totals) {
     put_lines(common, &mut lines);
     put_lines(own, &mut lines);
     let runs = try_lines(data, lines.text(), &mut totals.out);
-    if !lines.is_whole() {
-        totals.out.lose();
-    }
+    totals.out.lose_with(&lines);
     if totals.out.text().len() > before {
         totals.differing = totals.differing.saturating_add(1);
     }

@@ -2,8 +2,7 @@
 use crate::attempt::{Case, Wanted, try_once};
 use crate::fields::{LINE, last_line, line_of};
 use crate::lines::{CaseFiles, Data, read, report, store_file};
-use case_files::Printer;
-use cocoon_num::NoMemory;
+use case_files::{Printer, swept};
 use std::alloc::Global;
 use std::str;
 
@@ -31,22 +30,6 @@ fn is_same(sweep: Sweep<'_>, prefix: &[u8], old: u8) -> bool {
     sweep.byte == Some(old)
 }
 
-/// The bytes with another one at the offset, or those before it.
-fn swept(
-    alloc: Global,
-    sweep: Sweep<'_>,
-    bytes: &[u8],
-    offset: usize,
-) -> Result<Vec<u8>, NoMemory> {
-    let (prefix, rest) = bytes.split_at_checked(offset).unwrap_or_default();
-    let mut text = prefix.to_vec(alloc)?;
-    if let (Some(byte), Some((_, behind))) = (sweep.byte, rest.split_first()) {
-        text.push(byte)?;
-        text.extend_from_slice(behind)?;
-    }
-    Ok(text)
-}
-
 /// What is wanted without a table.
 fn wanted_at<'a>(sweep: Sweep<'a>, bytes: &[u8], offset: usize) -> Wanted<'a> {
     let (prefix, rest) = bytes.split_at_checked(offset).unwrap_or_default();
@@ -71,9 +54,9 @@ fn try_at(
     wanted: Wanted<'_>,
     out: &mut Printer,
 ) {
-    match swept(alloc, sweep, bytes, offset) {
-        Ok(text) => store_file(&mut files.before, sweep.file, &text, out),
-        Err(NoMemory) => out.lose(),
+    match swept(alloc, bytes, offset, sweep.byte) {
+        Some(text) => store_file(&mut files.before, sweep.file, &text, out),
+        None => out.lose(),
     }
     let before = out.text().len();
     let case = Case {

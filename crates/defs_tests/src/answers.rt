@@ -9,7 +9,7 @@ ghost use Rattle.runtime_defs.specs.Places.{table_at, TakesArgs};
 
 use crate::faults::put_fault;
 use crate::same::are_same_tables;
-use case_files::{Printer, first_word, number};
+use case_files::{Printer, first_word, numbers};
 use cocoon_num::{FunTable, NoMemory, Text};
 use cocoon_resolve::{Checked, resolve};
 use cocoon_syntax::Design;
@@ -148,23 +148,12 @@ pub fn takes(defs: &Defs, function: FunId, count: usize) -> bool
     }
 }
 
-/// The numbers of some words; 0 for a word that is no number.
-fn numbers(alloc: Global, words: &str) -> Result<Vec<u64>, NoMemory> {
-    let mut numbers = Vec::new(alloc);
-    for word in words.split(' ') {
-        numbers.push(number(word).unwrap_or_default())?;
-    }
-    Ok(numbers)
-}
-
 /// Puts the value of a function at some numbers, as `8w3`.
 fn put_value(checked: &Checked, defs: &Defs, name: &str, args: &[u64], given: &mut Printer) {
     match checked.function_of(name.as_bytes()) {
         Some(function) if takes(defs, function, args.len()) => {
             let value = defs.look(function, args);
-            given.put_number(u64::from(value.width));
-            given.put("w");
-            given.put_debug(&value.value);
+            given.put_bits(value.width, value.value);
         }
         _ => given.put("no such function"),
     }
@@ -173,9 +162,9 @@ fn put_value(checked: &Checked, defs: &Defs, name: &str, args: &[u64], given: &m
 /// Puts the value of a function at some numbers, which stand behind its name.
 fn put_look(alloc: Global, checked: &Checked, defs: &Defs, asked: &str, given: &mut Printer) {
     let (name, words) = first_word(asked);
-    match numbers(alloc, words) {
-        Ok(args) => put_value(checked, defs, name, &args, given),
-        Err(NoMemory) => given.lose(),
+    match numbers(alloc, words, ' ') {
+        Some(args) => put_value(checked, defs, name, &args, given),
+        None => given.put("no numbers"),
     }
 }
 

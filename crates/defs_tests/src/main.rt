@@ -7,14 +7,12 @@
 #![tactic(auto)]
 
 mod answers;
-mod asked;
 mod faults;
 mod same;
 mod timed;
 
 use answers::put_answer;
-use asked::put_text;
-use case_files::{Printer, Subject, file, first_word, last_line, print, try_words};
+use case_files::{Printer, Subject, file, first_word, last_line, print, put_framed, try_words};
 use std::process::ExitCode;
 use timed::{Timed, put_time, timed_by_words};
 
@@ -32,7 +30,8 @@ impl<'r> Subject for Cases<'r> {
 
     fn answer(&self, above: &str, asked: &str, _wanted: &str, given: &mut Printer) {
         let mut text = Printer::new(self.rt.alloc());
-        put_text(last_line(above, "text").unwrap_or("..."), asked, &mut text);
+        let frame = last_line(above, "text").unwrap_or("...");
+        put_framed(self.rt, frame, asked, &mut text);
         let design = last_line(above, "design").unwrap_or_default();
         let question = last_line(above, "ask").unwrap_or_default();
         match file(self.rt, design) {
@@ -45,9 +44,7 @@ impl<'r> Subject for Cases<'r> {
             ),
             None => given.put("no such design"),
         }
-        if !text.is_whole() {
-            given.lose();
-        }
+        given.lose_with(&text);
     }
 }
 

@@ -8,18 +8,17 @@
 
 mod answers;
 mod edits;
-mod shorthand;
 mod sweeps;
 
 use answers::{put_printed, put_reading};
 use case_files::{
-    Printer, Subject, file, first_word, input, last_line, print, sole_word, try_words,
+    Printer, Subject, file, first_word, last_line, print_of_input, put_expanded, sole_word,
+    try_words,
 };
 use edits::edited;
-use shorthand::put_expanded;
 use std::process::ExitCode;
 use std::str;
-use sweeps::{Sweep, put_sweep};
+use sweeps::put_sweep;
 
 /// The cases, with the machine that has their files of data.
 #[derive(Drop)]
@@ -40,13 +39,11 @@ impl<'r> Subject for Cases<'r> {
             "text" => put_text(self.rt, rest, given),
             "edit" => put_edited(self.rt, &base, rest, given),
             "printed" => put_file(self.rt, rest, given),
-            "prefixes" => put_swept(self.rt, base.text(), Sweep::Prefix, rest, given),
+            "prefixes" => put_swept(self.rt, base.text(), None, rest, given),
             "replaced" => put_replaced(self.rt, base.text(), rest, given),
             _ => given.put("no question"),
         }
-        if !base.is_whole() {
-            given.lose();
-        }
+        given.lose_with(&base);
     }
 }
 
@@ -54,7 +51,7 @@ impl<'r> Subject for Cases<'r> {
 fn whole(rt: &HostRuntime, name: &str) -> Printer {
     let mut text = Printer::new(rt.alloc());
     if let Some(bytes) = file(rt, name) {
-        put_expanded(str::from_utf8(&bytes).unwrap_or_default(), &mut text);
+        put_expanded(rt, str::from_utf8(&bytes).unwrap_or_default(), &mut text);
     }
     text
 }
@@ -62,16 +59,14 @@ fn whole(rt: &HostRuntime, name: &str) -> Printer {
 /// Puts what a text reads as that stands in the case.
 fn put_text(rt: &HostRuntime, short: &str, given: &mut Printer) {
     let mut text = Printer::new(rt.alloc());
-    put_expanded(short, &mut text);
+    put_expanded(rt, short, &mut text);
     put_reading(rt.alloc(), text.text().as_bytes(), given);
-    if !text.is_whole() {
-        given.lose();
-    }
+    given.lose_with(&text);
 }
 
 /// Puts what the base reads as with these edits.
 fn put_edited(rt: &HostRuntime, base: &Printer, edits: &str, given: &mut Printer) {
-    match edited(rt.alloc(), base.text(), edits) {
+    match edited(rt, base.text(), edits) {
         Some(text) => {
             put_printed(
                 rt.alloc(),
@@ -79,9 +74,7 @@ fn put_edited(rt: &HostRuntime, base: &Printer, edits: &str, given: &mut Printer
                 base.text().as_bytes(),
                 given,
             );
-            if !text.is_whole() {
-                given.lose();
-            }
+            given.lose_with(&text);
         }
         None => given.put("nothing to edit"),
     }
@@ -96,17 +89,15 @@ fn put_file(rt: &HostRuntime, name: &str, given: &mut Printer) {
         text.text().as_bytes(),
         given,
     );
-    if !text.is_whole() {
-        given.lose();
-    }
+    given.lose_with(&text);
 }
 
 /// Puts whether the base, changed at each byte in turn, reads as a file of data says.
-fn put_swept(rt: &HostRuntime, base: &str, sweep: Sweep, name: &str, given: &mut Printer) {
+fn put_swept(rt: &HostRuntime, base: &str, byte: Option<u8>, name: &str, given: &mut Printer) {
     match file(rt, name) {
         Some(bytes) => {
             let wanted = str::from_utf8(&bytes).unwrap_or_default();
-            put_sweep(rt.alloc(), base, sweep, wanted, given);
+            put_sweep(rt.alloc(), base, byte, wanted, given);
         }
         None => given.put("no file"),
     }
@@ -114,8 +105,8 @@ fn put_swept(rt: &HostRuntime, base: &str, sweep: Sweep, name: &str, given: &mut
 
 /// The same where the first byte of a text comes for the byte.
 fn put_replaced(rt: &HostRuntime, base: &str, asked: &str, given: &mut Printer) {
-    let (byte, name) = first_word(asked);
-    put_swept(rt, base, Sweep::Replaced(byte), name, given);
+    let (piece, name) = first_word(asked);
+    put_swept(rt, base, piece.as_bytes().first().copied(), name, given);
 }
 
 /// Whether the one word asks to read the standard input.
@@ -126,20 +117,12 @@ fn is_asked_to_read(rt: &HostRuntime) -> bool {
     }
 }
 
-/// Reads the standard input, and prints what came of it.
-fn read_input(rt: &HostRuntime) -> ExitCode {
-    let mut answer = Printer::new(rt.alloc());
-    match input(rt) {
-        Some(text) => put_reading(rt.alloc(), &text, &mut answer),
-        None => answer.lose(),
-    }
-    answer.put("\n");
-    print(rt, &answer, 0)
-}
-
 fn main(rt: HostRuntime) -> ExitCode {
     if is_asked_to_read(&rt) {
-        read_input(&rt)
+        print_of_input(&rt, |text, answer| {
+            put_reading(rt.alloc(), text, answer);
+            answer.put("\n");
+        })
     } else {
         try_words(&rt, &Cases { rt: &rt })
     }

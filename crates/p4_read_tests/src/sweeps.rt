@@ -1,55 +1,38 @@
 //! A text that is changed at each of its bytes in turn.
 use crate::answers::put_reading;
-use case_files::{Printer, first_word, number};
+use case_files::{Printer, first_word, number, swept};
 use std::alloc::Global;
-
-/// How a text is changed at a byte.
-#[derive(Clone, Copy, Drop)]
-pub enum Sweep<'a> {
-    /// It ends before the byte.
-    Prefix,
-    /// This piece comes for the byte.
-    Replaced(&'a str),
-}
-
-impl<'a> Sweep<'a> {
-    /// The text, changed at this byte.
-    fn changed(self, alloc: Global, text: &str, offset: usize) -> Printer {
-        let mut changed = Printer::new(alloc);
-        changed.put(text.get(..offset).unwrap_or_default());
-        if let Sweep::Replaced(piece) = self {
-            changed.put(piece);
-            let behind = offset.saturating_add(1);
-            changed.put(text.get(behind..).unwrap_or_default());
-        }
-        changed
-    }
-}
 
 /// How far a sweep has come.
 #[derive(Drop)]
 struct Sweeping<'a> {
     alloc: Global,
     text: &'a str,
-    sweep: Sweep<'a>,
+    /// What comes for the byte. Without it, the text ends before the byte.
+    byte: Option<u8>,
     offset: usize,
 }
 
 impl<'a> Sweeping<'a> {
+    /// Puts what the text reads as, changed at the next byte.
+    fn put_next(&self, found: &mut Printer) {
+        match swept(self.alloc, self.text.as_bytes(), self.offset, self.byte) {
+            Some(changed) => put_reading(self.alloc, &changed, found),
+            None => found.lose(),
+        }
+    }
+
     /// Tries the text changed at the next byte, and puts what differs.
     fn try_next(&mut self, wanted: &str, given: &mut Printer) {
-        let changed = self.sweep.changed(self.alloc, self.text, self.offset);
         let mut found = Printer::new(self.alloc);
-        put_reading(self.alloc, changed.text().as_bytes(), &mut found);
+        self.put_next(&mut found);
         if found.text() != wanted {
             given.put_debug(&self.offset);
             given.put(": ");
             given.put(found.text());
             given.put("; ");
         }
-        if !changed.is_whole() || !found.is_whole() {
-            given.lose();
-        }
+        given.lose_with(&found);
         self.offset = self.offset.saturating_add(1);
     }
 
@@ -64,11 +47,11 @@ impl<'a> Sweeping<'a> {
 
 /// Tries a text changed at each byte, and puts where the answer is not the one that is wanted. Behind it stands how many bytes were
 /// tried.
-pub fn put_sweep(alloc: Global, text: &str, sweep: Sweep<'_>, wanted: &str, given: &mut Printer) {
+pub fn put_sweep(alloc: Global, text: &str, byte: Option<u8>, wanted: &str, given: &mut Printer) {
     let mut sweeping = Sweeping {
         alloc,
         text,
-        sweep,
+        byte,
         offset: 0,
     };
     for part in wanted.split(';') {

@@ -1,11 +1,11 @@
 //! Parts of programs and rows.
-ghost use Rattle.std.specs.Prelude.{◌≡◌, IfOk, Ok, map};
+ghost use Rattle.std.specs.Prelude.{◌≡◌, IfOk, map};
 ghost use Rattle.cocoon_num.specs.Values.{equal};
 ghost use Rattle.p4_ir.specs.NetOf.{key_row_of, table_rows_of};
 ghost use Rattle.p4_ir.specs.P4Tree as tree;
 ghost use Rattle.p4_ir.specs.Program.{block_of, control_of, expr_of, field_of, header_of, stmt_of, table_of};
 
-use cocoon_num::{Bits, List, NoMemory, Text};
+use cocoon_num::{Bits, List, NoMemory, Text, both};
 use p4_ir::{Control, KeyRow, P4Binary, P4Expr, P4Field, P4Header, P4Stmt, Table, TableRows};
 use std::alloc::Global;
 
@@ -48,17 +48,6 @@ fn boxed(alloc: Global, expr: P4Expr) -> Result<Box<P4Expr>, NoMemory>
     ensures { IfOk result (λ b. b.value ≡ expr) }
 {
     Ok(Box::new(alloc, expr)?)
-}
-
-/// Both, where both were made: two parts with one early return, which a check is much faster on.
-pub fn both<A: Drop, B: Drop>(
-    first: Result<A, NoMemory>,
-    second: Result<B, NoMemory>,
-) -> Result<(A, B), NoMemory>
-    ensures { IfOk result (λ made. (first ≡ Ok made.0) × (second ≡ Ok made.1)) }
-{
-    let first = first?;
-    Ok((first, second?))
 }
 
 pub fn row(alloc: Global, values: &[u64], masks: &[u64], value: u64) -> Result<KeyRow, NoMemory>

@@ -4,7 +4,7 @@ ghost use Rattle.p4_ir.specs.NetFits.{net_fits};
 ghost use Rattle.p4_ir.specs.NetOf.{net_of};
 
 use crate::networks::network;
-use case_files::{Printer, file, first_word, last_line, number};
+use case_files::{Printer, file, first_word, last_line, numbers};
 use cocoon_io::{FolderFault, MemFolder};
 use cocoon_num::NoMemory;
 use net_bundle::{BundleFault, BundleFile, write_bundle};
@@ -109,14 +109,6 @@ fn place_older(folder: &mut MemFolder, above: &str, given: &mut Printer) {
     }
 }
 
-/// The numbers of the calls that fail.
-fn failing(alloc: Global, digits: &str) -> Result<Vec<u64>, NoMemory> {
-    match number(digits) {
-        Some(number) => Ok(vec![in alloc; number]?),
-        None => Ok(Vec::new(alloc)),
-    }
-}
-
 /// Writes the bundle of a network into a folder with an older one, and puts what came of it and the files that were written.
 /// Behind the bundle's name stand `certificates`, if it gets these, and the number of a call that fails.
 fn write_over(
@@ -141,14 +133,14 @@ fn write_planned(rt: &HostRuntime, above: &str, net: &NetData, asked: &str, give
     let (out, rest) = first_word(asked);
     let (word, behind) = first_word(rest);
     let is_certified = word == "certificates";
-    let digits = if is_certified { behind } else { word };
+    let digits = if is_certified { behind } else { rest };
     let certificates = if is_certified {
         file(rt, "two.certs.json")
     } else {
         None
     };
-    match failing(rt.alloc(), digits) {
-        Ok(failing) => {
+    match numbers(rt.alloc(), digits, ' ') {
+        Some(failing) => {
             let mut folder = MemFolder::new(rt.alloc(), failing);
             write_over(
                 rt,
@@ -160,7 +152,7 @@ fn write_planned(rt: &HostRuntime, above: &str, net: &NetData, asked: &str, give
                 given,
             );
         }
-        Err(NoMemory) => given.lose(),
+        None => given.put("no numbers"),
     }
 }
 

@@ -1,6 +1,6 @@
 //! Words for headers, fields and tables.
 use crate::draft::Draft;
-use case_files::number;
+use case_files::{number, numbers};
 use cocoon_num::{List, Text};
 use p4_ir::{P4Field, Table};
 use std::alloc::Global;
@@ -29,25 +29,10 @@ fn field(alloc: Global, word: &str) -> Option<P4Field> {
 /// The indices `KEY,KEY`; none where the word is empty.
 fn keys(alloc: Global, word: &str) -> Option<Vec<u32>> {
     let mut keys = Vec::new(alloc);
-    if word.is_empty() {
-        return Some(keys);
-    }
-    for digits in word.split(',') {
-        keys.push(index(digits)?).ok()?;
+    for key in numbers(alloc, word, ',')? {
+        keys.push(u32::try_from(key).ok()?).ok()?;
     }
     Some(keys)
-}
-
-/// The numbers `NUMBER,NUMBER`; none where the word is empty.
-pub fn numbers(alloc: Global, word: &str) -> Option<Vec<u64>> {
-    let mut numbers = Vec::new(alloc);
-    if word.is_empty() {
-        return Some(numbers);
-    }
-    for digits in word.split(',') {
-        numbers.push(number(digits)?).ok()?;
-    }
-    Some(numbers)
 }
 
 /// The table `NUMBER:RESULT:KEYS`.

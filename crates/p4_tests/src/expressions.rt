@@ -2,6 +2,7 @@
 use crate::declarations::{byte, index};
 use crate::draft::Draft;
 use crate::literals::bits;
+use case_files::wide_number;
 use p4_ir::{P4Binary, P4Expr, P4Unary};
 
 /// The pair `HEADER.FIELD`.
@@ -13,21 +14,7 @@ pub fn header_field(word: &str) -> Option<(u32, u32)> {
 /// The number `WIDTHwVALUE`.
 fn literal(word: &str) -> Option<P4Expr> {
     let (width, value) = word.split_once('w')?;
-    Some(P4Expr::Lit(bits(byte(width)?, wide(value)?)?))
-}
-
-/// The number of these digits, below 2^128.
-fn wide(digits: &str) -> Option<u128> {
-    let mut number: u128 = 0;
-    for byte in digits.bytes() {
-        if !byte.is_ascii_digit() {
-            return None;
-        }
-        number = number
-            .checked_mul(10)?
-            .checked_add(u128::from(byte - b'0'))?;
-    }
-    Some(number)
+    Some(P4Expr::Lit(bits(byte(width)?, wide_number(value)?)?))
 }
 
 fn operator(word: &str) -> Option<P4Binary> {

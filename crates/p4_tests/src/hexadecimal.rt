@@ -15,7 +15,8 @@ fn digit(byte: u8) -> Option<u8> {
 pub fn bytes(alloc: Global, word: &str) -> Option<Vec<u8>> {
     let mut bytes = Vec::new(alloc);
     let mut high = None;
-    for byte in word.strip_prefix('-').unwrap_or(word).bytes() {
+    let digits = if word == "-" { "" } else { word };
+    for byte in digits.bytes() {
         let digit = digit(byte)?;
         match high {
             None => high = Some(digit),
@@ -25,7 +26,10 @@ pub fn bytes(alloc: Global, word: &str) -> Option<Vec<u8>> {
             }
         }
     }
-    Some(bytes)
+    match high {
+        Some(_) => None,
+        None => Some(bytes),
+    }
 }
 
 /// Puts bytes in hexadecimal digits.

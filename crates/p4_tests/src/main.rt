@@ -21,17 +21,15 @@ mod printed;
 mod program_words;
 mod row_words;
 mod second_switch;
-mod shorthand;
 mod statements;
 mod timed;
 mod visits;
 
 use bundles::write_case;
-use case_files::{Printer, Subject, first_word, input, print, sole_word, try_words};
+use case_files::{Printer, Subject, first_word, print_of_input, sole_word, try_words};
 use limits::write_long;
 use packets::ask_packet;
 use printed::{put_kinds, put_same, put_whole};
-use std::alloc::Global;
 use std::process::ExitCode;
 use std::str;
 use timed::put_many;
@@ -55,11 +53,11 @@ impl<'r> Subject for Cases<'r> {
     fn answer(&self, above: &str, asked: &str, _wanted: &str, given: &mut Printer) {
         let (word, rest) = first_word(asked);
         match word {
-            "kinds" => put_kinds(self.rt.alloc(), above, rest, given),
+            "kinds" => put_kinds(self.rt, above, rest, given),
             "text" => put_same(self.rt, above, rest, given),
             "enter" => ask_packet(self.rt.alloc(), above, rest, given),
-            "load" => put_loaded(self.rt.alloc(), above, rest, given),
-            "visit" => ask_visits(self.rt.alloc(), above, rest, given),
+            "load" => put_loaded(self.rt, above, rest, given),
+            "visit" => ask_visits(self.rt, above, rest, given),
             "limit" => write_long(self.rt, rest, given),
             _ => write_case(self.rt, above, (word, rest), given),
         }
@@ -87,27 +85,18 @@ fn read_asked(rt: &HostRuntime) -> Asked {
     }
 }
 
-fn put_answer(alloc: Global, input: &[u8], asked: Asked, text: &mut Printer) {
+/// Puts what is made of the standard input.
+fn put_answer(rt: &HostRuntime, input: &[u8], asked: Asked, text: &mut Printer) {
     let words = str::from_utf8(input).unwrap_or_default();
     match asked {
-        Asked::Visits(each) => put_many(alloc, words, each, text),
-        _ => put_whole(alloc, words, text),
+        Asked::Visits(each) => put_many(rt, words, each, text),
+        _ => put_whole(rt, words, text),
     }
-}
-
-/// Prints what is made of the standard input.
-fn print_input(rt: &HostRuntime, asked: Asked) -> ExitCode {
-    let mut text = Printer::new(rt.alloc());
-    match input(rt) {
-        Some(input) => put_answer(rt.alloc(), &input, asked, &mut text),
-        None => text.lose(),
-    }
-    print(rt, &text, 0)
 }
 
 fn main(rt: HostRuntime) -> ExitCode {
     match read_asked(&rt) {
         Asked::Cases => try_words(&rt, &Cases { rt: &rt }),
-        asked => print_input(&rt, asked),
+        asked => print_of_input(&rt, |input, text| put_answer(&rt, input, asked, text)),
     }
 }

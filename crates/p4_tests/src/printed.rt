@@ -1,7 +1,6 @@
 //! Whether programs are well kinded, and what is printed of them.
 use crate::program_words::program_of;
-use crate::shorthand::put_expanded;
-use case_files::{Printer, file, first_word, last_line};
+use case_files::{Printer, file, first_word, last_line, put_expanded, put_framed};
 use cocoon_num::NoMemory;
 use p4_emit::emit;
 use p4_ir::Program;
@@ -10,24 +9,21 @@ use std::alloc::Global;
 use std::str;
 
 /// The program of a case: its words in the place of `...` in the last line `program`.
-pub fn program(alloc: Global, above: &str, asked: &str) -> Option<Program> {
+pub fn program(rt: &HostRuntime, above: &str, asked: &str) -> Option<Program> {
     let frame = last_line(above, "program").unwrap_or("...");
-    let (before, behind) = frame.split_once("...").unwrap_or((frame, ""));
-    let mut words = Printer::new(alloc);
-    put_expanded(before, &mut words);
-    put_expanded(asked, &mut words);
-    put_expanded(behind, &mut words);
+    let mut words = Printer::new(rt.alloc());
+    put_framed(rt, frame, asked, &mut words);
     if words.is_whole() {
-        program_of(alloc, words.text())
+        program_of(rt.alloc(), words.text())
     } else {
         None
     }
 }
 
 /// Puts `kinded` or `broken`.
-pub fn put_kinds(alloc: Global, above: &str, asked: &str, given: &mut Printer) {
-    match program(alloc, above, asked) {
-        Some(program) => match is_well_kinded(alloc, &program) {
+pub fn put_kinds(rt: &HostRuntime, above: &str, asked: &str, given: &mut Printer) {
+    match program(rt, above, asked) {
+        Some(program) => match is_well_kinded(rt.alloc(), &program) {
             Ok(true) => given.put("kinded"),
             Ok(false) => given.put("broken"),
             Err(NoMemory) => given.lose(),
@@ -69,9 +65,8 @@ fn put_difference(text: &Printer, wanted: &Printer, given: &mut Printer) {
         given.put("other from offset ");
         given.put_number(common(text.text(), wanted.text()));
     }
-    if !text.is_whole() || !wanted.is_whole() {
-        given.lose();
-    }
+    given.lose_with(text);
+    given.lose_with(wanted);
 }
 
 /// Puts whether the text of a program is that of a file of the data, which may be written down in short.
@@ -80,7 +75,7 @@ fn compare(rt: &HostRuntime, program: &Program, name: &str, given: &mut Printer)
     put_text(rt.alloc(), program, &mut text);
     let mut wanted = Printer::new(rt.alloc());
     match file(rt, name) {
-        Some(bytes) => put_expanded(str::from_utf8(&bytes).unwrap_or_default(), &mut wanted),
+        Some(bytes) => put_expanded(rt, str::from_utf8(&bytes).unwrap_or_default(), &mut wanted),
         None => given.put("no file, "),
     }
     put_difference(&text, &wanted, given);
@@ -89,16 +84,16 @@ fn compare(rt: &HostRuntime, program: &Program, name: &str, given: &mut Printer)
 /// Puts whether the program of a case has the text of the file that its first word names.
 pub fn put_same(rt: &HostRuntime, above: &str, asked: &str, given: &mut Printer) {
     let (name, words) = first_word(asked);
-    match program(rt.alloc(), above, words) {
+    match program(rt, above, words) {
         Some(program) => compare(rt, &program, name, given),
         None => given.put("no program"),
     }
 }
 
 /// Puts the text of the program that words say.
-pub fn put_whole(alloc: Global, words: &str, given: &mut Printer) {
-    match program(alloc, "", words) {
-        Some(program) => put_text(alloc, &program, given),
+pub fn put_whole(rt: &HostRuntime, words: &str, given: &mut Printer) {
+    match program(rt, "", words) {
+        Some(program) => put_text(rt.alloc(), &program, given),
         None => given.put("no program"),
     }
 }

@@ -1,6 +1,6 @@
 //! The words that say rows and groups.
-use crate::declarations::{index, numbers, port};
-use case_files::number;
+use crate::declarations::{index, port};
+use case_files::{number, numbers};
 use cocoon_num::List;
 use p4_ir::{Group, KeyRow, RowsFile, TableRows};
 use std::alloc::Global;
@@ -29,8 +29,8 @@ impl RowsDraft {
     fn add_row(&mut self, rest: &str) -> Option<()> {
         let (values, rest) = rest.split_once(':')?;
         let (masks, result) = rest.split_once(':')?;
-        let values = List::from(numbers(self.alloc, values)?);
-        let masks = List::from(numbers(self.alloc, masks)?);
+        let values = List::from(numbers(self.alloc, values, ',')?);
+        let masks = List::from(numbers(self.alloc, masks, ',')?);
         let result = number(result)?;
         self.rows
             .push(KeyRow {
@@ -61,7 +61,7 @@ impl RowsDraft {
     fn add_group(&mut self, rest: &str) -> Option<()> {
         let (digits, members) = rest.split_once(':')?;
         let number = port(digits)?;
-        let members = List::from(numbers(self.alloc, members)?);
+        let members = List::from(numbers(self.alloc, members, ',')?);
         self.groups.push(Group { number, members }).ok()
     }
 

@@ -6,7 +6,6 @@ use crate::printed::program;
 use crate::visits::{load, put_next};
 use case_files::{Printer, number};
 use p4_run::{Frame, Loaded, Next};
-use std::alloc::Global;
 
 /// The bytes of the next packet, and a number that all results so far have made.
 #[derive(Clone, Copy, Drop)]
@@ -77,13 +76,13 @@ fn put_each(loaded: &Loaded, frame: &mut Frame, count: u64, given: &mut Printer)
 
 /// Runs as many packets as the first line says, through the program of the second with the rows of the third. Puts each
 /// result, or a number that all make.
-pub fn put_many(alloc: Global, input: &str, each: bool, given: &mut Printer) {
+pub fn put_many(rt: &HostRuntime, input: &str, each: bool, given: &mut Printer) {
     let (count, rest) = input.split_once('\n').unwrap_or_default();
     let (words, rows) = rest.split_once('\n').unwrap_or_default();
-    let Some(loaded) = load(alloc, program(alloc, "", words), rows, given) else {
+    let Some(loaded) = load(rt, program(rt, "", words), rows, given) else {
         return;
     };
-    match (Frame::new(alloc, &loaded), number(count)) {
+    match (Frame::new(rt.alloc(), &loaded), number(count)) {
         (Ok(mut frame), Some(count)) if each => put_each(&loaded, &mut frame, count, given),
         (Ok(mut frame), Some(count)) => put_digest(&loaded, &mut frame, count, given),
         _ => given.lose(),

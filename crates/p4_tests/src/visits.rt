@@ -6,8 +6,7 @@ use crate::declarations::port;
 use crate::hexadecimal::{bytes, put_hex};
 use crate::printed::program;
 use crate::row_words::rows_of;
-use crate::shorthand::put_expanded;
-use case_files::{Printer, first_word, last_line, number};
+use case_files::{Printer, first_word, last_line, numbers, put_expanded};
 use cocoon_num::NoMemory;
 use p4_ir::{Program, RowsFile};
 use p4_kinds::is_well_kinded;
@@ -42,18 +41,16 @@ fn load_into(
 
 /// Loads the rows that words say into a program, or puts why they are not loaded.
 pub fn load(
-    alloc: Global,
+    rt: &HostRuntime,
     program: Option<Program>,
     words: &str,
     given: &mut Printer,
 ) -> Option<Loaded> {
-    let mut expanded = Printer::new(alloc);
-    put_expanded(words, &mut expanded);
-    if !expanded.is_whole() {
-        given.lose();
-    }
-    match (program, rows_of(alloc, expanded.text())) {
-        (Some(program), Some(rows)) => load_into(alloc, program, rows, given),
+    let mut expanded = Printer::new(rt.alloc());
+    put_expanded(rt, words, &mut expanded);
+    given.lose_with(&expanded);
+    match (program, rows_of(rt.alloc(), expanded.text())) {
+        (Some(program), Some(rows)) => load_into(rt.alloc(), program, rows, given),
         _ => {
             given.put("no program or no rows");
             None
@@ -62,8 +59,8 @@ pub fn load(
 }
 
 /// Puts whether rows are loaded into the program of the last line `program`.
-pub fn put_loaded(alloc: Global, above: &str, words: &str, given: &mut Printer) {
-    if load(alloc, program(alloc, above, ""), words, given).is_some() {
+pub fn put_loaded(rt: &HostRuntime, above: &str, words: &str, given: &mut Printer) {
+    if load(rt, program(rt, above, ""), words, given).is_some() {
         given.put("loads");
     }
 }
@@ -82,14 +79,10 @@ struct Arrival {
 fn read_arrival(alloc: Global, words: &str) -> Option<Arrival> {
     let (first, rest) = first_word(words);
     let (digits, rest) = first_word(rest);
-    let mut copies = Vec::new(alloc);
-    for word in rest.split_ascii_whitespace() {
-        copies.push(number(word)?).ok()?;
-    }
     Some(Arrival {
         port: port(first)?,
         bytes: bytes(alloc, digits)?,
-        copies,
+        copies: numbers(alloc, rest, ' ')?,
     })
 }
 
@@ -177,17 +170,18 @@ fn flip(bytes: &mut [u8]) {
 }
 
 /// Puts the visits of a case, `PORT BYTES COPY..`, and behind ` with ` the words that the program has in the place of `...`.
-pub fn ask_visits(alloc: Global, above: &str, asked: &str, given: &mut Printer) {
-    let mut expanded = Printer::new(alloc);
-    put_expanded(asked, &mut expanded);
+pub fn ask_visits(rt: &HostRuntime, above: &str, asked: &str, given: &mut Printer) {
+    let mut expanded = Printer::new(rt.alloc());
+    put_expanded(rt, asked, &mut expanded);
+    given.lose_with(&expanded);
     let asked = expanded.text();
     let (call, words) = asked.split_once(" with ").unwrap_or((asked, ""));
     let rows = last_line(above, "rows").unwrap_or_default();
-    let Some(loaded) = load(alloc, program(alloc, above, words), rows, given) else {
+    let Some(loaded) = load(rt, program(rt, above, words), rows, given) else {
         return;
     };
-    match read_arrival(alloc, call) {
-        Some(arrival) => put_visits(alloc, &loaded, arrival, given),
+    match read_arrival(rt.alloc(), call) {
+        Some(arrival) => put_visits(rt.alloc(), &loaded, arrival, given),
         None => given.put("no visit"),
     }
 }

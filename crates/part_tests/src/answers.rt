@@ -85,9 +85,7 @@ fn put_other(copied: &Printer, found: &mut Printer) {
         found.put(copied.text());
         found.put(".");
     }
-    if !copied.is_whole() {
-        found.lose();
-    }
+    found.lose_with(copied);
 }
 
 /// Puts the first fault with its line and column, as `Unexpected 3:7`.

@@ -13,14 +13,12 @@ mod expressions;
 mod frames;
 mod pieces;
 mod prefixes;
-mod shorthand;
 mod statements;
 mod tokens;
 
 use answers::{Kind, kind_named, put_answer, put_reading};
-use case_files::{Printer, Subject, first_word, input, print, sole_word, try_words};
+use case_files::{Printer, Subject, first_word, print_of_input, put_framed, sole_word, try_words};
 use frames::{Frame, frame_of, put_inner};
-use shorthand::put_text;
 use std::process::ExitCode;
 
 /// The cases, with the machine that has their files of data.
@@ -43,13 +41,12 @@ impl<'r> Subject for Cases<'r> {
 /// Puts what the text of a case reads as.
 fn answer_text(rt: &HostRuntime, frame: Frame<'_>, asked: &str, wanted: &str, given: &mut Printer) {
     let mut text = Printer::new(rt.alloc());
-    put_text(rt, frame.text, asked, &mut text);
+    put_framed(rt, frame.text, asked, &mut text);
     let mut found = Printer::new(rt.alloc());
     put_answer(rt.alloc(), frame.kind, text.text().as_bytes(), &mut found);
     put_inner(frame.wanted, wanted, found.text(), given);
-    if !text.is_whole() || !found.is_whole() {
-        given.lose();
-    }
+    given.lose_with(&text);
+    given.lose_with(&found);
 }
 
 /// As what the standard input is read, if the one word says that it is.
@@ -57,20 +54,12 @@ fn input_kind(rt: &HostRuntime) -> Option<Kind> {
     kind_named(sole_word(rt)?.as_str())
 }
 
-/// Reads the standard input, and prints what came of it.
-fn read_input(rt: &HostRuntime, kind: Kind) -> ExitCode {
-    let mut answer = Printer::new(rt.alloc());
-    match input(rt) {
-        Some(text) => put_reading(rt.alloc(), kind, &text, &mut answer),
-        None => answer.lose(),
-    }
-    answer.put("\n");
-    print(rt, &answer, 0)
-}
-
 fn main(rt: HostRuntime) -> ExitCode {
     match input_kind(&rt) {
-        Some(kind) => read_input(&rt, kind),
+        Some(kind) => print_of_input(&rt, |text, answer| {
+            put_reading(rt.alloc(), kind, text, answer);
+            answer.put("\n");
+        }),
         None => try_words(&rt, &Cases { rt: &rt }),
     }
 }

@@ -10,9 +10,7 @@ pub fn put_number(out: &mut Printer, number: u32) {
 
 /// A number with its width, as `8w1`.
 pub fn put_bits(out: &mut Printer, bits: &Bits) {
-    out.put_debug(&bits.width);
-    out.put("w");
-    out.put_debug(&bits.value);
+    out.put_bits(bits.width, bits.value);
 }
 
 /// A line and a column, as `1:6`.
