@@ -1,3 +1,4 @@
 pub mod OneRun
 pub mod Flattened
 pub mod Cased
+pub mod Told

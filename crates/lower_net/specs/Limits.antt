@@ -4,19 +4,19 @@ use Rattle.std.specs.Prelude.{ℕ, nat_lt, List, [], ◌∷◌, map, length, if�
 use Rattle.cocoon_num.specs.declared.limit_name.LimitName.TheVariants as limit
 use Rattle.lower_body.specs.Counting.{role_size}
 use Rattle.lower_body.specs.Whole.{SwitchRole}
-use Rattle.lowered_net.specs.Counts.{Counted}
+use Rattle.lowered_net.specs.Counts.{Counted, most_hosts, most_members, most_sites, most_switches, most_tables}
 use Rattle.lowered_rows.specs.Groups.{ForkGroup}
 
 abbrev pub of_network : (switches hosts : ℕ) → List Counted
 of_network switches hosts =
-    record { limit = limit.Switches; count = switches; most = 64 } ∷ record { limit = limit.Hosts; count = hosts; most = 1024 } ∷ []
+    record { limit = limit.Switches; count = switches; most = most_switches } ∷ record { limit = limit.Hosts; count = hosts; most = most_hosts } ∷ []
 
 abbrev pub of_program : (tables forks : ℕ) → List Counted
 of_program tables forks =
-    record { limit = limit.Tables; count = tables; most = 256 } ∷ record { limit = limit.Sites; count = forks; most = 255 } ∷ []
+    record { limit = limit.Tables; count = tables; most = most_tables } ∷ record { limit = limit.Sites; count = forks; most = most_sites } ∷ []
 
 abbrev pub of_groups : List ForkGroup → List Counted
-of_groups gs = map (λ (g : ForkGroup). record { limit = limit.Members; count = length g.grouped.members; most = 256 }) gs
+of_groups gs = map (λ (g : ForkGroup). record { limit = limit.Members; count = length g.grouped.members; most = most_members }) gs
 
 -- the first switch, where the code of the programs is so large that their texts are over the limit of a file
 abbrev pub too_long : List ℕ → SwitchRole → Option ℕ

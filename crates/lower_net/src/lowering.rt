@@ -3,7 +3,7 @@ ghost use Rattle.std.specs.Prelude.{◌≡◌, ℕ, IfErr, IfOk, None, Some, len
 ghost use Rattle.cocoon_syntax.specs.TreeOf.{design_of};
 ghost use Rattle.cocoon_types.specs.Design as design;
 ghost use Rattle.lower_net.specs.Limits.{too_long};
-ghost use Rattle.lower_net.specs.Refused.{IsRefused, Lowers};
+ghost use Rattle.lower_net.specs.Refused.{FirstTooLong, IsRefused, Lowers};
 ghost use Rattle.lowered.specs.Roles.{net_parts};
 ghost use Rattle.lower_rows.specs.AllGroups.{fork_group_of};
 ghost use Rattle.lower_switch.specs.NetDeclarations.{parts_of, switch_role};
@@ -22,6 +22,7 @@ use cocoon_num::{LimitName, List, NoMemory};
 use cocoon_resolve::Checked;
 use lower_rows::{ForkGroup, fork_groups};
 use lower_switch::{Parts, find_parts, program_counts, program_size};
+use lowered_types::laws::forks_are;
 use p4_ir::NetData;
 use runtime_defs::Defs;
 use std::alloc::Global;
@@ -38,6 +39,17 @@ pub enum LowerFault {
     /// The text of each program would be longer than its file may be. The first switch has this number.
     TooLong(u16),
     NoMemory,
+}
+
+impl From<NoMemory> for LowerFault {
+    ghost use Rattle.std.specs.Prelude.{◌≡◌};
+    ghost use Rattle.lower_net.specs.declared.lowering.LowerFault.TheVariants.{NoMemory as Wanting};
+
+    ghost from_gives = { λ _ fault. fault ≡ Wanting };
+
+    fn from(_: NoMemory) -> LowerFault {
+        LowerFault::NoMemory
+    }
 }
 
 /// The network of these switches and hosts.
@@ -156,23 +168,25 @@ fn lower_parts(
     checked: &Checked,
     defs: &Defs,
     parts: &Parts<'_>,
-) -> Result<Result<NetData, LowerFault>, NoMemory>
+) -> Result<NetData, LowerFault>
     requires fits { FitsDesign (design_of checked.now) defs.now }
     requires parts { net_parts (design_of checked.now)
         ≡ Some (parts_of (design_of checked.now) parts.now) }
-    ensures { IfOk result (λ lowered. Lowers (design_of checked.now) defs.now lowered) }
+    ensures { Lowers (design_of checked.now) defs.now result }
 {
     let functions = count_functions(checked, defs)?;
     let numbers = defs.switches(checked);
     let hosts = defs.hosts(checked);
     let groups = fork_groups(alloc, checked, defs)?;
-    match find_over(alloc, checked, functions, parts, &groups, numbers, hosts)? {
-        Some((limit, count)) => Ok(Err(LowerFault::Limit(limit, count))),
-        None => match find_too_long(alloc, checked, functions, parts, numbers)? {
-            Some(switch) => Ok(Err(LowerFault::TooLong(switch))),
-            None => Ok(Ok(make(alloc, checked, defs, parts, &groups, numbers, hosts)?)),
-        },
+    if let Some((limit, count)) =
+        find_over(alloc, checked, functions, parts, &groups, numbers, hosts)?
+    {
+        return Err(LowerFault::Limit(limit, count));
     }
+    if let Some(switch) = find_too_long(alloc, checked, functions, parts, numbers)? {
+        return Err(LowerFault::TooLong(switch));
+    }
+    Ok(make(alloc, checked, defs, parts, &groups, numbers, hosts)?)
 }
 
 /// The network of a design under its definitions, if they are within the limits: at its last level, whatever levels it has.
@@ -180,14 +194,11 @@ pub fn lower(alloc: Global, checked: &Checked, defs: &Defs) -> Result<NetData, L
     requires { FitsDesign (design_of checked.now) defs.now }
     ensures network { IfOk result (λ net. IsNetwork (design_of checked.now) defs.now (net_of net)) }
     ensures within { IfOk result (λ net. FirstOver (design_of checked.now) defs.now None) }
+    ensures short { IfOk result (λ net. FirstTooLong (design_of checked.now) defs.now None) }
     ensures refused { IfErr result (λ fault. IsRefused (design_of checked.now) defs.now fault) }
 {
-    let Some(parts) = find_parts(checked) else {
-        return Err(LowerFault::NoMemory);
-    };
-    match lower_parts(alloc, checked, defs, &parts) {
-        Ok(Ok(net)) => Ok(net),
-        Ok(Err(fault)) => Err(fault),
-        Err(NoMemory) => Err(LowerFault::NoMemory),
-    }
+    forks_are();
+    checked.design();
+    let parts = find_parts(checked).unwrap();
+    lower_parts(alloc, checked, defs, &parts)
 }

@@ -14,7 +14,7 @@ use Rattle.lowered_net.specs.Network.{IsNetwork, network}
 use Rattle.lowered.specs.Roles.{NetParts}
 use Rattle.lowered.specs.SwitchProgram.{switch_program}
 use Rattle.lower_net.specs.Limits.{too_long}
-use Rattle.lower_net.specs.Refused.{HasLongPrograms}
+use Rattle.lower_net.specs.Refused.{FirstTooLong}
 use Rattle.lower_p4.specs.Lowering.{StartsLong}
 
 -- what the law on the texts of programs says
@@ -36,11 +36,12 @@ starts law d places parts (s ∷ more) hosts switch h =
     let long : role_size parts.role ≤ length (printed (switch_program parts.role s)) = law parts.role s (switch_program parts.role s) refl refl in
     (is.0, omega arith)
 
-pub long_programs : ProgramsLong → (d : Design) (places : Places) (switch : ℕ) → HasLongPrograms d places switch
+pub long_programs : ProgramsLong → (d : Design) (places : Places) (switch : ℕ) → FirstTooLong d places (Some switch)
     → (net : NetData) × IsNetwork d places net × FirstOver d places None × StartsLong switch net.switches
-long_programs law d places switch h = (
-  network d places h.parts h.switches h.hosts,
-  record { parts = h.parts; parts_are = h.parts_are; switches = h.switches; hosts = h.hosts; numbers = h.numbers; net_is = refl },
-  record { parts = h.parts; parts_are = h.parts_are; switches = h.switches; hosts = h.hosts; numbers = h.numbers; over_is = h.within },
-  starts law d places h.parts h.switches h.hosts switch h.first,
-)
+long_programs law d places switch h =
+    let w = h.within in (
+      network d places w.parts w.switches w.hosts,
+      record { parts = w.parts; parts_are = w.parts_are; switches = w.switches; hosts = w.hosts; numbers = w.numbers; net_is = refl },
+      w,
+      starts law d places w.parts w.switches w.hosts switch h.first,
+    )

@@ -4,6 +4,8 @@ use Rattle.std.specs.Prelude.{ℕ, Some, None}
 use Rattle.cocoon_num.specs.Tree.{Design, DefsText}
 use Rattle.cocoon_num.specs.declared.limit_name.LimitName.{LimitName}
 use Rattle.lowered_net.specs.Counts.{FirstOver}
+-- the most of each, which reports tell
+pub use Rattle.lowered_net.specs.Counts.{most_hosts, most_members, most_sites, most_switches, most_tables}
 use Rattle.runtime_defs.specs.Places.{Places}
 use Rattle.lower_p4.specs.OfText.{AreOfText}
 
@@ -15,20 +17,3 @@ IsOver design defs limit count =
 -- it is over none
 abbrev pub IsWithin : Design → DefsText → Type 0
 IsWithin design defs = (places : Places) × AreOfText design defs places × FirstOver design places None
-
--- ---- the most of each, as reports tell it
-
-abbrev pub most_switches : ℕ
-most_switches = 64
-
-abbrev pub most_hosts : ℕ
-most_hosts = 1024
-
-abbrev pub most_tables : ℕ
-most_tables = 256
-
-abbrev pub most_sites : ℕ
-most_sites = 255
-
-abbrev pub most_members : ℕ
-most_members = 256

@@ -14,8 +14,8 @@ use Rattle.p4_emit.specs.Printed.{printed}
 use Rattle.lower_p4.specs.Accepts.{Lowers, RunsProgram}
 use Rattle.lower_p4.specs.LowerLimits.{IsOver, IsWithin}
 pub use Rattle.lower_p4.specs.OfText.{AreOfText}
-use Rattle.lower_p4.specs.declared.lowering.LowerFault.{LowerFault}
-use Rattle.lower_p4.specs.declared.lowering.LowerFault.TheVariants.{Limit, NoMemory, TooLong}
+use Rattle.lower_net.specs.declared.lowering.LowerFault.{LowerFault}
+use Rattle.lower_net.specs.declared.lowering.LowerFault.TheVariants.{Limit, NoMemory, TooLong}
 
 -- each switch runs the program of its number
 abbrev pub RunPrograms : (ℕ → Program → Type 0) → List SwitchFiles → Type 0

@@ -7,7 +7,7 @@ ghost use Rattle.lower_p4.specs.Accepts.{Accepts, Lowers, RunsProgram};
 ghost use Rattle.lower_p4.specs.Grounds.{Grounds, HoldsFields};
 ghost use Rattle.lower_p4.specs.LowerLimits.{IsOver, IsWithin};
 ghost use Rattle.lower_p4.specs.Lowering.{IsLowering, RunPrograms, StartsLong};
-ghost use Rattle.lower_net.specs.Refused.{HasLongPrograms};
+ghost use Rattle.lower_net.specs.Refused.{FirstTooLong};
 ghost use Rattle.lowered_net.specs.Counts.{FirstOver};
 ghost use Rattle.lowered.specs.Delivers.{DeliversExactly, DeliversWithin};
 ghost use Rattle.lowered_net.specs.Network.{IsNetwork};
@@ -62,7 +62,7 @@ pub fn networks_are_writable()
 
 /// Where the code of the programs is over the limit of a file, so is the text of the program of the first switch.
 pub fn large_programs_are_long()
-    ensures { (d : Design) (places : Places) (switch : ℕ) → HasLongPrograms d places switch
+    ensures { (d : Design) (places : Places) (switch : ℕ) → FirstTooLong d places (Some switch)
         → (net : NetData) × IsNetwork d places net × FirstOver d places None
         × StartsLong switch net.switches }
 {

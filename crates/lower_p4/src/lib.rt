@@ -5,4 +5,5 @@
 pub mod laws;
 pub mod lowering;
 
-pub use lowering::{LowerFault, is_accepted, lower};
+pub use lower_net::LowerFault;
+pub use lowering::{is_accepted, lower};

@@ -5,6 +5,8 @@ ghost use Rattle.cocoon_num.specs.Tree.{DefsText};
 ghost use Rattle.cocoon_syntax.specs.TreeOf.{design_of};
 ghost use Rattle.p4_ir.specs.NetOf.{net_of, switch_of};
 ghost use Rattle.runtime_defs.specs.Fitting.{FitsDesign};
+ghost use Rattle.lowered_net.specs.Network.{IsNetwork};
+ghost use Rattle.lower_net.specs.Refused.{IsRefused};
 ghost use Rattle.lower_p4.specs.Accepts.{Accepts, Lowers};
 ghost use Rattle.lower_p4.specs.Grounds.{HoldsFields, WasRead};
 ghost use Rattle.lower_p4.specs.LowerLimits.{IsWithin};
@@ -13,23 +15,12 @@ ghost use Rattle.lower_p4.specs.Lowering.{AreOfText, IsLowering, IsSound, NotLow
 use crate::laws::{
     large_programs_are_long, networks_are_writable, networks_deliver, switches_run_programs,
 };
-use cocoon_num::LimitName;
 use cocoon_resolve::Checked;
-use lower_net::LowerFault as NetFault;
+use lower_net::LowerFault;
 use p4_ir::{NetData, SwitchFiles};
 use runtime_defs::Defs;
 use sound_types::laws::code_literals_fit;
 use std::alloc::Global;
-
-/// Why no network is made.
-#[derive(Clone, Copy, Debug, Drop, PartialEq, Eq)]
-pub enum LowerFault {
-    /// The design and its definitions exceed a limit, by this count.
-    Limit(LimitName, u64),
-    /// The text of the program of the switch of this number, the first, would be longer than its file may be.
-    TooLong(u16),
-    NoMemory,
-}
 
 /// Whether the compiler takes the design: it has one level and no assumption.
 pub fn is_accepted(checked: &Checked) -> bool
@@ -87,6 +78,10 @@ pub fn lower(alloc: Global, checked: &Checked, defs: &Defs) -> Result<NetData, L
     ensures refused { IfErr result (λ fault. (text : DefsText)
         → AreOfText (design_of checked.now) text defs.now
         → NotLowered (design_of checked.now) text fault) }
+
+    // of tables alone, also of such as no text has
+    ensures network { IfOk result (λ net. IsNetwork (design_of checked.now) defs.now (net_of net)) }
+    ensures over { IfErr result (λ fault. IsRefused (design_of checked.now) defs.now fault) }
 {
     networks_deliver();
     switches_run_programs();
@@ -94,14 +89,8 @@ pub fn lower(alloc: Global, checked: &Checked, defs: &Defs) -> Result<NetData, L
     large_programs_are_long();
     code_literals_fit();
     checked.design();
-    match lower_net::lower(alloc, checked, defs) {
-        Ok(net) => {
-            know_ports(&net);
-            know_sizes(&net);
-            Ok(net)
-        }
-        Err(NetFault::Limit(limit, count)) => Err(LowerFault::Limit(limit, count)),
-        Err(NetFault::TooLong(switch)) => Err(LowerFault::TooLong(switch)),
-        Err(NetFault::NoMemory) => Err(LowerFault::NoMemory),
-    }
+    let net = lower_net::lower(alloc, checked, defs)?;
+    know_ports(&net);
+    know_sizes(&net);
+    Ok(net)
 }

@@ -29,7 +29,7 @@ pub fn programs_are_kinded()
     logs_are_made();
 }
 
-/// The tree of a text has literals of 1 to 64 bits, and functions with parameters.
+/// The tree of a text has literals of 1 to 128 bits, and functions with parameters.
 pub fn readings_are_plain()
     ensures literals { (text : List ℕ) (d : Design) → Reads text d → has_wide_literals d ≡ true }
     ensures params { (text : List ℕ) (d : Design) → Reads text d → has_params d ≡ true }

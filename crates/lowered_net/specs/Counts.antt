@@ -12,6 +12,25 @@ use Rattle.lowered_net.specs.Network.{HasNumbers}
 use Rattle.lowered.specs.Roles.{NetParts, net_parts}
 use Rattle.lowered.specs.SwitchProgram.{switch_made}
 
+-- ---- the most of each
+
+abbrev pub most_switches : ℕ
+most_switches = 64
+
+abbrev pub most_hosts : ℕ
+most_hosts = 1024
+
+abbrev pub most_tables : ℕ
+most_tables = 256
+
+abbrev pub most_sites : ℕ
+most_sites = 255
+
+abbrev pub most_members : ℕ
+most_members = 256
+
+-- ---- the counts
+
 -- a count and the most that it may be
 pub record Counted : Type 0 where
   pub limit : LimitName
@@ -21,9 +40,9 @@ pub record Counted : Type 0 where
 -- the tables and the forks of a program, which are as many for each switch, and the members of each group
 abbrev pub program_counts : Design → Places → SwitchRole → (switch : ℕ) → List Counted
 program_counts d places r s =
-    record { limit = limit.Tables; count = length (tables_in (switch_made r s)); most = 256 }
-    ∷ record { limit = limit.Sites; count = length (role_lowered r s).sites; most = 255 }
-    ∷ map (λ (g : ForkGroup). record { limit = limit.Members; count = length g.grouped.members; most = 256 }) (fork_groups d places)
+    record { limit = limit.Tables; count = length (tables_in (switch_made r s)); most = most_tables }
+    ∷ record { limit = limit.Sites; count = length (role_lowered r s).sites; most = most_sites }
+    ∷ map (λ (g : ForkGroup). record { limit = limit.Members; count = length g.grouped.members; most = most_members }) (fork_groups d places)
 
 -- those of the first switch
 abbrev pub first_program : Design → Places → SwitchRole → List ℕ → List Counted
@@ -32,8 +51,8 @@ first_program d places r (s ∷ switches) = program_counts d places r s
 
 abbrev pub counts : Design → Places → SwitchRole → (switches hosts : List ℕ) → List Counted
 counts d places r switches hosts =
-    record { limit = limit.Switches; count = length switches; most = 64 }
-    ∷ record { limit = limit.Hosts; count = length hosts; most = 1024 }
+    record { limit = limit.Switches; count = length switches; most = most_switches }
+    ∷ record { limit = limit.Hosts; count = length hosts; most = most_hosts }
     ∷ first_program d places r switches
 
 -- the first count that is over its limit

@@ -1,7 +1,7 @@
 use Rattle.std.proofs.Common.{refl, subst, sym}
 use Rattle.cocoon_syntax.specs.TreeOf.{design_of}
 use Rattle.lower_p4.specs.Lowering.{NotLowered}
-use Rattle.lower_p4.specs.declared.lowering.LowerFault.TheVariants.{Limit, TooLong}
+use Rattle.lower_net.specs.declared.lowering.LowerFault.TheVariants.{Limit, TooLong}
 use Rattle.net_bundle.specs.Writing.{most_of}
 use Rattle.net_bundle.specs.declared.file.BundleFile.TheVariants.{Program}
 use Rattle.cocoon_cli.specs.LowerTexts as lowered
