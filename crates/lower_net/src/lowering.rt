@@ -178,9 +178,9 @@ fn lower_parts(
     let numbers = defs.switches(checked);
     let hosts = defs.hosts(checked);
     let groups = fork_groups(alloc, checked, defs)?;
-    if let Some((limit, count)) =
-        find_over(alloc, checked, functions, parts, &groups, numbers, hosts)?
-    {
+    if let Some((limit, count)) = find_over(
+        alloc, checked, functions, parts, &groups, numbers, hosts,
+    )? {
         return Err(LowerFault::Limit(limit, count));
     }
     if let Some(switch) = find_too_long(alloc, checked, functions, parts, numbers)? {

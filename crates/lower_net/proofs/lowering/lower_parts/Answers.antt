@@ -32,8 +32,7 @@ returns c =
     let role = switch_role d c.args.parts.now.ingress in
     let numbers : HasNumbers d c.args.defs.now c.switches-numbers.result.now c.hosts-hosts.result.now = search rules in
     let over : None ≡ first_over (counts d c.args.defs.now role c.switches-numbers.result.now c.hosts-hosts.result.now) = search rules in
-    let long : None ≡ too_long c.switches-numbers.result.now role = search rules in
-    (
+    let long : None ≡ too_long c.switches-numbers.result.now role = search rules in (
       search rules,
       record {
         within = record {
