@@ -5,8 +5,8 @@
 
 It needs the program of crates/cocoon: `rt run` there builds it; or COCOON names one. The inputs are made in memory where the machine has a
 folder for that. A peak is the resident memory that the machine tells of the ended process; what starts the program has 9 MiB itself, so nothing
-below is told. The last input would take more than a machine has: there the program may have 4 GiB of addresses, and has to end
-with status 12.
+below is told. What would take more than a machine has is said to have 4 GiB: so many addresses the program may have there, and it has to
+end with status 12.
 """
 
 import os
@@ -58,6 +58,14 @@ def fan(members):
     return design, "\n".join(["default h = false;", "default g = false;", "default m = false;", *rows]) + "\n"
 
 
+def applied(switches):
+    """A design whose switches look a packet up 250 times in one function of some 8,000 rows: each table of each switch has all of them."""
+    design = (EXAMPLES / "c.ccn").read_text().replace("tag: bit<8>", "tag: bit<16>").replace("tag == 8w1", "tag == 16w1")
+    design = design.replace("role Out", "function k(a: bit<16>): bit<16>;\nrole Out").replace("  if (", "  pkt.e.tag = k(pkt.e.tag);\n" * 250 + "  if (")
+    rows = ["define h(16w0) = true;", *(f"define g(16w{s}) = true;" for s in range(1, switches + 1)), *(f"define k(16w{n}) = 16w1;" for n in range(8_000))]
+    return design, "\n".join(["default h = false;", "default g = false;", "default k = 16w0;", *rows]) + "\n"
+
+
 def texts(folder, design, defs):
     (folder / "n.ccn").write_text(design)
     (folder / "n.defs").write_text(defs)
@@ -101,6 +109,9 @@ def inputs(program):
         yield f"compile: {what}", lambda folder, rows=rows: (texts(folder, definitions.DESIGN, rows), COMPILE)[1]
         yield f"step: {what}", lambda folder, rows=rows: (texts(folder, definitions.DESIGN, rows), with_case(folder))[1]
     yield "compile: the largest network", lambda folder: (texts(folder, *largest[1:3]), COMPILE)[1]
+    for switches, room in ((1, ""), (2, ""), (64, ", 4 GiB")):
+        what = f"compile: 250 tables of 8,000 rows, {switches} switches{room}"
+        yield what, lambda folder, switches=switches: (texts(folder, *applied(switches)), COMPILE)[1]
     yield "step: the largest network", lambda folder: (texts(folder, *largest[1:3]), with_case(folder, "SwIn 1 0\n0 1\n-\n"))[1]
     yield "step: a case of 64 KiB, 32,000 choices", lambda folder: (example(folder, "f"), with_case(folder, "SwIn 1 0\n1\n" + " ".join(["1"] * 32_000) + "\n"))[1]
     yield "forward: the largest network, one packet", lambda folder: (texts(folder, *largest[1:3]), with_bundle(folder, program, "0 00000000fffffffe\n"))[1]
