@@ -9,4 +9,4 @@ mod step;
 mod subsumption;
 
 pub use step::check_log;
-pub use subsumption::check_new;
+pub use subsumption::check_distinct;

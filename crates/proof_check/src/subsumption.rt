@@ -22,7 +22,7 @@ use cocoon_num::NoMemory;
 use std::alloc::Global;
 
 /// Whether every step is derived by its hints, and brings a new clause.
-pub fn check_new(alloc: Global, cnf: &Cnf, log: &Log) -> Result<bool, NoMemory>
+pub fn check_distinct(alloc: Global, cnf: &Cnf, log: &Log) -> Result<bool, NoMemory>
     requires { WellNamed cnf.now }
     ensures { IfOk result (λ answer.
         IsTrue answer ↔ Licensed cnf.now log.now (length log.now.steps)) }

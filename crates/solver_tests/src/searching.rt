@@ -3,7 +3,7 @@ use crate::reading::{is_well_named, read};
 use case_files::first_word;
 use cdcl::{Answer, solve};
 use cnf_core::{Assignment, Cnf, Log, satisfies};
-use proof_check::{check_log, check_new};
+use proof_check::{check_distinct, check_log};
 use std::alloc::Global;
 
 /// What a search answered.
@@ -19,13 +19,13 @@ fn is_satisfied(cnf: &Cnf, assignment: &Assignment) -> bool {
     assignment.values.items().len() == cnf.vars as usize && satisfies(cnf, assignment)
 }
 
-/// The answers of `check_log` and of `check_new`.
+/// The answers of `check_log` and of `check_distinct`.
 fn checked(alloc: Global, cnf: &Cnf, log: &Log) -> Option<(bool, bool)> {
     if !is_well_named(cnf) {
         return None;
     }
     let derives = check_log(alloc, cnf, log).ok()?;
-    let is_new = check_new(alloc, cnf, log).ok()?;
+    let is_new = check_distinct(alloc, cnf, log).ok()?;
     Some((derives, is_new))
 }
 

@@ -6,7 +6,7 @@ use Rattle.cnf_core.specs.Deriving.{EachDerived}
 use Rattle.cnf_core.specs.Licensing.{BringsNew, Licensed}
 use Rattle.cnf_core.specs.declared.log.Step.{Step}
 use Rattle.std.proofs.Common.{List}
-use Rattle.proof_check.proofs.subsumption.check_new.Goals as goal
+use Rattle.proof_check.proofs.subsumption.check_distinct.Goals as goal
 
 pub returns-then-branch : goal.returns-then-branch
 returns-then-branch c =
