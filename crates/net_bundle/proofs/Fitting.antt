@@ -1,6 +1,6 @@
 -- Switches that fit and are readable, from an index on.
-use Rattle.std.proofs.Common.{◌≡◌, ℕ, ◌+◌, ◌<◌, Bool, true, false, ◌&&◌, IsTrue, List, [], ◌∷◌, ◌++◌, length, map, drop, slice_index_or, Vec, Global, refl, sym, ap, ◌∙◌, subst}
-use Rattle.std.proofs.lemmas.List.{drop_more, append_assoc, map_push}
+use Rattle.std.proofs.Common.{◌≡◌, ℕ, ◌+◌, ◌<◌, Bool, true, false, ◌&&◌, IsTrue, List, ◌∷◌, ◌++◌, length, map, drop, slice_index_or, refl, sym, ap, ◌∙◌, subst}
+use Rattle.std.proofs.lemmas.List.{drop_more, append_assoc}
 use Rattle.cocoon_num.specs.Lists.{each}
 use Rattle.p4_emit.specs.Printed.{printed}
 use Rattle.p4_ir.specs.Loading.{rows_file_fits, rows_load}
@@ -13,13 +13,12 @@ use Rattle.p4_ir.specs.Program.{program_of}
 use Rattle.p4_ir.specs.WellKinded.{is_well_kinded, WellKinded}
 use Rattle.p4_ir.specs.declared.network.SwitchFiles.{SwitchFiles}
 use Rattle.net_bundle.specs.Bundle.{MadeFile, rows_text, switch_files, all_switch_files}
-use Rattle.net_bundle.specs.NetFileOf.{made_of}
-use Rattle.net_bundle.specs.declared.file.BundleFile.{BundleFile}
-use Rattle.net_bundle.specs.declared.file.BundleFile.TheVariants.{Program, Rows}
-use Rattle.net_bundle.specs.declared.make.MadeFile as code
 use Rattle.net_bundle.specs.Network.{IsJson}
 use Rattle.net_bundle.specs.Readable.{AllReadable}
 use Rattle.net_bundle.specs.NetJson.{rows_data}
+use Rattle.net_bundle.specs.declared.fault.BundleFault.{BundleFault}
+use Rattle.net_bundle.specs.Writing.{AllFit, NotMade}
+use Rattle.net_bundle.proofs.InTurn.{both_fit, stops_before, stops_after}
 
 pub split_switch : (ss : List SwitchFiles) (i : ℕ) (s : SwitchFiles) → i < length ss → s ≡ slice_index_or ss i s → map switch_of (drop i ss) ≡ switch_of s ∷ map switch_of (drop (i + 1) ss)
 split_switch ss i s h e = ap (map switch_of) (drop_more ss i s h ∙ ap (λ (r : SwitchFiles). r ∷ drop (i + 1) ss) (sym e))
@@ -42,27 +41,20 @@ pub readable_on : (s : net.SwitchFiles) (all rest : List net.SwitchFiles) → al
     → AllReadable rest → AllReadable all
 readable_on s all rest e p r a = subst AllReadable (sym e) (p, r, a)
 
+pub limits_on : (s : net.SwitchFiles) (all rest : List net.SwitchFiles) → all ≡ s ∷ rest → AllFit (switch_files s) → AllFit (all_switch_files rest) → AllFit (all_switch_files all)
+limits_on s all rest e a b = subst (λ xs. AllFit (all_switch_files xs)) (sym e) (both_fit (switch_files s) (all_switch_files rest) a b)
+
+pub stops_later : (s : net.SwitchFiles) (all rest : List net.SwitchFiles) (fault : BundleFault) → all ≡ s ∷ rest → AllFit (switch_files s) → NotMade (all_switch_files rest) fault
+    → NotMade (all_switch_files all) fault
+stops_later s all rest fault e a h = subst (λ xs. NotMade (all_switch_files xs) fault) (sym e) (stops_after (switch_files s) (all_switch_files rest) fault a h)
+
+pub stops_here : (s : net.SwitchFiles) (all rest : List net.SwitchFiles) (fault : BundleFault) → all ≡ s ∷ rest → NotMade (switch_files s) fault → NotMade (all_switch_files all) fault
+stops_here s all rest fault e h = subst (λ xs. NotMade (all_switch_files xs) fault) (sym e) (stops_before (switch_files s) (all_switch_files rest) fault h)
+
 pub files_on : (s : net.SwitchFiles) (all rest whole : List net.SwitchFiles) (before after : List MadeFile) → all ≡ s ∷ rest → after ≡ before ++ switch_files s
     → before ++ all_switch_files all ≡ all_switch_files whole → after ++ all_switch_files rest ≡ all_switch_files whole
 files_on s all rest whole before after e p h =
     ap (λ xs. xs ++ all_switch_files rest) p ∙ append_assoc before (switch_files s) (all_switch_files rest) ∙ ap (λ xs. before ++ all_switch_files xs) (sym e) ∙ h
-
--- ---- the two files of a switch
-
-one_pushed : (before after : List code.MadeFile) (f : code.MadeFile) (made : MadeFile) → after ≡ before ++ f ∷ [] → made_of f ≡ made → map made_of after ≡ map made_of before ++ made ∷ []
-one_pushed before after f made e h = ap (map made_of) e ∙ map_push made_of before f ∙ ap (λ (m : MadeFile). map made_of before ++ m ∷ []) h
-
-abbrev made : BundleFile → List ℕ → MadeFile
-made file bytes = record { file = file; bytes = bytes }
-
-pub switch_pushed : (before middle after : List code.MadeFile) (v w : Vec ℕ Global) (s : net.SwitchFiles) → middle ≡ before ++ record { file = Program s.number; bytes = v } ∷ []
-    → after ≡ middle ++ record { file = Rows s.number; bytes = w } ∷ [] → v.items ≡ printed s.program → w.items ≡ rows_text s.rows
-    → map made_of after ≡ map made_of before ++ switch_files s
-switch_pushed before middle after v w s e k p q =
-    let rows : MadeFile = made (Rows s.number) (rows_text s.rows) in
-    one_pushed middle after (record { file = Rows s.number; bytes = w }) rows k (ap (made (Rows s.number)) q)
-    ∙ ap (λ xs. xs ++ rows ∷ []) (one_pushed before middle (record { file = Program s.number; bytes = v }) (made (Program s.number) (printed s.program)) e (ap (made (Program s.number)) p))
-    ∙ append_assoc (map made_of before) (made (Program s.number) (printed s.program) ∷ []) (rows ∷ [])
 
 parts_fit : (p : tree.Program) (rows : tree.RowsFile) → IsTrue (is_well_kinded p && rows_file_fits rows && rows_load p rows) → WellKinded p
 parts_fit p rows h = left_of (is_well_kinded p) (rows_file_fits rows) (left_of (is_well_kinded p && rows_file_fits rows) (rows_load p rows) h)

@@ -1,6 +1,5 @@
--- Files that are written one after another: those from an index on, and those before it.
-use Rattle.std.proofs.Common.{◌≡◌, ℕ, zero, suc, ◌+◌, ◌≤◌, ◌<◌, List, [], ◌∷◌, Option, Some, length, map, take, drop, slice_get, slice_index_or, refl, sym, ap, ◌∙◌, subst, inl, inr, arith, ◌⊎◌}
-use Rattle.std.proofs.lemmas.List.{drop_more}
+-- Files that are written one after another.
+use Rattle.std.proofs.Common.{◌≡◌, ℕ, zero, suc, ◌+◌, ◌≤◌, ◌<◌, List, [], ◌∷◌, Option, Some, length, map, take, slice_get, slice_index_or, refl, sym, ap, ◌∙◌, subst, inl, inr, arith, ◌⊎◌}
 use Rattle.cocoon_io.specs.Files.{Files}
 use Rattle.cocoon_io.specs.Calls.{with_file, Rose}
 use Rattle.cocoon_io.specs.declared.folder.FolderFault.{FolderFault}
@@ -12,28 +11,6 @@ use Rattle.net_bundle.specs.declared.make.MadeFile.{MadeFile}
 use Rattle.net_bundle.specs.Bundle as spec
 use Rattle.net_bundle.specs.NetFileOf.{made_of}
 use Rattle.net_bundle.specs.Writing.{with_files, SomeWritten, StopsAt, most_of, AllFit, FirstOver, NotWritten, WriteFaultRose}
-
--- ---- from an index on
-
-split : (fs : List MadeFile) (i : ℕ) (f : MadeFile) → i < length fs → f ≡ slice_index_or fs i f → map made_of (drop i fs) ≡ made_of f ∷ map made_of (drop (i + 1) fs)
-split fs i f h e = ap (map made_of) (drop_more fs i f h ∙ ap (λ (g : MadeFile). g ∷ drop (i + 1) fs) (sym e))
-
-pub fits_on : (fs : List MadeFile) (i : ℕ) (f : MadeFile) → i < length fs → f ≡ slice_index_or fs i f → length f.bytes.items ≤ most_of f.file
-    → AllFit (map made_of (drop (i + 1) fs)) → AllFit (map made_of (drop i fs))
-fits_on fs i f h e l a = subst AllFit (sym (split fs i f h e)) (l, a)
-
-pub none_left : (fs : List MadeFile) (i : ℕ) → length fs ≤ i → AllFit (map made_of (drop i fs))
-none_left [] zero h = tt
-none_left [] (suc i) h = tt
-none_left (f ∷ fs) zero h = let no : ⊥ = omega arith in absurd no
-none_left (f ∷ fs) (suc i) h = none_left fs i (omega arith)
-
-pub over_here : (fs : List MadeFile) (i : ℕ) (f : MadeFile) → i < length fs → f ≡ slice_index_or fs i f → most_of f.file < length f.bytes.items → FirstOver (map made_of (drop i fs)) f.file
-over_here fs i f h e l = subst (λ gs. FirstOver gs f.file) (sym (split fs i f h e)) (inl (refl, l))
-
-pub over_later : (fs : List MadeFile) (i : ℕ) (f : MadeFile) (file : BundleFile) → i < length fs → f ≡ slice_index_or fs i f → length f.bytes.items ≤ most_of f.file
-    → FirstOver (map made_of (drop (i + 1) fs)) file → FirstOver (map made_of (drop i fs)) file
-over_later fs i f file h e l o = subst (λ gs. FirstOver gs file) (sym (split fs i f h e)) (inr (l, o))
 
 -- ---- before an index
 

@@ -1,7 +1,9 @@
 mod NetValue
 mod RowsValue
+mod RowsLong
 mod JsonObjects
 mod InOrder
+mod InTurn
 mod Fitting
 mod ReadingLists
 pub mod ReadingDigests

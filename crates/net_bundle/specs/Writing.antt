@@ -1,5 +1,5 @@
--- What the writing of a bundle does to a folder, and why it may stop. The clauses of `write_bundle` cite it, and those of
--- cocoon_cli. It follows "Bundle files" in docs/FORMATS.md.
+-- What the writing of a bundle does to a folder, and why it may stop. The clauses of `make` and `write_bundle` cite it, and
+-- those of cocoon_cli. It follows "Bundle files" in docs/FORMATS.md.
 use Rattle.std.specs.Prelude.{◌≡◌, ◌⊎◌, ℕ, ◌+◌, ◌≤◌, ◌<◌, List, [], ◌∷◌, length, take, slice_get, Option, Some, None}
 use Rattle.std.specs.FinMap.{get}
 use Rattle.cocoon_io.specs.Files.{Files}
@@ -50,6 +50,12 @@ FirstOver [] file = ⊥
 FirstOver (f ∷ fs) file = ((f.file ≡ file) × (most_of f.file < length f.bytes)) ⊎ ((length f.bytes ≤ most_of f.file) × FirstOver fs file)
 
 -- ---- answers
+
+-- Why these files were not all made: one is too long, or there was no memory.
+abbrev pub NotMade : List MadeFile → BundleFault → Type 0
+NotMade fs (Limit file) = FirstOver fs file
+NotMade fs (Folder file fault) = ⊥
+NotMade fs NoMemory = Unit {0}
 
 -- Why these files were not all written. A limit comes before any write, and a fault of the folder is about a file at which
 -- the writes stopped.

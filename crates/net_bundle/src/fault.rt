@@ -3,7 +3,7 @@
 use crate::file::BundleFile;
 use cocoon_io::FolderFault;
 use cocoon_num::NoMemory;
-use std::alloc::AllocError;
+use std::alloc::{AllocError, AllocFailed};
 
 /// Why a bundle is not written, with the file that it is about.
 #[derive(Debug, Drop)]
@@ -33,6 +33,17 @@ impl From<AllocError> for BundleFault {
     ghost from_gives = { λ _ r. r ≡ NoMemory };
 
     fn from(_: AllocError) -> BundleFault {
+        BundleFault::NoMemory
+    }
+}
+
+impl<T: Drop> From<AllocFailed<T>> for BundleFault {
+    ghost use Rattle.std.specs.Prelude.{◌≡◌};
+    ghost use Rattle.net_bundle.specs.declared.fault.BundleFault.TheVariants.{NoMemory};
+
+    ghost from_gives = { λ _ r. r ≡ NoMemory };
+
+    fn from(_: AllocFailed<T>) -> BundleFault {
         BundleFault::NoMemory
     }
 }

@@ -1,11 +1,13 @@
 //! The files of a bundle: a network is written as the P4 programs and rows of its switches, and one file that names and
 //! joins them. docs/FORMATS.md says what each file holds. All files are made, and tested against their limits, before the
-//! first is written, and the file of the network is written last: so it names a bundle only once that is whole.
+//! first is written, and nothing more is made after the first that is too long. The file of the network is written last: so
+//! it names a bundle only once that is whole.
 #![tactic(auto)]
 
 pub mod fault;
 pub mod file;
 mod json;
+pub mod laws;
 pub mod make;
 pub mod net_json;
 pub mod rows_json;

@@ -4,7 +4,7 @@ ghost use Rattle.p4_ir.specs.NetFits.{net_fits};
 ghost use Rattle.p4_ir.specs.NetOf.{net_of};
 ghost use Rattle.net_bundle.specs.Bundle.{bundle};
 ghost use Rattle.net_bundle.specs.NetFileOf.{made_of};
-ghost use Rattle.net_bundle.specs.Writing.{AllFit, ContentHolds, FirstOver, NamesFailure, NotWritten, WriteFaultRose, with_files};
+ghost use Rattle.net_bundle.specs.Writing.{AllFit, ContentHolds, NamesFailure, NotWritten, WriteFaultRose, with_files};
 
 use crate::fault::BundleFault;
 use crate::file::BundleFile;
@@ -12,20 +12,6 @@ use crate::make::{MadeFile, make};
 use cocoon_io::{Folder, FolderFault};
 use p4_ir::NetData;
 use std::alloc::Global;
-
-/// Tests that each file has at most the bytes that it may have.
-fn check_lengths(files: &[MadeFile]) -> Result<(), BundleFault>
-    ensures fit { OnOk result (AllFit (map made_of files.now)) }
-    ensures over { IfErr result (λ fault. (file : _) × (fault
-        ≡ BundleFault.Limit file) × FirstOver (map made_of files.now) file) }
-{
-    for made in files {
-        if made.bytes.len() as u64 > made.file.most() {
-            return Err(BundleFault::Limit(made.file));
-        }
-    }
-    Ok(())
-}
 
 /// Why a bundle is not written, where this is the fault of the folder at this file.
 fn fault_at(file: BundleFile, fault: FolderFault) -> BundleFault
@@ -93,9 +79,9 @@ fn write_files<F: Folder>(
 /// Writes the bundle `out` of this network of a design: for each switch its program and its rows, then the certificates, if
 /// there are any, and the file of the network last.
 ///
-/// All bytes are made before the first write. `Limit` has the first file that would have too many of them, and then nothing
-/// is written. `Folder` has the file at which the writes stopped: those before it in that order stand, and none after it was
-/// touched.
+/// All bytes are made before the first write, and none after the first file that has too many of them: `Limit` has that
+/// file, and then nothing is written. `Folder` has the file at which the writes stopped: those before it in that order
+/// stand, and none after it was touched.
 /// The network has to be one that can be read back: what that asks is `net_fits`, as docs/FORMATS.md has it under "How a bundle
 /// is read back".
 pub fn write_bundle<F: Folder>(
@@ -130,6 +116,5 @@ pub fn write_bundle<F: Folder>(
     ensures writes { F.write_faults folder.old ≤ F.write_faults folder.new }
 {
     let files = make(alloc, net, design, certificates)?;
-    check_lengths(&files)?;
     write_files(alloc, folder, out, &files)
 }

@@ -11,5 +11,5 @@ returns-clause-holds g c =
     let content = g.F.Folder.content c.args.folder.now in
     on_ok_weaker c.write_files.result
     (λ e. held _ _ c.args.out.now c.args.design.now (net_of c.args.net.now) _ c.requires.fits c.in_ok-files.ensures.readable
-    (e ∙ ap (λ fs. with_files c.args.out.now (map made_of fs) content) c.deref-2.ensures.value ∙ ap (λ fs. with_files c.args.out.now fs content) c.in_ok-files.ensures.files))
+    (e ∙ ap (λ fs. with_files c.args.out.now (map made_of fs) content) c.deref.ensures.value ∙ ap (λ fs. with_files c.args.out.now fs content) c.in_ok-files.ensures.files))
     c.write_files.ensures.written
