@@ -58,11 +58,13 @@ def fan(members):
     return design, "\n".join(["default h = false;", "default g = false;", "default m = false;", *rows]) + "\n"
 
 
-def applied(switches):
-    """A design whose switches look a packet up 250 times in one function of some 8,000 rows: each table of each switch has all of them."""
+def applied(switches, times, keys):
+    """A design whose switches look a packet up so many times in one function of some 8,000 rows: each table of each switch has all of them."""
+    params, given = (", ".join(text.format(n) for n in range(keys)) for text in ("a{}: bit<16>", "pkt.e.tag"))
     design = (EXAMPLES / "c.ccn").read_text().replace("tag: bit<8>", "tag: bit<16>").replace("tag == 8w1", "tag == 16w1")
-    design = design.replace("role Out", "function k(a: bit<16>): bit<16>;\nrole Out").replace("  if (", "  pkt.e.tag = k(pkt.e.tag);\n" * 250 + "  if (")
-    rows = ["define h(16w0) = true;", *(f"define g(16w{s}) = true;" for s in range(1, switches + 1)), *(f"define k(16w{n}) = 16w1;" for n in range(8_000))]
+    design = design.replace("role Out", f"function k({params}): bit<16>;\nrole Out").replace("  if (", f"  pkt.e.tag = k({given});\n" * times + "  if (")
+    rows = ["define h(16w0) = true;", *(f"define g(16w{s}) = true;" for s in range(1, switches + 1))]
+    rows += [f"define k({', '.join([f'16w{n}'] * keys)}) = 16w1;" for n in range(8_000)]
     return design, "\n".join(["default h = false;", "default g = false;", "default k = 16w0;", *rows]) + "\n"
 
 
@@ -109,9 +111,9 @@ def inputs(program):
         yield f"compile: {what}", lambda folder, rows=rows: (texts(folder, definitions.DESIGN, rows), COMPILE)[1]
         yield f"step: {what}", lambda folder, rows=rows: (texts(folder, definitions.DESIGN, rows), with_case(folder))[1]
     yield "compile: the largest network", lambda folder: (texts(folder, *largest[1:3]), COMPILE)[1]
-    for switches, room in ((1, ""), (2, ""), (64, ", 4 GiB")):
-        what = f"compile: 250 tables of 8,000 rows, {switches} switches{room}"
-        yield what, lambda folder, switches=switches: (texts(folder, *applied(switches)), COMPILE)[1]
+    for shape in ((1, 26, 1), (64, 26, 1), (64, 26, 8), (1, 250, 1), (64, 250, 1)):
+        what = "compile: {} switches with {} tables of 8,000 rows of {} numbers".format(*shape)
+        yield what, lambda folder, shape=shape: (texts(folder, *applied(*shape)), COMPILE)[1]
     yield "step: the largest network", lambda folder: (texts(folder, *largest[1:3]), with_case(folder, "SwIn 1 0\n0 1\n-\n"))[1]
     yield "step: a case of 64 KiB, 32,000 choices", lambda folder: (example(folder, "f"), with_case(folder, "SwIn 1 0\n1\n" + " ".join(["1"] * 32_000) + "\n"))[1]
     yield "forward: the largest network, one packet", lambda folder: (texts(folder, *largest[1:3]), with_bundle(folder, program, "0 00000000fffffffe\n"))[1]

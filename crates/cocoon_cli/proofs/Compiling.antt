@@ -9,10 +9,9 @@ use Rattle.runtime_defs.specs.Places.{Places}
 use Rattle.cocoon_num.specs.Tree as tree
 use Rattle.cocoon_text.specs.Positions.{token_position}
 use Rattle.cocoon_text.specs.declared.position.Position.{Position}
-use Rattle.p4_ir.specs.NetTree.{NetData, SwitchFiles}
-use Rattle.lower_p4.specs.Lowering.{StartsLong}
+use Rattle.p4_ir.specs.NetTree.{NetData}
 use Rattle.net_bundle.specs.Bundle.{MadeFile, all_switch_files, bundle}
-use Rattle.net_bundle.specs.declared.file.BundleFile.TheVariants.{Program}
+use Rattle.net_bundle.specs.declared.file.BundleFile.{BundleFile}
 use Rattle.net_bundle.specs.Writing.{AllFit, ContentHolds, FirstOver, NamesFailure as BundleNamesFailure, NotWritten, SomeWritten, StopsAt, most_of, with_files}
 use Rattle.net_bundle.specs.declared.fault.BundleFault.{BundleFault}
 use Rattle.net_bundle.specs.declared.fault.BundleFault.TheVariants as fault
@@ -325,10 +324,11 @@ bound_answers d e o before x y (refusal.OverLimit l n) g a h =
 bound_answers d e o before x y refusal.NoMemory g a h = inl refl
 bound_answers d e o before x y r g a h = absurd h
 
--- the program of the first switch is the first file of the bundle
-long_first : (switches : List SwitchFiles) (switch : ℕ) (rest : List MadeFile) → StartsLong switch switches → FirstOver (all_switch_files switches ++ rest) (Program switch)
-long_first [] switch rest h = absurd h
-long_first (s ∷ switches) switch rest h = inl (ap Program h.0, h.1)
+-- the first of some files that is over its limit is that of more, too
+over_before : (fs rest : List MadeFile) (file : BundleFile) → FirstOver fs file → FirstOver (fs ++ rest) file
+over_before [] rest file h = absurd h
+over_before (f ∷ fs) rest file (inl h) = inl h
+over_before (f ∷ fs) rest file (inr (fits, h)) = inr (fits, over_before fs rest file h)
 
 -- why no network is made of both
 lowered_answers : (d e o : List ℕ) (before : Option Files) (x y : List ℕ) (r : Refusal) → HasBoth before d e x y → IsAccepted x → NotLowered x y r → Answers (compile d e o) (both d e o before x y) (Err r)
@@ -342,17 +342,17 @@ lowered_answers d e o before x y (refusal.OverLimit l n) g a (t, p, h, over) =
 lowered_answers d e o before x y (refusal.TooLong file most) g a h =
     let is = is_design d e o before x y h.tree g h.binds.binds.checked.reads in
     let are = are_defs d e o before x y h.binds.entries g h.binds.binds.read in
-    let net = h.long.net in
-    let m : Makes (both d e o before x y) net = record { design = h.tree; defs = h.binds.entries; design_is = is; defs_are = are; lowers = h.long.lowers } in
+    let net = h.net in
+    let m : Makes (both d e o before x y) net = record { design = h.tree; defs = h.binds.entries; design_is = is; defs_are = are; lowers = h.lowers } in
     answers_matched d e o before x y h.tree h.tables _ g a h.binds (inr (
-      (net, m, h.long.within),
+      (net, m, h.within),
       inl (
-        refusal.TooLong (Bundle (Program h.switch)) (most_of (Program h.switch)),
+        refusal.TooLong (Bundle h.first) (most_of h.first),
         inl (
           bundle x net None,
-          Program h.switch,
+          h.first,
           record { net = net; makes = m; files_are = refl },
-          long_first net.switches h.switch _ h.long.long,
+          over_before (all_switch_files net.switches) _ h.first h.long,
           refl,
         ),
         ap₂ (λ (f : CommandFile) (n : ℕ). Err (refusal.TooLong f n)) h.names h.limit,

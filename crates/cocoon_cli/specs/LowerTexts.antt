@@ -23,9 +23,10 @@ use Rattle.runtime_defs.specs.Fitting.{FitsDesign}
 use Rattle.runtime_defs.specs.Places.{Places}
 use Rattle.lower_p4.specs.Accepts.{Accepts, Lowers}
 use Rattle.lower_p4.specs.LowerLimits.{IsOver, IsWithin}
-use Rattle.lower_p4.specs.Lowering.{AreOfText, IsLowering, IsSound, IsTooLong}
-use Rattle.net_bundle.specs.Writing.{most_of}
-use Rattle.net_bundle.specs.declared.file.BundleFile.TheVariants.{Program}
+use Rattle.lower_p4.specs.Lowering.{AreOfText, IsLowering, IsSound}
+use Rattle.net_bundle.specs.Bundle.{all_switch_files}
+use Rattle.net_bundle.specs.Writing.{FirstOver, most_of}
+use Rattle.net_bundle.specs.declared.file.BundleFile.{BundleFile}
 use Rattle.cocoon_cli.specs.declared.files.CommandFile.{CommandFile}
 use Rattle.cocoon_cli.specs.declared.files.CommandFile.TheVariants.{Bundle}
 use Rattle.cocoon_cli.specs.declared.refusal.InputFault.TheVariants.{NoTree, Rule, NotYet}
@@ -133,19 +134,22 @@ NotBound design defs (OverLimit limit count) = ManyRows design defs limit count
 NotBound design defs NoMemory = Unit {0}
 NotBound design defs _ = ⊥
 
--- the file is the program of the first switch of their network, whose text is over its limit
-pub record LongProgram (design defs : List ℕ) (file : CommandFile) (most : ℕ) : Type 0 where
+-- of the files of the switches of their network, this is the first that is over its limit
+pub record LongFile (design defs : List ℕ) (file : CommandFile) (most : ℕ) : Type 0 where
   pub tree : Design
   pub tables : Places
   pub binds : BindsTables design defs tree tables
-  pub switch : ℕ
-  pub names : file ≡ Bundle (Program switch)
-  pub limit : most ≡ most_of (Program switch)
-  pub long : IsTooLong tree binds.entries switch
+  pub first : BundleFile
+  pub names : file ≡ Bundle first
+  pub limit : most ≡ most_of first
+  pub net : NetData
+  pub lowers : Lowers tree binds.entries net
+  pub within : IsWithin tree binds.entries
+  pub long : FirstOver (all_switch_files net.switches) first
 
 -- why no network is made of a design that the compiler takes and definitions that fit it
 abbrev pub NotLowered : (design defs : List ℕ) → Refusal → Type 0
-NotLowered design defs (TooLong file most) = LongProgram design defs file most
+NotLowered design defs (TooLong file most) = LongFile design defs file most
 NotLowered design defs (OverLimit limit count) =
     (tree : Design) × (tables : Places) × (binds : BindsTables design defs tree tables)
     × IsOver tree binds.entries limit count

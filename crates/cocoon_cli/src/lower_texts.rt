@@ -26,6 +26,7 @@ use cocoon_types::TypeRule;
 use declarations::FunId;
 use lower_p4::laws::one_lowering;
 use lower_p4::{LowerFault, is_accepted, lower};
+use net_bundle::laws::rows_are_long;
 use net_bundle::{BundleFault, BundleFile};
 use p4_ir::NetData;
 use runtime_defs::{Defs, DefsFault, bind};
@@ -215,11 +216,16 @@ fn lower_bound(alloc: Global, bound: &Bound) -> Result<NetData, Refusal>
         → NotLowered design defs refusal) }
 {
     one_lowering();
+    rows_are_long();
     match lower(alloc, &bound.checked, &bound.defs) {
         Ok(net) => Ok(net),
         Err(LowerFault::Limit(limit, count)) => Err(Refusal::OverLimit(limit, count)),
-        Err(LowerFault::TooLong(switch)) => {
+        Err(LowerFault::LongProgram(switch)) => {
             let file = BundleFile::Program(switch);
+            Err(Refusal::from(BundleFault::Limit(file)))
+        }
+        Err(LowerFault::ManyRows(switch)) => {
+            let file = BundleFile::Rows(switch);
             Err(Refusal::from(BundleFault::Limit(file)))
         }
         Err(LowerFault::NoMemory) => Err(Refusal::NoMemory),

@@ -5,7 +5,9 @@ use Rattle.std.specs.Option.{option_or}
 use Rattle.cocoon_num.specs.Tree.{Design}
 use Rattle.cocoon_num.specs.declared.limit_name.LimitName.{LimitName}
 use Rattle.lower_body.specs.Whole.{SwitchRole}
-use Rattle.lowered_net.specs.Counts.{Counted, counts, first_over, program_counts}
+use Rattle.lowered.specs.Roles.{NetParts, net_parts}
+use Rattle.lowered_net.specs.Counts.{Counted, FirstOver, counts, first_over, program_counts}
+use Rattle.lowered_net.specs.Network.{HasNumbers}
 use Rattle.runtime_defs.specs.Places.{Places}
 use Rattle.lower_net.specs.Limits.{of_network}
 
@@ -36,3 +38,15 @@ zip_count R [] [] h = refl
 zip_count R [] (y ∷ ys) h = absurd h
 zip_count R (x ∷ xs) [] h = absurd h
 zip_count R (x ∷ xs) (y ∷ ys) h = ap suc (zip_count R xs ys h.1)
+
+-- these are the parts and the numbers of the network, and no limit is exceeded
+abbrev pub within_by : (d : Design) (places : Places) (parts : NetParts) (switches hosts : List ℕ) → net_parts d ≡ Some parts → HasNumbers d places switches hosts
+    → None ≡ first_over (counts d places parts.role switches hosts) → FirstOver d places None
+within_by d places parts switches hosts are numbers over = record {
+  parts = parts;
+  parts_are = are;
+  switches = switches;
+  hosts = hosts;
+  numbers = numbers;
+  over_is = over;
+}

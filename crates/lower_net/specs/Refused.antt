@@ -1,4 +1,4 @@
--- Cited by the clauses of `lower` and of `large_programs_are_long` in lower_p4: why no network is made.
+-- Cited by the clauses of `lower` and of the laws on lengths in lower_p4: why no network is made.
 use Rattle.std.specs.Prelude.{◌≡◌, ℕ, Option, Some, None, Result, Ok, Err}
 use Rattle.cocoon_num.specs.Tree.{Design}
 use Rattle.lowered_net.specs.Counts.{FirstOver}
@@ -7,22 +7,28 @@ use Rattle.p4_ir.specs.NetOf.{net_of}
 use Rattle.p4_ir.specs.declared.network.NetData.{NetData}
 use Rattle.runtime_defs.specs.Places.{Places}
 use Rattle.lower_net.specs.declared.lowering.LowerFault.{LowerFault}
-use Rattle.lower_net.specs.declared.lowering.LowerFault.TheVariants.{Limit, NoMemory, TooLong}
-use Rattle.lower_net.specs.Limits.{too_long}
+use Rattle.lower_net.specs.declared.lowering.LowerFault.TheVariants.{Limit, LongProgram, ManyRows, NoMemory}
+use Rattle.lower_net.specs.Limits.{long_program, many_rows}
 
 -- No limit is exceeded. The code of the programs is so large that their texts are over the limit of a file, and this is the first
 -- switch; or it is not, and there is none.
-pub record FirstTooLong (d : Design) (places : Places) (switch : Option ℕ) : Type 0 where
+pub record FirstLongProgram (d : Design) (places : Places) (switch : Option ℕ) : Type 0 where
   pub within : FirstOver d places None
-  pub first : switch ≡ too_long within.switches within.parts.role
+  pub first : switch ≡ long_program within.parts.role within.switches
 
--- the limit is the first that is exceeded; the texts of programs are over the limit of a file
+-- The same of the rows: each switch has more of them than a file can hold.
+pub record FirstManyRows (d : Design) (places : Places) (switch : Option ℕ) : Type 0 where
+  pub within : FirstOver d places None
+  pub first : switch ≡ many_rows d places within.parts.role within.switches
+
+-- the limit is the first that is exceeded; or the texts of programs are over the limit of a file, or else there are too many rows
 abbrev pub IsRefused : Design → Places → LowerFault → Type 0
 IsRefused d places (Limit limit count) = FirstOver d places (Some (limit, count))
-IsRefused d places (TooLong switch) = FirstTooLong d places (Some switch)
+IsRefused d places (LongProgram switch) = FirstLongProgram d places (Some switch)
+IsRefused d places (ManyRows switch) = FirstLongProgram d places None × FirstManyRows d places (Some switch)
 IsRefused d places NoMemory = Unit {0}
 
--- the network of the design, within all limits and with programs that are not too long; or why there is none
+-- the network of the design, within all limits and with programs that are not too long and rows that are not too many; or why there is none
 abbrev pub Lowers : Design → Places → Result NetData LowerFault → Type 0
-Lowers d places (Ok net) = IsNetwork d places (net_of net) × FirstTooLong d places None
+Lowers d places (Ok net) = IsNetwork d places (net_of net) × FirstLongProgram d places None × FirstManyRows d places None
 Lowers d places (Err fault) = IsRefused d places fault

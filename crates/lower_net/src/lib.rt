@@ -6,9 +6,10 @@ mod ends;
 mod hosts;
 mod idle;
 mod led;
+pub mod lengths;
 pub mod limits;
 mod links;
 pub mod lowering;
 mod switches;
 
-pub use lowering::{LowerFault, lower};
+pub use lowering::{LowerFault, lower, program};

@@ -2,34 +2,32 @@
 ghost use Rattle.std.specs.Prelude.{◌≡◌, ℕ, IfErr, IfOk, None, Some, length, map};
 ghost use Rattle.cocoon_syntax.specs.TreeOf.{design_of};
 ghost use Rattle.cocoon_types.specs.Design as design;
-ghost use Rattle.lower_net.specs.Limits.{too_long};
-ghost use Rattle.lower_net.specs.Refused.{FirstTooLong, IsRefused, Lowers};
-ghost use Rattle.lowered.specs.Roles.{net_parts};
+ghost use Rattle.lower_net.specs.Refused.{FirstLongProgram, FirstManyRows, IsRefused, Lowers};
+ghost use Rattle.lowered.specs.Roles.{NetParts, net_parts};
+ghost use Rattle.lowered.specs.SwitchProgram.{switch_program};
 ghost use Rattle.lower_rows.specs.AllGroups.{fork_group_of};
 ghost use Rattle.lower_switch.specs.NetDeclarations.{parts_of, switch_role};
 ghost use Rattle.lowered_net.specs.Counts.{FirstOver, counts, first_over, program_counts};
 ghost use Rattle.lowered_rows.specs.Groups as spec;
 ghost use Rattle.lowered_net.specs.Network.{IsNetwork, network};
 ghost use Rattle.p4_ir.specs.NetOf.{net_of};
+ghost use Rattle.p4_ir.specs.Program.{program_of};
 ghost use Rattle.runtime_defs.specs.Fitting.{FitsDesign};
 ghost use Rattle.runtime_defs.specs.Places.{Places};
 
 use crate::hosts::host_ports;
+use crate::lengths::{find_long_program, find_many_rows};
 use crate::limits::{groups_over, network_over, program_over};
 use crate::links::port_links;
 use crate::switches::switches;
 use cocoon_num::{LimitName, List, NoMemory};
 use cocoon_resolve::Checked;
 use lower_rows::{ForkGroup, fork_groups};
-use lower_switch::{Parts, find_parts, program_counts, program_size};
+use lower_switch::{Parts, find_parts, program_counts, switch_code};
 use lowered_types::laws::forks_are;
-use p4_ir::NetData;
+use p4_ir::{NetData, Program};
 use runtime_defs::Defs;
 use std::alloc::Global;
-
-/// How large the code of a program may be: as many bytes as its file may have. Of a larger one no network is made, since its
-/// text, which has at least as many bytes, may find no memory.
-const MOST_CODE: u64 = 4_194_304;
 
 /// Why no network is made.
 #[derive(Clone, Copy, Debug, Drop, PartialEq, Eq)]
@@ -37,7 +35,9 @@ pub enum LowerFault {
     /// The definitions give more than a limit allows, by this count.
     Limit(LimitName, u64),
     /// The text of each program would be longer than its file may be. The first switch has this number.
-    TooLong(u16),
+    LongProgram(u16),
+    /// Each switch would have more rows than its file can hold. The first switch has this number.
+    ManyRows(u16),
     NoMemory,
 }
 
@@ -139,29 +139,6 @@ fn find_over(
     }
 }
 
-/// The first switch, where the text of its program would be longer than its file may be.
-fn find_too_long(
-    alloc: Global,
-    checked: &Checked,
-    functions: u32,
-    parts: &Parts<'_>,
-    numbers: &[u16],
-) -> Result<Option<u16>, NoMemory>
-    requires { functions ≡ length (design.functions (design_of checked.now)) }
-    ensures { IfOk result (λ switch. switch
-        ≡ too_long numbers.now (switch_role (design_of checked.now) parts.now.ingress)) }
-{
-    let Some(number) = numbers.first() else {
-        return Ok(None);
-    };
-    let size = program_size(alloc, checked, functions, &parts.ingress)?;
-    if size > MOST_CODE {
-        Ok(Some(*number))
-    } else {
-        Ok(None)
-    }
-}
-
 /// The network of these parts, or why there is none.
 fn lower_parts(
     alloc: Global,
@@ -183,8 +160,13 @@ fn lower_parts(
     )? {
         return Err(LowerFault::Limit(limit, count));
     }
-    if let Some(switch) = find_too_long(alloc, checked, functions, parts, numbers)? {
-        return Err(LowerFault::TooLong(switch));
+    if let Some(switch) = find_long_program(alloc, checked, functions, parts, numbers)? {
+        return Err(LowerFault::LongProgram(switch));
+    }
+    if let Some(switch) = find_many_rows(
+        alloc, checked, defs, functions, parts, &groups, numbers,
+    )? {
+        return Err(LowerFault::ManyRows(switch));
     }
     Ok(make(alloc, checked, defs, parts, &groups, numbers, hosts)?)
 }
@@ -194,11 +176,31 @@ pub fn lower(alloc: Global, checked: &Checked, defs: &Defs) -> Result<NetData, L
     requires { FitsDesign (design_of checked.now) defs.now }
     ensures network { IfOk result (λ net. IsNetwork (design_of checked.now) defs.now (net_of net)) }
     ensures within { IfOk result (λ net. FirstOver (design_of checked.now) defs.now None) }
-    ensures short { IfOk result (λ net. FirstTooLong (design_of checked.now) defs.now None) }
+    ensures short { IfOk result (λ net. FirstLongProgram (design_of checked.now) defs.now None) }
+    ensures few { IfOk result (λ net. FirstManyRows (design_of checked.now) defs.now None) }
     ensures refused { IfErr result (λ fault. IsRefused (design_of checked.now) defs.now fault) }
 {
     forks_are();
     checked.design();
     let parts = find_parts(checked).unwrap();
     lower_parts(alloc, checked, defs, &parts)
+}
+
+/// The program that the switch of this number has, or would have.
+pub fn program(
+    alloc: Global,
+    checked: &Checked,
+    defs: &Defs,
+    number: u16,
+) -> Result<Program, NoMemory>
+    requires { FitsDesign (design_of checked.now) defs.now }
+    ensures { (parts : NetParts) → net_parts (design_of checked.now) ≡ Some parts
+        → IfOk result (λ p. program_of p ≡ switch_program parts.role number) }
+{
+    forks_are();
+    checked.design();
+    let functions = count_functions(checked, defs)?;
+    let parts = find_parts(checked).unwrap();
+    let code = switch_code(alloc, checked, functions, &parts.ingress, number)?;
+    Ok(code.program)
 }

@@ -27,7 +27,9 @@ use Rattle.lowered_net.specs.Counts.{Counted, FirstOver, counts, first_over}
 use Rattle.lowered_rows.specs.Groups.{ForkGroup, fork_groups}
 use Rattle.lowered_net.specs.Network.{IsNetwork, switch_files}
 use Rattle.lowered.specs.Roles.{NetParts, net_parts}
-use Rattle.lowered.specs.SwitchProgram.{fields_in, switch_made}
+use Rattle.lowered.specs.SwitchProgram.{fields_in, switch_made, switch_program}
+use Rattle.lower_net.specs.Limits.{many_rows}
+use Rattle.lower_net.specs.Refused.{FirstManyRows}
 use Rattle.lower_p4.specs.Accepts.{Accepts, RunsProgram}
 use Rattle.lower_p4.specs.Grounds.{Grounds, HoldsFields}
 use Rattle.lower_p4.specs.Lowering.{RunPrograms}
@@ -125,13 +127,49 @@ held_at d places parts (t ∷ switches) a s h =
     (All-head HoldsFields (switch_files d places parts t) (map (switch_files d places parts) switches) a)
     (held_at d places parts switches (All-tail HoldsFields (switch_files d places parts t) (map (switch_files d places parts) switches) a) s) h
 
+pub made_by : (r : SwitchRole) (s : ℕ) → Few r s → length (switch_program r s).meta < 2 ^ 63 → length (switch_made r s) ≤ 2 ^ 64
+made_by r s f held =
+    let made = made_count (switch_made r s) in
+    let tables = f.tables in
+    omega (arith, held, made, tables)
+
 pub few_made : (d : Design) (places : Places) (net : NetData) (n : IsNetwork d places net) → All HoldsFields net.switches → (s : ℕ) → has_number s n.switches ≡ true → Few n.parts.role s
     → length (switch_made n.parts.role s) ≤ 2 ^ 64
 few_made d places net n a s l f =
-    let held = held_at d places n.parts n.switches (subst (λ (m : NetData). All HoldsFields m.switches) n.net_is a) s l in
-    let made = made_count (switch_made n.parts.role s) in
-    let tables = f.tables in
-    omega (arith, held, made, tables)
+    made_by n.parts.role s f (held_at d places n.parts n.switches (subst (λ (m : NetData). All HoldsFields m.switches) n.net_is a) s l)
+
+-- ---- the first switch
+
+first_of : (b : Bool) (s switch : ℕ) → Some switch ≡ (if b then Some s else None) → s ≡ switch
+first_of true s switch h = cc
+first_of false s switch h = absurd cc
+
+pub few_first : (d : Design) (places : Places) (s : ℕ) (h : FirstManyRows d places (Some s)) → Few h.within.parts.role s
+few_first d places s h = by h.within.switches h.first (sym h.within.over_is)
+  where
+    by : (switches : List ℕ) → Some s ≡ many_rows d places h.within.parts.role switches → first_over (counts d places h.within.parts.role switches h.within.hosts) ≡ None
+        → Few h.within.parts.role s
+    by [] k o = absurd cc
+    by (t ∷ switches) k o =
+        subst (Few h.within.parts.role) (first_of _ t s k) (first_few d places h.within.parts.role t switches h.within.hosts o)
+
+has_first : (d : Design) (places : Places) (r : SwitchRole) (s : ℕ) (switches : List ℕ) → Some s ≡ many_rows d places r switches → has_number s switches ≡ true
+has_first d places r s [] k = absurd cc
+has_first d places r s (t ∷ switches) k =
+    let is : t ≡ s = first_of _ t s k in
+    let same : (s == t) ≡ true = grind (arith, nat_tests, is) in
+    ap (λ b. b || has_number s switches) same
+
+pub short_first : (d : Design) (places : Places) (s : ℕ) → FirstManyRows d places (Some s) → s < 2 ^ 16
+short_first d places s h =
+    let w = h.within in
+    below_width 16 s (and_parts (fits_width 16 s) (is_true_at (switch_table d places) s)
+    (sym (w.numbers.switches_are.listed s) ∙ has_first d places w.parts.role s w.switches h.first)).0
+
+-- the program of a switch is that of its role
+pub program_of_role : (d : Design) (s : ℕ) (p : Program) (parts : NetParts) → net_parts d ≡ Some parts → RunsProgram d s p → p ≡ switch_program parts.role s
+unfolding RunsProgram
+program_of_role d s p parts h (q, k, e) = e ∙ ap (λ (x : NetParts). switch_program x.role s) (one_parts d q parts k h)
 
 -- kinds that fit and a shallow text make a program well kinded
 pub well_kinded : (p : Program) → kinds_fit p ≡ true → is_shallow p4_bounds (program_tokens p) ≡ true → is_well_kinded p ≡ true

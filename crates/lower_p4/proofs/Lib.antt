@@ -2,4 +2,4 @@ pub mod Ascending
 pub mod SamePlaces
 pub mod OneNetwork
 pub mod Grounded
-pub mod LongPrograms
+pub mod LongFiles

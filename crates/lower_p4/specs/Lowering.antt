@@ -1,7 +1,7 @@
 -- The clauses of `lower` cite it.
 -- What it is to be a lowering of a design under definitions, and why there is none. It follows "Lowering and the P4 text" in
 -- docs/FORMATS.md.
-use Rattle.std.specs.Prelude.{◌≡◌, ◌<◌, ℕ, List, [], ◌∷◌, IsTrue, length}
+use Rattle.std.specs.Prelude.{◌≡◌, ◌<◌, ◌≤◌, ℕ, List, [], ◌∷◌, IsTrue, length, Some, None}
 use Rattle.cocoon_num.specs.Tree.{Design, DefsText}
 use Rattle.cocoon_types.specs.Tables.{defs_of}
 use Rattle.cocoon_types.specs.Rules.{WellFormed}
@@ -11,11 +11,16 @@ use Rattle.p4_ir.specs.P4Tree.{Program}
 use Rattle.p4_ir.specs.NetTree.{SwitchFiles, NetData}
 use Rattle.p4_ir.specs.NetFits.{net_fits}
 use Rattle.p4_emit.specs.Printed.{printed}
+use Rattle.runtime_defs.specs.Places.{Places}
+use Rattle.lowered_net.specs.Counts.{FirstOver}
+use Rattle.lowered_net.specs.Network.{IsNetwork}
+use Rattle.lower_rows.specs.AllRows.{all_rows}
+use Rattle.lower_net.specs.Limits.{most_file_rows}
 use Rattle.lower_p4.specs.Accepts.{Lowers, RunsProgram}
 use Rattle.lower_p4.specs.LowerLimits.{IsOver, IsWithin}
 pub use Rattle.lower_p4.specs.OfText.{AreOfText}
 use Rattle.lower_net.specs.declared.lowering.LowerFault.{LowerFault}
-use Rattle.lower_net.specs.declared.lowering.LowerFault.TheVariants.{Limit, NoMemory, TooLong}
+use Rattle.lower_net.specs.declared.lowering.LowerFault.TheVariants.{Limit, LongProgram, ManyRows, NoMemory}
 
 -- each switch runs the program of its number
 abbrev pub RunPrograms : (ℕ → Program → Type 0) → List SwitchFiles → Type 0
@@ -37,20 +42,35 @@ pub record IsSound (design : Design) (defs : DefsText) (net : NetData) : Type 0 
   pub defs_fit : DefsFit design defs
   pub within : DeliversWithin net design (defs_of design defs)
 
+-- ---- why there is none
+
 -- the first switch has this number, and the text of its program has more bytes than its file may have
 abbrev pub StartsLong : (switch : ℕ) → List SwitchFiles → Type 0
 StartsLong switch [] = ⊥
 StartsLong switch (s ∷ ss) = (s.number ≡ switch) × (4194304 < length (printed s.program))
 
--- there is a network within all limits, but for the text of its first program, which is too long for its file
-pub record IsTooLong (design : Design) (defs : DefsText) (switch : ℕ) : Type 0 where
+-- the first switch has this number, the text of its program fits its file, and it has more rows than a file can hold
+abbrev pub StartsFull : (switch : ℕ) → List SwitchFiles → Type 0
+StartsFull switch [] = ⊥
+StartsFull switch (s ∷ ss) = (s.number ≡ switch) × (length (printed s.program) ≤ 4194304) × (most_file_rows < length (all_rows s.rows))
+
+-- why there is no network of a design under tables
+abbrev pub HasNoNetwork : Design → Places → LowerFault → Type 0
+HasNoNetwork d places (Limit limit count) = FirstOver d places (Some (limit, count))
+HasNoNetwork d places (LongProgram switch) = (net : NetData) × IsNetwork d places net × FirstOver d places None × StartsLong switch net.switches
+HasNoNetwork d places (ManyRows switch) = (net : NetData) × IsNetwork d places net × FirstOver d places None × StartsFull switch net.switches
+HasNoNetwork d places NoMemory = Unit {0}
+
+-- there is a network within all limits, but it starts with a file that is too long
+pub record IsTooLong (design : Design) (defs : DefsText) (Starts : List SwitchFiles → Type 0) : Type 0 where
   pub net : NetData
   pub lowers : Lowers design defs net
   pub within : IsWithin design defs
-  pub long : StartsLong switch net.switches
+  pub starts : Starts net.switches
 
 -- why there is no lowering
 abbrev pub NotLowered : Design → DefsText → LowerFault → Type 0
 NotLowered design defs (Limit limit count) = IsOver design defs limit count
-NotLowered design defs (TooLong switch) = IsTooLong design defs switch
+NotLowered design defs (LongProgram switch) = IsTooLong design defs (StartsLong switch)
+NotLowered design defs (ManyRows switch) = IsTooLong design defs (StartsFull switch)
 NotLowered design defs NoMemory = Unit {0}

@@ -1,20 +1,25 @@
 //! What the network of a design is. The functions do nothing; their contracts are the laws.
-ghost use Rattle.std.specs.Prelude.{◌<◌, ◌≡◌, ◌^◌, All, None, true, ℕ};
+ghost use Rattle.std.specs.Prelude.{◌<◌, ◌≡◌, ◌^◌, All, false, IsTrue, length, nat_lt, None, Some, true, ℕ};
+ghost use Rattle.cocoon_num.specs.Spelled.{is_spelled};
 ghost use Rattle.cocoon_num.specs.Tree.{DefsText, Design};
 ghost use Rattle.cocoon_num.specs.declared.limit_name.LimitName.{LimitName};
+ghost use Rattle.cocoon_types.specs.Rules.{WellFormed};
 ghost use Rattle.cocoon_types.specs.Tables.{defs_of};
 ghost use Rattle.lower_p4.specs.Accepts.{Accepts, Lowers, RunsProgram};
-ghost use Rattle.lower_p4.specs.Grounds.{Grounds, HoldsFields};
+ghost use Rattle.lower_p4.specs.Grounds.{Grounds, HoldsFields, WasRead};
 ghost use Rattle.lower_p4.specs.LowerLimits.{IsOver, IsWithin};
-ghost use Rattle.lower_p4.specs.Lowering.{IsLowering, RunPrograms, StartsLong};
-ghost use Rattle.lower_net.specs.Refused.{FirstTooLong};
+ghost use Rattle.lower_p4.specs.Lowering.{IsLowering, RunPrograms, StartsFull, StartsLong};
+ghost use Rattle.lower_net.specs.Refused.{FirstLongProgram, FirstManyRows};
 ghost use Rattle.lowered_net.specs.Counts.{FirstOver};
 ghost use Rattle.lowered.specs.Delivers.{DeliversExactly, DeliversWithin};
 ghost use Rattle.lowered_net.specs.Network.{IsNetwork};
+ghost use Rattle.p4_emit.specs.Printed.{printed};
 ghost use Rattle.p4_ir.specs.NetFits.{net_fits};
 ghost use Rattle.p4_ir.specs.NetTree.{NetData};
-ghost use Rattle.p4_ir.specs.P4Tree.{Program};
+ghost use Rattle.p4_ir.specs.P4Tree as tree;
+ghost use Rattle.p4_ir.specs.WellKinded.{is_well_kinded};
 ghost use Rattle.runtime_defs.specs.Places.{Places};
+ghost use Rattle.sound_types.specs.Literals.{DesignLiteralsFit};
 
 use lower_switch::laws::programs_count_alike;
 use lowered_depth::programs_are_shallow;
@@ -62,11 +67,34 @@ pub fn networks_are_writable()
 
 /// Where the code of the programs is over the limit of a file, so is the text of the program of the first switch.
 pub fn large_programs_are_long()
-    ensures { (d : Design) (places : Places) (switch : ℕ) → FirstTooLong d places (Some switch)
+    ensures { (d : Design) (places : Places) (switch : ℕ) → FirstLongProgram d places (Some switch)
         → (net : NetData) × IsNetwork d places net × FirstOver d places None
         × StartsLong switch net.switches }
 {
     programs_are_long();
+}
+
+/// Where the first switch has more rows than a file can hold, the network starts with a program that is too long for its file, or
+/// else with these rows.
+pub fn first_files_are_long()
+    ensures { (d : Design) (places : Places) (switch : ℕ) → FirstManyRows d places (Some switch)
+        → (net : NetData) × (p : tree.Program) × IsNetwork d places net × FirstOver d places None
+        × RunsProgram d switch p
+        × (IsTrue (nat_lt 4194304 (length (printed p))) → StartsLong switch net.switches)
+        × (nat_lt 4194304 (length (printed p)) ≡ false → StartsFull switch net.switches) }
+{}
+
+/// The program of the first switch can be printed, where the network is within the limits.
+pub fn first_programs_are_kinded()
+    ensures { (d : Design) (places : Places) (switch : ℕ) → WasRead d → is_spelled d ≡ true
+        → WellFormed d → DesignLiteralsFit d → FirstManyRows d places (Some switch)
+        → (p : tree.Program) → RunsProgram d switch p → length p.meta < 2 ^ 63
+        → is_well_kinded p ≡ true }
+{
+    programs_are_kinded();
+    readings_are_plain();
+    readings_are_shallow();
+    programs_are_shallow();
 }
 
 /// The compiler makes one network of a design and definitions. It makes it only of a design that it takes, and the program
@@ -76,7 +104,7 @@ pub fn one_lowering()
         → Lowers design defs m → Lowers design defs n → m ≡ n }
     ensures accepted { (design : Design) (defs : DefsText) (n : NetData)
         → Lowers design defs n → Accepts design }
-    ensures programs { (design : Design) (switch : ℕ) (p q : Program)
+    ensures programs { (design : Design) (switch : ℕ) (p q : tree.Program)
         → RunsProgram design switch p → RunsProgram design switch q → p ≡ q }
     ensures one_limit { (design : Design) (defs : DefsText) (x y : LimitName) (m n : ℕ)
         → IsOver design defs x m → IsOver design defs y n → (x ≡ y) × (m ≡ n) }

@@ -1,23 +1,30 @@
 //! What the compiler takes, and the network that it makes of it.
-ghost use Rattle.std.specs.Prelude.{◌<◌, ◌↔◌, ◌^◌, All, IfErr, IfOk, IsTrue};
+ghost use Rattle.std.specs.Prelude.{◌≡◌, ◌<◌, ◌↔◌, ◌^◌, All, IfErr, IfOk, IsTrue, length, nat_lt, Some};
 ghost use Rattle.cocoon_num.specs.Spelled.{is_spelled};
 ghost use Rattle.cocoon_num.specs.Tree.{DefsText};
 ghost use Rattle.cocoon_syntax.specs.TreeOf.{design_of};
 ghost use Rattle.p4_ir.specs.NetOf.{net_of, switch_of};
 ghost use Rattle.runtime_defs.specs.Fitting.{FitsDesign};
 ghost use Rattle.lowered_net.specs.Network.{IsNetwork};
-ghost use Rattle.lower_net.specs.Refused.{IsRefused};
-ghost use Rattle.lower_p4.specs.Accepts.{Accepts, Lowers};
+ghost use Rattle.lower_net.specs.Refused.{FirstManyRows, IsRefused};
+ghost use Rattle.lower_p4.specs.Accepts.{Accepts, Lowers, RunsProgram};
 ghost use Rattle.lower_p4.specs.Grounds.{HoldsFields, WasRead};
 ghost use Rattle.lower_p4.specs.LowerLimits.{IsWithin};
-ghost use Rattle.lower_p4.specs.Lowering.{AreOfText, IsLowering, IsSound, NotLowered};
+ghost use Rattle.lower_p4.specs.Lowering.{AreOfText, HasNoNetwork, IsLowering, IsSound, NotLowered};
+ghost use Rattle.p4_emit.specs.Printed.{printed};
+ghost use Rattle.p4_ir.specs.P4Tree as tree;
+ghost use Rattle.p4_ir.specs.Program.{program_of};
 
 use crate::laws::{
-    large_programs_are_long, networks_are_writable, networks_deliver, switches_run_programs,
+    first_files_are_long, first_programs_are_kinded, large_programs_are_long,
+    networks_are_writable, networks_deliver, switches_run_programs,
 };
+use cocoon_num::NoMemory;
 use cocoon_resolve::Checked;
-use lower_net::LowerFault;
-use p4_ir::{NetData, SwitchFiles};
+use lower_net::lengths::MOST_FILE_BYTES;
+use lower_net::{LowerFault, program};
+use p4_emit::emit;
+use p4_ir::{NetData, Program, SwitchFiles};
 use runtime_defs::Defs;
 use sound_types::laws::code_literals_fit;
 use std::alloc::Global;
@@ -52,6 +59,68 @@ fn know_sizes(net: &NetData)
     }
 }
 
+/// The meta fields of a program are held in memory.
+fn know_meta(program: &Program)
+    ensures { length (program_of program.now).meta < 2 ^ 63 }
+{
+    let _count = program.meta.items().len();
+}
+
+/// Whether the text of the program of a switch that has too many rows is longer than its file may be.
+fn has_long_text(
+    alloc: Global,
+    checked: &Checked,
+    defs: &Defs,
+    switch: u16,
+) -> Result<bool, NoMemory>
+    requires words { IsTrue (is_spelled (design_of checked.now)) }
+    requires read { WasRead (design_of checked.now) }
+    requires fits { FitsDesign (design_of checked.now) defs.now }
+    requires many { FirstManyRows (design_of checked.now) defs.now (Some switch) }
+    ensures { (p : tree.Program) → RunsProgram (design_of checked.now) switch p
+        → IfOk result (λ long. long ≡ nat_lt 4194304 (length (printed p))) }
+{
+    first_programs_are_kinded();
+    code_literals_fit();
+    checked.design();
+    let program = program(alloc, checked, defs, switch)?;
+    know_meta(&program);
+    let text = emit(alloc, &program)?;
+    Ok(text.len() as u64 > MOST_FILE_BYTES)
+}
+
+/// Why there is no network, where this switch, which is the first, has too many rows: the file of its program comes before that of
+/// its rows.
+fn first_too_long(alloc: Global, checked: &Checked, defs: &Defs, switch: u16) -> LowerFault
+    requires words { IsTrue (is_spelled (design_of checked.now)) }
+    requires read { WasRead (design_of checked.now) }
+    requires fits { FitsDesign (design_of checked.now) defs.now }
+    requires many { FirstManyRows (design_of checked.now) defs.now (Some switch) }
+    ensures { HasNoNetwork (design_of checked.now) defs.now result }
+{
+    first_files_are_long();
+    match has_long_text(alloc, checked, defs, switch) {
+        Ok(true) => LowerFault::LongProgram(switch),
+        Ok(false) => LowerFault::ManyRows(switch),
+        Err(NoMemory) => LowerFault::NoMemory,
+    }
+}
+
+/// Why there is no network, where `lower_net` makes none for this fault.
+fn told(alloc: Global, checked: &Checked, defs: &Defs, fault: LowerFault) -> LowerFault
+    requires words { IsTrue (is_spelled (design_of checked.now)) }
+    requires read { WasRead (design_of checked.now) }
+    requires fits { FitsDesign (design_of checked.now) defs.now }
+    requires refused { IsRefused (design_of checked.now) defs.now fault }
+    ensures { HasNoNetwork (design_of checked.now) defs.now result }
+{
+    large_programs_are_long();
+    match fault {
+        LowerFault::ManyRows(switch) => first_too_long(alloc, checked, defs, switch),
+        _ => fault,
+    }
+}
+
 /// The network of a design that the compiler takes, under its definitions, if they are within the limits. The names of its
 /// headers and fields have to be words, as those of every design are that was read from a text.
 pub fn lower(alloc: Global, checked: &Checked, defs: &Defs) -> Result<NetData, LowerFault>
@@ -81,15 +150,17 @@ pub fn lower(alloc: Global, checked: &Checked, defs: &Defs) -> Result<NetData, L
 
     // of tables alone, also of such as no text has
     ensures network { IfOk result (λ net. IsNetwork (design_of checked.now) defs.now (net_of net)) }
-    ensures over { IfErr result (λ fault. IsRefused (design_of checked.now) defs.now fault) }
+    ensures over { IfErr result (λ fault. HasNoNetwork (design_of checked.now) defs.now fault) }
 {
     networks_deliver();
     switches_run_programs();
     networks_are_writable();
-    large_programs_are_long();
     code_literals_fit();
     checked.design();
-    let net = lower_net::lower(alloc, checked, defs)?;
+    let net = match lower_net::lower(alloc, checked, defs) {
+        Ok(net) => net,
+        Err(fault) => return Err(told(alloc, checked, defs, fault)),
+    };
     know_ports(&net);
     know_sizes(&net);
     Ok(net)

@@ -8,3 +8,4 @@ pub mod Gathered
 pub mod Walks
 pub mod Forking
 pub mod Placing
+pub mod RowCounts

@@ -1,4 +1,5 @@
 pub mod AllGroups
+pub mod AllRows
 pub mod FirstRows
 pub mod Grouping
 pub mod Numbered

@@ -2,6 +2,7 @@
 #![tactic(auto)]
 
 mod args_table;
+pub mod counting;
 mod first_rows;
 mod fork_args;
 mod forked;
@@ -10,5 +11,6 @@ mod keys;
 pub mod rows;
 mod table_groups;
 
+pub use counting::has_more_rows;
 pub use groups::{ForkGroup, fork_groups};
 pub use rows::switch_rows;

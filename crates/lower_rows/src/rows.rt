@@ -147,7 +147,7 @@ fn group_rows(
 }
 
 /// The name of the function of a number.
-fn function_name(checked: &Checked, number: FunId) -> &[u8]
+pub(crate) fn function_name(checked: &Checked, number: FunId) -> &[u8]
     ensures { result.now ≡ text_at (design_of checked.now) number }
 {
     match checked.names().function(checked.design(), number) {
@@ -178,7 +178,11 @@ fn params_before_last(params: &[Param]) -> &[Param]
 }
 
 /// The table of the function of a name.
-fn function_table<'d>(checked: &Checked, defs: &'d Defs, name: &[u8]) -> Option<&'d FunTable>
+pub(crate) fn function_table<'d>(
+    checked: &Checked,
+    defs: &'d Defs,
+    name: &[u8],
+) -> Option<&'d FunTable>
     ensures { option_map (λ t. t.now) result
         ≡ table_named (design_of checked.now) defs.now name.now }
 {

@@ -1,11 +1,14 @@
-use Rattle.std.proofs.Common.{refl, subst, sym}
+use Rattle.std.proofs.Common.{◌≤◌, ◌*◌, ℕ, List, [], ◌∷◌, length, flat_map, inl, inr, ap, arith, refl, subst, sym}
 use Rattle.cocoon_syntax.specs.TreeOf.{design_of}
-use Rattle.lower_p4.specs.Lowering.{NotLowered}
-use Rattle.lower_net.specs.declared.lowering.LowerFault.TheVariants.{Limit, TooLong}
-use Rattle.net_bundle.specs.Writing.{most_of}
-use Rattle.net_bundle.specs.declared.file.BundleFile.TheVariants.{Program}
+use Rattle.lower_p4.specs.Lowering.{NotLowered, StartsFull, StartsLong}
+use Rattle.lower_net.specs.declared.lowering.LowerFault.TheVariants.{Limit, LongProgram, ManyRows}
+use Rattle.p4_ir.specs.NetTree.{SwitchFiles}
+use Rattle.p4_ir.specs.P4Tree.{RowsFile, TableRows}
+use Rattle.net_bundle.specs.Bundle.{all_switch_files, rows_text}
+use Rattle.net_bundle.specs.Writing.{FirstOver, most_of}
+use Rattle.net_bundle.specs.declared.file.BundleFile.TheVariants.{Program, Rows}
 use Rattle.cocoon_cli.specs.LowerTexts as lowered
-use Rattle.cocoon_cli.specs.LowerTexts.{LongProgram}
+use Rattle.cocoon_cli.specs.LowerTexts.{LongFile}
 use Rattle.cocoon_cli.specs.declared.files.CommandFile.TheVariants.{Bundle}
 use Rattle.cocoon_cli.proofs.lower_texts.lower_bound.Goals as goal
 
@@ -27,10 +30,57 @@ returns-in-Err-Limit-clause-refused c = λ design defs binds.
     subst (NotLowered (design_of c.args.bound.now.checked) binds.entries) c.in-Err-Limit.field-0-is (c.in-Err-Limit.ensures.refused binds.entries binds.are) in
     (_, _, binds, told)
 
-pub returns-in-Err-TooLong-clause-refused : goal.returns-in-Err-TooLong-clause-refused
-returns-in-Err-TooLong-clause-refused c = λ design defs binds.
-    let told : NotLowered (design_of c.args.bound.now.checked) binds.entries (TooLong c.in-Err-TooLong.switch) =
-    subst (NotLowered (design_of c.args.bound.now.checked) binds.entries) c.in-Err-TooLong.field-0-is (c.in-Err-TooLong.ensures.refused binds.entries binds.are) in
-    let long : LongProgram design defs (Bundle (Program c.in-Err-TooLong.switch)) (most_of (Program c.in-Err-TooLong.switch))
-    = record { tree = _; tables = _; binds = binds; switch = c.in-Err-TooLong.switch; names = refl; limit = refl; long = told } in
+-- of the two files of the first switch
+
+program_over : (switch : ℕ) (ss : List SwitchFiles) → StartsLong switch ss → FirstOver (all_switch_files ss) (Program switch)
+program_over switch [] h = absurd h
+program_over switch (s ∷ ss) h = inl (ap Program h.0, h.1)
+
+-- what the law on the texts of rows says
+abbrev RowsLong : Type 0
+RowsLong = (r : RowsFile) → 20 * length (flat_map (λ (t : TableRows). t.rows) r.tables) ≤ length (rows_text r)
+
+rows_over : RowsLong → (switch : ℕ) (ss : List SwitchFiles) → StartsFull switch ss → FirstOver (all_switch_files ss) (Rows switch)
+rows_over law switch [] h = absurd h
+rows_over law switch (s ∷ ss) h =
+    let long = law s.rows in
+    let many = h.2 in
+    inr (h.1, inl (ap Rows h.0, omega (arith, long, many)))
+
+pub returns-in-Err-LongProgram-clause-refused : goal.returns-in-Err-LongProgram-clause-refused
+returns-in-Err-LongProgram-clause-refused c = λ design defs binds.
+    let switch = c.in-Err-LongProgram.switch in
+    let told : NotLowered (design_of c.args.bound.now.checked) binds.entries (LongProgram switch) =
+    subst (NotLowered (design_of c.args.bound.now.checked) binds.entries) c.in-Err-LongProgram.field-0-is (c.in-Err-LongProgram.ensures.refused binds.entries binds.are) in
+    let long : LongFile design defs (Bundle (Program switch)) (most_of (Program switch)) = record {
+      tree = _;
+      tables = _;
+      binds = binds;
+      first = Program switch;
+      names = refl;
+      limit = refl;
+      net = told.net;
+      lowers = told.lowers;
+      within = told.within;
+      long = program_over switch told.net.switches told.starts;
+    } in
     subst (lowered.NotLowered design defs) (sym c.from.ensures) long
+
+pub returns-in-Err-ManyRows-clause-refused : goal.returns-in-Err-ManyRows-clause-refused
+returns-in-Err-ManyRows-clause-refused c = λ design defs binds.
+    let switch = c.in-Err-ManyRows.switch in
+    let told : NotLowered (design_of c.args.bound.now.checked) binds.entries (ManyRows switch) =
+    subst (NotLowered (design_of c.args.bound.now.checked) binds.entries) c.in-Err-ManyRows.field-0-is (c.in-Err-ManyRows.ensures.refused binds.entries binds.are) in
+    let long : LongFile design defs (Bundle (Rows switch)) (most_of (Rows switch)) = record {
+      tree = _;
+      tables = _;
+      binds = binds;
+      first = Rows switch;
+      names = refl;
+      limit = refl;
+      net = told.net;
+      lowers = told.lowers;
+      within = told.within;
+      long = rows_over c.rows_are_long.ensures switch told.net.switches told.starts;
+    } in
+    subst (lowered.NotLowered design defs) (sym c.from-in-Err-ManyRows.ensures) long

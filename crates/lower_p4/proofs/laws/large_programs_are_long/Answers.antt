@@ -1,5 +1,5 @@
-use Rattle.lower_p4.proofs.LongPrograms.{long_programs}
+use Rattle.lower_p4.proofs.LongFiles.{long_programs}
 use Rattle.lower_p4.proofs.laws.large_programs_are_long.Goals as goal
 
 pub returns : goal.returns
-returns c = λ d places switch h. long_programs c.programs_are_long.ensures d places switch h
+returns c = long_programs c.programs_are_long.ensures
