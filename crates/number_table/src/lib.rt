@@ -4,7 +4,7 @@
 
 ghost use Rattle.std.specs.Prelude.{◌≡◌, ◌+◌, [], ◌∷◌, ◌++◌, List, ℕ, IfOk, OnOk};
 ghost use Rattle.cocoon_num.specs.Lists.{has_number};
-ghost use Rattle.number_table.specs.NumberPlaces.{held_at, HasPlaces, place_in};
+ghost use Rattle.number_table.specs.NumberPlaces.{held_at, HasPlaces, place_in, place_of};
 
 use cocoon_num::NoMemory;
 use std::alloc::Global;
@@ -43,7 +43,9 @@ impl NumberTable {
 
     /// The place at which the number stood first, from 0, or how many numbers there are.
     pub fn place(&self, number: u32) -> usize
-        ensures { result ≡ place_in self.now number }
+        ensures held { result ≡ place_in self.now number }
+        ensures first { (numbers : List ℕ) → HasPlaces self.now numbers
+            → result ≡ place_of numbers number }
     {
         match self.get(number) {
             Some(place) => place,

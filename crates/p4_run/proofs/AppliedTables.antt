@@ -4,6 +4,7 @@ use Rattle.std.proofs.lemmas.Bool.{and_from, and_parts, eqb-true}
 use Rattle.std.proofs.lemmas.List.{length-map, map-append, take_more}
 use Rattle.cocoon_num.specs.Lists.{each, has_number}
 use Rattle.flat_rows.specs.Keyed.{HasKeys, keyed}
+use Rattle.number_table.specs.NumberPlaces.{place_of}
 use Rattle.p4_ir.specs.Loading.{all_tables, row_fits, rows_load, table_numbers, table_rows_fit}
 use Rattle.p4_ir.specs.NetOf.{key_row_of, table_rows_of}
 use Rattle.p4_ir.specs.P4Kinds.{kinds_fit, table_fits}
@@ -14,7 +15,7 @@ use Rattle.p4_ir.specs.declared.program.P4Field.{P4Field as CodeField}
 use Rattle.p4_ir.specs.declared.program.Table.{Table as CodeTable}
 use Rattle.p4_ir.specs.declared.rows.TableRows.{TableRows as CodeRows}
 use Rattle.p4_code.specs.Running.{control_in}
-use Rattle.p4_steps.specs.Doing.{AreTables, place_of}
+use Rattle.p4_steps.specs.Doing.{AreTables}
 use Rattle.p4_steps.specs.Effects.{applied_to}
 use Rattle.p4_steps.specs.declared.codes.Application.{Application}
 use Rattle.p4_run.specs.Runs.{AreApplied, IsApplied}

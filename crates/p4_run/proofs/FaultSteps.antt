@@ -1,18 +1,20 @@
 -- One table, row or group more, in the search of a fault.
-use Rattle.std.proofs.Common.{◌≡◌, ◌⊎◌, ℕ, suc, ◌+◌, ◌<◌, ◌≤◌, ◌==◌, ◌&&◌, ◌||◌, ◌++◌, not, Bool, true, false, if◌then◌else◌, is_some, List, [], ◌∷◌, length, map, take, drop, set, get_or, Option, Some, None, option_map, refl, sym, ◌∙◌, ap, inl, inr, arith}
-use Rattle.std.proofs.lemmas.Bool.{and_right, cases_eq, eq-eqb, ne_eqb, or_left, or_right}
-use Rattle.std.proofs.lemmas.List.{drop_more, get_or-set_other, get_or-set_same, take_more}
+use Rattle.std.proofs.Common.{◌≡◌, ◌⊎◌, ℕ, suc, ◌+◌, ◌<◌, ◌≤◌, ◌==◌, ◌&&◌, ◌||◌, ◌++◌, not, Bool, true, false, if◌then◌else◌, List, [], ◌∷◌, length, map, take, drop, set, get_or, Option, Some, None, refl, sym, ◌∙◌, ap, inl, inr, arith}
+use Rattle.std.proofs.lemmas.Bool.{and_right, cases_eq, eq-eqb, ne_eqb, or_right}
+use Rattle.std.proofs.lemmas.List.{drop_more, get_or-set_other, get_or-set_same}
 use Rattle.cocoon_num.specs.Lists.{ascend, has_number}
+use Rattle.number_table.specs.NumberPlaces.{place_of}
 use Rattle.p4_ir.specs.Loading.{group_fits, key_fits, keys_fit, table_numbers}
 use Rattle.p4_ir.specs.NetOf.{group_of, table_rows_of}
-use Rattle.p4_ir.specs.P4Kinds.{numbers_of}
-use Rattle.p4_ir.specs.P4Tree.{meta_width, P4Table, Program}
-use Rattle.p4_ir.specs.Switch.{table_numbered}
+use Rattle.p4_ir.specs.P4Tree.{Group, meta_width, P4Table, Program, TableRows}
+use Rattle.p4_ir.specs.Program.{table_of}
+use Rattle.p4_ir.specs.declared.program.Table.{Table as CodeTable}
 use Rattle.p4_ir.specs.declared.rows.Group.{Group as CodeGroup}
 use Rattle.p4_ir.specs.declared.rows.TableRows.{TableRows as CodeRows}
 use Rattle.p4_run.specs.Faults.{first_group_shape, first_missing, first_unknown}
 use Rattle.p4_run.proofs.GroupSteps.{group_numbers}
-use Rattle.p4_run.proofs.TestSteps.{has_one_more, is_symmetric}
+use Rattle.p4_run.proofs.PlaceSteps.{is_first, numbers_more}
+use Rattle.p4_run.proofs.TestSteps.{has_one_more}
 
 pub ascend_short : (ns : List ℕ) → length ns ≤ 1 → ascend ns ≡ true
 ascend_short [] l = refl
@@ -57,46 +59,41 @@ pub missing_behind : (g : List ℕ) (xs ys : List P4Table) → first_missing g x
 missing_behind g [] ys h = refl
 missing_behind g (x ∷ xs) ys h = behind_step (has_number x.number g) x.number (first_missing g xs) (first_missing g (xs ++ ys)) (first_missing g ys) (missing_behind g xs ys) h
 
+missing_more : (g : List ℕ) (tables : List CodeTable) (i : ℕ) (t : CodeTable) → i < length tables → t ≡ get_or tables i t
+    → first_missing g (map table_of (drop i tables)) ≡ (if has_number t.number g then first_missing g (map table_of (drop (i + 1) tables)) else Some t.number)
+missing_more g tables i t l e = ap (λ ts. first_missing g (map table_of ts)) (drop_more tables i t l ∙ ap (λ x. x ∷ drop (i + 1) tables) (sym e))
+
+pub missing_goes : (g : List ℕ) (tables : List CodeTable) (i : ℕ) (t : CodeTable) (whole : Option ℕ) → i < length tables → t ≡ get_or tables i t → has_number t.number g ≡ true
+    → first_missing g (map table_of (drop i tables)) ≡ whole → first_missing g (map table_of (drop (i + 1) tables)) ≡ whole
+missing_goes g tables i t whole l e h w =
+    sym (ap (λ b. if b then first_missing g (map table_of (drop (i + 1) tables)) else Some t.number) h) ∙ sym (missing_more g tables i t l e) ∙ w
+
+pub missing_stops : (g : List ℕ) (tables : List CodeTable) (i : ℕ) (t : CodeTable) (whole : Option ℕ) → i < length tables → t ≡ get_or tables i t → has_number t.number g ≡ false
+    → first_missing g (map table_of (drop i tables)) ≡ whole → Some t.number ≡ whole
+missing_stops g tables i t whole l e h w =
+    sym (ap (λ b. if b then first_missing g (map table_of (drop (i + 1) tables)) else Some t.number) h) ∙ sym (missing_more g tables i t l e) ∙ w
+
 -- ---- tables that are not known
 
-pub mapped_some : {A B : Type 0} (f : A → B) (o : Option A) → is_some (option_map f o) ≡ is_some o
-mapped_some f None = refl
-mapped_some f (Some x) = refl
-
-known_step : (t : P4Table) (n : ℕ) (b : Bool) (found : Option P4Table) (rest : Bool) → (t.number == n) ≡ b → is_some found ≡ rest
-    → is_some (if b then Some t else found) ≡ ((n == t.number) || rest)
-known_step t n true found rest p ih = sym (or_left (n == t.number) rest (is_symmetric n t.number ∙ p))
-known_step t n false found rest p ih = ih ∙ ap (λ b. b || rest) (sym (is_symmetric n t.number ∙ p))
-
-pub known_is : (ts : List P4Table) (n : ℕ) → is_some (table_numbered ts n) ≡ has_number n (numbers_of ts)
-known_is [] n = refl
-known_is (t ∷ ts) n = known_step t n (t.number == n) (table_numbered ts n) (has_number n (numbers_of ts)) refl (known_is ts n)
-
--- ---- one after another
-
-abbrev test : List ℕ → List ℕ → ℕ → Bool
-test numbers before n = has_number n numbers && not (has_number n before)
+-- a number is known, and stands first at this place
+abbrev pub is_new : List ℕ → List CodeRows → ℕ → ℕ → Bool
+is_new numbers tables i n = has_number n numbers && (place_of (table_numbers (map table_rows_of tables)) n == i)
 
 unknown_more : (numbers : List ℕ) (tables : List CodeRows) (i : ℕ) (t : CodeRows) → i < length tables → t ≡ get_or tables i t
     → first_unknown numbers (table_numbers (map table_rows_of (take i tables))) (map table_rows_of (drop i tables))
-    ≡ (if test numbers (table_numbers (map table_rows_of (take i tables))) t.number
+    ≡ (if is_new numbers tables i t.number
     then first_unknown numbers (table_numbers (map table_rows_of (take (i + 1) tables))) (map table_rows_of (drop (i + 1) tables)) else Some t.number)
 unknown_more numbers tables i t l e =
     let before = table_numbers (map table_rows_of (take i tables)) in
     let rest = map table_rows_of (drop (i + 1) tables) in
     let cut : drop i tables ≡ t ∷ drop (i + 1) tables = drop_more tables i t l ∙ ap (λ x. x ∷ drop (i + 1) tables) (sym e) in
-    let taken : take (i + 1) tables ≡ take i tables ++ t ∷ [] = take_more tables i t l ∙ ap (λ x. take i tables ++ x ∷ []) (sym e) in
-    let more : table_numbers (map table_rows_of (take (i + 1) tables)) ≡ before ++ t.number ∷ [] =
-    ap (λ xs. table_numbers (map table_rows_of xs)) taken ∙ numbers_more (take i tables) t in
+    let more : table_numbers (map table_rows_of (take (i + 1) tables)) ≡ before ++ t.number ∷ [] = numbers_more table_rows_of (λ (r : TableRows). r.number) tables i t l e in
+    let first : not (has_number t.number before) ≡ (place_of (table_numbers (map table_rows_of tables)) t.number == i) = is_first table_rows_of (λ (r : TableRows). r.number) tables i t l e in
     ap (λ xs. first_unknown numbers before (map table_rows_of xs)) cut
-    ∙ ap (λ ns. if test numbers before t.number then first_unknown numbers ns rest else Some t.number) (sym more)
-  where
-    numbers_more : (xs : List CodeRows) (x : CodeRows) → table_numbers (map table_rows_of (xs ++ x ∷ [])) ≡ table_numbers (map table_rows_of xs) ++ x.number ∷ []
-    numbers_more [] x = refl
-    numbers_more (y ∷ xs) x = ap (λ ns. y.number ∷ ns) (numbers_more xs x)
+    ∙ (λ k. if has_number t.number numbers && first k then first_unknown numbers (sym more k) rest else Some t.number)
 
 pub unknown_goes : (numbers : List ℕ) (tables : List CodeRows) (i : ℕ) (t : CodeRows) (whole : Option ℕ) → i < length tables → t ≡ get_or tables i t
-    → (has_number t.number numbers && not (has_number t.number (table_numbers (map table_rows_of (take i tables))))) ≡ true
+    → is_new numbers tables i t.number ≡ true
     → first_unknown numbers (table_numbers (map table_rows_of (take i tables))) (map table_rows_of (drop i tables)) ≡ whole
     → first_unknown numbers (table_numbers (map table_rows_of (take (i + 1) tables))) (map table_rows_of (drop (i + 1) tables)) ≡ whole
 unknown_goes numbers tables i t whole l e h w =
@@ -104,7 +101,7 @@ unknown_goes numbers tables i t whole l e h w =
     sym (ap (λ b. if b then after else Some t.number) h) ∙ sym (unknown_more numbers tables i t l e) ∙ w
 
 pub unknown_stops : (numbers : List ℕ) (tables : List CodeRows) (i : ℕ) (t : CodeRows) (whole : Option ℕ) → i < length tables → t ≡ get_or tables i t
-    → (has_number t.number numbers && not (has_number t.number (table_numbers (map table_rows_of (take i tables))))) ≡ false
+    → is_new numbers tables i t.number ≡ false
     → first_unknown numbers (table_numbers (map table_rows_of (take i tables))) (map table_rows_of (drop i tables)) ≡ whole
     → Some t.number ≡ whole
 unknown_stops numbers tables i t whole l e h w =
@@ -113,14 +110,9 @@ unknown_stops numbers tables i t whole l e h w =
 
 -- ---- groups
 
-group_numbers_more : (xs : List CodeGroup) (x : CodeGroup) → group_numbers (map group_of (xs ++ x ∷ [])) ≡ group_numbers (map group_of xs) ++ x.number ∷ []
-group_numbers_more [] x = refl
-group_numbers_more (y ∷ xs) x = ap (λ ns. y.number ∷ ns) (group_numbers_more xs x)
-
 pub numbers_taken : (groups : List CodeGroup) (i : ℕ) (g : CodeGroup) → i < length groups → g ≡ get_or groups i g
     → group_numbers (map group_of (take (i + 1) groups)) ≡ group_numbers (map group_of (take i groups)) ++ g.number ∷ []
-numbers_taken groups i g l e =
-    ap (λ xs. group_numbers (map group_of xs)) (take_more groups i g l ∙ ap (λ x. take i groups ++ x ∷ []) (sym e)) ∙ group_numbers_more (take i groups) g
+numbers_taken groups i g l e = numbers_more group_of (λ (x : Group). x.number) groups i g l e
 
 shape_more : (groups : List CodeGroup) (i : ℕ) (g : CodeGroup) → i < length groups → g ≡ get_or groups i g
     → first_group_shape (group_numbers (map group_of (take i groups))) i (map group_of (drop i groups))

@@ -1,12 +1,12 @@
 -- Groups, the numbers that were seen, and where the group of a number stands.
-use Rattle.std.proofs.Common.{◌≡◌, ℕ, suc, ◌<◌, ◌≤◌, ◌==◌, Bool, true, false, if◌then◌else◌, List, [], ◌∷◌, length, map, get_or, slice_get, Option, Some, None, option_map, refl, sym, ◌∙◌, ap}
-use Rattle.std.specs.List.{find}
+use Rattle.std.proofs.Common.{◌≡◌, ℕ, ◌<◌, ◌≤◌, List, [], length, map, get_or, slice_get, Option, Some, None, option_map, refl, sym, ◌∙◌, ap}
 use Rattle.std.proofs.lemmas.Option.{slice_get-map, slice_get_past, slice_get_read}
 use Rattle.number_table.specs.NumberPlaces.{place_of}
 use Rattle.p4_ir.specs.NetOf.{group_of}
 use Rattle.p4_ir.specs.P4Tree.{Group}
 use Rattle.p4_ir.specs.Switch.{members}
 use Rattle.p4_ir.specs.declared.rows.Group.{Group as CodeGroup}
+use Rattle.p4_run.proofs.TableFacts.{found_at}
 
 -- their numbers
 abbrev pub group_numbers : List Group → List ℕ
@@ -14,23 +14,13 @@ group_numbers gs = map (λ (g : Group). g.number) gs
 
 -- ---- the group of a number
 
-place_step : (g : Group) (gs : List Group) (b : Bool) (found : Option Group) (k : ℕ) → found ≡ slice_get gs k
-    → (if b then Some g else found) ≡ slice_get (g ∷ gs) (if b then 0 else suc k)
-place_step g gs true found k e = refl
-place_step g gs false found k e = e
-
--- the first of a number is at the number's place
-group_at : (gs : List Group) (n : ℕ) → find (λ (g : Group). g.number == n) gs ≡ slice_get gs (place_of (group_numbers gs) n)
-group_at [] n = refl
-group_at (g ∷ gs) n = place_step g gs (g.number == n) (find (λ (h : Group). h.number == n) gs) (place_of (group_numbers gs) n) (group_at gs n)
-
 abbrev members_in : Option Group → List ℕ
 members_in o = elim o [ None ↦ [] | Some g ↦ g.members ]
 
 members_at : (groups : List CodeGroup) (i n : ℕ) → i ≡ place_of (group_numbers (map group_of groups)) n
     → members (map group_of groups) n ≡ members_in (option_map group_of (slice_get groups i))
 members_at groups i n p =
-    ap members_in (group_at (map group_of groups) n ∙ ap (slice_get (map group_of groups)) (sym p) ∙ slice_get-map group_of groups i)
+    ap members_in (found_at (λ (g : Group). g.number) (map group_of groups) n ∙ ap (slice_get (map group_of groups)) (sym p) ∙ slice_get-map group_of groups i)
 
 pub members_some : (groups : List CodeGroup) (g : CodeGroup) (i n : ℕ) → i ≡ place_of (group_numbers (map group_of groups)) n → i < length groups → g ≡ get_or groups i g
     → members (map group_of groups) n ≡ (group_of g).members

@@ -3,6 +3,7 @@ pub mod FaultSteps
 pub mod FitFacts
 pub mod GroupSteps
 pub mod LoadLaws
+pub mod PlaceSteps
 pub mod RunFacts
 pub mod TableFacts
 pub mod TestSteps

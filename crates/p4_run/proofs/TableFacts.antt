@@ -5,6 +5,7 @@ use Rattle.std.proofs.lemmas.Bool.{and_parts, eqb-true, eq-eqb, ltb-true, or_cas
 use Rattle.cocoon_num.specs.Lists.{ascend, each, has_number, no_repeats}
 use Rattle.cocoon_num.specs.Rows.{values_match}
 use Rattle.flat_rows.specs.Keyed.{HasKeys}
+use Rattle.number_table.specs.NumberPlaces.{place_of}
 use Rattle.p4_ir.specs.Loading.{all_tables, group_fits, keys_fit, key_fits, row_fits, rows_load, table_numbers, table_rows_fit}
 use Rattle.p4_ir.specs.NetOf.{key_row_of}
 use Rattle.p4_ir.specs.P4Kinds.{block_fits, kinds_fit, names_fit, numbers_of, tables_fit, table_fits, widths_fit}
@@ -12,7 +13,6 @@ use Rattle.p4_ir.specs.P4Tree.{Group, KeyRow, meta_width, P4Table, Program, Rows
 use Rattle.p4_ir.specs.Switch.{rows_numbered, table_numbered, table_result}
 use Rattle.p4_ir.specs.declared.rows.KeyRow.{KeyRow as CodeRow}
 use Rattle.p4_code.specs.Running.{control_in, within_in}
-use Rattle.p4_steps.specs.Doing.{place_of}
 use Rattle.p4_run.proofs.TestSteps.{is_symmetric}
 
 some_is : {A : Type 0} (x y : A) → ◌≡◌ {A = Option A} (Some x) (Some y) → x ≡ y
@@ -55,7 +55,7 @@ prefix_step : {A : Type 0} (x y : A) (b : Bool) (found more : Option A) → (fou
 prefix_step x y true found more ih e = e
 prefix_step x y false found more ih e = ih e
 
-pub found_in_prefix : {A : Type 0} (f : A → Bool) (xs ys : List A) (x : A) → find f xs ≡ Some x → find f (xs ++ ys) ≡ Some x
+found_in_prefix : {A : Type 0} (f : A → Bool) (xs ys : List A) (x : A) → find f xs ≡ Some x → find f (xs ++ ys) ≡ Some x
 found_in_prefix f [] ys x e = absurd (cc)
 found_in_prefix f (y ∷ xs) ys x e = prefix_step x y (f y) (find f xs) (find f (xs ++ ys)) (found_in_prefix f xs ys x) e
 
@@ -108,7 +108,7 @@ not_in_prefix (x ∷ xs) ys n h e =
     (ascend_below x.number (numbers_of xs ++ numbers_of ys) n h (has_behind (numbers_of xs) (numbers_of ys) n e))
     (not_in_prefix xs ys n (ascend_rest x.number (numbers_of xs ++ numbers_of ys) h) e)
 
-pub found_behind : (f : P4Table → Bool) (xs ys : List P4Table) → find f xs ≡ None → find f (xs ++ ys) ≡ find f ys
+found_behind : (f : P4Table → Bool) (xs ys : List P4Table) → find f xs ≡ None → find f (xs ++ ys) ≡ find f ys
 found_behind f [] ys e = refl
 found_behind f (x ∷ xs) ys e = by_test (f x) (find f xs) (find f (xs ++ ys)) (found_behind f xs ys) e
   where

@@ -2,10 +2,11 @@
 -- all registers that fit. The facts are equations, which have one proof each, so that a loaded program can hold them.
 use Rattle.std.specs.Prelude.{◌≡◌, ℕ, ◌&&◌, Bool, true, List, [], ◌∷◌, length, map, option_map, slice_get, slice_set, Some}
 use Rattle.flat_rows.specs.Keyed.{keyed}
-use Rattle.number_table.specs.NumberPlaces.{place_in, place_of}
+use Rattle.number_table.specs.NumberPlaces.{HasPlaces, place_in, place_of}
 use Rattle.number_table.specs.declared.NumberTable.{NumberTable}
 use Rattle.packed_fields.specs.AtOnce.{widths_in}
-use Rattle.p4_ir.specs.Loading.{all_tables, table_rows_fit}
+use Rattle.p4_ir.specs.Loading.{all_tables, table_numbers, table_rows_fit}
+use Rattle.p4_ir.specs.P4Kinds.{numbers_of}
 use Rattle.p4_ir.specs.P4Tree.{field_widths, Group, P4Table, Program, program_layout, TableRows}
 use Rattle.p4_ir.specs.Switch.{p4_run_all, State, state_of, table_numbered, table_result}
 use Rattle.p4_code.specs.Held.{Held}
@@ -14,6 +15,7 @@ use Rattle.p4_code.specs.States.{state_at, Suits}
 use Rattle.p4_steps.specs.Effects.{applied_to, left, Effect}
 use Rattle.p4_steps.specs.declared.codes.Application.{Application}
 use Rattle.p4_run.specs.States.{fields_fit}
+use Rattle.p4_run.specs.declared.places.TablePlaces.{TablePlaces}
 
 -- ---- tables
 
@@ -49,7 +51,12 @@ Runs p rows in_ingress tables f =
     ≡ Some (listed (state_at (program_layout p) (left (f tables h)))))
     × (held_fits p (left (f tables h)) ≡ true)
 
--- ---- groups
+-- ---- places
+
+-- each number has the place of the first table that it is of: among those of a program, and among those that are given rows
+pub record PlacesTables (p : Program) (given : List TableRows) (places : TablePlaces) : Type 0 where
+  pub tables : HasPlaces places.tables (numbers_of (all_tables p))
+  pub rows : HasPlaces places.rows (table_numbers given)
 
 -- each number has the place of the first group that it is of, or that behind all groups
 abbrev pub ArePlaced : NumberTable → List Group → Type 0

@@ -1,6 +1,7 @@
 //! The faults of rows that are not loaded into a program, found in the order of the tests.
-ghost use Rattle.std.specs.Prelude.{◌≡◌, ◌+◌, ◌^◌, ◌<◌, ◌≤◌, ◌&&◌, ℕ, [], false, get_or, IfOk, length, map, not, nat_le, nat_lt, option_and_then, option_map, take};
+ghost use Rattle.std.specs.Prelude.{◌≡◌, ◌+◌, ◌^◌, ◌<◌, ◌≤◌, ◌==◌, ◌&&◌, ℕ, [], false, get_or, IfOk, length, List, map, not, nat_le, nat_lt, option_and_then, option_map};
 ghost use Rattle.cocoon_num.specs.Lists as lists;
+ghost use Rattle.number_table.specs.NumberPlaces.{HasPlaces, place_of};
 ghost use Rattle.p4_ir.specs.Loading as loading;
 ghost use Rattle.p4_ir.specs.Loading.{all_tables, table_numbers};
 ghost use Rattle.p4_ir.specs.NetOf.{group_of, key_row_of, rows_of, table_rows_of};
@@ -10,8 +11,11 @@ ghost use Rattle.p4_ir.specs.Program.{program_of, table_of};
 ghost use Rattle.p4_ir.specs.Switch.{table_numbered};
 ghost use Rattle.p4_run.specs.FaultOf.{fault_of};
 ghost use Rattle.p4_run.specs.Faults as spec;
+ghost use Rattle.p4_run.specs.Runs.{PlacesTables};
 
+use crate::places::{TablePlaces, table_of_either};
 use cocoon_num::NoMemory;
+use number_table::NumberTable;
 use p4_ir::{Group, KeyRow, Program, RowsFile, Table, TableRows};
 use std::alloc::Global;
 
@@ -29,73 +33,36 @@ pub enum LoadFault {
     NoMemory,
 }
 
+impl From<NoMemory> for LoadFault {
+    ghost use Rattle.std.specs.Prelude.{◌≡◌};
+    ghost use Rattle.p4_run.specs.declared.faults.LoadFault.TheVariants.{NoMemory};
+
+    ghost from_gives = { λ _ fault. fault ≡ NoMemory };
+
+    fn from(_: NoMemory) -> LoadFault {
+        LoadFault::NoMemory
+    }
+}
+
 // ---- tables
 
-/// Rows are given of a table of this number.
-fn is_given(tables: &[TableRows], number: u32) -> bool
-    ensures { result ≡ lists.has_number number (table_numbers (map table_rows_of tables.now)) }
+/// The program has a table of this number, and the first rows of it are those of this index.
+fn is_new(places: &TablePlaces, index: usize, number: u32) -> bool
+    ensures { (p : tree.Program) (rows : List tree.TableRows) → PlacesTables p rows places.now
+        → result ≡ (lists.has_number number (numbers_of (all_tables p))
+        && (place_of (table_numbers rows) number == index)) }
 {
-    for table in tables {
-        if number == table.number {
-            return true;
-        }
-    }
-    false
-}
-
-/// The table of this number.
-pub(crate) fn table_at(tables: &[Table], number: u32) -> Option<&Table>
-    ensures { option_map (λ t. table_of t.now) result
-        ≡ table_numbered (map table_of tables.now) number }
-{
-    for table in tables {
-        if table.number == number {
-            return Some(table);
-        }
-    }
-    None
-}
-
-/// The table of this number, of either control.
-pub(crate) fn table_of_either(program: &Program, number: u32) -> Option<&Table>
-    ensures { option_map (λ t. table_of t.now) result
-        ≡ table_numbered (all_tables (program_of program.now)) number }
-{
-    match table_at(program.ingress.tables.items(), number) {
-        Some(table) => Some(table),
-        None => table_at(program.egress.tables.items(), number),
-    }
-}
-
-/// The first so many.
-fn prefix(tables: &[TableRows], count: usize) -> &[TableRows]
-    requires { count ≤ length tables.now }
-    ensures { result.now ≡ take count tables.now }
-{
-    &tables[..count]
-}
-
-fn is_known(program: &Program, number: u32) -> bool
-    ensures { result ≡ lists.has_number number (numbers_of (all_tables (program_of program.now))) }
-{
-    table_of_either(program, number).is_some()
-}
-
-/// The program has a table of this number, and no rows of it stand before.
-fn is_new(program: &Program, before: &[TableRows], number: u32) -> bool
-    ensures { result ≡ (lists.has_number number (numbers_of (all_tables (program_of program.now)))
-        && not (lists.has_number number (table_numbers (map table_rows_of before.now)))) }
-{
-    is_known(program, number) && !is_given(before, number)
+    places.tables.has(number) && places.rows.place(number) == index
 }
 
 /// The first number in the rows that the program has not, or that stands before it, too.
-fn unknown_table(program: &Program, tables: &[TableRows]) -> Option<u32>
-    ensures { result ≡ spec.first_unknown (numbers_of (all_tables (program_of program.now)))
-        [] (map table_rows_of tables.now) }
+fn unknown_table(places: &TablePlaces, tables: &[TableRows]) -> Option<u32>
+    ensures { (p : tree.Program) → PlacesTables p (map table_rows_of tables.now) places.now
+        → result ≡ spec.first_unknown (numbers_of (all_tables p)) []
+        (map table_rows_of tables.now) }
 {
     for (index, table) in tables.iter().enumerate() {
-        if !is_new(program, prefix(tables, index), table.number) {
+        if !is_new(places, index, table.number) {
             return Some(table.number);
         }
     }
@@ -103,12 +70,12 @@ fn unknown_table(program: &Program, tables: &[TableRows]) -> Option<u32>
 }
 
 /// The first of some tables that is given no rows.
-fn missing_of(tables: &[Table], given: &[TableRows]) -> Option<u32>
-    ensures { result ≡ spec.first_missing (table_numbers (map table_rows_of given.now))
-        (map table_of tables.now) }
+fn missing_of(tables: &[Table], given: &NumberTable) -> Option<u32>
+    ensures { (numbers : List ℕ) → HasPlaces given.now numbers
+        → result ≡ spec.first_missing numbers (map table_of tables.now) }
 {
     for table in tables {
-        if !is_given(given, table.number) {
+        if !given.has(table.number) {
             return Some(table.number);
         }
     }
@@ -116,9 +83,9 @@ fn missing_of(tables: &[Table], given: &[TableRows]) -> Option<u32>
 }
 
 /// The first table that is given no rows.
-fn missing_table(program: &Program, given: &[TableRows]) -> Option<u32>
-    ensures { result ≡ spec.first_missing (table_numbers (map table_rows_of given.now))
-        (all_tables (program_of program.now)) }
+fn missing_table(program: &Program, given: &NumberTable) -> Option<u32>
+    ensures { (numbers : List ℕ) → HasPlaces given.now numbers
+        → result ≡ spec.first_missing numbers (all_tables (program_of program.now)) }
 {
     match missing_of(program.ingress.tables.items(), given) {
         Some(number) => Some(number),
@@ -203,12 +170,13 @@ fn unfit_among(program: &Program, table: &Table, rows: &[KeyRow]) -> Option<usiz
 }
 
 /// The index of the first row of a table that does not fit, if the program has the table.
-fn unfit_row(program: &Program, rows: &TableRows) -> Option<usize>
+fn unfit_row(program: &Program, places: &NumberTable, rows: &TableRows) -> Option<usize>
+    requires { HasPlaces places.now (numbers_of (all_tables (program_of program.now))) }
     ensures { result ≡ spec.unfit_row (program_of program.now)
         (table_numbered (all_tables (program_of program.now)) rows.now.number)
         (table_rows_of rows.now) }
 {
-    let table = table_of_either(program, rows.number)?;
+    let table = table_of_either(program, places, rows.number)?;
     let index = unfit_among(program, table, rows.rows.items());
     if index.is_some() {
         return index;
@@ -231,12 +199,17 @@ fn short_index(index: usize) -> Result<u32, NoMemory>
 }
 
 /// The first table with a row that does not fit it, and the index of the first such row.
-fn row_shape(program: &Program, tables: &[TableRows]) -> Result<Option<(u32, u32)>, NoMemory>
+fn row_shape(
+    program: &Program,
+    places: &NumberTable,
+    tables: &[TableRows],
+) -> Result<Option<(u32, u32)>, NoMemory>
+    requires { HasPlaces places.now (numbers_of (all_tables (program_of program.now))) }
     ensures { IfOk result (λ found. option_map (λ row. spec.row_shape row.0 row.1) found
         ≡ spec.first_row_shape (program_of program.now) (map table_rows_of tables.now)) }
 {
     for table in tables {
-        if let Some(index) = unfit_row(program, table) {
+        if let Some(index) = unfit_row(program, places, table) {
             return Ok(Some((table.number, short_index(index)?)));
         }
     }
@@ -304,18 +277,20 @@ pub(crate) fn load_fault(
     alloc: Global,
     program: &Program,
     rows: &RowsFile,
+    places: &TablePlaces,
 ) -> Result<Option<LoadFault>, NoMemory>
+    requires { PlacesTables (program_of program.now) (rows_of rows.now).tables places.now }
     ensures { IfOk result (λ fault. option_and_then fault_of fault
         ≡ spec.load_fault (program_of program.now) (rows_of rows.now)) }
 {
     let tables = rows.tables.items();
-    if let Some(number) = unknown_table(program, tables) {
+    if let Some(number) = unknown_table(places, tables) {
         return Ok(Some(LoadFault::UnknownTable(number)));
     }
-    if let Some(number) = missing_table(program, tables) {
+    if let Some(number) = missing_table(program, &places.rows) {
         return Ok(Some(LoadFault::MissingTable(number)));
     }
-    if let Some((table, row)) = row_shape(program, tables)? {
+    if let Some((table, row)) = row_shape(program, &places.tables, tables)? {
         return Ok(Some(LoadFault::RowShape(table, row)));
     }
     match group_shape(alloc, rows.groups.items())? {

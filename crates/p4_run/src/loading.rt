@@ -1,6 +1,7 @@
 //! Loading: the tests, and then what is resolved once.
 ghost use Rattle.std.specs.Prelude.{◌≡◌, false, IfErr, IfOk, IsTrue, map, None, true};
-ghost use Rattle.p4_ir.specs.Loading.{rows_load};
+ghost use Rattle.number_table.specs.NumberPlaces.{HasPlaces};
+ghost use Rattle.p4_ir.specs.Loading.{rows_load, table_numbers};
 ghost use Rattle.p4_ir.specs.NetOf.{rows_of};
 ghost use Rattle.p4_ir.specs.P4Kinds.{kinds_fit};
 ghost use Rattle.p4_ir.specs.P4Tree.{program_layout};
@@ -11,13 +12,14 @@ ghost use Rattle.p4_steps.specs.Effects.{stmt_by, stmts_by};
 ghost use Rattle.p4_run.specs.FaultOf.{IsFault};
 ghost use Rattle.p4_run.specs.Faults as faults;
 ghost use Rattle.p4_run.specs.Running.{program_in, rows_in};
-ghost use Rattle.p4_run.specs.Runs.{AreApplied, Runs};
+ghost use Rattle.p4_run.specs.Runs.{AreApplied, PlacesTables, Runs};
 
 use crate::faults::{LoadFault, load_fault};
 use crate::loaded::Loaded;
-use crate::places::{FieldWidths, field_widths, group_places};
+use crate::places::{FieldWidths, TablePlaces, field_widths, group_places, table_places};
 use crate::tables::tables_with;
 use cocoon_num::NoMemory;
+use number_table::NumberTable;
 use p4_code::Names;
 use p4_ir::{Program, RowsFile};
 use p4_steps::{Application, StmtCode, resolved_stmts};
@@ -30,11 +32,13 @@ fn ingress_steps(
     program: &Program,
     rows: &RowsFile,
     starts: &[usize],
+    places: &NumberTable,
     tables: &[Application],
 ) -> Result<Vec<StmtCode>, NoMemory>
     requires kinds { IsTrue (kinds_fit (program_of program.now)) }
     requires loads { IsTrue (rows_load (program_of program.now) (rows_of rows.now)) }
     requires starts { starts.now ≡ starts_from 0 (program_layout (program_of program.now)) }
+    requires places { HasPlaces places.now (table_numbers (rows_of rows.now).tables) }
     requires tables { AreApplied (program_of program.now) (rows_of rows.now).tables tables.now }
     ensures { IfOk result (λ steps. Runs (program_of program.now) (rows_of rows.now).tables true
         tables.now (stmts_by (map stmt_by steps.items))) }
@@ -45,7 +49,7 @@ fn ingress_steps(
         in_ingress: true,
     };
     let stmts = program.ingress.body.items();
-    resolved_stmts(alloc, &names, rows.tables.items(), tables, stmts)
+    resolved_stmts(alloc, &names, rows.tables.items(), places, tables, stmts)
 }
 
 /// The statements of egress.
@@ -54,11 +58,13 @@ fn egress_steps(
     program: &Program,
     rows: &RowsFile,
     starts: &[usize],
+    places: &NumberTable,
     tables: &[Application],
 ) -> Result<Vec<StmtCode>, NoMemory>
     requires kinds { IsTrue (kinds_fit (program_of program.now)) }
     requires loads { IsTrue (rows_load (program_of program.now) (rows_of rows.now)) }
     requires starts { starts.now ≡ starts_from 0 (program_layout (program_of program.now)) }
+    requires places { HasPlaces places.now (table_numbers (rows_of rows.now).tables) }
     requires tables { AreApplied (program_of program.now) (rows_of rows.now).tables tables.now }
     ensures { IfOk result (λ steps. Runs (program_of program.now) (rows_of rows.now).tables false
         tables.now (stmts_by (map stmt_by steps.items))) }
@@ -69,7 +75,7 @@ fn egress_steps(
         in_ingress: false,
     };
     let stmts = program.egress.body.items();
-    resolved_stmts(alloc, &names, rows.tables.items(), tables, stmts)
+    resolved_stmts(alloc, &names, rows.tables.items(), places, tables, stmts)
 }
 
 /// A program with rows that load, and its tables.
@@ -77,18 +83,20 @@ fn placed(
     alloc: Global,
     program: Program,
     rows: RowsFile,
+    places: &TablePlaces,
     tables: Vec<Application>,
 ) -> Result<Loaded, NoMemory>
     requires kinds { IsTrue (kinds_fit (program_of program)) }
     requires loads { IsTrue (rows_load (program_of program) (rows_of rows)) }
+    requires places { PlacesTables (program_of program) (rows_of rows).tables places.now }
     requires tables { AreApplied (program_of program) (rows_of rows).tables tables.items }
     ensures program { IfOk result (λ loaded. program_in loaded ≡ program_of program) }
     ensures rows { IfOk result (λ loaded. rows_in loaded ≡ rows_of rows) }
 {
     let FieldWidths { widths, starts } = field_widths(alloc, program.headers.items())?;
     let header_bytes = byte_count(&widths)?;
-    let ingress = ingress_steps(alloc, &program, &rows, &starts, &tables)?;
-    let egress = egress_steps(alloc, &program, &rows, &starts, &tables)?;
+    let ingress = ingress_steps(alloc, &program, &rows, &starts, &places.rows, &tables)?;
+    let egress = egress_steps(alloc, &program, &rows, &starts, &places.rows, &tables)?;
     let groups = group_places(alloc, &rows)?;
     Ok(Loaded {
         program,
@@ -103,14 +111,20 @@ fn placed(
 }
 
 /// A program with rows that load.
-fn resolved(alloc: Global, program: Program, rows: RowsFile) -> Result<Loaded, NoMemory>
+fn resolved(
+    alloc: Global,
+    program: Program,
+    rows: RowsFile,
+    places: &TablePlaces,
+) -> Result<Loaded, NoMemory>
     requires kinds { IsTrue (kinds_fit (program_of program)) }
     requires loads { IsTrue (rows_load (program_of program) (rows_of rows)) }
+    requires places { PlacesTables (program_of program) (rows_of rows).tables places.now }
     ensures program { IfOk result (λ loaded. program_in loaded ≡ program_of program) }
     ensures rows { IfOk result (λ loaded. rows_in loaded ≡ rows_of rows) }
 {
-    let tables = tables_with(alloc, &program, rows.tables.items())?;
-    placed(alloc, program, rows, tables)
+    let tables = tables_with(alloc, &program, &places.tables, rows.tables.items())?;
+    placed(alloc, program, rows, places, tables)
 }
 
 impl Loaded {
@@ -124,13 +138,10 @@ impl Loaded {
         ensures fault { IfErr result (λ fault.
             IsFault fault (faults.load_fault (program_of program) (rows_of rows))) }
     {
-        match load_fault(alloc, &program, &rows) {
-            Ok(None) => match resolved(alloc, program, rows) {
-                Ok(loaded) => Ok(loaded),
-                Err(NoMemory) => Err(LoadFault::NoMemory),
-            },
-            Ok(Some(fault)) => Err(fault),
-            Err(NoMemory) => Err(LoadFault::NoMemory),
+        let places = table_places(alloc, &program, rows.tables.items())?;
+        if let Some(fault) = load_fault(alloc, &program, &rows, &places)? {
+            return Err(fault);
         }
+        Ok(resolved(alloc, program, rows, &places)?)
     }
 }

@@ -13,6 +13,7 @@ use Rattle.packed_fields.specs.AtOnce.{grouped, widths_in}
 use Rattle.packed_fields.proofs.Packing.{fit_length}
 use Rattle.packed_fields.proofs.Steps.{width_is}
 use Rattle.flat_rows.specs.Keyed.{keyed}
+use Rattle.number_table.specs.NumberPlaces.{place_of}
 use Rattle.p4_ir.specs.Loading.{table_numbers}
 use Rattle.p4_ir.specs.P4Kinds.{block_fits, field_sort, meta_sort, p4_sort, stmt_fits, widths_fit, Within}
 use Rattle.p4_ir.specs.P4Tree.{P4Expr, P4Field, P4Header, P4Block, P4Stmt, set_meta, set_header, apply_table, p_if, p_if_else}
@@ -20,7 +21,7 @@ use Rattle.p4_ir.specs.P4Tree.{verdict, egress_port, group, p_return, field_widt
 use Rattle.p4_ir.specs.Program.{block_of, stmt_of}
 use Rattle.p4_ir.specs.Switch.{all_there, choose, Outcome, p4_run_all, proceeds, set_in_header, setting, State, table_result, then_run}
 use Rattle.p4_ir.specs.declared.program.P4Stmt.{P4Stmt as ProgramStmt}
-use Rattle.p4_steps.specs.Doing.{Does, DoesAll, EachDoes, IsTable, Keeps, outcome_at, place_of}
+use Rattle.p4_steps.specs.Doing.{Does, DoesAll, EachDoes, IsTable, Keeps, outcome_at}
 use Rattle.p4_code.specs.Held.{Held}
 use Rattle.p4_code.specs.Meaning.{number_by, truth_by}
 use Rattle.p4_code.specs.Places.{starts_from}

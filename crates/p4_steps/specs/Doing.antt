@@ -1,8 +1,9 @@
 -- Cited by the clauses of resolving, and by what p4_run keeps: resolved statements do what statements of the definitions do.
-use Rattle.std.specs.Prelude.{All, ◌≡◌, ℕ, suc, ◌<◌, ◌^◌, ◌==◌, Bool, true, List, [], ◌∷◌, length, if◌then◌else◌, Some, slice_set}
+use Rattle.std.specs.Prelude.{All, ◌≡◌, ℕ, ◌<◌, ◌^◌, Bool, true, List, [], ◌∷◌, length, Some, slice_set}
 use Rattle.cocoon_num.specs.Lists.{has_number}
 use Rattle.cocoon_num.specs.Packets.{Layout}
 use Rattle.flat_rows.specs.Keyed.{keyed}
+use Rattle.number_table.specs.NumberPlaces.{place_of}
 use Rattle.p4_ir.specs.Loading.{table_numbers}
 use Rattle.p4_ir.specs.P4Kinds.{numbers_of}
 use Rattle.p4_ir.specs.P4Tree.{meta_width, P4Block, P4Stmt, P4Table, Program, program_layout, TableRows}
@@ -12,11 +13,6 @@ use Rattle.p4_code.specs.Running.{control_in, running_in}
 use Rattle.p4_code.specs.States.{state_at, Suits}
 use Rattle.p4_steps.specs.Effects.{applied_at, Effect, ended, goes_on, left, Ran}
 use Rattle.p4_steps.specs.declared.codes.Application.{Application}
-
--- the index of a number, or how many there are
-abbrev pub place_of : List ℕ → ℕ → ℕ
-place_of [] n = 0
-place_of (m ∷ ms) n = if m == n then 0 else suc (place_of ms n)
 
 -- ---- tables
 

@@ -8,5 +8,5 @@ pub mod resolving;
 pub mod running;
 
 pub use codes::{Application, StmtCode};
-pub use resolving::{resolved_stmts, rows_place};
+pub use resolving::resolved_stmts;
 pub use running::{Way, run_all};

@@ -1,31 +1,21 @@
 //! Statements, resolved: of parts before the whole, down the tree.
 ghost use Rattle.std.specs.Prelude.{◌≡◌, IfOk, IsTrue, map};
+ghost use Rattle.number_table.specs.NumberPlaces.{HasPlaces};
 ghost use Rattle.p4_ir.specs.Loading.{table_numbers};
 ghost use Rattle.p4_ir.specs.NetOf.{table_rows_of};
 ghost use Rattle.p4_ir.specs.P4Kinds.{block_fits, stmt_fits};
 ghost use Rattle.p4_ir.specs.Program.{block_of, stmt_of};
-ghost use Rattle.p4_steps.specs.Doing.{AreTables, Does, DoesAll, place_of};
+ghost use Rattle.p4_steps.specs.Doing.{AreTables, Does, DoesAll};
 ghost use Rattle.p4_code.specs.Resolving.{AreNames, program_at};
 ghost use Rattle.p4_code.specs.Running.{within_in};
 ghost use Rattle.p4_steps.specs.Effects.{stmt_by, stmts_by};
 
 use crate::codes::{Application, StmtCode};
 use cocoon_num::NoMemory;
+use number_table::NumberTable;
 use p4_code::{Names, field_place, resolved_number, resolved_truth};
 use p4_ir::{P4Stmt, TableRows};
 use std::alloc::Global;
-
-/// The index of the rows of the table of a number, or how many tables there are.
-pub fn rows_place(rows: &[TableRows], number: u32) -> usize
-    ensures { result ≡ place_of (table_numbers (map table_rows_of rows.now)) number }
-{
-    for (index, table) in rows.iter().enumerate() {
-        if table.number == number {
-            return index;
-        }
-    }
-    rows.len()
-}
 
 /// A statement.
 #[cycle(resolve)]
@@ -33,10 +23,12 @@ fn resolved_stmt(
     alloc: Global,
     names: &Names,
     rows: &[TableRows],
+    places: &NumberTable,
     tables: &[Application],
     stmt: &P4Stmt,
 ) -> Result<StmtCode, NoMemory>
     requires names { AreNames names.now }
+    requires places { HasPlaces places.now (table_numbers (map table_rows_of rows.now)) }
     requires tables { AreTables (program_at names.now) (map table_rows_of rows.now)
         names.now.in_ingress tables.now }
     requires kinds { IsTrue (stmt_fits (within_in (program_at names.now) names.now.in_ingress)
@@ -54,16 +46,16 @@ fn resolved_stmt(
             let code = resolved_number(alloc, names, value)?;
             Ok(StmtCode::SetField(place, code))
         }
-        P4Stmt::Apply(number) => Ok(StmtCode::Apply(rows_place(rows, *number))),
+        P4Stmt::Apply(number) => Ok(StmtCode::Apply(places.place(*number))),
         P4Stmt::If(condition, first) => {
             let code = resolved_truth(alloc, names, condition)?;
-            let first = resolved_stmts(alloc, names, rows, tables, first)?;
+            let first = resolved_stmts(alloc, names, rows, places, tables, first)?;
             Ok(StmtCode::If(code, first))
         }
         P4Stmt::IfElse(condition, first, second) => {
             let code = resolved_truth(alloc, names, condition)?;
-            let first = resolved_stmts(alloc, names, rows, tables, first)?;
-            let second = resolved_stmts(alloc, names, rows, tables, second)?;
+            let first = resolved_stmts(alloc, names, rows, places, tables, first)?;
+            let second = resolved_stmts(alloc, names, rows, places, tables, second)?;
             Ok(StmtCode::IfElse(code, first, second))
         }
         P4Stmt::Verdict(verdict) => Ok(StmtCode::Verdict(*verdict)),
@@ -75,16 +67,18 @@ fn resolved_stmt(
     }
 }
 
-/// Statements one after another. The tables are those of the rows, at the same places.
+/// Statements one after another. The tables are those of the rows, at the same places, where their numbers are found.
 #[cycle(resolve)]
 pub fn resolved_stmts(
     alloc: Global,
     names: &Names,
     rows: &[TableRows],
+    places: &NumberTable,
     tables: &[Application],
     stmts: &[P4Stmt],
 ) -> Result<Vec<StmtCode>, NoMemory>
     requires names { AreNames names.now }
+    requires places { HasPlaces places.now (table_numbers (map table_rows_of rows.now)) }
     requires tables { AreTables (program_at names.now) (map table_rows_of rows.now)
         names.now.in_ingress tables.now }
     requires kinds { IsTrue (block_fits (within_in (program_at names.now) names.now.in_ingress)
@@ -95,7 +89,7 @@ pub fn resolved_stmts(
 {
     let mut codes = Vec::new(alloc);
     for stmt in stmts {
-        codes.push(resolved_stmt(alloc, names, rows, tables, stmt)?)?;
+        codes.push(resolved_stmt(alloc, names, rows, places, tables, stmt)?)?;
     }
     Ok(codes)
 }

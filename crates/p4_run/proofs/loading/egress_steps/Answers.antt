@@ -1,5 +1,7 @@
 use Rattle.std.proofs.Common.{false, IsTrue, map, sym, subst}
 use Rattle.std.proofs.lemmas.Result.{IfOk-weaker}
+use Rattle.number_table.specs.NumberPlaces.{HasPlaces}
+use Rattle.p4_ir.specs.Loading.{table_numbers}
 use Rattle.p4_ir.specs.NetOf.{rows_of, table_rows_of}
 use Rattle.p4_ir.specs.P4Kinds.{block_fits}
 use Rattle.p4_ir.specs.Program.{block_of, program_of, stmt_of}
@@ -13,6 +15,10 @@ use Rattle.p4_run.proofs.loading.egress_steps.Goals as goal
 
 pub resolved_stmts-requires-clause-names : goal.resolved_stmts-requires-clause-names
 resolved_stmts-requires-clause-names c = record { widths = (kinds_of (program_of c.args.program.now) c.requires.kinds).widths; starts = c.requires.starts }
+
+pub resolved_stmts-requires-clause-places : goal.resolved_stmts-requires-clause-places
+resolved_stmts-requires-clause-places c =
+    subst (λ ts. HasPlaces c.args.places.now (table_numbers (map table_rows_of ts))) (sym c.items.ensures) c.requires.places
 
 pub resolved_stmts-requires-clause-tables : goal.resolved_stmts-requires-clause-tables
 resolved_stmts-requires-clause-tables c =

@@ -2,6 +2,7 @@ use Rattle.std.proofs.Common.{◌≡◌, ◌≤◌, ◌<◌, ◌+◌, ◌*◌, �
 use Rattle.std.proofs.lemmas.Bool.{and_parts}
 use Rattle.std.proofs.lemmas.List.{take_all}
 use Rattle.cocoon_num.specs.Sorts.{bits_sort, has_sort, truth_sort}
+use Rattle.p4_ir.specs.Loading.{table_numbers}
 use Rattle.p4_ir.specs.NetOf.{table_rows_of}
 use Rattle.p4_ir.specs.P4Kinds.{block_fits, field_sort, is_empty, meta_sort, p4_sort, stmt_fits}
 use Rattle.p4_ir.specs.P4Tree.{apply_table, egress_port, group, p_if, p_if_else, set_header, set_meta}
@@ -202,8 +203,8 @@ resolved_stmt-returns-in-Apply t c =
     let is : stmt_of c.args.stmt.now ≡ apply_table c.in-Apply.number = search (rules, stmts.the_lemmas, c.in-Apply.is) in
     let fits : stmt_fits w (apply_table c.in-Apply.number) ≡ true = subst (λ s. stmt_fits w s ≡ true) is c.requires.kinds in
     let own = c.requires.tables c.in-Apply.number fits in
-    subst (λ s. Does p rows b tables s (stmt_by (Apply c.rows_place.result))) (sym is)
-    (does_apply p rows b tables c.in-Apply.number c.rows_place.result own.0 own.1 own.2 c.rows_place.ensures)
+    subst (λ s. Does p rows b tables s (stmt_by (Apply c.place.result))) (sym is)
+    (does_apply p rows b tables c.in-Apply.number c.place.result own.0 own.1 own.2 (c.place.ensures.first (table_numbers rows) c.requires.places))
 
 pub resolved_stmt-returns-in_ok-second-in-IfElse : goal.resolved_stmt-returns-in_ok-second-in-IfElse
 resolved_stmt-returns-in_ok-second-in-IfElse t c =

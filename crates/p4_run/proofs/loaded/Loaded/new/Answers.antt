@@ -1,12 +1,11 @@
-use Rattle.std.proofs.Common.{◌≡◌, None, option_and_then, sym, ap, ◌∙◌}
+use Rattle.std.proofs.Common.{◌≡◌, None, rules}
 use Rattle.p4_ir.specs.NetOf.{rows_of}
 use Rattle.p4_ir.specs.Program.{program_of}
-use Rattle.p4_run.specs.FaultOf.{fault_of}
 use Rattle.p4_run.specs.Faults.{load_fault}
 use Rattle.p4_run.proofs.LoadLaws.{loads_from_none}
 use Rattle.p4_run.proofs.loaded.Loaded.new.Goals as goal
 
 pub resolved-requires-clause-loads : goal.resolved-requires-clause-loads
 resolved-requires-clause-loads c =
-    let none : load_fault (program_of c.args.program) (rows_of c.args.rows) ≡ None = sym c.in-Ok-None.ensures ∙ ap (option_and_then fault_of) c.in-Ok-None.field-0-is in
+    let none : load_fault (program_of c.args.program) (rows_of c.args.rows) ≡ None = search rules in
     loads_from_none (program_of c.args.program) (rows_of c.args.rows) none
