@@ -9,6 +9,7 @@ is wrong, and ends with status 1 if there is one.
 """
 
 import contextlib
+import hashlib
 import os
 import pathlib
 import shutil
@@ -31,7 +32,7 @@ if [ "$1" = version ]; then echo '{KIT}'; exit "$(cat "$here/version-status")"; 
 echo called >>"$here/calls"
 sleep "$(cat "$here/seconds")"
 mkdir -p crates/cocoon/out
-printf '#!/bin/sh\\necho built "$@"\\n' >crates/cocoon/out/cocoon
+printf '#!/bin/sh\\necho built "$@"; [ -n "$1" ] || exit 2\\n' >crates/cocoon/out/cocoon
 chmod +x crates/cocoon/out/cocoon
 for crate in crates/*; do echo "rt: ${{crate##*/}} proved"; done
 cat "$here/verdict"
@@ -56,8 +57,9 @@ class Room:
         for tool in ("sleep", "mkdir", "chmod", "cat"):
             (at / "kit" / tool).symlink_to(shutil.which(tool))
         self.copy(TOP, self.top)
-        self.write("crates/cocoon/out/cocoon", PROGRAM.read_bytes()).chmod(0o755)
+        self.build(PROGRAM.read_bytes())
         self.python("bench/ship.py")
+        self.forget_build()
 
     @staticmethod
     def copy(top, to):
@@ -117,6 +119,15 @@ class Room:
 
     def forget(self):
         shutil.rmtree(self.top / "out", ignore_errors=True)
+
+    def build(self, program):
+        """What the kit leaves."""
+        path = self.write("crates/cocoon/out/cocoon", program)
+        path.chmod(0o755)
+        return path
+
+    def forget_build(self):
+        shutil.rmtree(self.top / "crates" / "cocoon" / "out", ignore_errors=True)
 
 
 WRONG = []
@@ -233,6 +244,14 @@ def test_other_machine(room):
     for call in ("seen", "not seen"):
         expect_refused(room.compile(folders=["machine"]), "for another machine", f"another machine, {call}")
         room.forget()
+    shipped, record = (room.top / "dist" / name for name in ("cocoon", "cocoon.txt"))
+    old = shipped.read_bytes(), record.read_bytes()
+    shipped.write_bytes(b"#!/no/such/loader\n")
+    text = old[1].replace(hashlib.sha256(old[0]).hexdigest().encode(), hashlib.sha256(shipped.read_bytes()).hexdigest().encode())
+    record.write_bytes(text)
+    expect_refused(room.compile(), "cannot be run on this machine", "a machine that lacks what the program is loaded by")
+    shipped.write_bytes(old[0])
+    record.write_bytes(old[1])
 
 
 # ---- what is built here
@@ -240,13 +259,11 @@ def test_other_machine(room):
 
 @contextlib.contextmanager
 def other_sources(room):
-    """The copy with sources of which nothing is built yet."""
-    shutil.rmtree(room.top / "crates" / "cocoon" / "out")
+    """The copy with other sources, of which nothing is built yet."""
     room.kit()
     with room.changed("crates/cocoon_num/src/lib.rt"):
         yield
-    shutil.rmtree(room.top / "crates" / "cocoon" / "out", ignore_errors=True)
-    room.write("crates/cocoon/out/cocoon", (room.top / "dist" / "cocoon").read_bytes()).chmod(0o755)
+    room.forget_build()
 
 
 def test_build(room):
@@ -306,9 +323,8 @@ def test_failing_kit(room):
 
 def test_left_by_kit(room):
     with other_sources(room):
-        left = room.write("crates/cocoon/out/cocoon", b"#!/bin/sh\necho left\n")
-        left.chmod(0o755)
-        expect(room.run() == (0, "left\n", ""), "what the kit left is run where no source is newer")
+        left = room.build(b"#!/bin/sh\necho left; exit 2\n")
+        expect(room.run() == (2, "left\n", ""), "what the kit left is run where no source is newer")
         left.with_name("cocoon.txt").unlink()
         os.utime(left, (1, 1))
         room.forget()
@@ -323,6 +339,7 @@ def test_compare(room):
         ran = room.python("bench/ship.py", "compare")
         expect(ran.returncode == status and words in ran.stdout + ran.stderr and (ran.stdout + ran.stderr).count("\n") == 1, where, (ran.stdout, ran.stderr))
 
+    room.build((room.top / "dist" / "cocoon").read_bytes())
     told(0, "byte for byte", "the program just built is the one that is shipped")
     with room.changed("crates/cocoon/out/cocoon"):
         told(1, "differ first at byte", "another program is built of the same sources")
@@ -337,6 +354,7 @@ def test_compare(room):
     with room.changed("crates/cocoon/out/cocoon"):
         told(0, "kit an older kit and not", "another kit")
     room.write("dist/cocoon.txt", text)
+    room.forget_build()
 
 
 def test_gate_without_python(room):
