@@ -267,10 +267,12 @@ def other_sources(room):
 
 
 def test_build(room):
+    record = (room.top / "dist/cocoon.txt").read_bytes()
+    room.write("dist/cocoon.txt", record.replace(KIT.encode(), b"an older kit"))
     with other_sources(room):
         status, out, err = room.run("a", "b", folders=["kit"])
         expect((status, out) == (0, "built a b\n"), "what is built is run", (status, out))
-        for words in (" crates, which takes about ", "if this is broken off", "cocoon_num is proved: ", " % done, 10 crates left, about "):
+        for words in (f"this kit is {KIT}; ", "built with an older kit", " crates, which takes about ", "if this is broken off", "cocoon_num is proved: ", " % done, 10 crates left, about "):
             expect(words in err, f"a build says `{words}`", err)
         expect(room.run("a", folders=["kit"]) == (0, "built a\n", "") and room.calls() == 1, "what is built is not built again")
         copy = room.at / "copy"
@@ -282,6 +284,7 @@ def test_build(room):
         shutil.rmtree(copy)
         with room.changed("crates/cocoon/src/main.rt"):
             expect(room.run("a", folders=["kit"])[:2] == (0, "built a\n") and room.calls() == 2, "sources that changed again are built again")
+    room.write("dist/cocoon.txt", record)
     expect_shipped(room.compile(), "the sources as they were")
 
 

@@ -4,7 +4,7 @@
     bench/every_byte.py
 
 prints each text that ends otherwise than the rules below say, and then how often each status came. docs/TRIED.md says what came of it. It
-needs the built program (`./cocoon` builds it) and takes some minutes; the gate does not run it.
+needs the built program (`rt run` in crates/cocoon builds it) and takes some minutes; the gate does not run it.
 """
 
 import collections

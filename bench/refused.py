@@ -6,7 +6,7 @@
 prints how each run ended and what stood in the folder then; runs that follow each other and are alike become one line. `BAD` is printed
 where a file of the bundle is neither the old one nor the new one, or another file was changed. Then `forward` runs over what a `compile`
 that stopped left, and the program of the cases runs one of them over a folder in memory. docs/TRIED.md says what came of it. It needs a C
-compiler, the built program (`./cocoon` builds it) and that of crates/command_tests (`rt run` there builds it), and takes a minute; the gate
+compiler, the built program (`rt run` in crates/cocoon) and that of crates/command_tests (`rt run` there builds it), and takes a minute; the gate
 does not run it.
 """
 

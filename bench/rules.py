@@ -3,7 +3,7 @@
 
     bench/rules.py [RUNS]     runs the built program on each text so often (5), and prints the least wall times
 
-It needs the program of crates/cocoon: `./cocoon compile examples/c.ccn examples/c.defs lab` builds it. Each text reads, so the
+It needs the program of crates/cocoon: `rt run` there builds it; or COCOON names one. Each text reads, so the
 time has all of its rules in it; most of these designs are over a limit, which is tested last.
 """
 
@@ -113,7 +113,7 @@ def main():
     runs = int(sys.argv[1]) if len(sys.argv) > 1 else 5
     program = os.environ.get("COCOON") or TOP / "crates" / "cocoon" / "out" / "cocoon"
     if not os.access(program, os.X_OK):
-        sys.exit("rules.py: build the program first: ./cocoon compile examples/c.ccn examples/c.defs lab")
+        sys.exit("rules.py: build the program first: `rt run` in crates/cocoon")
     print("| Design | Whole | Half | Ratio | Printed |\n|---|---|---|---|---|")
     with tempfile.TemporaryDirectory() as name:
         folder = pathlib.Path(name)

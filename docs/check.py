@@ -7,6 +7,7 @@
     docs/check.py links       each link and each path of a crate's file leads somewhere; MAP.md has each crate and each file of definitions
     docs/check.py cases       a program of tests is given each file of cases, and its copies of the examples are as they are in examples/
     docs/check.py commands    each command of a page, run with the built program, prints what the page shows
+    docs/check.py editors     what editors and shells are told are the words of the language and the commands
     docs/check.py faults      each wrong design and each wrong definitions of the tables of LANGUAGE.md have the fault that is told there
 
 A command is a line that begins with `$ ` in a block marked `console`; the lines after it are all that it prints on the standard output (a last
@@ -16,6 +17,7 @@ It prints a line for each thing that is wrong, and ends with status 1 if there i
 """
 
 import itertools
+import json
 import pathlib
 import re
 import shutil
@@ -37,7 +39,7 @@ def crate_names():
 
 
 def pages():
-    return [TOP / "README.md", *sorted((TOP / "docs").glob("*.md")), *sorted((TOP / "examples").rglob("*.md"))]
+    return [TOP / "README.md", *sorted((TOP / "docs").glob("*.md")), *sorted((TOP / "examples").rglob("*.md")), *sorted((TOP / "editors").glob("*.md"))]
 
 
 def said(page):
@@ -233,6 +235,8 @@ def check_map():
     for crate, row in re.findall(r"^\| `(\w+)` \| (.*) \|$", (TOP / "docs" / "MAP.md").read_text(), re.M):
         rows[crate] = rows.get(crate, "") + row
     wrong = [f"docs/MAP.md has no row of {crate}" for crate in crate_names() if crate not in rows]
+    costs = re.findall(r"^\| `(\w+)` \| [\d,]+ \| \d+ \|", (TOP / "docs" / "BENCH.md").read_text(), re.M)
+    wrong += [f"docs/BENCH.md does not say what {crate} costs" for crate in crate_names() if crate not in costs]
     for path in sorted(CRATES.glob("*/specs/**/*.antt")):
         crate = path.relative_to(CRATES).parts[0]
         if path.stem != "Lib" and f"`{path.stem}`" not in rows.get(crate, ""):
@@ -351,12 +355,38 @@ def check_faults():
     return [f"{said(LANGUAGE)}: {what} is told as {got}, and not as {wanted}" for what, wanted, got in tried if got != wanted]
 
 
+# ---- what editors know
+
+EDITORS = TOP / "editors"
+
+
+def check_editors():
+    """The grammars have each reserved word, the completion each command of README.md, and the line of Vim stands in both places."""
+    words = set(re.search(r"The reserved words are `([^`]*)`", LANGUAGE.read_text())[1].split())
+    vim = (EDITORS / "vim" / "syntax" / "cocoon.vim").read_text()
+    code = json.loads((EDITORS / "vscode" / "syntaxes" / "cocoon.tmLanguage.json").read_text())
+    known = {
+        "vim": {word for line in re.findall(r"^syntax keyword \w+ (.*)$", vim, re.M) for word in line.split()},
+        "vscode": {word for one in code["patterns"] for list in re.findall(r"\\b\(?([a-z|]+)\)?\\b", one.get("match", "")) for word in list.split("|")},
+    }
+    wrong = [f"editors/{name}: other words than the reserved ones: {' '.join(sorted(has ^ words))}" for name, has in known.items() if has != words]
+    commands = set(re.findall(r"^### (\w+)$", (TOP / "README.md").read_text(), re.M)) - {"Limits"}
+    completed = set(re.search(r"compgen -W '([a-z ]+)'", (EDITORS / "bash" / "cocoon").read_text())[1].split())
+    if commands != completed:
+        wrong.append(f"editors/bash: other commands than those of README.md: {' '.join(sorted(commands ^ completed))}")
+    line = re.search(r"errorformat=.*", (EDITORS / "vim" / "compiler" / "cocoon.vim").read_text())[0]
+    if f"set {line}\n" not in (EDITORS / "README.md").read_text():
+        wrong.append("editors/README.md has another errorformat than editors/vim")
+    return wrong
+
+
 CHECKS = {
     "believed": check_believed,
     "clauses": check_clauses,
     "links": check_links,
     "cases": check_cases,
     "commands": check_commands,
+    "editors": check_editors,
     "faults": check_faults,
 }
 

@@ -1,0 +1,1 @@
+autocmd BufNewFile,BufRead *.ccn,*.defs setfiletype cocoon
