@@ -74,8 +74,12 @@ class Room:
     def compile(self, name, **how):
         return self.run("compile", f"{name}.ccn", f"{name}.defs", "net", **how)
 
+    def content(self, name):
+        """What a file has; None of anything else, as of a pipe."""
+        return (self.at / name).read_bytes() if (self.at / name).is_file() else None
+
     def bundle(self):
-        return {name: (self.at / name).read_bytes() for name in BUNDLE}
+        return {name: self.content(name) for name in BUNDLE}
 
 
 WRONG = []
@@ -142,13 +146,13 @@ def try_sync(room):
                 process.kill()
             os.set_blocking(pipe, True)
             first = os.read(pipe, 4096)
-            expect((room.at / name).read_bytes() == old[name], f"{name} is as it was while the new one is written")
+            expect(room.content(name) == old[name], f"{name} is as it was while the new one is written")
             with os.fdopen(pipe, "rb") as rest:
                 came = first + rest.read()
             line = process.communicate()[0]
         expect(came == new[name], f"{name} is written whole into the file beside")
         expect((process.returncode, line) == (9, f"write fault {name}\n"), f"{name} is handed to the disk, and a fault of that is told", line)
-        expect((room.at / name).read_bytes() == old[name] and not os.path.lexists(beside), f"after the fault {name} is as it was, and nothing lies beside it")
+        expect(room.content(name) == old[name] and not os.path.lexists(beside), f"after the fault {name} is as it was, and nothing lies beside it")
 
 
 def try_rename(room):
