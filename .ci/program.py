@@ -213,6 +213,8 @@ def try_main(room):
 
 def main(words):
     program = pathlib.Path(words[0] if words else TOP / "crates" / "cocoon" / "out" / "cocoon").resolve()
+    if not program.is_file():
+        sys.exit("program: it is not built: run `rt ci`")
     with tempfile.TemporaryDirectory(prefix="cocoon-program-") as folder:
         room = Room(pathlib.Path(folder), program)
         for attempt in (try_statuses, try_no_memory, try_sync, try_rename, try_readers, try_main):

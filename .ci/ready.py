@@ -58,7 +58,9 @@ class Room:
             (at / "kit" / tool).symlink_to(shutil.which(tool))
         self.copy(TOP, self.top)
         self.build(PROGRAM.read_bytes())
-        self.python("bench/ship.py")
+        shipped = self.python("bench/ship.py")
+        if shipped.returncode:
+            sys.exit(f"ready: the copy cannot ship the program\n{shipped.stderr}")
         self.forget_build()
 
     @staticmethod
@@ -378,6 +380,8 @@ TESTS = {name.removeprefix("test_"): call for name, call in list(globals().items
 def main(names):
     if not set(names) <= set(TESTS):
         sys.exit(__doc__ + "\n" + " ".join(TESTS))
+    if not PROGRAM.is_file():
+        sys.exit("ready: the program is not built: run `rt ci`")
     with tempfile.TemporaryDirectory(prefix="cocoon-ready-") as folder:
         os.chmod(folder, 0o755)
         room = Room(pathlib.Path(folder))
