@@ -129,9 +129,10 @@ def prove(room, plan):
                 elif told and told[1] in plan.left:
                     plan.left.discard(told[1])
                     say(f"{told[1]} is proved: {plan.told_left()}")
-        finally:
+        except BaseException:
             # (whatever the kit started ends with it)
             kit.terminate()
+            raise
     if said and said[-1].endswith(" 0 failed\n") and os.access(room / "crates" / "cocoon" / "out" / "cocoon", os.X_OK):
         return True
     sys.stderr.write("".join(line for line in said if not line.endswith(": proved\n")))
