@@ -342,7 +342,8 @@ def test_left_by_kit(room):
 def test_compare(room):
     def told(status, words, where):
         ran = room.python("bench/ship.py", "compare")
-        expect(ran.returncode == status and words in ran.stdout + ran.stderr and (ran.stdout + ran.stderr).count("\n") == 1, where, (ran.stdout, ran.stderr))
+        printed = ran.stdout + ran.stderr
+        expect(ran.returncode == status and words in printed and printed.count("\n") == 1, where, printed)
 
     room.build((room.top / "dist" / "cocoon").read_bytes())
     told(0, "byte for byte", "the program just built is the one that is shipped")
