@@ -1,8 +1,9 @@
 #!/usr/bin/env python3
 """How long searches and the checks of logs take, and whether a program in C says the same of logs.
 
-    bench/search.py           all of it
-    bench/search.py FOLDER    the same, with the crates and the built program kept in this folder, for a later run
+    bench/search.py                  all of it
+    bench/search.py FOLDER           the same, with the crates and the built program kept in this folder, for a later run
+    bench/search.py FOLDER LISTS     in place of it searches through so many small lists of clauses, made by chance
 
 It copies the crates that it needs, with the program `search.rt.txt`, and has `rt run` prove and build what is not kept on this machine. `cc` compiles
 `check_log.c`. MiniSat and CaDiCaL are asked where they are there.
@@ -100,6 +101,64 @@ def compared(program, checker, text):
     if ours != theirs:
         sys.exit(f"the answers differ, {ours} and {theirs}, of\n{text}")
     return ours, int(micros), int(others)
+
+
+def chance_list(luck):
+    """Clauses over 3 to 12 variables: empty ones, units, repeated and opposite literals among them."""
+    variables = luck.randrange(3, 13)
+    longest = luck.choice([2, 3, 3, 4, 6])
+    count = luck.randrange(1, variables * [0, 0, 3, 6, 10, 0, 20][longest])
+    least = luck.choice([1, 2, 2, 2])
+    sizes = [luck.randrange(least, longest + 1) for _ in range(count)]
+    if luck.random() < 0.01:
+        sizes[luck.randrange(count)] = 0
+    return variables, [[luck.choice((1, -1)) * luck.randrange(1, variables + 1) for _ in range(size)] for size in sizes]
+
+
+def truth_tables(variables):
+    """For each variable the assignments that make it true, one bit each."""
+    tables = []
+    for variable in range(variables):
+        half = 1 << variable
+        table = ((1 << half) - 1) << half
+        for doubled in range(variable + 1, variables):
+            table |= table << (1 << doubled)
+        tables.append(table)
+    return tables
+
+
+def is_satisfiable(variables, clauses, tables):
+    """By all assignments at once."""
+    every = (1 << (1 << variables)) - 1
+    left = every
+    for clause in clauses:
+        true = 0
+        for literal in clause:
+            table = tables[abs(literal) - 1]
+            true |= table if literal > 0 else every & ~table
+        left &= true
+    return left != 0
+
+
+def try_lists(program, checker, count):
+    """Searches through lists made by chance: each answer against all assignments, each log by both checks."""
+    luck, tables = random.Random(7), {variables: truth_tables(variables) for variables in range(3, 13)}
+    found = {"sat": 0, "unsat": 0}
+    for first in range(0, count, 1000):
+        lists = [chance_list(luck) for _ in range(min(1000, count - first))]
+        texts = ["\n".join([f"p cnf {variables} {len(clauses)}", *(" ".join(map(str, [*clause, 0])) for clause in clauses)]) for variables, clauses in lists]
+        answers = run([program, "lists"], "\n\n".join(texts) + "\n").split("\n\n")
+        for (variables, clauses), text, answer in zip(lists, texts, answers, strict=False):
+            head, _, log = answer.partition("\n")
+            wanted = "sat" if is_satisfiable(variables, clauses, tables[variables]) else "unsat"
+            if head != f"{wanted} true":
+                sys.exit(f"{head}, but it is {wanted}:\n{text}")
+            if wanted == "unsat" and run([checker], f"{text}\n{log}\n").split()[0] != "true":
+                sys.exit(f"the log does not derive the empty clause:\n{text}\n{log}")
+            found[wanted] += 1
+    if sum(found.values()) != count:
+        sys.exit(f"{sum(found.values())} answers to {count} lists")
+    print(f"lists with the answer of all assignments: {found['sat']} that are satisfied, and {found['unsat']} that are not, whose logs both checks accept")
 
 
 def mutated(step, luck):
@@ -226,10 +285,13 @@ def time_searches(program):
             time_search(program, head[2], case.strip() + "\n")
 
 
-def measure(folder):
+def measure(folder, lists=0):
     program = built(folder)
     checker = folder / "check_log"
     subprocess.run(["cc", "-O2", "-o", checker, TOP / "bench" / "check_log.c"], check=True)
+    if lists:
+        try_lists(program, checker, lists)
+        return
     judge_logs(program, checker)
     time_checks(program, checker)
     time_searches(program)
@@ -239,7 +301,7 @@ def main():
     if len(sys.argv) > 1:
         folder = pathlib.Path(sys.argv[1]).resolve()
         folder.mkdir(exist_ok=True)
-        measure(folder)
+        measure(folder, *map(int, sys.argv[2:]))
     else:
         with tempfile.TemporaryDirectory() as name:
             measure(pathlib.Path(name))

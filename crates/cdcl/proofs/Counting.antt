@@ -171,3 +171,22 @@ one-marked floor marks e =
 
 pub none-marked : (marks : List Bool) → count_from 0 marks ≡ 0 → (p : ℕ) → p < length marks → is_marked marks p ≡ false
 none-marked marks e p lt = false_from_ne_true (is_marked marks p) (λ on. omega (arith, e, count-some 0 marks p (omega arith) lt on))
+
+-- the last place that is marked, where one is from the floor on
+module _ (floor : ℕ) (marks : List Bool) (end : ℕ) (counted : count_from floor marks ≡ 1) (within : end ≤ length marks)
+    (none : (p : ℕ) → end ≤ p → p < length marks → is_marked marks p ≡ false) (marked : (p : ℕ) → end ≡ p + 1 → is_marked marks p ≡ true) where
+  marked-before : (p : ℕ) → p < length marks → is_marked marks p ≡ true → p < end
+  marked-before p lt on = elim (cases_lt p end) [
+    | inl before ↦ before
+    | inr after ↦ absurd (both_ways (is_marked marks p) (none p after lt) on)
+  ]
+
+  pub some-last : 1 ≤ end
+  some-last = let o = one-marked floor marks counted in omega (arith, marked-before o.place o.within o.marked)
+
+  pub last-marked : (p : ℕ) → floor ≤ p → p < length marks → is_marked marks p ≡ true → end - 1 ≡ p
+  last-marked p le lt on =
+      let o = one-marked floor marks counted in
+      let before = marked-before o.place o.within o.marked in
+      let last = o.only (end - 1) (omega (arith, before, o.above)) (omega (arith, before, within)) (marked (end - 1) (omega (arith, before))) in
+      last ∙ sym (o.only p le lt on)

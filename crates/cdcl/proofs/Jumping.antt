@@ -1,8 +1,8 @@
 -- The reasons of a trail that is cut back, with one clause more; and logs with one step more.
-use Rattle.std.proofs.Common.{◌≡◌, ℕ, zero, suc, ◌+◌, ◌==◌, ◌<◌, ◌≤◌, ℤ, pos, true, false, List, [], ◌∷◌, ◌++◌, length, get_or, take, map, min, Some, refl, sym, ap, ◌∙◌, subst, arith, inl, inr}
+use Rattle.std.proofs.Common.{◌≡◌, ℕ, zero, suc, ◌+◌, ◌==◌, ◌<◌, ◌≤◌, ℤ, pos, true, false, List, [], ◌∷◌, ◌++◌, length, get_or, take, map, min, Option, Some, refl, sym, ap, ◌∙◌, subst, arith, inl, inr}
 use Rattle.std.specs.Prelude.{slice_get}
 use Rattle.std.proofs.lemmas.Bool.{cases_lt, cases_eq, both_ways, or_cases, or_left, or_right, false≢true, false_from_ne_true, eqb-true, eq-eqb}
-use Rattle.std.proofs.lemmas.List.{append_assoc, get_or-take, get_or_read, length-take, length_push, map-append, take-append-le, take-take, take_at}
+use Rattle.std.proofs.lemmas.List.{append_assoc, get_or-take, length-take, length_push, map-append, take-append-le, take-take, take_at}
 use Rattle.std.proofs.lemmas.List.Elements.{All-append, All-cons, All-nil}
 use Rattle.std.proofs.lemmas.Option.{none-some}
 use Rattle.cocoon_num.specs.Lists.{has_number}
@@ -26,6 +26,13 @@ pub get-last : {A : Type 0} (xs : List A) (x : A) → slice_get (xs ++ x ∷ [])
 get-last [] x = refl
 get-last (a ∷ xs) x = get-last xs x
 
+pub get-taken : {A : Type 0} (xs : List A) (n k : ℕ) → k < n → slice_get (take n xs) k ≡ slice_get xs k
+get-taken [] zero k lt = refl
+get-taken [] (suc n) k lt = refl
+get-taken (a ∷ xs) zero k lt = absurd (omega (arith, lt))
+get-taken (a ∷ xs) (suc n) zero lt = refl
+get-taken (a ∷ xs) (suc n) (suc k) lt = get-taken xs n k (omega (arith, lt))
+
 -- ---- places of decisions
 
 number-place : (p : ℕ) (ss : List ℕ) → has_number p ss ≡ true → (i : ℕ) × (i < length ss) × (get_or ss i 0 ≡ p)
@@ -42,7 +49,7 @@ number-taken p (suc b) zero (s ∷ ss) less lt e = or_left (p == s) (has_number 
 number-taken p (suc b) (suc i) (s ∷ ss) less lt e = or_right (p == s) (has_number p (take b ss)) (number-taken p b i ss (omega (arith, less)) (omega (arith, lt)) e)
 
 -- what stands after the last decision is none
-pub after-last : (clauses : List (List ℤ)) (ts : List ℤ) (reasons starts : List ℕ) → IsReasoned clauses ts reasons starts → (last p : ℕ) → length starts ≡ last + 1
+pub after-last : (clauses : List (List ℤ)) (ts : List ℤ) (reasons : List (Option ℕ)) (starts : List ℕ) → IsReasoned clauses ts reasons starts → (last p : ℕ) → length starts ≡ last + 1
     → get_or starts last 0 + 1 ≤ p → has_number p starts ≡ false
 after-last clauses ts reasons starts h last p len le = false_from_ne_true (has_number p starts) (λ on.
     let r = number-place p starts on in
@@ -53,14 +60,14 @@ after-last clauses ts reasons starts h last p len le = false_from_ne_true (has_n
 
 -- ---- back to a level
 
-module _ (clauses : List (List ℤ)) (ts : List ℤ) (reasons starts : List ℕ) (h : IsReasoned clauses ts reasons starts) (b cut : ℕ) (within : b < length starts) (is : get_or starts b 0 ≡ cut) where
-  cut-within : cut < length ts
+module _ (clauses : List (List ℤ)) (ts : List ℤ) (reasons : List (Option ℕ)) (starts : List ℕ) (h : IsReasoned clauses ts reasons starts) (b cut : ℕ) (within : b < length starts) (is : get_or starts b 0 ≡ cut) where
+  pub cut-within : cut < length ts
   cut-within = omega (arith, is, h.under b within)
 
   start-taken : (i : ℕ) → i < length (take b starts) → (i < b) × (get_or (take b starts) i 0 ≡ get_or starts i 0)
   start-taken i lt = let less : i < b = omega (arith, lt, length-take b starts) in (less, get_or-take b starts i 0 less)
 
-  start-before : (i : ℕ) → i < b → get_or starts i 0 < cut
+  pub start-before : (i : ℕ) → i < b → get_or starts i 0 < cut
   start-before i less = omega (arith, is, h.rising i b less within)
 
   not-decided : (p : ℕ) → p < cut → has_number p (take b starts) ≡ false → has_number p starts ≡ false
@@ -74,17 +81,21 @@ module _ (clauses : List (List ℤ)) (ts : List ℤ) (reasons starts : List ℕ)
         ]
       ])
 
-  pub reasoned-back : (c : List ℤ) → ((i : ℕ) → i < b → WeighsAs (take (get_or starts i 0) ts) c Open)
-      → IsReasoned (clauses ++ c ∷ []) (take cut ts) (take cut reasons) (take b starts)
-  reasoned-back c unforced = record {
+  pub reasoned-back : IsReasoned clauses (take cut ts) (take cut reasons) (take b starts)
+  reasoned-back = record {
     sized = length-take cut reasons ∙ ap (min cut) h.sized ∙ sym (length-take cut ts);
     forced = λ p lt none.
         let less : p < cut = omega (arith, lt, length-take cut ts) in
-        let f = h.forced p (omega (arith, less, cut-within)) (not-decided p less none) in (
+        let f = h.forced p (omega (arith, less, cut-within)) (not-decided p less none) in
+        let g = f.2 in (
           f.0,
-          get-prefix clauses (c ∷ []) (get_or (take cut reasons) p 0) f.0 (ap (slice_get clauses) (get_or-take cut reasons p 0 less) ∙ f.1),
-          subst (λ us. forces us f.0 (literal_at (take cut ts) p) ≡ true) (sym (take-take p cut ts (omega (arith, less))))
-              (subst (λ l. forces (take p ts) f.0 l ≡ true) (sym (get_or-take cut ts p (pos 0) less)) f.2),
+          get-taken reasons cut p less ∙ f.1,
+          (
+            g.0,
+            g.1,
+            subst (λ us. forces us g.0 (literal_at (take cut ts) p) ≡ true) (sym (take-take p cut ts (omega (arith, less))))
+                (subst (λ l. forces (take p ts) g.0 l ≡ true) (sym (get_or-take cut ts p (pos 0) less)) g.2),
+          ),
         );
     rising = λ i j less lt.
         let at_j = start-taken j lt in
@@ -94,11 +105,32 @@ module _ (clauses : List (List ℤ)) (ts : List ℤ) (reasons starts : List ℕ)
     closed = λ i lt.
         let at_i = start-taken i lt in
         let early = start-before i at_i.0 in
-        subst (λ s. IsClosed (clauses ++ c ∷ []) (take s (take cut ts))) (sym at_i.1)
-        (subst (IsClosed (clauses ++ c ∷ [])) (sym (take-take (get_or starts i 0) cut ts (omega (arith, early))))
-        (All-append (λ d. WeighsAs (take (get_or starts i 0) ts) d Open) clauses (c ∷ []) (h.closed i (omega (arith, at_i.0, within)))
-        (All-cons (λ d. WeighsAs (take (get_or starts i 0) ts) d Open) c [] (unforced i at_i.0) (All-nil (λ d. WeighsAs (take (get_or starts i 0) ts) d Open)))));
+        subst (λ s. IsClosed clauses (take s (take cut ts))) (sym at_i.1)
+        (subst (IsClosed clauses) (sym (take-take (get_or starts i 0) cut ts (omega (arith, early)))) (h.closed i (omega (arith, at_i.0, within))));
   }
+
+pub reasoned-cut : (clauses : List (List ℤ)) (ts us : List ℤ) (reasons rs : List (Option ℕ)) (starts ss : List ℕ) (b cut : ℕ) → IsReasoned clauses ts reasons starts
+    → b < length starts → get_or starts b 0 ≡ cut → us ≡ take cut ts → rs ≡ take cut reasons → ss ≡ take b starts → IsReasoned clauses us rs ss
+reasoned-cut clauses ts us reasons rs starts ss b cut h within is k m n =
+    subst (λ vs. IsReasoned clauses vs rs ss) (sym k)
+    (subst (λ qs. IsReasoned clauses (take cut ts) qs ss) (sym m)
+    (subst (λ bs. IsReasoned clauses (take cut ts) (take cut reasons) bs) (sym n)
+    (reasoned-back clauses ts reasons starts h b cut within is)))
+
+-- ---- one clause more, which forced nothing where a decision was made
+
+pub reasoned-clause : (clauses : List (List ℤ)) (c : List ℤ) (ts : List ℤ) (reasons : List (Option ℕ)) (starts : List ℕ) → IsReasoned clauses ts reasons starts
+    → ((i : ℕ) → i < length starts → WeighsAs (take (get_or starts i 0) ts) c Open) → IsReasoned (clauses ++ c ∷ []) ts reasons starts
+reasoned-clause clauses c ts reasons starts h unforced = record {
+  sized = h.sized;
+  forced = λ p lt none.
+      let f = h.forced p lt none in
+      let g = f.2 in (f.0, f.1, (g.0, get-prefix clauses (c ∷ []) f.0 g.0 g.1, g.2));
+  rising = h.rising;
+  under = h.under;
+  closed = λ i lt. All-append (λ d. WeighsAs (take (get_or starts i 0) ts) d Open) clauses (c ∷ []) (h.closed i lt)
+      (All-cons (λ d. WeighsAs (take (get_or starts i 0) ts) d Open) c [] (unforced i lt) (All-nil (λ d. WeighsAs (take (get_or starts i 0) ts) d Open)));
+}
 
 -- ---- a log with one step more
 
@@ -131,13 +163,3 @@ module _ (cnf : Cnf) (steps : List Step) (s : Step) where
         subst (BringsNew cnf (steps ++ s ∷ [])) is
         (s, get-last steps s, subst (λ ss. IsNew (known cnf ss) (literals s.clause)) (sym (take_at steps (s ∷ []) (length steps) refl)) n)
   ]
-
-pub reasoned-jump : (cnf : Cnf) (steps more : List Step) (s : Step) (ts us : List ℤ) (reasons rs starts ss : List ℕ) (b cut : ℕ) → IsReasoned (known cnf steps) ts reasons starts
-    → b < length starts → cut ≡ get_or starts b cut → ((i : ℕ) → i < b → WeighsAs (take (get_or starts i 0) ts) (literals s.clause) Open)
-    → more ≡ steps ++ s ∷ [] → us ≡ take cut ts → rs ≡ take cut reasons → ss ≡ take b starts → IsReasoned (known cnf more) us rs ss
-reasoned-jump cnf steps more s ts us reasons rs starts ss b cut h within is unforced e k m n =
-    subst (λ cs. IsReasoned cs us rs ss) (known-push cnf steps s ∙ ap (known cnf) (sym e))
-    (subst (λ vs. IsReasoned (known cnf steps ++ literals s.clause ∷ []) vs rs ss) (sym k)
-    (subst (λ qs. IsReasoned (known cnf steps ++ literals s.clause ∷ []) (take cut ts) qs ss) (sym m)
-    (subst (λ bs. IsReasoned (known cnf steps ++ literals s.clause ∷ []) (take cut ts) (take cut reasons) bs) (sym n)
-    (reasoned-back (known cnf steps) ts reasons starts h b cut within (sym (get_or_read starts b cut within is 0)) (literals s.clause) unforced))))

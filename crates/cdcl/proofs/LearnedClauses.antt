@@ -83,6 +83,14 @@ module _ (clauses : List (List ℤ)) (ts : List ℤ) (apart : IsApart ts) (vars 
           | inr early ↦ inr (ap (has_literal (take cut ts)) (sym r.3) ∙ has-take ts cut r.0 (omega (arith, early, le)) r.1)
         ]
 
+    pub learned-forces : (cut : ℕ) → second ≤ cut → cut ≤ u → forces (take cut ts) (map opposite (marked_literals marks ts)) (opposite (literal_at ts u)) ≡ true
+    learned-forces cut le above = forced-from (take cut ts) (map opposite (marked_literals marks ts)) (opposite (literal_at ts u)) (record {
+      within = asserting;
+      not_true = no-opposite-taken ts apart vars named cut u within;
+      not_false = ap (has_literal (take cut ts)) (opposite-opposite (literal_at ts u)) ∙ not-taken ts apart cut u above within;
+      others = λ m h. each-literal cut le m h;
+    })
+
     pub learned-new : (cut : ℕ) → second ≤ cut → cut ≤ u → IsClosed clauses (take cut ts) → IsNew clauses (map opposite (marked_literals marks ts))
     learned-new cut le above closed = (
       (λ e. both_ways (has_literal (map opposite (marked_literals marks ts)) (opposite (literal_at ts u))) (ap (λ c. has_literal c (opposite (literal_at ts u))) e) asserting),

@@ -1,9 +1,15 @@
 pub mod Membership
+pub mod Watched
+pub mod Visiting
+pub mod Longer
+pub mod Looking
+pub mod Opening
 pub mod Trailing
-pub mod Passing
 pub mod Counting
 pub mod Conflicts
 pub mod LearnedClauses
 pub mod Totals
 pub mod Jumping
 pub mod Backjumps
+pub mod Asserting
+pub mod FirstClauses

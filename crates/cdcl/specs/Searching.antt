@@ -1,5 +1,5 @@
 -- Cited by the clauses of `Search`: what keeps a search right.
-use Rattle.std.specs.Prelude.{◌≡◌, ℕ, ◌+◌, ◌<◌, ◌||◌, ℤ, pos, true, false, IsTrue, List, length, take, slice_get, slice_index, Some}
+use Rattle.std.specs.Prelude.{◌≡◌, ℕ, ◌+◌, ◌<◌, ◌||◌, ℤ, pos, true, false, IsTrue, List, length, take, slice_get, slice_index, Option, Some}
 use Rattle.std.specs.List.{All}
 use Rattle.cocoon_num.specs.Lists.{has_number}
 use Rattle.cnf_core.specs.Deriving.{forces, is_conflict, is_false}
@@ -20,11 +20,15 @@ abbrev pub IsForcedBy : (clauses : List (List ℤ)) → (trues : List ℤ) → (
 IsForcedBy clauses trues p number = (clause : List ℤ) × (slice_get clauses number ≡ Some clause)
     × IsTrue (forces (take p trues) clause (literal_at trues p))
 
+-- the literal at this place has a reason, the clause that forced it
+abbrev pub HasReason : (clauses : List (List ℤ)) → (trues : List ℤ) → (reasons : List (Option ℕ)) → (place : ℕ) → Type 0
+HasReason clauses trues reasons p = (number : ℕ) × (slice_get reasons p ≡ Some (Some number)) × IsForcedBy clauses trues p number
+
 -- a trail with its reasons and the places of its decisions
-pub record IsReasoned (clauses : List (List ℤ)) (trues : List ℤ) (reasons starts : List ℕ) : Type 0 where
+pub record IsReasoned (clauses : List (List ℤ)) (trues : List ℤ) (reasons : List (Option ℕ)) (starts : List ℕ) : Type 0 where
   pub sized : length reasons ≡ length trues
   -- what is no decision was forced
-  pub forced : (p : ℕ) → p < length trues → has_number p starts ≡ false → IsForcedBy clauses trues p (slice_index reasons p)
+  pub forced : (p : ℕ) → p < length trues → has_number p starts ≡ false → HasReason clauses trues reasons p
   pub rising : (i j : ℕ) → i < j → j < length starts → slice_index starts i < slice_index starts j
   pub under : (i : ℕ) → i < length starts → slice_index starts i < length trues
   -- nothing more was forced where a decision was made

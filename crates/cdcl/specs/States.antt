@@ -1,19 +1,20 @@
 -- Cited by the clauses of `Search`: what keeps a search right, and what its parts give.
-use Rattle.std.specs.Prelude.{◌≡◌, ℕ, ◌+◌, ◌<◌, ℤ, IsTrue, List, [], ◌∷◌, ◌++◌, length, slice_get, Option, Some, None}
-use Rattle.cnf_core.specs.Deriving.{EachDerived, EndsEmpty, has_no_value, known}
+use Rattle.std.specs.Prelude.{◌≡◌, ◌≢◌, ℕ, ◌+◌, ◌<◌, ◌≤◌, ◌⊎◌, ◌||◌, ℤ, IsTrue, IsFalse, List, [], ◌++◌, length, slice_get, slice_index, take, Option, Some, None}
+use Rattle.cnf_core.specs.Deriving.{EachDerived, EndsEmpty, forces, has_no_value, is_conflict, is_false, known}
 use Rattle.cnf_core.specs.Licensing.{BringsNew}
-use Rattle.cnf_core.specs.Literals.{Names}
-use Rattle.cnf_core.specs.Trails.{WeighsAs}
+use Rattle.cocoon_num.specs.Lists.{each}
+use Rattle.cnf_core.specs.Literals.{Names, has_literal, opposite, same}
+use Rattle.cnf_core.specs.Trails.{literal_at}
 use Rattle.cnf_core.specs.TrailViews.{not_true, room, trues}
 use Rattle.cnf_core.specs.declared.clauses.Cnf.{Cnf}
 use Rattle.cnf_core.specs.declared.lit.Lit.{Lit}
 use Rattle.cnf_core.specs.declared.log.Step.{Step}
-use Rattle.cnf_core.specs.declared.weight.Weight.{Weight}
-use Rattle.cnf_core.specs.declared.weight.Weight.TheVariants.{Conflict as WeightConflict, Forces as WeightForces, Open as WeightOpen}
-use Rattle.cdcl.specs.Searching.{IsClosed, IsConflictAt, IsForcedBy, IsReasoned, IsTotal}
-use Rattle.cdcl.specs.declared.search.Pass.{Pass}
-use Rattle.cdcl.specs.declared.search.Pass.TheVariants.{Closed, Conflict, Forced}
+use Rattle.cdcl.specs.Searching.{IsClosed, IsConflictAt, IsReasoned, IsTotal}
+use Rattle.cdcl.specs.Watching.{AreWatched, IsLookedAt, IsWatched, IsWatching, list_of}
+use Rattle.cdcl.specs.declared.propagation.Visit.{Visit}
+use Rattle.cdcl.specs.declared.propagation.Visit.TheVariants.{Conflict, Forces, Kept, Moved}
 use Rattle.cdcl.specs.declared.search.Search.{Search}
+use Rattle.cdcl.specs.declared.watches.Pair.{Pair}
 
 -- the clauses that are given, then those that were learned
 abbrev pub clauses_of : Cnf → Search → List (List ℤ)
@@ -25,34 +26,99 @@ pub record IsSound (cnf : Cnf) (s : Search) : Type 0 where
   pub new : (k : ℕ) → k < length s.steps.items → BringsNew cnf s.steps.items k
   pub reasoned : IsReasoned (clauses_of cnf s) (trues s.trail) s.reasons.items s.starts.items
 
+-- the clauses that have watched literals keep the watch invariant
+abbrev pub HasWatches : Cnf → Search → Type 0
+HasWatches cnf s = IsWatched cnf.vars (clauses_of cnf s) (trues s.trail) s.seen s.starts.items s.watches
+
+-- and all clauses have some
+pub record IsReady (cnf : Cnf) (s : Search) : Type 0 where
+  pub count : length s.watches.pairs.items ≡ length (clauses_of cnf s)
+  pub watched : HasWatches cnf s
+
+-- before any decision, and before anything was looked at, so many clauses have watched literals
+pub record IsBegun (cnf : Cnf) (s : Search) (number : ℕ) : Type 0 where
+  pub count : length s.watches.pairs.items ≡ number
+  pub watched : HasWatches cnf s
+  pub steps : s.steps.items ≡ []
+  pub starts : s.starts.items ≡ []
+  pub seen : s.seen ≡ 0
+
+-- the next clause can watch these
+abbrev pub WatchesNext : Cnf → Search → Pair → Type 0
+WatchesNext cnf s pair = (clause : List ℤ) × (slice_get (clauses_of cnf s) (length s.watches.pairs.items) ≡ Some clause)
+    × IsWatching (trues s.trail) s.seen s.starts.items clause pair
+
+pub record IsSameButWatches (old new : Search) : Type 0 where
+  pub steps : new.steps.items ≡ old.steps.items
+  pub trues : trues new.trail ≡ trues old.trail
+  pub starts : new.starts.items ≡ old.starts.items
+  pub seen : new.seen ≡ old.seen
+
 abbrev pub SameSteps : (old new : Search) → Type 0
 SameSteps old new = new.steps.items ≡ old.steps.items
 
--- what the clause of this number is under the literals that are true
-abbrev pub WeighsNumber : (vars : ℕ) (clauses : List (List ℤ)) (trues : List ℤ) (number : ℕ) → Weight → Type 0
-WeighsNumber vars clauses trues number WeightConflict = IsConflictAt clauses trues number
-WeighsNumber vars clauses trues number (WeightForces lit) = Names vars lit.number × IsTrue (has_no_value trues lit.number)
-    × IsForcedBy clauses (trues ++ lit.number ∷ []) (length trues) number
-WeighsNumber vars clauses trues number WeightOpen = (clause : List ℤ) → slice_get clauses number ≡ Some clause → WeighsAs trues clause WeightOpen
+-- what becomes of a clause that watches this literal besides one that is false
+abbrev pub VisitsClause : (trues clause : List ℤ) (other : ℤ) → Visit → Type 0
+VisitsClause trues clause other Kept = IsTrue (has_literal trues other)
+VisitsClause trues clause other (Moved pair) = (pair.first.number ≡ other) × (pair.second.number ≢ other)
+    × IsTrue (has_literal clause pair.second.number) × IsFalse (is_false trues pair.second.number) × IsFalse (has_literal trues other)
+VisitsClause trues clause other (Forces lit) = (lit.number ≡ other) × IsTrue (forces trues clause other)
+VisitsClause trues clause other Conflict = IsTrue (is_conflict trues clause)
 
--- what a pass has found when it comes to the clause of this number
-abbrev pub FoundSoFar : Cnf → (old new : Search) (number : ℕ) → Pass → Type 0
-FoundSoFar cnf old new number (Conflict n) = IsConflictAt (clauses_of cnf new) (trues new.trail) n
-FoundSoFar cnf old new number Forced = not_true new.trail < not_true old.trail
-FoundSoFar cnf old new number Closed = (k : ℕ) (clause : List ℤ) → k < number → slice_get (clauses_of cnf new) k ≡ Some clause → WeighsAs (trues new.trail) clause WeightOpen
+-- the clause of this number has the literal
+abbrev pub Inside : (clauses : List (List ℤ)) (number : ℕ) → ℤ → Type 0
+Inside clauses number l = (clause : List ℤ) × (slice_get clauses number ≡ Some clause) × IsTrue (has_literal clause l)
 
--- how a pass ended
-abbrev pub PassedAs : Cnf → (old new : Search) → Pass → Type 0
-PassedAs cnf old new (Conflict number) = IsConflictAt (clauses_of cnf new) (trues new.trail) number
-PassedAs cnf old new Forced = not_true new.trail < not_true old.trail
-PassedAs cnf old new Closed = IsClosed (clauses_of cnf new) (trues new.trail)
+-- the clause of this number watches a literal, and besides it another, of which this becomes
+pub record IsVisit (cnf : Cnf) (s : Search) (number : ℕ) (off : ℤ) (visit : Visit) : Type 0 where
+  pub pair : Pair
+  pub other : ℤ
+  pub clause : List ℤ
+  pub at : slice_get s.watches.pairs.items number ≡ Some pair
+  pub watched : AreWatched pair off other
+  pub known : slice_get (clauses_of cnf s) number ≡ Some clause
+  pub visits : VisitsClause (trues s.trail) clause other visit
 
--- the number of a conflict, or nothing is forced any more
+-- what becomes of the clause of this number where this literal is false
+abbrev pub VisitsNumber : Cnf → Search → (number : ℕ) (off : ℤ) → Visit → Type 0
+VisitsNumber cnf s number off Kept = (pair : Pair) (b : ℤ) → slice_get s.watches.pairs.items number ≡ Some pair → AreWatched pair off b → IsTrue (has_literal (trues s.trail) b)
+VisitsNumber cnf s number off (Moved pair) = IsVisit cnf s number off (Moved pair)
+VisitsNumber cnf s number off (Forces lit) = IsVisit cnf s number off (Forces lit)
+VisitsNumber cnf s number off Conflict = IsVisit cnf s number off Conflict
+
+-- a literal of the clause besides this one that is not false, or there is none
+abbrev pub Replaces : (trues clause : List ℤ) (other : ℤ) → Option Lit → Type 0
+Replaces trues clause other (Some lit) = (lit.number ≢ other) × IsTrue (has_literal clause lit.number) × IsFalse (is_false trues lit.number)
+Replaces trues clause other None = IsTrue (each (λ m. same other m || is_false trues m) clause)
+
+-- more literals are true, after those of before
+pub record IsLonger (old new : Search) : Type 0 where
+  pub more : List ℤ
+  pub trues : trues new.trail ≡ trues old.trail ++ more
+  pub fewer : not_true new.trail + length more ≤ not_true old.trail
+
+-- the next place of the list, once the clause at a place was looked at
+abbrev pub TakesEntry : Cnf → (old new : Search) (off : ℤ) (at number : ℕ) → Option ℕ → Type 0
+TakesEntry cnf old new off at number (Some next) = IsLookedAt (trues new.trail) new.watches off next
+    × (length (list_of new.watches off) + at + 1 ≤ length (list_of old.watches off) + next)
+TakesEntry cnf old new off at number None = IsConflictAt (clauses_of cnf new) (trues new.trail) number
+
+-- what was found at the clauses that watch a literal
+abbrev pub LooksAt : Cnf → Search → (off : ℤ) → Option ℕ → Type 0
+LooksAt cnf s off (Some number) = IsConflictAt (clauses_of cnf s) (trues s.trail) number
+LooksAt cnf s off None = IsLookedAt (trues s.trail) s.watches off (length (list_of s.watches off))
+
+-- the number of a conflict, or all was looked at, and nothing is forced any more
 abbrev pub Settled : Cnf → Search → Option ℕ → Type 0
 Settled cnf s (Some number) = IsConflictAt (clauses_of cnf s) (trues s.trail) number
-Settled cnf s None = IsClosed (clauses_of cnf s) (trues s.trail)
+Settled cnf s None = (s.seen ≡ length (trues s.trail)) × IsClosed (clauses_of cnf s) (trues s.trail)
 
--- the same, where each variable has a value besides
+-- the number of a conflict before any decision, or each clause is watched
+abbrev pub Begins : Cnf → Search → Option ℕ → Type 0
+Begins cnf s (Some number) = IsConflictAt (clauses_of cnf s) (trues s.trail) number
+Begins cnf s None = IsReady cnf s
+
+-- the number of a conflict, or nothing is forced any more and each variable has a value
 abbrev pub RanAs : Cnf → Search → Option ℕ → Type 0
 RanAs cnf s (Some number) = IsConflictAt (clauses_of cnf s) (trues s.trail) number
 RanAs cnf s None = IsClosed (clauses_of cnf s) (trues s.trail) × IsTotal cnf.vars (trues s.trail)
@@ -72,3 +138,16 @@ pub record RefutesIn (cnf : Cnf) (old new : List Step) : Type 0 where
   pub derived : EachDerived cnf new
   pub ends : EndsEmpty new
   pub new_before : (k : ℕ) → k + 1 < length new → BringsNew cnf new k
+
+-- the clause forces the first of two of its literals, and the other became false at the last level; or it is level 0
+pub record IsAsserting (trues : List ℤ) (starts : List ℕ) (clause : List ℤ) (pair : Pair) : Type 0 where
+  pub forces : IsTrue (forces trues clause pair.first.number)
+  pub inside : IsTrue (has_literal clause pair.second.number)
+  pub last : (p i : ℕ) → p < length trues → literal_at trues p ≡ opposite pair.second.number → i < length starts → slice_index starts i ≤ p
+  pub two : (pair.first.number ≢ pair.second.number) ⊎ (length starts ≡ 0)
+
+-- nothing but the trail is cut back, to the start of this level
+pub record GoesBack (old new : Search) (level : ℕ) : Type 0 where
+  pub steps : new.steps.items ≡ old.steps.items
+  pub trues : trues new.trail ≡ take (slice_index old.starts.items level) (trues old.trail)
+  pub starts : new.starts.items ≡ take level old.starts.items

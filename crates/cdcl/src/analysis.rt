@@ -108,19 +108,19 @@ impl Analysis {
         self.count -= 1;
     }
 
-    /// One more than the last marked place before the last level, or 0.
-    pub fn second(&self) -> usize
-        ensures within { result ≤ self.now.floor }
-        ensures none { (p : ℕ) → result ≤ p → p < self.now.floor
+    /// One more than the last marked place before this one, or 0.
+    pub fn last_before(&self, place: usize) -> usize
+        ensures within { result ≤ place }
+        ensures none { (p : ℕ) → result ≤ p → p < place
             → is_marked self.now.marks.items p ≡ false }
         ensures marked { (p : ℕ) → result ≡ p + 1 → IsTrue (is_marked self.now.marks.items p) }
     {
-        let mut second = self.floor;
-        while second > 0 {
-            if self.is_marked(second - 1) {
-                return second;
+        let mut end = place;
+        while end > 0 {
+            if self.is_marked(end - 1) {
+                return end;
             }
-            second -= 1;
+            end -= 1;
         }
         0
     }

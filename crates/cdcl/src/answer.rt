@@ -1,7 +1,10 @@
 //! The answers of a search.
-ghost use Rattle.std.specs.Prelude.{◌+◌, ◌<◌, ◌^◌, IfOk, length};
+ghost use Rattle.std.specs.Prelude.{◌≡◌, ◌+◌, ◌<◌, ◌≤◌, ◌^◌, IfOk, length, ℕ};
 ghost use Rattle.cnf_core.specs.Satisfying.{WellNamed};
+ghost use Rattle.cnf_core.specs.TrailViews.{trues};
 ghost use Rattle.cdcl.specs.Answering.{Answers};
+ghost use Rattle.cdcl.specs.Searching.{IsConflictAt};
+ghost use Rattle.cdcl.specs.States.{clauses_of, IsReady, IsSound};
 
 use crate::order::Order;
 use crate::search::Search;
@@ -25,15 +28,47 @@ pub fn solve(alloc: Global, cnf: &Cnf, conflicts: u64) -> Result<Answer, NoMemor
     requires numbered { length cnf.now.clauses + conflicts < 2 ^ 32 }
     ensures { IfOk result (λ answer. Answers cnf.now conflicts answer) }
 {
-    let mut search = Search::new(alloc, cnf)?;
+    let (search, conflict) = Search::new(alloc, cnf)?;
+    if conflicts == 0 {
+        return Ok(Answer::Spent(search.into_log()));
+    }
+    match conflict {
+        Some(number) => unsat(alloc, cnf, search, number),
+        None => decided(alloc, cnf, search, conflicts),
+    }
+}
+
+/// Nothing satisfies the clauses: one is a conflict before any decision.
+fn unsat(alloc: Global, cnf: &Cnf, search: Search, conflict: u32) -> Result<Answer, NoMemory>
+    requires sound { IsSound cnf.now search }
+    requires named { WellNamed cnf.now }
+    requires conflict { IsConflictAt (clauses_of cnf.now search) (trues search.trail) conflict }
+    requires undecided { length search.starts.items ≡ 0 }
+    ensures { IfOk result (λ answer. (conflicts : ℕ) → length search.steps.items < conflicts
+        → Answers cnf.now conflicts answer) }
+{
+    let mut search = search;
+    search.refute(alloc, cnf, conflict)?;
+    Ok(Answer::Unsat(search.into_log()))
+}
+
+/// Decides and learns until there is an answer.
+fn decided(alloc: Global, cnf: &Cnf, search: Search, conflicts: u64) -> Result<Answer, NoMemory>
+    requires sound { IsSound cnf.now search }
+    requires named { WellNamed cnf.now }
+    requires ready { IsReady cnf.now search }
+    requires numbered { length cnf.now.clauses + conflicts < 2 ^ 32 }
+    requires within { length search.steps.items ≤ conflicts }
+    ensures { IfOk result (λ answer. Answers cnf.now conflicts answer) }
+{
+    let mut search = search;
     let mut order = Order::new(alloc, cnf.vars)?;
     while (search.steps.len() as u64) < conflicts {
         let Some(conflict) = search.run(cnf, &order)? else {
             return Ok(Answer::Satisfied(search.assignment(alloc, cnf)?));
         };
         if search.starts.is_empty() {
-            search.refute(alloc, cnf, conflict)?;
-            return Ok(Answer::Unsat(search.into_log()));
+            return unsat(alloc, cnf, search, conflict);
         }
         search.learn(alloc, cnf, conflict)?;
         order.note(cnf, &search);

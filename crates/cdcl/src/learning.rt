@@ -1,21 +1,22 @@
 //! From a conflict to the clause that is learned.
-ghost use Rattle.std.specs.Prelude.{◌≡◌, ◌≤◌, ◌<◌, ◌+◌, ◌++◌, false, IfOk, length, map, OnOk, slice_index, take, ℕ};
+ghost use Rattle.std.specs.Prelude.{[], ◌≡◌, ◌≤◌, ◌<◌, ◌+◌, ◌-◌, ◌^◌, ◌++◌, ◌∷◌, false, IfOk, IsTrue, length, map, OnOk, slice_get, slice_index, Some, take, ℕ};
 ghost use Rattle.cocoon_num.specs.Lists.{has_number};
 ghost use Rattle.cnf_core.specs.Clauses.{literals};
 ghost use Rattle.cnf_core.specs.Deriving.{Follows};
 ghost use Rattle.cnf_core.specs.Licensing.{IsNew};
 ghost use Rattle.cnf_core.specs.Literals.{opposite};
 ghost use Rattle.cnf_core.specs.Satisfying.{WellNamed};
-ghost use Rattle.cnf_core.specs.Trails.{numbers, WeighsAs};
+ghost use Rattle.cnf_core.specs.Trails.{literal_at, numbers, WeighsAs};
 ghost use Rattle.cnf_core.specs.TrailViews.{trues};
-ghost use Rattle.cdcl.specs.Marks.{marked_literals, opposite_at};
+ghost use Rattle.cdcl.specs.Marks.{is_marked, marked_literals, opposite_at};
 ghost use Rattle.cdcl.specs.Analyses.{IsSameBut};
 ghost use Rattle.cdcl.specs.Resolving.{Analyzed, IsLevel, IsResolved, MarksClause, MarksNumber};
-ghost use Rattle.cdcl.specs.Searching.{IsConflictAt, IsForcedBy};
-ghost use Rattle.cdcl.specs.States.{clauses_of, IsSound, RefutesIn};
+ghost use Rattle.cdcl.specs.Searching.{HasReason, IsConflictAt};
+ghost use Rattle.cdcl.specs.States.{clauses_of, GoesBack, HasWatches, IsAsserting, IsReady, IsSound, RefutesIn};
 
 use crate::analysis::Analysis;
 use crate::search::Search;
+use crate::watches::Pair;
 use cnf_core::{Clause, Cnf, Lit, Log, Step, Weight};
 use cocoon_num::{List, NoMemory};
 use std::alloc::Global;
@@ -81,14 +82,22 @@ impl Search {
         }
     }
 
+    /// The reason of the literal at this place.
+    fn reason(&self, place: usize) -> Option<u32>
+        requires { place < length self.now.reasons.items }
+        ensures { slice_get self.now.reasons.items place ≡ Some result }
+    {
+        self.reasons[place]
+    }
+
     /// Replaces the literal at this place, if it is marked, by those that forced it.
     fn resolve(&self, cnf: &Cnf, analysis: &mut Analysis, place: usize) -> Result<(), NoMemory>
         requires sound { IsSound cnf.now self.now }
         requires named { WellNamed cnf.now }
         requires within { place < length (trues self.now.trail) }
         requires last { analysis.old.floor ≤ place }
-        requires forced { IsForcedBy (clauses_of cnf.now self.now) (trues self.now.trail) place
-            (slice_index self.now.reasons.items place) }
+        requires forced { HasReason (clauses_of cnf.now self.now) (trues self.now.trail)
+            self.now.reasons.items place }
         requires before { Analyzed (clauses_of cnf.now self.now) (trues self.now.trail)
             (place + 1) analysis.old }
         ensures after { OnOk result (Analyzed (clauses_of cnf.now self.now)
@@ -100,7 +109,10 @@ impl Search {
             return Ok(());
         }
         analysis.unmark(place);
-        self.take_clause(cnf, analysis, self.reasons[place])
+        match self.reason(place) {
+            Some(number) => self.take_clause(cnf, analysis, number),
+            None => Ok(()),
+        }
     }
 
     /// The learned clause: not all marked literals are true.
@@ -153,14 +165,49 @@ impl Search {
         level
     }
 
-    /// Learns the clause that a conflict shows, and goes back to the first level at which it forces a literal.
+    /// The literals that a learned clause watches: the opposites of the last literal that is marked and of the one before
+    /// it, if there are two. `second` is one more than the place of that one, or 0.
+    fn asserting_pair(&self, analysis: &Analysis, second: usize) -> Pair
+        requires sized { length analysis.now.marks.items ≡ length (trues self.now.trail) }
+        requires one { analysis.now.count ≡ 1 }
+        requires within { second ≤ length (trues self.now.trail) }
+        ensures first { (p : ℕ) → analysis.now.floor ≤ p → p < length (trues self.now.trail)
+            → IsTrue (is_marked analysis.now.marks.items p)
+            → result.first.number ≡ opposite (literal_at (trues self.now.trail) p) }
+        ensures second { (p : ℕ) → second ≡ p + 1
+            → result.second.number ≡ opposite (literal_at (trues self.now.trail) p) }
+        ensures alone { second ≡ 0 → result.second.number ≡ result.first.number }
+    {
+        let end = analysis.last_before(self.trail.len());
+        let first = self.opposite_before(end);
+        if second == 0 {
+            return Pair::twice(first);
+        }
+        let second = self.opposite_before(second);
+        Pair { first, second }
+    }
+
+    /// The opposite of the literal before this place.
+    fn opposite_before(&self, end: usize) -> Lit
+        requires some { 1 ≤ end }
+        requires within { end ≤ length (trues self.now.trail) }
+        ensures { result.number ≡ opposite (literal_at (trues self.now.trail) (end - 1)) }
+    {
+        self.trail.literal(end - 1).opposite()
+    }
+
+    /// Learns the clause that a conflict shows, goes back to the first level at which it forces a literal, and makes that
+    /// literal true.
     pub fn learn(&mut self, alloc: Global, cnf: &Cnf, conflict: u32) -> Result<(), NoMemory>
         requires sound { IsSound cnf.now self.old }
         requires named { WellNamed cnf.now }
+        requires ready { IsReady cnf.now self.old }
+        requires numbered { length (clauses_of cnf.now self.old) < 2 ^ 32 }
         requires conflict { IsConflictAt (clauses_of cnf.now self.old) (trues self.old.trail)
             conflict }
         requires decided { 0 < length self.old.starts.items }
         ensures sound { OnOk result (IsSound cnf.now self.new) }
+        ensures ready { OnOk result (IsReady cnf.now self.new) }
         ensures one { OnOk result
             (length self.new.steps.items ≡ length self.old.steps.items + 1) }
     {
@@ -169,28 +216,77 @@ impl Search {
         let analysis = self.analyze(alloc, cnf, conflict, floor, 1)?;
         let clause = self.learned(alloc, &analysis)?;
         let hints = analysis.hints(alloc)?;
-        let level = self.level_before(analysis.second());
-        self.go_back(cnf, level, Step { clause, hints })
+        let second = analysis.last_before(floor);
+        let pair = self.asserting_pair(&analysis, second);
+        let level = self.level_before(second);
+        self.go_back(cnf, level);
+        self.add_step(cnf, Step { clause, hints }, pair)?;
+        Ok(())
     }
 
-    /// Takes back this level and the later ones, and adds a step.
-    fn go_back(&mut self, cnf: &Cnf, level: usize, step: Step) -> Result<(), NoMemory>
+    /// Takes back this level and the later ones.
+    fn go_back(&mut self, cnf: &Cnf, level: usize)
         requires sound { IsSound cnf.now self.old }
+        requires ready { IsReady cnf.now self.old }
         requires within { level < length self.old.starts.items }
-        requires follows { Follows cnf.now.vars (clauses_of cnf.now self.old)
-            (literals step.clause) step.hints }
-        requires new { IsNew (clauses_of cnf.now self.old) (literals step.clause) }
-        requires unforced { (i : ℕ) → i < level
-            → WeighsAs (take (slice_index self.old.starts.items i) (trues self.old.trail))
-            (literals step.clause) Weight.Open }
-        ensures sound { OnOk result (IsSound cnf.now self.new) }
-        ensures one { OnOk result
-            (length self.new.steps.items ≡ length self.old.steps.items + 1) }
+        ensures sound { IsSound cnf.now self.new }
+        ensures ready { IsReady cnf.now self.new }
+        ensures back { GoesBack self.old self.new level }
     {
         let cut = self.starts[level];
         self.trail.truncate(cut);
         self.reasons.truncate(cut);
         self.starts.truncate(level);
+        self.seen = cut;
+    }
+
+    /// Adds a step, whose clause watches these literals and forces the first.
+    fn add_step(&mut self, cnf: &Cnf, step: Step, pair: Pair) -> Result<(), NoMemory>
+        requires sound { IsSound cnf.now self.old }
+        requires named { WellNamed cnf.now }
+        requires ready { IsReady cnf.now self.old }
+        requires numbered { length (clauses_of cnf.now self.old) < 2 ^ 32 }
+        requires follows { Follows cnf.now.vars (clauses_of cnf.now self.old)
+            (literals step.clause) step.hints }
+        requires new { IsNew (clauses_of cnf.now self.old) (literals step.clause) }
+        requires unforced { (i : ℕ) → i < length self.old.starts.items
+            → WeighsAs (take (slice_index self.old.starts.items i) (trues self.old.trail))
+            (literals step.clause) Weight.Open }
+        requires asserting { IsAsserting (trues self.old.trail) self.old.starts.items
+            (literals step.clause) pair }
+        ensures sound { OnOk result (IsSound cnf.now self.new) }
+        ensures ready { OnOk result (IsReady cnf.now self.new) }
+        ensures one { OnOk result
+            (length self.new.steps.items ≡ length self.old.steps.items + 1) }
+    {
+        let number = self.count(cnf) as u32;
+        self.push_step(cnf, step)?;
+        self.force(cnf, pair.first, number)?;
+        self.watch(cnf, pair)?;
+        Ok(())
+    }
+
+    /// Adds a step to the log.
+    fn push_step(&mut self, cnf: &Cnf, step: Step) -> Result<(), NoMemory>
+        requires sound { IsSound cnf.now self.old }
+        requires ready { IsReady cnf.now self.old }
+        requires follows { Follows cnf.now.vars (clauses_of cnf.now self.old)
+            (literals step.clause) step.hints }
+        requires new { IsNew (clauses_of cnf.now self.old) (literals step.clause) }
+        requires unforced { (i : ℕ) → i < length self.old.starts.items
+            → WeighsAs (take (slice_index self.old.starts.items i) (trues self.old.trail))
+            (literals step.clause) Weight.Open }
+        ensures sound { OnOk result (IsSound cnf.now self.new) }
+        ensures watched { OnOk result (HasWatches cnf.now self.new) }
+        ensures clauses { OnOk result (clauses_of cnf.now self.new
+            ≡ clauses_of cnf.now self.old ++ literals step.clause ∷ []) }
+        ensures steps { OnOk result
+            (length self.new.steps.items ≡ length self.old.steps.items + 1) }
+        ensures pairs { self.new.watches ≡ self.old.watches }
+        ensures trues { trues self.new.trail ≡ trues self.old.trail }
+        ensures starts { self.new.starts.items ≡ self.old.starts.items }
+        ensures seen { self.new.seen ≡ self.old.seen }
+    {
         self.steps.push(step)?;
         Ok(())
     }

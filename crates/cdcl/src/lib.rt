@@ -4,9 +4,12 @@
 
 mod analysis;
 mod answer;
+mod beginning;
+mod deciding;
 mod learning;
 mod order;
 mod propagation;
 mod search;
+mod watches;
 
 pub use answer::{Answer, solve};

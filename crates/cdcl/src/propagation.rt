@@ -1,36 +1,35 @@
-//! What is forced, and decisions where nothing is.
-ghost use Rattle.std.specs.Prelude.{[], ◌+◌, ◌<◌, ◌≡◌, ◌≤◌, ◌++◌, ◌∷◌, ◌^◌, IfOk, IsTrue, length, OnOk, option_map, pos, slice_get};
+//! Unit propagation: what is forced where literals become false.
+ghost use Rattle.std.specs.Prelude.{[], ◌+◌, ◌<◌, ◌≡◌, ◌≤◌, ◌++◌, ◌∷◌, ◌^◌, ◌||◌, IfOk, IsTrue, length, List, OnOk, option_map, slice_get, Some, ℤ};
+ghost use Rattle.std.specs.List.{All};
 ghost use Rattle.cnf_core.specs.Clauses.{literals};
-ghost use Rattle.cnf_core.specs.Deriving.{has_no_value};
-ghost use Rattle.cnf_core.specs.Literals.{Names};
-ghost use Rattle.cnf_core.specs.Satisfying.{HasAllValues, Satisfies, WellNamed};
+ghost use Rattle.cnf_core.specs.Deriving.{has_no_value, is_false};
+ghost use Rattle.cnf_core.specs.Literals.{has_literal, Names, opposite, same, variable};
+ghost use Rattle.cnf_core.specs.Satisfying.{WellNamed};
+ghost use Rattle.cnf_core.specs.Trails.{literal_at};
 ghost use Rattle.cnf_core.specs.TrailViews.{not_true, room, trues};
-ghost use Rattle.cdcl.specs.Searching.{IsClosed, IsForcedBy, IsTotal};
-ghost use Rattle.cdcl.specs.States.{CanDecide, clauses_of, Decides, FoundSoFar, IsSound, PassedAs, RanAs, SameSteps, Settled, WeighsNumber};
-ghost use Rattle.cdcl.specs.declared.search.Search.{Search};
+ghost use Rattle.cdcl.specs.Searching.{IsForcedBy};
+ghost use Rattle.cdcl.specs.States.{clauses_of, HasWatches, Inside, IsLonger, IsReady, IsSameButWatches, IsSound, LooksAt, Replaces, SameSteps, Settled, TakesEntry, VisitsClause, VisitsNumber, WatchesNext};
+ghost use Rattle.cdcl.specs.Watching.{IsEntry, IsLookedAt, list_of};
 
-use crate::order::Order;
-use crate::search::{Pass, Search};
-use cnf_core::{Assignment, Clause, Cnf, Lit, Trail, Weight, known_clause};
-use cocoon_num::{List, NoMemory};
-use std::alloc::Global;
+use crate::search::Search;
+use crate::watches::Pair;
+use cnf_core::{Clause, Cnf, Lit, known_clause};
+use cocoon_num::NoMemory;
+
+/// What becomes of a clause where a literal that it may watch is false.
+#[derive(Clone, Copy)]
+pub(crate) enum Visit {
+    /// It does not watch the literal, or watches a true one besides.
+    Kept,
+    /// It watches these two from now on, the second in place of the false one.
+    Moved(Pair),
+    /// This literal has no value, and all others are false.
+    Forces(Lit),
+    /// All its literals are false.
+    Conflict,
+}
 
 impl Search {
-    /// Nothing is true yet, and nothing is learned.
-    pub fn new(alloc: Global, cnf: &Cnf) -> Result<Search, NoMemory>
-        requires { WellNamed cnf.now }
-        ensures sound { IfOk result (λ search. IsSound cnf.now search) }
-        ensures steps { IfOk result (λ search. search.steps.items ≡ []) }
-    {
-        let trail = Trail::new(alloc, cnf.vars)?;
-        Ok(Search {
-            steps: Vec::new(alloc),
-            trail,
-            reasons: Vec::new(alloc),
-            starts: Vec::new(alloc),
-        })
-    }
-
     /// How many clauses there are, given and learned.
     pub fn count(&self, cnf: &Cnf) -> usize
         requires { length (clauses_of cnf.now self.now) < 2 ^ 32 }
@@ -47,204 +46,197 @@ impl Search {
         known_clause(cnf, &self.steps, number)
     }
 
-    /// What the clause of this number is under the literals that are true.
-    fn weigh(&self, cnf: &Cnf, number: usize) -> Weight
-        requires sound { IsSound cnf.now self.now }
-        requires named { WellNamed cnf.now }
-        requires within { number < length (clauses_of cnf.now self.now) }
-        ensures { WeighsNumber (room self.now.trail) (clauses_of cnf.now self.now)
-            (trues self.now.trail) number result }
-    {
-        match self.clause(cnf, number) {
-            Some(clause) => self.trail.weigh(clause),
-            None => Weight::Open,
-        }
-    }
-
     /// Makes the literal true that the clause of this number forces.
-    fn force(&mut self, cnf: &Cnf, lit: Lit, number: u32) -> Result<(), NoMemory>
+    pub fn force(&mut self, cnf: &Cnf, lit: Lit, number: u32) -> Result<(), NoMemory>
         requires sound { IsSound cnf.now self.old }
         requires named { Names (room self.old.trail) lit.number }
         requires no_value { IsTrue (has_no_value (trues self.old.trail) lit.number) }
         requires forced { IsForcedBy (clauses_of cnf.now self.old)
             (trues self.old.trail ++ lit.number ∷ []) (length (trues self.old.trail)) number }
+        requires watched { HasWatches cnf.now self.old }
         ensures sound { OnOk result (IsSound cnf.now self.new) }
+        ensures watched { OnOk result (HasWatches cnf.now self.new) }
         ensures steps { SameSteps self.old self.new }
+        ensures starts { self.new.starts.items ≡ self.old.starts.items }
+        ensures watches { self.new.watches ≡ self.old.watches }
+        ensures seen { self.new.seen ≡ self.old.seen }
         ensures trues { OnOk result
             (trues self.new.trail ≡ trues self.old.trail ++ lit.number ∷ []) }
         ensures fewer { OnOk result (not_true self.new.trail < not_true self.old.trail) }
     {
         self.trail.push(lit)?;
-        self.reasons.push(number)?;
+        self.reasons.push(Some(number))?;
         Ok(())
     }
 
-    /// Takes each clause once, and makes true what it forces.
-    fn pass(&mut self, cnf: &Cnf) -> Result<Pass, NoMemory>
+    /// The next clause watches these literals.
+    pub fn watch(&mut self, cnf: &Cnf, pair: Pair) -> Result<(), NoMemory>
         requires sound { IsSound cnf.now self.old }
         requires named { WellNamed cnf.now }
-        requires numbered { length (clauses_of cnf.now self.old) < 2 ^ 32 }
+        requires numbered { length self.old.watches.pairs.items < 2 ^ 32 }
+        requires watched { HasWatches cnf.now self.old }
+        requires next { WatchesNext cnf.now self.old pair }
         ensures sound { OnOk result (IsSound cnf.now self.new) }
-        ensures steps { SameSteps self.old self.new }
-        ensures fewer { OnOk result (not_true self.new.trail ≤ not_true self.old.trail) }
-        ensures passed { IfOk result (λ pass. PassedAs cnf.now self.old self.new pass) }
+        ensures watched { OnOk result (HasWatches cnf.now self.new) }
+        ensures count { OnOk result (length self.new.watches.pairs.items
+            ≡ length self.old.watches.pairs.items + 1) }
+        ensures same { IsSameButWatches self.old self.new }
     {
-        let mut pass = Pass::Closed;
-        for number in 0..self.count(cnf) {
-            pass = self.take(cnf, number, pass)?;
-            if matches!(pass, Pass::Conflict(_)) {
-                return Ok(pass);
-            }
-        }
-        Ok(pass)
+        self.watches.add(pair)?;
+        Ok(())
     }
 
-    /// Takes one clause.
-    fn take(&mut self, cnf: &Cnf, number: usize, pass: Pass) -> Result<Pass, NoMemory>
-        requires sound { IsSound cnf.now self.old }
-        requires named { WellNamed cnf.now }
-        requires numbered { length (clauses_of cnf.now self.old) < 2 ^ 32 }
-        requires within { number < length (clauses_of cnf.now self.old) }
-        ensures sound { OnOk result (IsSound cnf.now self.new) }
-        ensures steps { SameSteps self.old self.new }
-        ensures fewer { OnOk result (not_true self.new.trail ≤ not_true self.old.trail) }
-        ensures found { IfOk result (λ next. (first : Search)
-            → not_true self.old.trail ≤ not_true first.trail
-            → FoundSoFar cnf.now first self.old number pass
-            → FoundSoFar cnf.now first self.new (number + 1) next) }
+    /// Whether a literal is this one, or false.
+    fn is_spent(&self, lit: Lit, other: Lit) -> bool
+        requires { variable lit.number ≤ room self.now.trail }
+        ensures { result ≡ (same other.number lit.number
+            || is_false (trues self.now.trail) lit.number) }
     {
-        match self.weigh(cnf, number) {
-            Weight::Conflict => Ok(Pass::Conflict(number as u32)),
-            Weight::Forces(lit) => {
-                self.force(cnf, lit, number as u32)?;
-                Ok(Pass::Forced)
-            }
-            Weight::Open => Ok(pass),
-        }
+        other.is_same(lit) || self.trail.is_false(lit)
     }
 
-    /// Makes true what is forced, until nothing is or a clause is a conflict, whose number it gives then.
-    fn propagate(&mut self, cnf: &Cnf) -> Result<Option<u32>, NoMemory>
-        requires sound { IsSound cnf.now self.old }
-        requires named { WellNamed cnf.now }
-        requires numbered { length (clauses_of cnf.now self.old) < 2 ^ 32 }
-        ensures sound { OnOk result (IsSound cnf.now self.new) }
-        ensures steps { SameSteps self.old self.new }
-        ensures fewer { OnOk result (not_true self.new.trail ≤ not_true self.old.trail) }
-        ensures settled { IfOk result (λ found. Settled cnf.now self.new found) }
+    /// A literal of a clause that is not false, besides this one.
+    fn replacement(&self, clause: &Clause, other: Lit) -> Option<Lit>
+        requires { All (Names (room self.now.trail)) (literals clause.now) }
+        ensures { Replaces (trues self.now.trail) (literals clause.now) other.number result }
     {
-        loop {
-            match self.pass(cnf)? {
-                Pass::Conflict(number) => return Ok(Some(number)),
-                Pass::Closed => return Ok(None),
-                Pass::Forced => (),
-            }
-        }
-    }
-
-    /// The last variable that has no value. Clauses of goals number a gate after what it is made of, so it is one near the
-    /// goal.
-    fn last_open(&self) -> Option<Lit>
-        ensures { Decides (room self.now.trail) (trues self.now.trail) result }
-    {
-        for index in (0..self.trail.vars()).rev() {
-            let lit = positive(index + 1);
-            if !self.trail.has_value(lit) {
-                return Some(lit);
+        for lit in clause.lits.items() {
+            if !self.is_spent(*lit, other) {
+                return Some(*lit);
             }
         }
         None
     }
 
-    /// The variable without a value that comes first in the order; among equals the last one. `last` is the last one of all.
-    fn first_open(&self, order: &Order, last: Lit) -> Lit
-        requires { CanDecide (room self.now.trail) (trues self.now.trail) last }
-        ensures { CanDecide (room self.now.trail) (trues self.now.trail) result }
+    /// What becomes of a clause that watches this literal of its own besides one that is false.
+    pub fn visit_clause(&self, clause: &Clause, other: Lit) -> Visit
+        requires named { All (Names (room self.now.trail)) (literals clause.now) }
+        requires inside { IsTrue (has_literal (literals clause.now) other.number) }
+        ensures { VisitsClause (trues self.now.trail) (literals clause.now) other.number result }
     {
-        let mut first = last;
-        for index in (0..self.trail.vars()).rev() {
-            let lit = positive(index + 1);
-            if !self.trail.has_value(lit) && order.is_before(lit, first) {
-                first = lit;
-            }
+        if self.trail.is_true(other) {
+            return Visit::Kept;
         }
-        first
-    }
-
-    /// The variable that is decided next.
-    fn next_decision(&self, order: &Order) -> Option<Lit>
-        ensures { Decides (room self.now.trail) (trues self.now.trail) result }
-    {
-        match self.last_open() {
-            Some(last) => Some(self.first_open(order, last)),
-            None => None,
+        if let Some(second) = self.replacement(clause, other) {
+            return Visit::Moved(Pair {
+                first: other,
+                second,
+            });
+        }
+        if self.trail.is_false(other) {
+            Visit::Conflict
+        } else {
+            Visit::Forces(other)
         }
     }
 
-    /// Begins a level.
-    fn decide(&mut self, cnf: &Cnf, lit: Lit) -> Result<(), NoMemory>
-        requires sound { IsSound cnf.now self.old }
-        requires named { Names (room self.old.trail) lit.number }
-        requires no_value { IsTrue (has_no_value (trues self.old.trail) lit.number) }
-        requires closed { IsClosed (clauses_of cnf.now self.old) (trues self.old.trail) }
-        ensures sound { OnOk result (IsSound cnf.now self.new) }
-        ensures steps { SameSteps self.old self.new }
-        ensures fewer { OnOk result (not_true self.new.trail < not_true self.old.trail) }
-    {
-        self.starts.push(self.trail.len())?;
-        self.trail.push(lit)?;
-        self.reasons.push(0)?;
-        Ok(())
-    }
-
-    /// Goes on until a clause is a conflict, whose number it gives then, or each variable has a value and none is.
-    pub fn run(&mut self, cnf: &Cnf, order: &Order) -> Result<Option<u32>, NoMemory>
-        requires sound { IsSound cnf.now self.old }
-        requires named { WellNamed cnf.now }
-        requires numbered { length (clauses_of cnf.now self.old) < 2 ^ 32 }
-        ensures sound { OnOk result (IsSound cnf.now self.new) }
-        ensures steps { SameSteps self.old self.new }
-        ensures ran { IfOk result (λ found. RanAs cnf.now self.new found) }
-    {
-        loop {
-            if let Some(conflict) = self.propagate(cnf)? {
-                return Ok(Some(conflict));
-            }
-            match self.next_decision(order) {
-                Some(lit) => self.decide(cnf, lit)?,
-                None => return Ok(None),
-            }
-        }
-    }
-}
-
-impl Search {
-    /// The values of the variables.
-    pub fn assignment(&self, alloc: Global, cnf: &Cnf) -> Result<Assignment, NoMemory>
+    /// The same for the clause of this number.
+    fn visit_number(&self, cnf: &Cnf, number: u32, other: Lit) -> Visit
         requires sound { IsSound cnf.now self.now }
         requires named { WellNamed cnf.now }
-        requires closed { IsClosed (clauses_of cnf.now self.now) (trues self.now.trail) }
-        requires total { IsTotal cnf.now.vars (trues self.now.trail) }
-        ensures values { IfOk result (λ assignment. HasAllValues cnf.now assignment) }
-        ensures satisfies { IfOk result (λ assignment. Satisfies assignment cnf.now) }
+        requires inside { Inside (clauses_of cnf.now self.now) number other.number }
+        ensures { (clause : List ℤ) → slice_get (clauses_of cnf.now self.now) number ≡ Some clause
+            → VisitsClause (trues self.now.trail) clause other.number result }
     {
-        let mut values = Vec::new(alloc);
-        for index in 0..cnf.vars {
-            values.push(self.trail.is_true(positive(index + 1)))?;
+        match self.clause(cnf, number as usize) {
+            Some(clause) => self.visit_clause(clause, other),
+            None => Visit::Kept,
         }
-        Ok(Assignment {
-            values: List::from(values),
-        })
     }
-}
 
-/// The literal that is true where this variable is.
-fn positive(variable: u32) -> Lit
-    requires some { 1 ≤ variable }
-    requires few { variable < 2 ^ 31 }
-    ensures { result.number ≡ pos variable }
-{
-    Lit {
-        number: variable as i32,
+    /// What becomes of the clause of this number where this literal is false.
+    fn visit(&self, cnf: &Cnf, number: u32, off: Lit) -> Visit
+        requires sound { IsSound cnf.now self.now }
+        requires named { WellNamed cnf.now }
+        requires ready { IsReady cnf.now self.now }
+        ensures { VisitsNumber cnf.now self.now number off.number result }
+    {
+        match self.watches.other(number, off) {
+            Some(other) => self.visit_number(cnf, number, other),
+            None => Visit::Kept,
+        }
+    }
+
+    /// Looks at the clause of this number, at this place of the list of a literal that is false. Gives the place that is
+    /// next, if the clause is no conflict.
+    fn look_at_clause(
+        &mut self,
+        cnf: &Cnf,
+        off: Lit,
+        at: usize,
+        number: u32,
+    ) -> Result<Option<usize>, NoMemory>
+        requires sound { IsSound cnf.now self.old }
+        requires named { WellNamed cnf.now }
+        requires ready { IsReady cnf.now self.old }
+        requires false_now { self.old.seen < length (trues self.old.trail) }
+        requires off { literal_at (trues self.old.trail) self.old.seen ≡ opposite off.number }
+        requires entry { IsEntry (list_of self.old.watches off.number) at number }
+        requires before { IsLookedAt (trues self.old.trail) self.old.watches off.number at }
+        ensures sound { OnOk result (IsSound cnf.now self.new) }
+        ensures ready { OnOk result (IsReady cnf.now self.new) }
+        ensures steps { SameSteps self.old self.new }
+        ensures seen { self.new.seen ≡ self.old.seen }
+        ensures trues { OnOk result (IsLonger self.old self.new) }
+        ensures next { IfOk result (λ next. TakesEntry cnf.now self.old self.new off.number at
+            number next) }
+    {
+        match self.visit(cnf, number, off) {
+            Visit::Kept => Ok(Some(at + 1)),
+            Visit::Moved(pair) => {
+                self.watches.change(off, at, pair)?;
+                Ok(Some(at))
+            }
+            Visit::Forces(lit) => {
+                self.force(cnf, lit, number)?;
+                Ok(Some(at + 1))
+            }
+            Visit::Conflict => Ok(None),
+        }
+    }
+
+    /// Looks at each clause that watches a literal, which is false. Gives the number of a conflict.
+    fn look_at(&mut self, cnf: &Cnf, off: Lit) -> Result<Option<u32>, NoMemory>
+        requires sound { IsSound cnf.now self.old }
+        requires named { WellNamed cnf.now }
+        requires ready { IsReady cnf.now self.old }
+        requires false_now { self.old.seen < length (trues self.old.trail) }
+        requires off { literal_at (trues self.old.trail) self.old.seen ≡ opposite off.number }
+        ensures sound { OnOk result (IsSound cnf.now self.new) }
+        ensures ready { OnOk result (IsReady cnf.now self.new) }
+        ensures steps { SameSteps self.old self.new }
+        ensures seen { self.new.seen ≡ self.old.seen }
+        ensures trues { OnOk result (IsLonger self.old self.new) }
+        ensures found { IfOk result (λ found. LooksAt cnf.now self.new off.number found) }
+    {
+        let mut at = 0;
+        while let Some(number) = self.watches.entry(off, at) {
+            match self.look_at_clause(cnf, off, at, number)? {
+                Some(next) => at = next,
+                None => return Ok(Some(number)),
+            }
+        }
+        Ok(None)
+    }
+
+    /// Makes true what is forced, until nothing is or a clause is a conflict, whose number it gives then.
+    pub fn propagate(&mut self, cnf: &Cnf) -> Result<Option<u32>, NoMemory>
+        requires sound { IsSound cnf.now self.old }
+        requires named { WellNamed cnf.now }
+        requires ready { IsReady cnf.now self.old }
+        ensures sound { OnOk result (IsSound cnf.now self.new) }
+        ensures ready { OnOk result (IsReady cnf.now self.new) }
+        ensures steps { SameSteps self.old self.new }
+        ensures fewer { OnOk result (not_true self.new.trail ≤ not_true self.old.trail) }
+        ensures settled { IfOk result (λ found. Settled cnf.now self.new found) }
+    {
+        while self.seen < self.trail.len() {
+            let lit = self.trail.literal(self.seen);
+            if let Some(conflict) = self.look_at(cnf, lit.opposite())? {
+                return Ok(Some(conflict));
+            }
+            self.seen += 1;
+        }
+        Ok(None)
     }
 }

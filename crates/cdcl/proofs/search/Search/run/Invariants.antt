@@ -1,10 +1,11 @@
 use Rattle.cnf_core.specs.TrailViews.{not_true}
-use Rattle.cdcl.specs.States.{IsSound, SameSteps}
+use Rattle.cdcl.specs.States.{IsReady, IsSound, SameSteps}
 use Rattle.cdcl.proofs.search.Search.run.Given as goal
 
 abbrev pub invariant-loop-conflict : goal.invariant-loop-conflict
 invariant-loop-conflict l = record {
   sound : IsSound l.cnf l.self;
+  ready : IsReady l.cnf l.self;
   same : SameSteps l.fn.self l.self;
 }
 

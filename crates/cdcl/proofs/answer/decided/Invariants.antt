@@ -1,10 +1,11 @@
 use Rattle.std.proofs.Common.{◌-◌, ◌≤◌, length}
-use Rattle.cdcl.specs.States.{IsSound}
-use Rattle.cdcl.proofs.answer.solve.Given as goal
+use Rattle.cdcl.specs.States.{IsReady, IsSound}
+use Rattle.cdcl.proofs.answer.decided.Given as goal
 
 abbrev pub invariant-loop-alloc : goal.invariant-loop-alloc
 invariant-loop-alloc l = record {
   sound : IsSound l.cnf l.search;
+  ready : IsReady l.cnf l.search;
   within : length l.search.steps.items ≤ l.conflicts;
 }
 

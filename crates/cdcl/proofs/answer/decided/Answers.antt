@@ -1,26 +1,21 @@
-use Rattle.std.proofs.Common.{◌≡◌, ◌+◌, ◌<◌, ◌∙◌, List, ap, arith, length, subst, sym, ℕ}
-use Rattle.cnf_core.specs.Deriving.{EachDerived, EndsEmpty}
+use Rattle.std.proofs.Common.{◌≡◌, ◌<◌, ◌∙◌, List, ap, arith, length, subst, sym, ℕ}
+use Rattle.cnf_core.specs.Deriving.{EachDerived}
 use Rattle.cnf_core.specs.Licensing.{BringsNew}
 use Rattle.cnf_core.specs.declared.log.Step.{Step}
 use Rattle.cdcl.specs.States.{RanAs}
-use Rattle.cdcl.proofs.answer.solve.Goals as goal
+use Rattle.cdcl.proofs.FirstClauses.{if-ok-weaker, known-count}
+use Rattle.cdcl.proofs.answer.decided.Goals as goal
 
 pub returns-then-is_empty : goal.returns-then-is_empty
 returns-then-is_empty c =
-    let cnf = c.args.cnf.now in
-    let log = c.into_log.ensures in
-    let r = c.in_ok-refute.ensures in
-    let before : List Step → Type 0 = λ ss. (k : ℕ) → k + 1 < length ss → BringsNew cnf ss k in
-    record {
-      within = omega (arith, ap length log, r.one, ap length c.run.ensures.steps, c.loop-alloc-test.true, c.len.ensures, c.loop-alloc.search.steps.ok.0);
-      derives = (subst (EachDerived cnf) (sym log) r.derived, subst EndsEmpty (sym log) r.ends);
-      new = subst before (sym log) r.new_before;
-    }
+    let budget = c.args.conflicts in
+    let less : length c.run.new.self.steps.items < budget = omega (arith, ap length c.run.ensures.steps, c.loop-alloc-test.true, c.len.ensures, c.loop-alloc.search.steps.ok.0) in
+    if-ok-weaker c.unsat.result (λ answer h. h budget less) c.unsat.ensures
 
 pub returns : goal.returns
 returns c =
     let cnf = c.args.cnf.now in
-    let log = c.into_log-2.ensures in
+    let log = c.into_log.ensures in
     let sound = c.loop-alloc.invariant.sound in
     let count : length c.loop-alloc.search.steps.items ≡ c.args.conflicts = omega (arith, c.loop-alloc.invariant.within, c.loop-alloc-test.false, c.len.ensures, c.loop-alloc.search.steps.ok.0) in
     let each_new : List Step → Type 0 = λ ss. (k : ℕ) → k < c.args.conflicts → BringsNew cnf ss k in
@@ -33,11 +28,15 @@ returns c =
 pub loop-alloc-preserved : goal.loop-alloc-preserved
 loop-alloc-preserved c = record {
   sound = c.in_ok-learn.ensures.sound;
+  ready = c.in_ok-learn.ensures.ready;
   within = omega (arith, c.in_ok-learn.ensures.one, ap length c.in_ok-conflict.ensures.steps, c.loop-alloc-test.true, c.len.ensures, c.loop-alloc.search.steps.ok.0);
 }
+
+pub learn-requires-clause-numbered : goal.learn-requires-clause-numbered
+learn-requires-clause-numbered c = omega (arith, known-count c.args.cnf.now c.run.new.self.steps.items, ap length c.in_ok-conflict.ensures.steps, c.loop-alloc-test.true, c.len.ensures, c.loop-alloc.search.steps.ok.0, c.requires.numbered)
 
 pub learn-requires-clause-conflict : goal.learn-requires-clause-conflict
 learn-requires-clause-conflict c = subst (RanAs c.args.cnf.now c.run.new.self) c.in-Some.is c.in_ok-conflict.ensures.ran
 
-pub refute-requires-clause-conflict : goal.refute-requires-clause-conflict
-refute-requires-clause-conflict c = subst (RanAs c.args.cnf.now c.run.new.self) c.in-Some.is c.in_ok-conflict.ensures.ran
+pub unsat-requires-clause-conflict : goal.unsat-requires-clause-conflict
+unsat-requires-clause-conflict c = subst (RanAs c.args.cnf.now c.run.new.self) c.in-Some.is c.in_ok-conflict.ensures.ran

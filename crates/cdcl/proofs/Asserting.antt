@@ -1,0 +1,82 @@
+-- A learned clause that is watched, and forces a literal.
+use Rattle.std.proofs.Common.{◌≡◌, ◌≢◌, ℕ, ◌<◌, ◌≤◌, ◌&&◌, ◌||◌, ℤ, pos, true, List, [], ◌∷◌, ◌++◌, length, refl, sym, ap, ◌∙◌, subst, arith, inl, inr}
+use Rattle.std.specs.Prelude.{slice_get}
+use Rattle.std.proofs.lemmas.Bool.{and_parts, both_ways}
+use Rattle.std.proofs.lemmas.List.{get_or_append_left, get_or_push, length_push}
+use Rattle.cocoon_num.specs.Lists.{each}
+use Rattle.cnf_core.specs.Deriving.{forces, has_no_value, is_false}
+use Rattle.cnf_core.specs.Literals.{has_literal, opposite, same}
+use Rattle.cnf_core.specs.Trails.{literal_at}
+use Rattle.cnf_core.proofs.LiteralFacts.{has-at, has-place}
+use Rattle.cdcl.specs.Searching.{IsForcedBy}
+use Rattle.cdcl.specs.States.{IsAsserting}
+use Rattle.cdcl.specs.Watching.{IsWatching}
+use Rattle.cdcl.specs.declared.watches.Pair.{Pair}
+use Rattle.cdcl.proofs.Jumping.{get-last}
+use Rattle.cdcl.proofs.Membership.{forced-parts}
+use Rattle.cdcl.proofs.Trailing.{forced-here}
+
+pub unset : (ts c : List ℤ) (l : ℤ) → forces ts c l ≡ true → has_no_value ts l ≡ true
+unset ts c l h =
+    let first = and_parts (has_literal c l) (has_no_value ts l && each (λ m. same l m || is_false ts m) c) h in
+    (and_parts (has_no_value ts l) (each (λ m. same l m || is_false ts m) c) first.1).0
+
+pub asserted-reason : (cs ds : List (List ℤ)) (c ts us : List ℤ) (l : ℤ) (n : ℕ) → ds ≡ cs ++ c ∷ [] → us ≡ ts → n ≡ length cs → forces ts c l ≡ true → IsForcedBy ds (us ++ l ∷ []) (length us) n
+asserted-reason cs ds c ts us l n e k is f = subst (λ es. IsForcedBy es (us ++ l ∷ []) (length us) n) (sym e)
+    (forced-here (cs ++ c ∷ []) us l c n (ap (slice_get (cs ++ c ∷ [])) is ∙ get-last cs c) (subst (λ vs. forces vs c l ≡ true) (sym k) f))
+
+pub asserted-watching : (ts us : List ℤ) (seen : ℕ) (starts : List ℕ) (c : List ℤ) (pair : Pair) → seen ≤ length ts → us ≡ ts ++ pair.first.number ∷ [] → IsAsserting ts starts c pair
+    → IsWatching us seen starts c pair
+asserted-watching ts us seen starts c pair within e h =
+    let f = forced-parts ts c pair.first.number h.forces in
+    subst (λ vs. IsWatching vs seen starts c pair) (sym e) (record {
+      inside = λ a b are. elim are [
+        | inl x ↦ ap (has_literal c) (sym x.0) ∙ f.within
+        | inr y ↦ ap (has_literal c) (sym y.0) ∙ h.inside
+      ];
+      beside = λ a b are p lt is.
+          let lt_p : p < length ts = omega (arith, lt, within) in
+          let here : literal_at ts p ≡ opposite a = sym (get_or_append_left ts (pair.first.number ∷ []) (pos 0) p lt_p) ∙ is in
+          elim are [
+            | inl x ↦ absurd (both_ways (is_false ts pair.first.number) f.not_false (ap (has_literal ts) (ap opposite x.0 ∙ sym here) ∙ has-at ts p lt_p))
+            | inr y ↦ record {
+              place = length ts;
+              within = omega (arith, length_push ts pair.first.number);
+              literal = get_or_push ts pair.first.number (pos 0) (length ts) refl ∙ y.1;
+              early = λ i lt_i less. absurd (omega (arith, h.last p i lt_p (here ∙ ap opposite (sym y.0)) lt_i, less));
+            }
+          ];
+      two = elim h.two [
+        | inl differ ↦ inl differ
+        | inr none ↦ inr (record {
+          place = length ts;
+          within = omega (arith, length_push ts pair.first.number);
+          literal = get_or_push ts pair.first.number (pos 0) (length ts) refl;
+          first = λ i lt_i. absurd (omega (arith, lt_i, none));
+        })
+      ];
+    })
+
+-- before any decision, and before anything was looked at
+module _ (ts : List ℤ) (seen : ℕ) (starts : List ℕ) (c : List ℤ) (pair : Pair) (early : seen ≡ 0) (undecided : starts ≡ []) where
+  pub begun-once : pair.second.number ≡ pair.first.number → has_literal c pair.first.number ≡ true → has_literal ts pair.first.number ≡ true → IsWatching ts seen starts c pair
+  begun-once is inside on =
+      let r = has-place ts pair.first.number on in
+      record {
+        inside = λ a b are. elim are [
+          | inl x ↦ ap (has_literal c) (sym x.0) ∙ inside
+          | inr y ↦ ap (has_literal c) (sym y.0 ∙ is) ∙ inside
+        ];
+        beside = λ a b are p lt. absurd (omega (arith, lt, early));
+        two = inr (record { place = r.0; within = r.1; literal = r.2; first = λ i lt. absurd (omega (arith, lt, ap length undecided)) });
+      }
+
+  pub begun-twice : pair.second.number ≢ pair.first.number → has_literal c pair.first.number ≡ true → has_literal c pair.second.number ≡ true → IsWatching ts seen starts c pair
+  begun-twice differ inside beside = record {
+    inside = λ a b are. elim are [
+      | inl x ↦ ap (has_literal c) (sym x.0) ∙ inside
+      | inr y ↦ ap (has_literal c) (sym y.0) ∙ beside
+    ];
+    beside = λ a b are p lt. absurd (omega (arith, lt, early));
+    two = inl (λ e. differ (sym e));
+  }
