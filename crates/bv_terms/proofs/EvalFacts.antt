@@ -17,7 +17,7 @@ use Rattle.bv_terms.specs.Arenas.{parts, args_of, made_of, term_at, width_at, Wi
 use Rattle.bv_terms.specs.Environments.{Covers, CoversArgs, HasTable, functions_of, inputs_of}
 use Rattle.bv_terms.specs.Needed.{AreNeeded, IsMarked}
 use Rattle.bv_terms.specs.Evaluated.{value_in, width_in, numbers_in, node_value, HasNode, IsReady, AreValues}
-use Rattle.bv_terms.proofs.ArenaFacts.{snoc-old, snoc-last}
+use Rattle.bv_terms.proofs.Seams.{snoc-old, snoc-last}
 use Rattle.bv_terms.proofs.ValueFacts.{value-width}
 
 -- ---- a term that an environment covers

@@ -1,3 +1,5 @@
+pub mod Seams
+pub mod KeyFacts
 pub mod NodeFacts
 pub mod ArenaFacts
 pub mod ValueFacts

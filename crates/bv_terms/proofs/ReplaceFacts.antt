@@ -10,11 +10,12 @@ use Rattle.std.proofs.lemmas.Option.{slice_get_within, slice_get-get_or}
 use Rattle.bv_terms.specs.declared.node.Node.{Node}
 use Rattle.bv_terms.specs.declared.node.Node.TheVariants.{Constant, Input, Apply, Not, Binary, Slice, Pick}
 use Rattle.bv_terms.specs.TermTrees.{Term, input, apply, not_, slice, width, joined_width, OperandsFit, IsTerm}
-use Rattle.bv_terms.specs.Arenas.{parts, args_of, made_of, term_at, width_at, node_width, inputs_in, WidthsFit, IsArena, IsAppended, KeepsTerms, CanFollow, count_input, GrowsBy}
+use Rattle.bv_terms.specs.Arenas.{parts, args_of, made_of, term_at, width_at, node_width, inputs_in, WidthsFit, IsArena, IsPut, KeepsTerms, CanFollow, count_input, GrowsBy}
 use Rattle.bv_terms.specs.Replacements.{Replacing, replaced, replaced_args, beside, HasWidthOf}
 use Rattle.bv_terms.specs.Needed.{AreNeeded, IsMarked}
 use Rattle.bv_terms.specs.Rebuilt.{with_parts, in_place_of, IsRebuilt, IsUnchanged, CanRebuild, IsTable, IsReplaced, AreReplaced}
 use Rattle.bv_terms.proofs.EvalFacts.{fit-of}
+use Rattle.bv_terms.proofs.ArenaFacts.{input-below}
 use Rattle.bv_terms.proofs.NodeFacts.{made-same, node-width}
 
 -- ---- nodes with other parts
@@ -111,31 +112,6 @@ beside-zip R (j ∷ js) (y ∷ ys) i x a h =
       | inr e ↦ beside-zip R js ys i x a.1 (sym (cond-false (j == i) (Some y) (beside js ys i) e) ∙ h)
     ]
 
--- ---- inputs are fewer before a later one
-
-count-grows : (c : ℕ) (n : Node) → c ≤ count_input c n
-count-grows c (Constant b) = omega arith
-count-grows c (Input i v) = omega arith
-count-grows c (Apply g args v) = omega arith
-count-grows c (Not a) = omega arith
-count-grows c (Binary op a b) = omega arith
-count-grows c (Slice a high low) = omega arith
-count-grows c (Pick d a b) = omega arith
-
-counts-grow : (c : ℕ) (ns : List Node) → c ≤ fold count_input c ns
-counts-grow c [] = omega arith
-counts-grow c (n ∷ ns) = let l = count-grows c n in let m = counts-grow (count_input c n) ns in omega arith
-
-fewer : (c : ℕ) (ns : List Node) (k i w : ℕ) → slice_get ns k ≡ Some (Input i w) → fold count_input c (take k ns) < fold count_input c ns
-fewer c [] k i w e = absurd cc
-fewer c (n ∷ ns) zero i w e =
-    let n-is : n ≡ Input i w = cc in
-    subst (λ m. c < fold count_input (count_input c m) ns) (sym n-is) (let l = counts-grow (suc c) ns in omega arith)
-fewer c (n ∷ ns) (suc k) i w e = fewer (count_input c n) ns k i w e
-
-pub input-below : (ns : List Node) (k i w : ℕ) → IsArena ns → slice_get ns k ≡ Some (Input i w) → i < inputs_in ns
-input-below ns k i w a e = subst (λ j. j < inputs_in ns) (sym (a.inputs k i w e)) (fewer 0 ns k i w e)
-
 -- ---- arenas that grow
 
 pub keeps-none : (ns : List Node) → KeepsTerms ns ns
@@ -231,7 +207,7 @@ can-rebuild orig now r id marks table ids (Pick c a b) h t m e = others orig now
 
 appended-replaced : (orig now new : List Node) (r : Replacing) (id : ℕ) (marks : List Bool) (ids : List ℕ) (node : Node) (next : ℕ)
     → Rebuilding orig now r id marks ids → IsMarked marks (length ids) → slice_get orig (length ids) ≡ Some node → count_input 0 node ≡ 0
-    → IsAppended now new (with_parts ids node) next → IsReplaced orig new r (length ids) next
+    → IsPut now new (with_parts ids node) next → IsReplaced orig new r (length ids) next
 appended-replaced orig now new r id marks ids node next h m e z a =
     let k = length ids in
     let done = parts-done orig now r id marks ids node h m e in
@@ -239,7 +215,7 @@ appended-replaced orig now new r id marks ids node next h m e z a =
     let terms = weaker (λ p. IsReplaced orig now r p (slice_index ids p)) (λ p. term_at now (slice_index ids p) ≡ replaced r (term_at orig p)) (parts node) (λ p q. q.term) done in
     let made : term_at orig k ≡ made_of (term_at orig) node = h.arena.made k node e in
     record {
-      there = omega (arith, a.at, ap length a.nodes, length-append now (with_parts ids node ∷ []));
+      there = a.there;
       width = ap width a.term ∙ node-width (term_at now) (with_parts ids node) ∙ width-with (width_at now) (width_at orig) ids node widths
           ∙ sym (node-width (term_at orig) node) ∙ ap width (sym made);
       term = a.term ∙ made-with (term_at orig) (term_at now) r ids node z terms ∙ ap (replaced r) (sym made);
@@ -267,7 +243,7 @@ unchanged-replaced orig now new r id marks ids node next h m e z s =
 
 other-replaced : (orig now new : List Node) (r : Replacing) (id : ℕ) (marks : List Bool) (ids : List ℕ) (node : Node) (next : ℕ)
     → Rebuilding orig now r id marks ids → IsMarked marks (length ids) → slice_get orig (length ids) ≡ Some node → count_input 0 node ≡ 0
-    → IsAppended now new (with_parts ids node) next ⊎ IsUnchanged now new ids (length ids) node next → IsReplaced orig new r (length ids) next
+    → IsPut now new (with_parts ids node) next ⊎ IsUnchanged now new ids (length ids) node next → IsReplaced orig new r (length ids) next
 other-replaced orig now new r id marks ids node next h m e z (inl a) = appended-replaced orig now new r id marks ids node next h m e z a
 other-replaced orig now new r id marks ids node next h m e z (inr s) = unchanged-replaced orig now new r id marks ids node next h m e z s
 

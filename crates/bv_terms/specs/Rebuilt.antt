@@ -2,7 +2,7 @@
 use Rattle.std.specs.Prelude.{◌≡◌, ℕ, ◌<◌, ◌⊎◌, Bool, List, All, length, map, Option, Some, unwrap_or, option_and_then, slice_get, slice_index}
 use Rattle.bv_terms.specs.declared.node.Node.{Node}
 use Rattle.bv_terms.specs.declared.node.Node.TheVariants.{Constant, Input, Apply, Not, Binary, Slice, Pick}
-use Rattle.bv_terms.specs.Arenas.{parts, term_at, width_at, node_width, inputs_in, CanFollow, IsAppended}
+use Rattle.bv_terms.specs.Arenas.{parts, term_at, width_at, node_width, inputs_in, CanFollow, IsPut}
 use Rattle.bv_terms.specs.Replacements.{Replacing, replaced, beside}
 use Rattle.bv_terms.specs.Needed.{IsMarked}
 
@@ -28,7 +28,7 @@ IsUnchanged old new ids own node id = (new ≡ old) × (id ≡ own) × (with_par
 abbrev pub IsRebuilt : (old new : List Node) → List (Option ℕ) → List ℕ → (own : ℕ) → Node → ℕ → Type 0
 IsRebuilt old new table ids own (Input i w) id = (new ≡ old) × (id ≡ in_place_of table i own)
 IsRebuilt old new table ids own node id =
-    IsAppended old new (with_parts ids node) id ⊎ IsUnchanged old new ids own node id
+    IsPut old new (with_parts ids node) id ⊎ IsUnchanged old new ids own node id
 
 -- and when it can
 abbrev pub CanRebuild : List Node → List (Option ℕ) → List ℕ → Node → Type 0

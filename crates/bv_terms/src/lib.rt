@@ -3,6 +3,7 @@
 
 pub mod arena;
 pub mod eval;
+mod keys;
 mod needed;
 pub mod node;
 mod substitute;

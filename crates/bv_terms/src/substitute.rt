@@ -143,7 +143,7 @@ impl Terms {
             return Ok(own);
         }
         let node = with_parts(alloc, ids, self.node(own))?;
-        self.append(node, self.width(own))
+        self.put(node, self.width(own))
     }
 
     /// The term in which each of these inputs is replaced by the term beside it. At most as many terms are put in as stand up

@@ -10,8 +10,8 @@ in_place_of-requires c =
     let t : c.args.needed ≡ true = search (rules, not-false) in
     subst (CanRebuild c.args.self.now c.args.table.now c.args.ids.now) c.in-Input.is (c.requires.can t c.node.result.now c.node.ensures.node)
 
-pub append-requires : goal.append-requires
-append-requires c =
+pub put-requires : goal.put-requires
+put-requires c =
     let t : c.args.needed ≡ true = search (rules, not-false) in
     let same : c.node.result.now ≡ c.node-3.result.now = (let p : Some c.node.result.now ≡ Some c.node-3.result.now = sym c.node.ensures.node ∙ c.node-3.ensures.node in cc) in
     let other : (i w : ℕ) → c.node-3.result.now ≡ Input i w → ⊥ = λ i w e. c.in_default.not-Input i w (same ∙ e) in
