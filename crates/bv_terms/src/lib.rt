@@ -4,6 +4,7 @@
 pub mod arena;
 pub mod eval;
 mod keys;
+pub mod laws;
 mod needed;
 pub mod node;
 mod substitute;
