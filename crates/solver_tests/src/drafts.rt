@@ -109,13 +109,13 @@ impl Draft {
         slice(&mut self.terms, part, small(high)?, small(low)?)
     }
 
-    /// `Apply.FUNCTION.COUNT.WIDTH`: a function at the last so many terms.
+    /// `Apply.FUNCTION.WIDTH`: a function at the last two.
     fn call(&mut self, said: &str) -> Option<TermId> {
-        let (function, said) = said.split_once('.')?;
-        let (count, width) = said.split_once('.')?;
-        let first = self.waiting.len().checked_sub(usize::from(small(count)?))?;
-        let args = self.waiting.split_off(first).ok()?;
-        apply(&mut self.terms, u32::try_from(number(function)?).ok()?, &args, small(width)?)
+        let (function, width) = said.split_once('.')?;
+        let second = self.waiting.pop()?;
+        let first = self.waiting.pop()?;
+        let function = u32::try_from(number(function)?).ok()?;
+        apply(&mut self.terms, function, first, second, small(width)?)
     }
 
     /// `Put.INPUT`: the last but one with the last in the place of the input.
