@@ -10,7 +10,7 @@ use Rattle.bv_terms.specs.declared.node.Node.{Node}
 use Rattle.bv_terms.specs.declared.node.Node.TheVariants.{Constant, Input, Apply, Not, Binary, Slice, Pick}
 use Rattle.bv_terms.specs.TermTrees.{Term, input, width}
 use Rattle.bv_terms.specs.Arenas.{IsArena, IsInputTerm, count_input, inputs_in, made_of, term_at, width_at}
-use Rattle.bv_terms.proofs.ArenaFacts.{snoc-cases}
+use Rattle.bv_terms.proofs.Seams.{snoc-cases}
 use Rattle.cnf_core.specs.Clauses.{literals}
 use Rattle.cnf_core.specs.Literals.{Names}
 use Rattle.cnf_core.specs.Satisfying.{Satisfies, WellNamed, makes_true, satisfies_clause}

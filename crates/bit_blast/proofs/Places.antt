@@ -24,7 +24,7 @@ use Rattle.bit_blast.specs.Seen.{Seen, ArgsSeen}
 use Rattle.bit_blast.specs.Walks.{half, index_in, IsIndexed, index_of, key_at, node_key, IsWalked, CanLeave, IsNumbered, IsLeft}
 use Rattle.bit_blast.proofs.WalkFacts.{same-itself, same-only, same-op}
 use Rattle.bit_blast.proofs.OrderFacts.{option-suc, each}
-use Rattle.bv_terms.proofs.ArenaFacts.{snoc-cases}
+use Rattle.bv_terms.proofs.Seams.{snoc-cases}
 
 -- ---- the first equal term
 

@@ -1,5 +1,6 @@
 -- Arenas with one more node.
-use Rattle.std.proofs.Common.{◌≡◌, ℕ, ◌<◌, ◌≤◌, ◌+◌, ◌^◌, ◌⊎◌, inl, inr, List, [], ◌∷◌, ◌++◌, length, take, refl, ap, sym, ◌∙◌, subst, arith, suc, zero, length-append, add-zero, Some, slice_get}
+use Rattle.std.proofs.Common.{◌≡◌, ℕ, ◌<◌, ◌≤◌, ◌+◌, ◌^◌, ◌⊎◌, inl, inr, List, [], ◌∷◌, ◌++◌, length, take, refl, ap, sym, ◌∙◌, subst, arith, suc, zero, length-append, add-zero, Option, Some, None, slice_get, Vec, Global}
+use Rattle.std.specs.BTreeMap.{UpdatesBy}
 use Rattle.std.specs.List.{All, fold}
 use Rattle.std.specs.Result.{IfOk, OnOk, OnErr}
 use Rattle.std.proofs.Common.{Result, Ok, Err}
@@ -12,7 +13,10 @@ use Rattle.std.proofs.lemmas.Option.{slice_get_within}
 use Rattle.bv_terms.specs.declared.node.Node.{Node}
 use Rattle.bv_terms.specs.declared.node.Node.TheVariants.{Constant, Input, Apply, Not, Binary, Slice, Pick}
 use Rattle.bv_terms.specs.TermTrees.{Term, constant, width, IsTerm, IsWidth}
-use Rattle.bv_terms.specs.Arenas.{parts, made_of, nth, with_node, node_width, term_at, width_at, count_input, inputs_in, IsArena, IsAppended, KeepsTerms, IsKept, IsInputTerm, CanFollow, GrowsBy}
+use Rattle.bv_terms.specs.Arenas.{parts, made_of, nth, with_node, node_width, term_at, width_at, count_input, inputs_in, IsArena, IsPut, IsFound, KeepsTerms, IsKept, IsInputTerm, CanFollow, GrowsBy}
+use Rattle.bv_terms.specs.Keys.{Numbers, number_of, node_key, key_cmp, HasNumbers}
+use Rattle.bv_terms.proofs.KeyFacts.{absent, present, numbers-same, numbers-more}
+use Rattle.bv_terms.proofs.Seams.{snoc-cases, snoc-old, snoc-last}
 use Rattle.bv_terms.proofs.NodeFacts.{made-same, made-is-term, node-width}
 
 -- ---- the terms of a list of nodes
@@ -42,26 +46,6 @@ term-last ns n k h =
     ap (λ ts. nth ts k) (fold-append with_node [] ns (n ∷ []))
     ∙ last-made (fold with_node [] ns) n k (omega (arith, length-with [] ns))
 
--- ---- an item of a list with one more
-
-pub snoc-cases : {A : Type 0} (xs : List A) (y : A) (k : ℕ) (x : A) → slice_get (xs ++ y ∷ []) k ≡ Some x → ((k < length xs) × (slice_get xs k ≡ Some x)) ⊎ ((k ≡ length xs) × (y ≡ x))
-snoc-cases [] y zero x h = inr (refl, cc)
-snoc-cases [] y (suc k) x h = absurd cc
-snoc-cases (z ∷ xs) y zero x h = inl (omega arith, h)
-snoc-cases (z ∷ xs) y (suc k) x h =
-    elim (snoc-cases xs y k x h) [ inl p ↦ inl (let q = p.0 in omega arith, p.1) | inr p ↦ inr (let q = p.0 in omega arith, p.1) ]
-
-pub snoc-old : {A : Type 0} (xs : List A) (y : A) (k : ℕ) → k < length xs → slice_get (xs ++ y ∷ []) k ≡ slice_get xs k
-snoc-old [] y k h = absurd (omega arith)
-snoc-old (z ∷ xs) y zero h = refl
-snoc-old (z ∷ xs) y (suc k) h = snoc-old xs y k (omega arith)
-
-pub snoc-last : {A : Type 0} (xs : List A) (y : A) (k : ℕ) → k ≡ length xs → slice_get (xs ++ y ∷ []) k ≡ Some y
-snoc-last [] y zero h = refl
-snoc-last [] y (suc k) h = absurd (omega arith)
-snoc-last (z ∷ xs) y zero h = absurd (omega arith)
-snoc-last (z ∷ xs) y (suc k) h = snoc-last xs y k (omega arith)
-
 -- ---- one more node
 
 pub kept-terms : (ns : List Node) (n : Node) → KeepsTerms ns (ns ++ n ∷ [])
@@ -70,8 +54,16 @@ kept-terms ns n = record { grown = (n ∷ [], refl); terms = term-kept ns (n ∷
 pub kept-none : (ns : List Node) → KeepsTerms ns ns
 kept-none ns = record { grown = ([], sym (append-nil ns)); terms = λ k h. refl }
 
-pub appended : (ns : List Node) (n : Node) → IsAppended ns (ns ++ n ∷ []) n (length ns)
-appended ns n = record { at = refl; nodes = refl; term = term-last ns n (length ns) refl }
+pub put-last : (ns : List Node) (n : Node) → IsPut ns (ns ++ n ∷ []) n (length ns)
+put-last ns n = record {
+  there = omega (arith, length-append ns (n ∷ []));
+  node_ = snoc-last ns n (length ns) refl;
+  term = term-last ns n (length ns) refl;
+}
+
+-- the node does not stand there
+abbrev pub IsAbsent : List Node → Node → Type 0
+IsAbsent ns n = (k : ℕ) → slice_get ns k ≡ Some n → ⊥
 
 abbrev pub IsNumbered : List Node → Node → Type 0
 IsNumbered ns n = (i w : ℕ) → n ≡ Input i w → i ≡ inputs_in ns
@@ -84,8 +76,8 @@ made-kept ns n m h =
     made-same (term_at (ns ++ n ∷ [])) (term_at ns) m
     (All-weaker (λ p. p < length ns) (λ p. term_at (ns ++ n ∷ []) p ≡ term_at ns p) (term-kept ns (n ∷ [])) (parts m) h)
 
-pub arena-more : (ns : List Node) (n : Node) → IsArena ns → CanFollow ns n → IsNumbered ns n → length (ns ++ n ∷ []) < 2 ^ 32 → IsArena (ns ++ n ∷ [])
-arena-more ns n a h i small = record {
+pub arena-more : (ns : List Node) (n : Node) → IsArena ns → CanFollow ns n → IsNumbered ns n → IsAbsent ns n → length (ns ++ n ∷ []) ≤ 2 ^ 25 → IsArena (ns ++ n ∷ [])
+arena-more ns n a h i new small = record {
   below = λ k m e. elim (snoc-cases ns n k m e) [
     | inl p ↦ a.below k m p.1
     | inr p ↦ subst (λ (m : Node). All (λ q. q < k) (parts m)) p.1 (subst (λ j. All (λ q. q < j) (parts n)) (sym p.0) h.there)
@@ -102,6 +94,10 @@ arena-more ns n a h i small = record {
   inputs = λ k j w e. elim (snoc-cases ns n k (Input j w) e) [
     | inl p ↦ a.inputs k j w p.1 ∙ ap inputs_in (sym (let l : k ≤ length ns = (let b = p.0 in omega arith) in take-append-le k ns (n ∷ []) l))
     | inr p ↦ i j w p.1 ∙ ap inputs_in (sym (let q : k ≡ length ns = p.0 in subst (λ x. take x (ns ++ n ∷ []) ≡ ns) (sym q) (take-append_seam ns (n ∷ []))))
+  ];
+  once = λ j k m e f. elim (snoc-cases ns n j m e) [
+    | inl p ↦ elim (snoc-cases ns n k m f) [ inl q ↦ a.once j k m p.1 q.1 | inr q ↦ absurd (new j (p.1 ∙ ap Some (sym q.1))) ]
+    | inr p ↦ elim (snoc-cases ns n k m f) [ inl q ↦ absurd (new k (q.1 ∙ ap Some (sym p.1))) | inr q ↦ p.0 ∙ sym q.0 ]
   ];
   small = small;
 }
@@ -144,21 +140,25 @@ widths-more ns n ws w e h we k l = elim (cases_lt k (length ns)) [
 input-kept : (ns : List Node) (n : Node) (i k : ℕ) → IsInputTerm ns i k → IsInputTerm (ns ++ n ∷ []) i k
 input-kept ns n i k h = (h.0, snoc-old ns n k (slice_get_within ns k (Input i h.0) h.1) ∙ h.1)
 
-pub kept-more : (ns : List Node) (n : Node) (ws is : List ℕ) (w : ℕ) → IsKept ns ws is → CanFollow ns n → count_input 0 n ≡ 0
-    → w ≡ width (made_of (term_at ns) n) → length (ns ++ n ∷ []) < 2 ^ 32 → IsKept (ns ++ n ∷ []) (ws ++ w ∷ []) is
-kept-more ns n ws is w a h none we small = record {
-  arena = arena-more ns n a.arena h (λ i v e. absurd (no-input n i v none e)) small;
+pub kept-more : (ns : List Node) (n : Node) (ws is : List ℕ) (w : ℕ) (numbers numbers' : Numbers) → IsKept ns ws is numbers → CanFollow ns n → count_input 0 n ≡ 0
+    → w ≡ width (made_of (term_at ns) n) → IsAbsent ns n → HasNumbers (ns ++ n ∷ []) numbers' → length (ns ++ n ∷ []) ≤ 2 ^ 25
+    → IsKept (ns ++ n ∷ []) (ws ++ w ∷ []) is numbers'
+kept-more ns n ws is w numbers numbers' a h none we new its small = record {
+  arena = arena-more ns n a.arena h (λ i v e. absurd (no-input n i v none e)) new small;
+  numbers_ = its;
   width_count = omega (arith, a.width_count, length-append ns (n ∷ []), length-append ws (w ∷ []));
   widths = widths-more ns n ws w a.width_count a.widths we;
   input_count = a.input_count ∙ sym (one-more ns n ∙ uncounted (inputs_in ns) n none);
   inputs = λ i k e. input-kept ns n i k (a.inputs i k e);
 }
 
-pub kept-input : (ns : List Node) (ws is : List ℕ) (w i k : ℕ) → IsKept ns ws is → IsWidth w → i ≡ length is → k ≡ length ns
-    → length (ns ++ Input i w ∷ []) < 2 ^ 32 → IsKept (ns ++ Input i w ∷ []) (ws ++ w ∷ []) (is ++ k ∷ [])
-kept-input ns ws is w i k a wide ie ke small = record {
+pub kept-input : (ns : List Node) (ws is : List ℕ) (w i k : ℕ) (numbers numbers' : Numbers) → IsKept ns ws is numbers → IsWidth w → i ≡ length is → k ≡ length ns
+    → IsAbsent ns (Input i w) → HasNumbers (ns ++ Input i w ∷ []) numbers' → length (ns ++ Input i w ∷ []) ≤ 2 ^ 25
+    → IsKept (ns ++ Input i w ∷ []) (ws ++ w ∷ []) (is ++ k ∷ []) numbers'
+kept-input ns ws is w i k numbers numbers' a wide ie ke new its small = record {
   arena = arena-more ns (Input i w) a.arena (record { there = λ j d l. absurd (omega arith); fit = wide })
-      (λ j v e. let e' : i ≡ j = cc in sym e' ∙ ie ∙ a.input_count) small;
+      (λ j v e. let e' : i ≡ j = cc in sym e' ∙ ie ∙ a.input_count) new small;
+  numbers_ = its;
   width_count = omega (arith, a.width_count, length-append ns (Input i w ∷ []), length-append ws (w ∷ []));
   widths = widths-more ns (Input i w) ws w a.width_count a.widths refl;
   input_count = omega (arith, a.input_count, one-more ns (Input i w), length-append is (k ∷ []));
@@ -172,62 +172,150 @@ kept-input ns ws is w i k a wide ie ke small = record {
   ];
 }
 
+-- ---- a new input is no old one
+
+count-grows : (c : ℕ) (n : Node) → c ≤ count_input c n
+count-grows c (Constant b) = omega arith
+count-grows c (Input i v) = omega arith
+count-grows c (Apply g args v) = omega arith
+count-grows c (Not a) = omega arith
+count-grows c (Binary op a b) = omega arith
+count-grows c (Slice a high low) = omega arith
+count-grows c (Pick d a b) = omega arith
+
+counts-grow : (c : ℕ) (ns : List Node) → c ≤ fold count_input c ns
+counts-grow c [] = omega arith
+counts-grow c (n ∷ ns) = let l = count-grows c n in let m = counts-grow (count_input c n) ns in omega arith
+
+fewer : (c : ℕ) (ns : List Node) (k i w : ℕ) → slice_get ns k ≡ Some (Input i w) → fold count_input c (take k ns) < fold count_input c ns
+fewer c [] k i w e = absurd cc
+fewer c (n ∷ ns) zero i w e =
+    let n-is : n ≡ Input i w = cc in
+    subst (λ m. c < fold count_input (count_input c m) ns) (sym n-is) (let l = counts-grow (suc c) ns in omega arith)
+fewer c (n ∷ ns) (suc k) i w e = fewer (count_input c n) ns k i w e
+
+pub input-below : (ns : List Node) (k i w : ℕ) → IsArena ns → slice_get ns k ≡ Some (Input i w) → i < inputs_in ns
+input-below ns k i w a e = subst (λ j. j < inputs_in ns) (sym (a.inputs k i w e)) (fewer 0 ns k i w e)
+
+input-absent : (ns : List Node) (i w : ℕ) → IsArena ns → i ≡ inputs_in ns → IsAbsent ns (Input i w)
+input-absent ns i w a e k h = let l = input-below ns k i w a h in omega arith
+
+input-unnumbered : (ns : List Node) (i w : ℕ) (numbers : Numbers) → HasNumbers ns numbers → IsAbsent ns (Input i w) → (o : Option ℕ)
+    → number_of numbers (node_key (Input i w)) ≡ o → number_of numbers (node_key (Input i w)) ≡ None
+input-unnumbered ns i w numbers h new None e = e
+input-unnumbered ns i w numbers h new (Some k) e = absurd (new k (present ns numbers (Input i w) k h e))
+
 -- ---- what a push gives
 
-pub pushed-added : {E : Type 0} (r : Result ℕ E) (old ns ns' : List Node) (n : Node) → ns ≡ old → IfOk r (λ id. id ≡ length ns) → OnOk r (ns' ≡ ns ++ n ∷ [])
-    → IfOk r (λ id. IsAppended old ns' n id)
-pushed-added (Err e) old ns ns' n v at is = tt
-pushed-added (Ok id) old ns ns' n v at is =
-    subst (λ os. IsAppended os ns' n id) v (subst (λ ms. IsAppended ns ms n id) (sym is) (subst (IsAppended ns (ns ++ n ∷ []) n) (sym at) (appended ns n)))
+abbrev pub StaysAll : (ns ns' : List Node) (ws ws' : List ℕ) (numbers numbers' : Numbers) → Type 0
+StaysAll ns ns' ws ws' numbers numbers' = (ns' ≡ ns) × (ws' ≡ ws) × (numbers'.entries ≡ numbers.entries)
 
-pub pushed-kept : {E : Type 0} (r : Result ℕ E) (old ns ns' : List Node) (n : Node) (ws ws' : List ℕ) → ns ≡ old → OnOk r (ns' ≡ ns ++ n ∷ []) → OnErr r ((ns' ≡ ns) × (ws' ≡ ws))
+pub pushed-put : {E : Type 0} (r : Result ℕ E) (old ns ns' : List Node) (n : Node) → ns ≡ old → IfOk r (λ id. id ≡ length ns) → OnOk r (ns' ≡ ns ++ n ∷ [])
+    → IfOk r (λ id. IsPut old ns' n id)
+pushed-put (Err e) old ns ns' n v at is = tt
+pushed-put (Ok id) old ns ns' n v at is =
+    subst (λ os. IsPut os ns' n id) v (subst (λ ms. IsPut ns ms n id) (sym is) (subst (IsPut ns (ns ++ n ∷ []) n) (sym at) (put-last ns n)))
+
+pub pushed-found : {E : Type 0} (r : Result ℕ E) (old ns ns' : List Node) (n : Node) → ns ≡ old → IsAbsent ns n → IfOk r (λ id. IsFound old ns' n id)
+pushed-found (Err e) old ns ns' n v new = tt
+pushed-found (Ok id) old ns ns' n v new = λ k h. absurd (new k (ap (λ ms. slice_get ms k) v ∙ h))
+
+pub pushed-kept : {E : Type 0} (r : Result ℕ E) (old ns ns' : List Node) (n : Node) → ns ≡ old → OnOk r (ns' ≡ ns ++ n ∷ []) → OnErr r (ns' ≡ ns)
     → KeepsTerms old ns'
-pushed-kept (Err e) old ns ns' n ws ws' v is refused = subst (λ os. KeepsTerms os ns') v (subst (KeepsTerms ns) (sym refused.0) (kept-none ns))
-pushed-kept (Ok id) old ns ns' n ws ws' v is refused = subst (λ os. KeepsTerms os ns') v (subst (KeepsTerms ns) (sym is) (kept-terms ns n))
+pushed-kept (Err e) old ns ns' n v is refused = subst (λ os. KeepsTerms os ns') v (subst (KeepsTerms ns) (sym refused) (kept-none ns))
+pushed-kept (Ok id) old ns ns' n v is refused = subst (λ os. KeepsTerms os ns') v (subst (KeepsTerms ns) (sym is) (kept-terms ns n))
 
-pub pushed-grows : {E : Type 0} (r : Result ℕ E) (old ns ns' : List Node) (n : Node) (ws ws' : List ℕ) → ns ≡ old → count_input 0 n ≡ 0
-    → OnOk r (ns' ≡ ns ++ n ∷ []) → OnErr r ((ns' ≡ ns) × (ws' ≡ ws)) → GrowsBy 1 old ns'
-pushed-grows (Err e) old ns ns' n ws ws' v z is refused = record {
-  inputs = ap inputs_in (refused.0 ∙ v);
-  terms = omega (arith, ap length refused.0, ap length v);
+pub pushed-grows : {E : Type 0} (r : Result ℕ E) (old ns ns' : List Node) (n : Node) → ns ≡ old → count_input 0 n ≡ 0
+    → OnOk r (ns' ≡ ns ++ n ∷ []) → OnErr r (ns' ≡ ns) → GrowsBy 1 old ns'
+pushed-grows (Err e) old ns ns' n v z is refused = record {
+  inputs = ap inputs_in (refused ∙ v);
+  terms = omega (arith, ap length refused, ap length v);
 }
-pushed-grows (Ok id) old ns ns' n ws ws' v z is refused = record {
+pushed-grows (Ok id) old ns ns' n v z is refused = record {
   inputs = ap inputs_in is ∙ one-more ns n ∙ uncounted (inputs_in ns) n z ∙ ap inputs_in v;
   terms = omega (arith, ap length is, ap length v, length-append ns (n ∷ []));
 }
 
-pub pushed-refused : {E : Type 0} (r : Result ℕ E) (old ns ns' : List Node) (ws ws' : List ℕ) → ns ≡ old → OnErr r ((ns' ≡ ns) × (ws' ≡ ws)) → OnErr r (ns' ≡ old)
-pushed-refused (Err e) old ns ns' ws ws' v refused = refused.0 ∙ v
-pushed-refused (Ok id) old ns ns' ws ws' v refused = tt
+pub stays-nodes : {E : Type 0} (r : Result ℕ E) (ns ns' : List Node) (ws ws' : List ℕ) (numbers numbers' : Numbers) → OnErr r (StaysAll ns ns' ws ws' numbers numbers') → OnErr r (ns' ≡ ns)
+stays-nodes (Err e) ns ns' ws ws' numbers numbers' h = h.0
+stays-nodes (Ok id) ns ns' ws ws' numbers numbers' h = tt
 
-pub pushed-whole : {E : Type 0} (r : Result ℕ E) (old ns ns' : List Node) (n : Node) (ws ws' is : List ℕ) (w : ℕ) → ns ≡ old → IsKept ns ws is → CanFollow old n
-    → w ≡ node_width (width_at old) n → count_input 0 n ≡ 0 → OnOk r (ns' ≡ ns ++ n ∷ []) → OnOk r (ws' ≡ ws ++ w ∷ []) → OnOk r (length ns' < 2 ^ 32)
-    → OnErr r ((ns' ≡ ns) × (ws' ≡ ws)) → IsKept ns' ws' is
-pushed-whole (Err e) old ns ns' n ws ws' is w v k f we z nis wis small refused =
-    subst (λ ms. IsKept ms ws' is) (sym refused.0) (subst (λ vs. IsKept ns vs is) (sym refused.1) k)
-pushed-whole (Ok id) old ns ns' n ws ws' is w v k f we z nis wis small refused =
+pub pushed-refused : {E : Type 0} (r : Result ℕ E) (old ns ns' : List Node) → ns ≡ old → OnErr r (ns' ≡ ns) → OnErr r (ns' ≡ old)
+pushed-refused (Err e) old ns ns' v refused = refused ∙ v
+pushed-refused (Ok id) old ns ns' v refused = tt
+
+kept-same : (ns : List Node) (ws is : List ℕ) (numbers numbers' : Numbers) → numbers'.entries ≡ numbers.entries → IsKept ns ws is numbers → IsKept ns ws is numbers'
+kept-same ns ws is numbers numbers' e k = record {
+  arena = k.arena;
+  numbers_ = numbers-same ns numbers numbers' e k.numbers_;
+  width_count = k.width_count;
+  widths = k.widths;
+  input_count = k.input_count;
+  inputs = k.inputs;
+}
+
+pub stays-kept : (ns ns' : List Node) (ws ws' is : List ℕ) (numbers numbers' : Numbers) → StaysAll ns ns' ws ws' numbers numbers' → IsKept ns ws is numbers → IsKept ns' ws' is numbers'
+stays-kept ns ns' ws ws' is numbers numbers' h k =
+    subst (λ ms. IsKept ms ws' is numbers') (sym h.0) (subst (λ vs. IsKept ns vs is numbers') (sym h.1) (kept-same ns ws is numbers numbers' h.2 k))
+
+pub pushed-whole : {E : Type 0} (r : Result ℕ E) (old ns ns' : List Node) (n : Node) (ws ws' is : List ℕ) (w : ℕ) (numbers numbers' : Numbers) (key : Vec ℕ Global)
+    → ns ≡ old → IsKept ns ws is numbers → CanFollow old n → w ≡ node_width (width_at old) n → count_input 0 n ≡ 0
+    → number_of numbers (node_key n) ≡ None → key.items ≡ node_key n → IfOk r (λ id. id ≡ length ns)
+    → OnOk r (ns' ≡ ns ++ n ∷ []) → OnOk r (ws' ≡ ws ++ w ∷ []) → IfOk r (λ id. UpdatesBy key_cmp (key_cmp key) numbers numbers' (Some id)) → OnOk r (length ns' ≤ 2 ^ 25)
+    → OnErr r (StaysAll ns ns' ws ws' numbers numbers') → IsKept ns' ws' is numbers'
+pushed-whole (Err e) old ns ns' n ws ws' is w numbers numbers' key v k f we z none same at nis wis up small refused =
+    stays-kept ns ns' ws ws' is numbers numbers' refused k
+pushed-whole (Ok id) old ns ns' n ws ws' is w numbers numbers' key v k f we z none same at nis wis up small refused =
     let f' : CanFollow ns n = subst (λ os. CanFollow os n) (sym v) f in
     let we' : w ≡ width (made_of (term_at ns) n) = we ∙ ap (λ os. node_width (width_at os) n) (sym v) ∙ sym (node-width (term_at ns) n) in
-    let small' : length (ns ++ n ∷ []) < 2 ^ 32 = subst (λ ms. length ms < 2 ^ 32) nis small in
-    subst (λ ms. IsKept ms ws' is) (sym nis) (subst (λ vs. IsKept (ns ++ n ∷ []) vs is) (sym wis) (kept-more ns n ws is w k f' z we' small'))
+    let small' : length (ns ++ n ∷ []) ≤ 2 ^ 25 = subst (λ ms. length ms ≤ 2 ^ 25) nis small in
+    let its = numbers-more ns n numbers numbers' key id k.numbers_ none same at up in
+    subst (λ ms. IsKept ms ws' is numbers') (sym nis) (subst (λ vs. IsKept (ns ++ n ∷ []) vs is numbers') (sym wis)
+    (kept-more ns n ws is w numbers numbers' k f' z we' (λ j g. absent ns numbers n j k.numbers_ none g) its small'))
 
-pub input-whole : (ns ns' : List Node) (ws ws' is is' : List ℕ) (w i k : ℕ) → IsKept ns ws is → IsWidth w → i ≡ length is → k ≡ length ns
-    → ns' ≡ ns ++ Input i w ∷ [] → ws' ≡ ws ++ w ∷ [] → is' ≡ is ++ k ∷ [] → length ns' < 2 ^ 32 → IsKept ns' ws' is'
-input-whole ns ns' ws ws' is is' w i k kept wide ie ke nis wis iis small =
-    let small' : length (ns ++ Input i w ∷ []) < 2 ^ 32 = subst (λ ms. length ms < 2 ^ 32) nis small in
-    subst (λ ms. IsKept ms ws' is') (sym nis) (subst (λ vs. IsKept (ns ++ Input i w ∷ []) vs is') (sym wis)
-    (subst (IsKept (ns ++ Input i w ∷ []) (ws ++ w ∷ [])) (sym iis) (kept-input ns ws is w i k kept wide ie ke small')))
+-- ---- a new input
 
-pub input-added : (old ns ns' : List Node) (ws is : List ℕ) (w i k : ℕ) → ns ≡ old → IsKept ns ws is → i ≡ length is → k ≡ length ns → ns' ≡ ns ++ Input i w ∷ []
-    → IsAppended old ns' (Input (inputs_in old) w) k
-input-added old ns ns' ws is w i k v kept ie ke nis =
+pub input-whole : (ns ns' : List Node) (ws ws' is is' : List ℕ) (w i k : ℕ) (numbers numbers' : Numbers) (key : Vec ℕ Global) → IsKept ns ws is numbers → IsWidth w → i ≡ length is → k ≡ length ns
+    → key.items ≡ node_key (Input i w) → UpdatesBy key_cmp (key_cmp key) numbers numbers' (Some k)
+    → ns' ≡ ns ++ Input i w ∷ [] → ws' ≡ ws ++ w ∷ [] → is' ≡ is ++ k ∷ [] → length ns' ≤ 2 ^ 25 → IsKept ns' ws' is' numbers'
+input-whole ns ns' ws ws' is is' w i k numbers numbers' key kept wide ie ke same up nis wis iis small =
+    let small' : length (ns ++ Input i w ∷ []) ≤ 2 ^ 25 = subst (λ ms. length ms ≤ 2 ^ 25) nis small in
+    let new = input-absent ns i w kept.arena (ie ∙ kept.input_count) in
+    let none = input-unnumbered ns i w numbers kept.numbers_ new (number_of numbers (node_key (Input i w))) refl in
+    let its = numbers-more ns (Input i w) numbers numbers' key k kept.numbers_ none same ke up in
+    subst (λ ms. IsKept ms ws' is' numbers') (sym nis) (subst (λ vs. IsKept (ns ++ Input i w ∷ []) vs is' numbers') (sym wis)
+    (subst (λ js. IsKept (ns ++ Input i w ∷ []) (ws ++ w ∷ []) js numbers') (sym iis) (kept-input ns ws is w i k numbers numbers' kept wide ie ke new its small')))
+
+pub input-put : (old ns ns' : List Node) (ws is : List ℕ) (w i k : ℕ) (numbers : Numbers) → ns ≡ old → IsKept ns ws is numbers → i ≡ length is → k ≡ length ns → ns' ≡ ns ++ Input i w ∷ []
+    → IsPut old ns' (Input (inputs_in old) w) k
+input-put old ns ns' ws is w i k numbers v kept ie ke nis =
     let i-is : i ≡ inputs_in old = ie ∙ kept.input_count ∙ ap inputs_in v in
-    subst (λ j. IsAppended old ns' (Input j w) k) i-is
-    (subst (λ os. IsAppended os ns' (Input i w) k) v (subst (λ ms. IsAppended ns ms (Input i w) k) (sym nis)
-    (subst (IsAppended ns (ns ++ Input i w ∷ []) (Input i w)) (sym ke) (appended ns (Input i w)))))
+    subst (λ j. IsPut old ns' (Input j w) k) i-is
+    (subst (λ os. IsPut os ns' (Input i w) k) v (subst (λ ms. IsPut ns ms (Input i w) k) (sym nis)
+    (subst (IsPut ns (ns ++ Input i w ∷ []) (Input i w)) (sym ke) (put-last ns (Input i w)))))
+
+pub input-more : (old ns ns' : List Node) (i w : ℕ) → ns ≡ old → ns' ≡ ns ++ Input i w ∷ [] → inputs_in ns' ≡ inputs_in old + 1
+input-more old ns ns' i w v nis = let e = ap inputs_in nis in let f = one-more ns (Input i w) in let g = ap inputs_in v in omega arith
 
 pub input-keeps : (old ns ns' : List Node) (n : Node) → ns ≡ old → ns' ≡ ns ++ n ∷ [] → KeepsTerms old ns'
 input-keeps old ns ns' n v nis = subst (λ os. KeepsTerms os ns') v (subst (KeepsTerms ns) (sym nis) (kept-terms ns n))
+
+-- ---- a node that is there
+
+pub there-put : (ns old : List Node) (numbers : Numbers) (n : Node) (id : ℕ) → ns ≡ old → IsArena ns → HasNumbers ns numbers → number_of numbers (node_key n) ≡ Some id → IsPut old ns n id
+there-put ns old numbers n id v a h some =
+    let at : slice_get ns id ≡ Some n = present ns numbers n id h some in
+    subst (λ os. IsPut os ns n id) v (record { there = slice_get_within ns id n at; node_ = at; term = a.made id n at })
+
+pub there-found : (ns old : List Node) (numbers : Numbers) (n : Node) (id : ℕ) → ns ≡ old → HasNumbers ns numbers → number_of numbers (node_key n) ≡ Some id → IsFound old ns n id
+there-found ns old numbers n id v h some =
+    λ k e. (let q : Some id ≡ Some k = sym some ∙ h.each_ k n (ap (λ ms. slice_get ms k) v ∙ e) in cc, v)
+
+pub there-kept : (ns old : List Node) → ns ≡ old → KeepsTerms old ns
+there-kept ns old v = subst (λ os. KeepsTerms os ns) v (kept-none ns)
+
+pub there-grows : (ns old : List Node) → ns ≡ old → GrowsBy 1 old ns
+there-grows ns old v = record { inputs = ap inputs_in v; terms = omega (arith, ap length v) }
 
 counts-few : (c : ℕ) (ns : List Node) → fold count_input c ns ≤ c + length ns
 counts-few c [] = omega arith

@@ -1,10 +1,13 @@
 -- What evaluation finds ready at a term whose parts have their values.
-use Rattle.std.proofs.Common.{◌≡◌, ℕ, ◌<◌, ◌≤◌, Bool, true, List, [], ◌∷◌, length, map, Some, slice_get, refl, ap, sym, ◌∙◌, subst, arith, get_or, zero, suc, inl, inr, ◌++◌, length-append}
+use Rattle.std.proofs.Common.{◌≡◌, ◌≢◌, ℕ, ◌<◌, ◌≤◌, Bool, true, List, [], ◌∷◌, length, map, Option, Some, None, slice_get, refl, ap, sym, ◌∙◌, subst, arith, get_or, zero, suc, inl, inr, ◌++◌, length-append}
 use Rattle.std.specs.List.{All, AllByRecursion}
 use Rattle.std.specs.Option.{option_map, unwrap_or}
 use Rattle.std.proofs.lemmas.List.Elements.{recursion_from_All, All-from_recursion}
 use Rattle.std.proofs.lemmas.Option.{slice_get_within, slice_get-get_or, slice_get_read}
-use Rattle.std.proofs.lemmas.Bool.{cases_lt}
+use Rattle.std.proofs.lemmas.Bool.{cases_eq, cond-false, ne_eqb, false≢true}
+use Rattle.std.specs.Option.{IsSome}
+use Rattle.std.specs.Ordering.{nat_cmp}
+use Rattle.std.specs.BTreeMap.{BTreeMap, get, is_at, UpdatesBy}
 use Rattle.cocoon_num.specs.Values.{number, apply_unary, apply_slice, flip}
 use Rattle.cocoon_num.specs.BitsOf.{value_of}
 use Rattle.cocoon_num.specs.declared.bits.Bits.{Bits}
@@ -15,9 +18,8 @@ use Rattle.bv_terms.specs.TermTrees.{Term, width, arg_widths, IsTerm, AreArgs, O
 use Rattle.bv_terms.specs.TermValues.{number_in, term_number, operated, term_value, arg_numbers}
 use Rattle.bv_terms.specs.Arenas.{parts, args_of, made_of, term_at, width_at, WidthsFit, IsArena}
 use Rattle.bv_terms.specs.Environments.{Covers, CoversArgs, HasTable, functions_of, inputs_of}
-use Rattle.bv_terms.specs.Needed.{AreNeeded, IsMarked}
-use Rattle.bv_terms.specs.Evaluated.{value_in, width_in, numbers_in, node_value, HasNode, IsReady, AreValues}
-use Rattle.bv_terms.proofs.ArenaFacts.{snoc-old, snoc-last}
+use Rattle.bv_terms.specs.Evaluated.{Known, value_in, width_in, numbers_in, node_value, HasNode, IsReady}
+use Rattle.bv_terms.proofs.Members.{at-number, both, each}
 use Rattle.bv_terms.proofs.ValueFacts.{value-width}
 
 -- ---- a term that an environment covers
@@ -96,25 +98,27 @@ has-same env u w (Binary op a b) e h = tt
 has-same env u w (Slice a high low) e h = tt
 has-same env u w (Pick c a b) e h = tt
 
--- ---- values in a list
+-- ---- values by number
 
 width-of-value : (b : Bits) (w n : ℕ) → value_of b ≡ number w n → b.width ≡ w
 width-of-value b w n e = cc
 
-width-by-value : (values : List Bits) (k w n : ℕ) → k < length values → value_in values k ≡ number w n → width_in values k ≡ w
-width-by-value [] k w n l e = absurd (omega arith)
-width-by-value (b ∷ values) zero w n l e = width-of-value b w n e
-width-by-value (b ∷ values) (suc k) w n l e = width-by-value values k w n (omega arith) e
+width-by-value : (values : Known) (k w n : ℕ) → IsSome (get nat_cmp values k) → value_in values k ≡ number w n → width_in values k ≡ w
+width-by-value values k w n some e = by (get nat_cmp values k) some e
+  where
+    by : (o : Option Bits) → IsSome o → unwrap_or (option_map value_of o) (number 0 0) ≡ number w n → unwrap_or (option_map (λ (b : Bits). b.width) o) 0 ≡ w
+    by None s q = absurd (false≢true s)
+    by (Some b) s q = width-of-value b w n q
 
 -- ---- the value of a node
 
-arg-numbers : (env : Env) (values : List Bits) (f : ℕ → Term) (xs : List ℕ)
+arg-numbers : (env : Env) (values : Known) (f : ℕ → Term) (xs : List ℕ)
     → AllByRecursion (λ p. value_in values p ≡ term_value (functions_of env) (inputs_of env) (f p)) xs
     → numbers_in values xs ≡ arg_numbers (functions_of env) (inputs_of env) (args_of f xs)
 arg-numbers env values f [] e = refl
 arg-numbers env values f (a ∷ xs) e = let d = arg-numbers env values f xs e.1 in let d' = ap number_in e.0 in cc
 
-made-value : (env : Env) (values : List Bits) (f : ℕ → Term) (n : Node)
+made-value : (env : Env) (values : Known) (f : ℕ → Term) (n : Node)
     → AllByRecursion (λ p. value_in values p ≡ term_value (functions_of env) (inputs_of env) (f p)) (parts n)
     → node_value env values n ≡ term_value (functions_of env) (inputs_of env) (made_of f n)
 made-value env values f (Constant b) e = refl
@@ -128,96 +132,66 @@ made-value env values f (Pick c a b) e = rw (e.0, e.1.0, e.1.1.0) refl
 
 -- ---- what is ready
 
-pub record Ready (nodes : List Node) (env : Env) (values : List Bits) (n : Node) : Type 0 where
-  pub ready : IsReady env values n
-  pub value : node_value env values n ≡ term_value (functions_of env) (inputs_of env) (term_at nodes (length values))
+-- the parts of a node that is known have values
+pub parts-there : (values : Known) (node other : Node) → node ≡ other → All (λ p. IsSome (get nat_cmp values p)) (parts node) → AllByRecursion (λ p. IsSome (get nat_cmp values p)) (parts other)
+parts-there values node other e h =
+    subst (λ (x : Node). AllByRecursion (λ p. IsSome (get nat_cmp values p)) (parts x)) e (recursion_from_All (λ p. IsSome (get nat_cmp values p)) (parts node) h)
 
-pub is-ready : (nodes : List Node) (env : Env) (marks : List Bool) (values : List Bits) (id : ℕ) (n : Node)
-    → IsArena nodes → AreNeeded nodes id marks → Covers env (term_at nodes id) → AreValues nodes env marks values
-    → IsMarked marks (length values) → slice_get nodes (length values) ≡ Some n → Ready nodes env values n
-is-ready nodes env marks values id n a needed covers are marked e =
+-- the term has its value
+pub record HasValue (nodes : List Node) (env : Env) (values : Known) (k : ℕ) : Type 0 where
+  pub some : IsSome (get nat_cmp values k)
+  pub is : value_in values k ≡ term_value (functions_of env) (inputs_of env) (term_at nodes k)
+
+pub record Ready (nodes : List Node) (env : Env) (values : Known) (k : ℕ) (n : Node) : Type 0 where
+  pub ready : IsReady env values n
+  pub value : node_value env values n ≡ term_value (functions_of env) (inputs_of env) (term_at nodes k)
+
+pub is-ready : (nodes : List Node) (env : Env) (values : Known) (k : ℕ) (n : Node) → IsArena nodes → slice_get nodes k ≡ Some n → Covers env (term_at nodes k)
+    → AllByRecursion (HasValue nodes env values) (parts n) → Ready nodes env values k n
+is-ready nodes env values k n a e covers have =
     let F = functions_of env in
     let ins = inputs_of env in
-    let k = length values in
     let here : k < length nodes = slice_get_within nodes k n e in
-    let below : All (λ p. p < k) (parts n) = a.below k n e in
-    let marks-there : All (IsMarked marks) (parts n) = needed.parts k n marked e in
-    let is-value : All (λ p. value_in values p ≡ term_value F ins (term_at nodes p)) (parts n)
-    = λ i d l. are (get_or (parts n) i d) (below i d l) (marks-there i d l) in
-    let has-width : All (λ p. width_in values p ≡ width_at nodes p) (parts n)
-    = λ i d l. let p = get_or (parts n) i d in
-    let lt : p < k = below i d l in
-    let w = value-width F ins (term_at nodes p) (a.terms p (omega arith)) in
-    width-by-value values p (width_at nodes p) w.0 lt (is-value i d l ∙ w.1) in
-    let widths = recursion_from_All (λ p. width_in values p ≡ width_at nodes p) (parts n) has-width in
+    let below : AllByRecursion (λ p. p < k) (parts n) = recursion_from_All (λ p. p < k) (parts n) (a.below k n e) in
+    let are : AllByRecursion (λ p. value_in values p ≡ term_value F ins (term_at nodes p)) (parts n)
+    = each (λ p (h : HasValue nodes env values p). h.is) (parts n) have in
+    let widths : AllByRecursion (λ p. width_in values p ≡ width_at nodes p) (parts n)
+    = both (λ p. p < k) (HasValue nodes env values) (λ p. width_in values p ≡ width_at nodes p)
+    (λ p l h. let w = value-width F ins (term_at nodes p) (a.terms p (omega arith)) in width-by-value values p (width_at nodes p) w.0 h.some (h.is ∙ w.1)) (parts n) below have in
     let made : term_at nodes k ≡ made_of (term_at nodes) n = a.made k n e in
     record {
       ready = record {
-        there = below;
+        there = All-from_recursion (λ p. IsSome (get nat_cmp values p)) (parts n) (each (λ p (h : HasValue nodes env values p). h.some) (parts n) have);
         fit = fit-same (width_in values) (width_at nodes) n widths (fit-of (term_at nodes) n (subst IsTerm made (a.terms k here)));
-        has = has-same env (width_in values) (width_at nodes) n widths
-            (has-of env (term_at nodes) n (subst (Covers env) made (needed.covered env covers k marked)));
+        has = has-same env (width_in values) (width_at nodes) n widths (has-of env (term_at nodes) n (subst (Covers env) made covers));
       };
-      value = made-value env values (term_at nodes) n
-          (recursion_from_All (λ p. value_in values p ≡ term_value F ins (term_at nodes p)) (parts n) is-value)
-          ∙ ap (term_value F ins) (sym made);
+      value = made-value env values (term_at nodes) n are ∙ ap (term_value F ins) (sym made);
     }
 
--- ---- the loop of an evaluation
+-- ---- one value more
 
-pub value-at : (values : List Bits) (k : ℕ) (b : Bits) → k < length values → b ≡ get_or values k b → value_in values k ≡ value_of b
-value-at values k b l e = ap (λ o. unwrap_or (option_map value_of o) (number 0 0)) (slice_get_read values (length values) k b refl l e)
+value-old : (values : Known) (new : Known) (at k : ℕ) (v : Bits) → UpdatesBy nat_cmp (nat_cmp at) values new (Some v) → at ≢ k → get nat_cmp new k ≡ get nat_cmp values k
+value-old values new at k v up n = up.0 k ∙ cond-false (is_at (nat_cmp at) k) (Some v) (get nat_cmp values k) (at-number at k ∙ ne_eqb at k n)
 
-value-old : (values : List Bits) (v : Bits) (k : ℕ) → k < length values → value_in (values ++ v ∷ []) k ≡ value_in values k
-value-old values v k l = ap (λ o. unwrap_or (option_map value_of o) (number 0 0)) (snoc-old values v k l)
+has-old : (nodes : List Node) (env : Env) (values new : Known) (at k : ℕ) (v : Bits) → UpdatesBy nat_cmp (nat_cmp at) values new (Some v) → at ≢ k
+    → HasValue nodes env values k → HasValue nodes env new k
+has-old nodes env values new at k v up n h =
+    let e = value-old values new at k v up n in
+    record {
+      some = subst (λ (o : Option Bits). IsSome o) (sym e) h.some;
+      is = ap (λ o. unwrap_or (option_map value_of o) (number 0 0)) e ∙ h.is;
+    }
 
-value-last : (values : List Bits) (v : Bits) (k : ℕ) → k ≡ length values → value_in (values ++ v ∷ []) k ≡ value_of v
-value-last values v k e = ap (λ o. unwrap_or (option_map value_of o) (number 0 0)) (snoc-last values v k e)
+has-new : (nodes : List Node) (env : Env) (values new : Known) (at : ℕ) (v : Bits) → UpdatesBy nat_cmp (nat_cmp at) values new (Some v)
+    → value_of v ≡ term_value (functions_of env) (inputs_of env) (term_at nodes at) → HasValue nodes env new at
+has-new nodes env values new at v up e = record {
+  some = subst (λ (o : Option Bits). IsSome o) (sym up.1) refl;
+  is = ap (λ o. unwrap_or (option_map value_of o) (number 0 0)) up.1 ∙ e;
+}
 
--- what the loop knows
-pub record Evaluating (nodes : List Node) (env : Env) (marks : List Bool) (id : ℕ) (seen : List Bits) : Type 0 where
-  pub there : id < length nodes
-  pub needed : AreNeeded nodes id marks
-  pub covers : Covers env (term_at nodes id)
-  pub values : AreValues nodes env marks seen
-
-pub eval-ready : (nodes : List Node) (env : Env) (marks : List Bool) (id : ℕ) (values seen : List Bits) (i : ℕ) (d : Bool) (node : Node)
-    → Evaluating nodes env marks id values → length values ≡ i → i < length marks → seen ≡ values → get_or marks i d ≡ true → slice_get nodes (length seen) ≡ Some node
-    → IsReady env seen node
-eval-ready nodes env marks id values seen i d node h e l s t n' =
-    let n : slice_get nodes (length values) ≡ Some node = ap (λ (vs : List Bits). slice_get nodes (length vs)) (sym s) ∙ n' in
-    subst (λ vs. IsReady env vs node) (sym s) (is-ready nodes env marks values id node h.needed.arena h.needed h.covers h.values (subst (IsMarked marks) (sym e) (slice_get-get_or marks i d l ∙ ap Some t)) n).ready
-
-pub eval-next : (nodes : List Node) (env : Env) (marks : List Bool) (id : ℕ) (values seen : List Bits) (i : ℕ) (d : Bool) (v : Bits) (more : List Bits)
-    → Evaluating nodes env marks id values → length values ≡ i → i < length marks → seen ≡ values → more ≡ values ++ v ∷ []
-    → (get_or marks i d ≡ true → (node : Node) → slice_get nodes (length seen) ≡ Some node → value_of v ≡ node_value env seen node)
-    → Evaluating nodes env marks id more
-eval-next nodes env marks id values seen i d v more h e l s m is' =
-    let is : get_or marks i d ≡ true → (node : Node) → slice_get nodes (length values) ≡ Some node → value_of v ≡ node_value env values node
-    = subst (λ vs. get_or marks i d ≡ true → (node : Node) → slice_get nodes (length vs) ≡ Some node → value_of v ≡ node_value env vs node) s is' in
-    subst (Evaluating nodes env marks id) (sym m)
-    (record {
-      there = h.there;
-      needed = h.needed;
-      covers = h.covers;
-      values = λ k below marked. elim (cases_lt k (length values)) [
-        | inl lt ↦ value-old values v k lt ∙ h.values k lt marked
-        | inr ge ↦
-            let k-is : k ≡ length values = (let g = ge in omega (arith, length-append values (v ∷ []))) in
-            let marked' : IsMarked marks (length values) = subst (IsMarked marks) k-is marked in
-            let on : get_or marks i d ≡ true = (let q : Some (get_or marks i d) ≡ Some true = sym (slice_get-get_or marks i d l) ∙ subst (IsMarked marks) e marked' in cc) in
-            let inside : length values < length nodes = (let c = h.needed.count in let t = h.there in omega arith) in
-            let node = get_or nodes (length values) (Input 0 0) in
-            let n : slice_get nodes (length values) ≡ Some node = slice_get-get_or nodes (length values) (Input 0 0) inside in
-            value-last values v k k-is ∙ is on node n ∙ (is-ready nodes env marks values id node h.needed.arena h.needed h.covers h.values marked' n).value
-            ∙ ap (λ j. term_value (functions_of env) (inputs_of env) (term_at nodes j)) (sym k-is)
-      ];
-    })
-
-pub eval-whole : (nodes : List Node) (env : Env) (marks : List Bool) (id : ℕ) (values : List Bits) (i : ℕ) (b : Bits)
-    → Evaluating nodes env marks id values → length values ≡ i → length marks ≤ i → b ≡ get_or values id b
-    → value_of b ≡ term_value (functions_of env) (inputs_of env) (term_at nodes id)
-eval-whole nodes env marks id values i b h e l r =
-    let n = h.needed.count in
-    let inside : id < length values = omega arith in
-    sym (value-at values id b inside r) ∙ h.values id inside h.needed.itself
+pub has-more : (nodes : List Node) (env : Env) (values new : Known) (at k : ℕ) (v : Bits) → UpdatesBy nat_cmp (nat_cmp at) values new (Some v)
+    → value_of v ≡ term_value (functions_of env) (inputs_of env) (term_at nodes at) → ((at ≢ k) → HasValue nodes env values k) → HasValue nodes env new k
+has-more nodes env values new at k v up e h = elim (cases_eq at k) [
+  | inl s ↦ subst (HasValue nodes env new) s (has-new nodes env values new at v up e)
+  | inr n ↦ has-old nodes env values new at k v up n (h n)
+]

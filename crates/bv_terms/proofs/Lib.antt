@@ -1,7 +1,13 @@
+pub mod Seams
+pub mod KeyFacts
 pub mod NodeFacts
+pub mod Members
+pub mod OneNumber
 pub mod ArenaFacts
 pub mod ValueFacts
 pub mod EvalFacts
 pub mod TableFacts
 pub mod NeededFacts
+pub mod Evaluating
 pub mod ReplaceFacts
+pub mod Substituting

@@ -1,180 +1,228 @@
--- Marks on the terms that a term is made of.
-use Rattle.std.proofs.Common.{◌≡◌, ◌≢◌, ℕ, ◌+◌, ◌-◌, ◌++◌, take, ◌<◌, ◌≤◌, Bool, true, false, List, [], ◌∷◌, length, Some, slice_get, slice_set, refl, ap, sym, ◌∙◌, subst, arith, get_or, zero, suc, inl, inr}
-use Rattle.std.specs.List.{All, AllByRecursion}
-use Rattle.std.specs.Prelude.{replicate}
-use Rattle.std.proofs.lemmas.List.Elements.{recursion_from_All, All-from_recursion}
-use Rattle.std.proofs.lemmas.List.{length-replicate}
-use Rattle.std.proofs.lemmas.Bool.{cases_eq}
-use Rattle.std.proofs.Math.ListN.{length-set}
-use Rattle.std.proofs.lemmas.Option.{slice_get_within, slice_get-get_or, slice_get_read}
+-- The terms that a term is made of, from the largest number down.
+use Rattle.std.proofs.Common.{◌≡◌, ◌≢◌, ℕ, ◌+◌, ◌-◌, ◌++◌, ◌==◌, ◌||◌, take, ◌<◌, ◌≤◌, Bool, true, false, cond, List, [], ◌∷◌, length, length-append, Some, slice_get, refl, ap, sym, ◌∙◌, subst, arith, get_or, zero, suc, inl, inr, ◌⊎◌}
+use Rattle.std.specs.List.{All, AllByRecursion, list_any}
+use Rattle.std.specs.Ordering.{nat_cmp, is_eq, is_lt}
+use Rattle.std.specs.BTreeMap.{is_at}
+use Rattle.std.specs.BTreeSet.{BTreeSet, contains, UpdatesBy, IsUpperBound}
+use Rattle.std.proofs.lemmas.Map.Keys.{ge_from_not_lt}
+use Rattle.std.proofs.lemmas.List.Elements.{recursion_from_All}
+use Rattle.std.proofs.lemmas.List.Folds.{list_any-append}
+use Rattle.std.proofs.lemmas.Bool.{cases_eq, cases_lt, cases_Bool, cond-true, cond-false, eqb-true, eq-eqb, ne_eqb, or_cases, or_left, or_right, false≢true}
+use Rattle.std.proofs.lemmas.Bool.Decides.{nat_tests}
+use Rattle.std.proofs.lemmas.Option.{slice_get_within, slice_get-get_or}
 use Rattle.bv_terms.specs.declared.node.Node.{Node}
 use Rattle.bv_terms.specs.declared.eval.Env.{Env}
 use Rattle.bv_terms.specs.Arenas.{parts, made_of, term_at, IsArena}
 use Rattle.bv_terms.specs.Environments.{Covers}
-use Rattle.bv_terms.specs.Needed.{AreNeeded, IsMarked, marked}
+use Rattle.bv_terms.specs.Needed.{AreNeeded, AreFalling, IsAmong, is_in}
+use Rattle.bv_terms.proofs.Members.{at-number, in-all, all-in, each}
 use Rattle.bv_terms.proofs.EvalFacts.{parts-covered}
+use Rattle.bv_terms.proofs.Seams.{snoc-cases, snoc-old, snoc-last}
 
--- ---- one more mark
+-- ---- members of a list
 
-set-kept : (ms : List Bool) (i k : ℕ) → IsMarked ms k → IsMarked (slice_set ms i true) k
-set-kept [] i k h = h
-set-kept (m ∷ ms) zero zero h = refl
-set-kept (m ∷ ms) zero (suc k) h = h
-set-kept (m ∷ ms) (suc i) zero h = h
-set-kept (m ∷ ms) (suc i) (suc k) h = set-kept ms i k h
+among-more : (ids : List ℕ) (next k : ℕ) → IsAmong ids k → IsAmong (ids ++ next ∷ []) k
+among-more ids next k h = (h.0, snoc-old ids next h.0 (slice_get_within ids h.0 k h.1) ∙ h.1)
 
-set-marks : (ms : List Bool) (i : ℕ) → i < length ms → IsMarked (slice_set ms i true) i
-set-marks [] i h = absurd (omega arith)
-set-marks (m ∷ ms) zero h = refl
-set-marks (m ∷ ms) (suc i) h = set-marks ms i (omega arith)
+among-last : (ids : List ℕ) (next : ℕ) → IsAmong (ids ++ next ∷ []) next
+among-last ids next = (length ids, snoc-last ids next (length ids) refl)
 
-set-only : (ms : List Bool) (i k : ℕ) → IsMarked (slice_set ms i true) k → k ≢ i → IsMarked ms k
-set-only [] i k h n = h
-set-only (m ∷ ms) zero zero h n = absurd (n refl)
-set-only (m ∷ ms) zero (suc k) h n = h
-set-only (m ∷ ms) (suc i) zero h n = h
-set-only (m ∷ ms) (suc i) (suc k) h n = set-only ms i k h (λ e. n (ap suc e))
+among-cases : (ids : List ℕ) (next k : ℕ) → IsAmong (ids ++ next ∷ []) k → IsAmong ids k ⊎ (next ≡ k)
+among-cases ids next k h = elim (snoc-cases ids next h.0 k h.1) [ inl p ↦ inl (h.0, p.1) | inr p ↦ inr p.1 ]
 
--- ---- more marks
+-- ---- one number is taken
 
-length-marked : (ms : List Bool) (ps : List ℕ) → length (marked ms ps) ≡ length ms
-length-marked ms [] = refl
-length-marked ms (p ∷ ps) = length-marked (slice_set ms p true) ps ∙ length-set ms p true
+abbrev pub Waits : BTreeSet ℕ → ℕ → Type 0
+Waits waiting q = contains nat_cmp waiting q ≡ true
 
-pub marked-kept : (ms : List Bool) (ps : List ℕ) (k : ℕ) → IsMarked ms k → IsMarked (marked ms ps) k
-marked-kept ms [] k h = h
-marked-kept ms (p ∷ ps) k h = marked-kept (slice_set ms p true) ps k (set-kept ms p k h)
+-- the largest is taken, and the parts of its node wait
+pub record Taken (old new : BTreeSet ℕ) (next : ℕ) (ps : List ℕ) : Type 0 where
+  pub itself : Waits old next
+  pub greatest : (q : ℕ) → Waits old q → q ≤ next
+  pub kept : (q : ℕ) → Waits old q → (next ≡ q) ⊎ Waits new q
+  pub only : (q : ℕ) → Waits new q → ((q ≢ next) × Waits old q) ⊎ (is_in ps q ≡ true)
+  pub parts : AllByRecursion (Waits new) ps
 
-below-set : (ms : List Bool) (p : ℕ) (ps : List ℕ) → AllByRecursion (λ q. q < length ms) ps → AllByRecursion (λ q. q < length (slice_set ms p true)) ps
-below-set ms p [] h = tt
-below-set ms p (q ∷ qs) h = (subst (λ n. q < n) (sym (length-set ms p true)) h.0, below-set ms p qs h.1)
-
-parts-marked : (ms : List Bool) (ps : List ℕ) → AllByRecursion (λ p. p < length ms) ps → AllByRecursion (IsMarked (marked ms ps)) ps
-parts-marked ms [] h = tt
-parts-marked ms (p ∷ ps) h =
-    (marked-kept (slice_set ms p true) ps p (set-marks ms p h.0), parts-marked (slice_set ms p true) ps (below-set ms p ps h.1))
-
-marked-only : (P : ℕ → Type 0) (ms : List Bool) (ps : List ℕ) → ((k : ℕ) → IsMarked ms k → P k) → AllByRecursion P ps → (k : ℕ) → IsMarked (marked ms ps) k → P k
-marked-only P ms [] h a = h
-marked-only P ms (p ∷ ps) h a =
-    marked-only P (slice_set ms p true) ps
-    (λ k m. elim (cases_eq k p) [ inl e ↦ subst P (sym e) a.0 | inr n ↦ h k (set-only ms p k m n) ]) a.1
-
--- ---- the walk down
-
--- the parts of marked terms from `at` on are marked
-pub record NeededFrom (nodes : List Node) (id at : ℕ) (marks : List Bool) : Type 0 where
-  pub arena : IsArena nodes
-  pub bounded : at ≤ id + 1
-  pub count : length marks ≡ id + 1
-  pub itself : IsMarked marks id
-  pub parts : (k : ℕ) (node : Node) → at ≤ k → IsMarked marks k → slice_get nodes k ≡ Some node → All (IsMarked marks) (parts node)
-  pub covered : (env : Env) → Covers env (term_at nodes id) → (k : ℕ) → IsMarked marks k → Covers env (term_at nodes k)
-
-replicated : (n k : ℕ) → IsMarked (replicate n false) k → ⊥
-replicated zero k h = cc
-replicated (suc n) zero h = cc
-replicated (suc n) (suc k) h = replicated n k h
-
-needed-first : (nodes : List Node) (id : ℕ) → IsArena nodes → NeededFrom nodes id (id + 1) (slice_set (replicate (id + 1) false) id true)
-needed-first nodes id a =
-    let ms = replicate (id + 1) false in
-    let only : (k : ℕ) → IsMarked (slice_set ms id true) k → k ≡ id
-    = λ k m. elim (cases_eq k id) [ inl e ↦ e | inr n ↦ absurd (replicated (id + 1) k (set-only ms id k m n)) ] in
-    record {
-      arena = a;
-      bounded = omega arith;
-      count = length-set ms id true ∙ length-replicate (id + 1) false;
-      itself = set-marks ms id (omega (arith, length-replicate (id + 1) false));
-      parts = λ k node l m e. absurd (let w = only k m in omega arith);
-      covered = λ env h k m. subst (λ j. Covers env (term_at nodes j)) (sym (only k m)) h;
-    }
-
-pub needed-skip : (nodes : List Node) (id at : ℕ) (marks : List Bool) → NeededFrom nodes id (at + 1) marks → (IsMarked marks at → ⊥) → NeededFrom nodes id at marks
-needed-skip nodes id at marks h no' = record {
-  arena = h.arena;
-  bounded = (let b = h.bounded in omega arith);
-  count = h.count;
-  itself = h.itself;
-  parts = λ k node l m e. elim (cases_eq k at) [
-    | inl q ↦ absurd (no' (subst (IsMarked marks) q m))
-    | inr n ↦ h.parts k node (let n' = n in omega arith) m e
+pub taken : (old rest new : BTreeSet ℕ) (next : ℕ) (ps : List ℕ) → Waits old next → IsUpperBound nat_cmp old next → UpdatesBy nat_cmp (nat_cmp next) old rest false
+    → ((q : ℕ) → contains nat_cmp new q ≡ (contains nat_cmp rest q || is_in ps q)) → Taken old new next ps
+taken old rest new next ps itself top up more = record {
+  itself = itself;
+  greatest = λ q w. ge_from_not_lt next q (top q w);
+  kept = λ q w. elim (cases_Bool (next == q)) [
+    | inl e ↦ inl (eqb-true next q e)
+    | inr e ↦ inr (more q ∙ or_left (contains nat_cmp rest q) (is_in ps q) (stays q e ∙ w))
   ];
-  covered = h.covered;
+  only = λ q w. elim (or_cases (contains nat_cmp rest q) (is_in ps q) (sym (more q) ∙ w)) [
+    | inl r ↦ elim (cases_Bool (next == q)) [
+      | inl e ↦ absurd (false≢true (sym (leaves q e) ∙ r))
+      | inr e ↦ inl (λ s. false≢true (sym e ∙ eq-eqb next q (sym s)), sym (stays q e) ∙ r)
+    ]
+    | inr p ↦ inr p
+  ];
+  parts = each (λ p i. more p ∙ or_right (contains nat_cmp rest p) (is_in ps p) i) ps (all-in ps);
 }
+  where
+    stays : (q : ℕ) → (next == q) ≡ false → contains nat_cmp rest q ≡ contains nat_cmp old q
+    stays q e = up.0 q ∙ cond-false (is_at (nat_cmp next) q) false (contains nat_cmp old q) (at-number next q ∙ e)
 
-pub needed-next : (nodes : List Node) (id at : ℕ) (marks : List Bool) (node : Node) → NeededFrom nodes id (at + 1) marks
-    → IsMarked marks at → slice_get nodes at ≡ Some node → NeededFrom nodes id at (marked marks (parts node))
-needed-next nodes id at marks node h m e =
-    let a = h.arena in
+    leaves : (q : ℕ) → (next == q) ≡ true → contains nat_cmp rest q ≡ false
+    leaves q e = up.0 q ∙ cond-true (is_at (nat_cmp next) q) false (contains nat_cmp old q) (at-number next q ∙ e)
+
+-- ---- the loop
+
+abbrev pub IsKnown : List ℕ → BTreeSet ℕ → ℕ → Type 0
+IsKnown ids waiting k = IsAmong ids k ⊎ Waits waiting k
+
+-- the last number that was taken, else one that is larger than all
+abbrev pub bound : List ℕ → ℕ → ℕ
+bound ids id = get_or ids (length ids - 1) (suc id)
+
+pub record NeededFrom (nodes : List Node) (id : ℕ) (ids : List ℕ) (waiting : BTreeSet ℕ) : Type 0 where
+  pub arena : IsArena nodes
+  pub there : id < length nodes
+  pub itself : IsKnown ids waiting id
+  pub within : (k : ℕ) → IsKnown ids waiting k → k ≤ id
+  pub falling : AreFalling ids
+  pub below : (q i a : ℕ) → Waits waiting q → slice_get ids i ≡ Some a → q < a
+  pub parts_ : (k : ℕ) (node : Node) → IsAmong ids k → slice_get nodes k ≡ Some node → AllByRecursion (IsKnown ids waiting) (parts node)
+  pub covered : (env : Env) → Covers env (term_at nodes id) → (k : ℕ) → IsKnown ids waiting k → Covers env (term_at nodes k)
+
+known-more : (ids : List ℕ) (old new : BTreeSet ℕ) (next : ℕ) (ps : List ℕ) → Taken old new next ps → (k : ℕ) → IsKnown ids old k → IsKnown (ids ++ next ∷ []) new k
+known-more ids old new next ps t k (inl a) = inl (among-more ids next k a)
+known-more ids old new next ps t k (inr w) = elim (t.kept k w) [
+  | inl e ↦ inl (subst (IsAmong (ids ++ next ∷ [])) e (among-last ids next))
+  | inr n ↦ inr n
+]
+
+-- what holds of all that was known, and of the parts, holds of all that is known then
+known-cases : (P : ℕ → Type 0) (ids : List ℕ) (old new : BTreeSet ℕ) (next : ℕ) (ps : List ℕ) → Taken old new next ps
+    → ((k : ℕ) → IsKnown ids old k → P k) → AllByRecursion P ps → (k : ℕ) → IsKnown (ids ++ next ∷ []) new k → P k
+known-cases P ids old new next ps t f h k (inl a) = elim (among-cases ids next k a) [
+  | inl b ↦ f k (inl b)
+  | inr e ↦ subst P e (f next (inr t.itself))
+]
+known-cases P ids old new next ps t f h k (inr w) = elim (t.only k w) [
+  | inl o ↦ f k (inr o.1)
+  | inr i ↦ in-all P ps k h i
+]
+
+-- the parts of a node that is there
+parts-below : (nodes : List Node) (k : ℕ) (node : Node) → IsArena nodes → slice_get nodes k ≡ Some node → AllByRecursion (λ p. p < k) (parts node)
+parts-below nodes k node a e = recursion_from_All (λ p. p < k) (parts node) (a.below k node e)
+
+pub needed-step : (nodes : List Node) (id : ℕ) (ids more : List ℕ) (old new : BTreeSet ℕ) (next : ℕ) (node : Node) → NeededFrom nodes id ids old
+    → slice_get nodes next ≡ Some node → Taken old new next (parts node) → more ≡ ids ++ next ∷ [] → NeededFrom nodes id more new
+needed-step nodes id ids more old new next node h e t m =
     let ps = parts node in
-    let ms = marked marks ps in
-    let below : All (λ p. p < at) ps = a.below at node e in
-    let within : at < length marks = slice_get_within marks at true m in
-    let inside : All (λ p. p < length marks) ps = (λ i d l. let b = below i d l in omega arith) in
-    let here : AllByRecursion (IsMarked ms) ps = parts-marked marks ps (recursion_from_All (λ p. p < length marks) ps inside) in
-    let old : (k : ℕ) → at ≤ k → IsMarked ms k → IsMarked marks k
-    = λ k l q. marked-only (λ j. at ≤ j → IsMarked marks j) marks ps (λ j r _. r)
-    (recursion_from_All (λ j. at ≤ j → IsMarked marks j) ps (λ i d l' n. absurd (let b = below i d l' in omega arith))) k q l in
-    record {
-      arena = a;
-      bounded = (let b = h.bounded in omega arith);
-      count = length-marked marks ps ∙ h.count;
-      itself = marked-kept marks ps id h.itself;
-      parts = λ k n l q e'. elim (cases_eq k at) [
-        | inl same ↦ let n-is : node ≡ n = (let s : slice_get nodes at ≡ Some n = subst (λ j. slice_get nodes j ≡ Some n) same e' in cc) in
-            subst (λ (x : Node). All (IsMarked ms) (Rattle.bv_terms.specs.Arenas.parts x)) n-is (All-from_recursion (IsMarked ms) ps here)
-        | inr other ↦ (λ i d l'. marked-kept marks ps (get_or (Rattle.bv_terms.specs.Arenas.parts n) i d) (h.parts k n (let o = other in omega arith) (old k l q) e' i d l'))
+    let smaller : AllByRecursion (λ p. p < next) ps = parts-below nodes next node h.arena e in
+    let next-within : next ≤ id = h.within next (inr t.itself) in
+    let under : (q : ℕ) → Waits new q → q < next
+    = (λ q w. elim (t.only q w) [
+      | inl o ↦ (let l = t.greatest q o.1 in let n = o.0 in omega arith)
+      | inr i ↦ in-all (λ p. p < next) ps q smaller i
+    ]) in
+    subst (λ xs. NeededFrom nodes id xs new) (sym m) (record {
+      arena = h.arena;
+      there = h.there;
+      itself = known-more ids old new next ps t id h.itself;
+      within = known-cases (λ k. k ≤ id) ids old new next ps t h.within (each (λ p l. omega arith) ps smaller);
+      falling = λ i j a b l f g. elim (snoc-cases ids next j b g) [
+        | inl q ↦ h.falling i j a b l (sym (snoc-old ids next i (let p = q.0 in omega arith)) ∙ f) q.1
+        | inr q ↦ subst (λ x. x < a) q.1 (h.below next i a t.itself (sym (snoc-old ids next i (let p = q.0 in omega arith)) ∙ f))
       ];
-      covered = λ env c k q. marked-only (λ j. Covers env (term_at nodes j)) marks ps (h.covered env c)
-          (recursion_from_All (λ j. Covers env (term_at nodes j)) ps
-          (parts-covered env (term_at nodes) node (subst (Covers env) (a.made at node e) (h.covered env c at m)))) k q;
-    }
+      below = λ q i a w f. elim (snoc-cases ids next i a f) [
+        | inl r ↦ (let l = under q w in let g = h.below next i a t.itself r.1 in omega arith)
+        | inr r ↦ subst (λ x. q < x) r.1 (under q w)
+      ];
+      parts_ = λ k n a f. elim (among-cases ids next k a) [
+        | inl b ↦ each (known-more ids old new next ps t) (parts n) (h.parts_ k n b f)
+        | inr s ↦
+            let same : node ≡ n = (let q : Some node ≡ Some n = sym e ∙ ap (slice_get nodes) s ∙ f in cc) in
+            subst (λ (x : Node). AllByRecursion (IsKnown (ids ++ next ∷ []) new) (parts x)) same (each (λ p w. inr w) ps t.parts)
+      ];
+      covered = λ env c. known-cases (λ k. Covers env (term_at nodes k)) ids old new next ps t (h.covered env c)
+          (recursion_from_All (λ p. Covers env (term_at nodes p)) ps
+          (parts-covered env (term_at nodes) node (subst (Covers env) (h.arena.made next node e) (h.covered env c next (inr t.itself)))));
+    })
 
-pub needed-all : (nodes : List Node) (id at : ℕ) (marks : List Bool) → NeededFrom nodes id at marks → at ≡ 0 → AreNeeded nodes id marks
-needed-all nodes id at marks h z = record {
+-- nothing but the term itself waits at first
+pub needed-first : (nodes : List Node) (id : ℕ) (ids : List ℕ) (empty waiting : BTreeSet ℕ) → IsArena nodes → id < length nodes → ids ≡ [] → empty.keys ≡ []
+    → UpdatesBy nat_cmp (nat_cmp id) empty waiting true → NeededFrom nodes id ids waiting
+needed-first nodes id ids empty waiting a l n z up = subst (λ xs. NeededFrom nodes id xs waiting) (sym n) (record {
+  arena = a;
+  there = l;
+  itself = inr up.1;
+  within = λ k h. subst (λ x. x ≤ id) (sym (only k h)) (omega arith);
+  falling = λ i j x y less f g. absurd cc;
+  below = λ q i x w f. absurd cc;
+  parts_ = λ k node h e. absurd (none k h);
+  covered = λ env c k h. subst (λ x. Covers env (term_at nodes x)) (sym (only k h)) c;
+})
+  where
+    none : (k : ℕ) → IsAmong [] k → ⊥
+    none k h = let q = h.1 in cc
+
+    only : (k : ℕ) → IsKnown [] waiting k → k ≡ id
+    only k (inl h) = absurd (none k h)
+    only k (inr w) = elim (cases_Bool (id == k)) [
+      | inl e ↦ sym (eqb-true id k e)
+      | inr e ↦ absurd (false≢true (ap (list_any (is_at (nat_cmp k))) (sym z) ∙ sym (up.0 k ∙ cond-false (is_at (nat_cmp id) k) true (contains nat_cmp empty k) (at-number id k ∙ e)) ∙ w))
+    ]
+
+pub needed-all : (nodes : List Node) (id : ℕ) (ids : List ℕ) (waiting : BTreeSet ℕ) → NeededFrom nodes id ids waiting → waiting.keys ≡ [] → AreNeeded nodes id ids
+needed-all nodes id ids waiting h z = record {
   arena = h.arena;
-  count = h.count;
-  itself = h.itself;
-  parts = λ k node m e. h.parts k node (omega arith) m e;
-  covered = h.covered;
+  itself = now id h.itself;
+  within = λ k a. h.within k (inl a);
+  falling = h.falling;
+  parts_ = λ k node a e. each now (parts node) (h.parts_ k node a e);
+  covered = λ env c k a. h.covered env c k (inl a);
 }
+  where
+    now : (k : ℕ) → IsKnown ids waiting k → IsAmong ids k
+    now k (inl a) = a
+    now k (inr w) = absurd (false≢true (ap (list_any (is_at (nat_cmp k))) (sym z) ∙ w))
 
--- the marks before the loop
-pub needed-start : (nodes : List Node) (id : ℕ) (first marks last : List Bool) (node : Node) → IsArena nodes → slice_get nodes id ≡ Some node
-    → first ≡ replicate (id + 1) false → marks ≡ slice_set first id true → last ≡ marked marks (parts node) → NeededFrom nodes id id last
-needed-start nodes id first marks last node a e f m l =
-    subst (NeededFrom nodes id id) (sym (l ∙ ap (λ ms. marked ms (parts node)) (m ∙ ap (λ ms. slice_set ms id true) f)))
-    (needed-next nodes id id (slice_set (replicate (id + 1) false) id true) node (needed-first nodes id a)
-    (set-marks (replicate (id + 1) false) id (omega (arith, length-replicate (id + 1) false))) e)
+-- the numbers that are taken fall
+pub needed-smaller : (nodes : List Node) (id : ℕ) (ids more : List ℕ) (waiting : BTreeSet ℕ) (next : ℕ) → NeededFrom nodes id ids waiting → Waits waiting next → more ≡ ids ++ next ∷ []
+    → bound more id < bound ids id
+needed-smaller nodes id [] more waiting next h w m = subst (λ xs. bound xs id < suc id) (sym m) (let l = h.within next (inr w) in omega arith)
+needed-smaller nodes id (x ∷ xs) more waiting next h w m =
+    let ids = x ∷ xs in
+    let last = get_or ids (length ids - 1) (suc id) in
+    let at : slice_get ids (length ids - 1) ≡ Some last = slice_get-get_or ids (length ids - 1) (suc id) (omega arith) in
+    let here : slice_get (ids ++ next ∷ []) (length (ids ++ next ∷ []) - 1) ≡ Some next = snoc-last ids next (length (ids ++ next ∷ []) - 1) (omega (arith, length-append ids (next ∷ []))) in
+    let is : bound (ids ++ next ∷ []) id ≡ next
+    = (let q : Some (bound (ids ++ next ∷ []) id) ≡ Some next
+    = sym (slice_get-get_or (ids ++ next ∷ []) (length (ids ++ next ∷ []) - 1) (suc id) (slice_get_within (ids ++ next ∷ []) (length (ids ++ next ∷ []) - 1) next here)) ∙ here in cc) in
+    subst (λ ys. bound ys id < last) (sym m) (subst (λ y. y < last) (sym is) (h.below next (length ids - 1) last w at))
 
-pub marked-at : (marks : List Bool) (i : ℕ) (d : Bool) → i < length marks → get_or marks i d ≡ true → IsMarked marks i
-marked-at marks i d l e = slice_get-get_or marks i d l ∙ ap Some e
+-- ---- how many there are
 
-pub unmarked-at : (marks : List Bool) (i : ℕ) (d : Bool) → i < length marks → get_or marks i d ≡ false → IsMarked marks i → ⊥
-unmarked-at marks i d l e m = let q : Some false ≡ Some true = sym (slice_get-get_or marks i d l ∙ ap Some e) ∙ m in cc
+pub needed-place : (nodes : List Node) (id : ℕ) (ids : List ℕ) → AreNeeded nodes id ids → (i k : ℕ) → slice_get ids i ≡ Some k → k + i ≤ id
+needed-place nodes id ids h zero k e = (let l = h.within k (zero, e) in omega arith)
+needed-place nodes id ids h (suc i) k e =
+    let inside = slice_get_within ids (suc i) k e in
+    let j = get_or ids i 0 in
+    let at : slice_get ids i ≡ Some j = slice_get-get_or ids i 0 (omega arith) in
+    let l = needed-place nodes id ids h i j at in
+    let f = h.falling i (suc i) j k (omega arith) at e in
+    omega arith
 
-pub read-mark : (marks : List Bool) (i : ℕ) (b d : Bool) → i < length marks → b ≡ get_or marks i b → b ≡ d → slice_get marks i ≡ Some d
-read-mark marks i b d l e s = slice_get_read marks (length marks) i b refl l e ∙ ap Some s
+pub needed-few : (nodes : List Node) (id : ℕ) (ids : List ℕ) → AreNeeded nodes id ids → length ids ≤ id + 1
+needed-few nodes id [] h = omega arith
+needed-few nodes id (x ∷ xs) h =
+    let ids = x ∷ xs in
+    let l = needed-place nodes id ids h (length ids - 1) (get_or ids (length ids - 1) 0) (slice_get-get_or ids (length ids - 1) 0 (omega arith)) in
+    omega arith
 
-take-nil : {A : Type 0} (n : ℕ) → take n (let xs : List A = [] in xs) ≡ []
-take-nil zero = refl
-take-nil (suc n) = refl
-
-pub resized : {A : Type 0} (n len : ℕ) (xs : List A) (x : A) → xs ≡ [] → len ≡ 0 → take n xs ++ replicate (n - len) x ≡ replicate n x
-resized n len xs x e z =
-    ap (λ ys. take n ys ++ replicate (n - len) x) e ∙ ap (λ ys. ys ++ replicate (n - len) x) (take-nil n) ∙ ap (λ k. replicate k x) (let h : n - len ≡ n = omega arith in h)
-
-pub needed-step : (nodes : List Node) (id at : ℕ) (marks last : List Bool) (node : Node) → 0 < at → NeededFrom nodes id at marks
-    → IsMarked marks (at - 1) → slice_get nodes (at - 1) ≡ Some node → last ≡ marked marks (parts node) → NeededFrom nodes id (at - 1) last
-needed-step nodes id at marks last node p h m e l =
-    subst (NeededFrom nodes id (at - 1)) (sym l)
-    (needed-next nodes id (at - 1) marks node (subst (λ k. NeededFrom nodes id k marks) (let q : at ≡ at - 1 + 1 = omega arith in q) h) m e)
-
-pub needed-pass : (nodes : List Node) (id at : ℕ) (marks : List Bool) → 0 < at → NeededFrom nodes id at marks → (IsMarked marks (at - 1) → ⊥)
-    → NeededFrom nodes id (at - 1) marks
-needed-pass nodes id at marks p h m =
-    needed-skip nodes id (at - 1) marks (subst (λ k. NeededFrom nodes id k marks) (let q : at ≡ at - 1 + 1 = omega arith in q) h) m
-
-pub unread : (marks : List Bool) (i : ℕ) → slice_get marks i ≡ Some true → slice_get marks i ≡ Some false → ⊥
-unread marks i m n = let q : Some true ≡ Some false = sym m ∙ n in cc
+-- a part of the term at a place stands at a later one
+pub needed-later : (nodes : List Node) (id : ℕ) (ids : List ℕ) → AreNeeded nodes id ids → (i k p : ℕ) → slice_get ids i ≡ Some k → p < k → IsAmong ids p
+    → (j : ℕ) × (i < j) × (slice_get ids j ≡ Some p)
+needed-later nodes id ids h i k p e l a = elim (cases_lt i a.0) [
+  | inl less ↦ (a.0, less, a.1)
+  | inr more ↦ elim (cases_eq a.0 i) [
+    | inl same ↦ absurd (let q : Some p ≡ Some k = sym a.1 ∙ ap (slice_get ids) same ∙ e in let r : p ≡ k = cc in omega arith)
+    | inr other ↦ absurd (let f = h.falling a.0 i p k (let o = other in omega arith) a.1 e in omega arith)
+  ]
+]

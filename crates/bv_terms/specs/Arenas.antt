@@ -2,6 +2,7 @@
 use Rattle.std.specs.Prelude.{◌≡◌, ℕ, ◌+◌, ◌-◌, ◌<◌, ◌≤◌, ◌^◌, List, [], ◌∷◌, ◌++◌, All, length, take, fold, Some, slice_get, slice_index_or, suc}
 use Rattle.bv_terms.specs.declared.node.Node.{Node}
 use Rattle.bv_terms.specs.declared.node.Node.TheVariants.{Constant, Input, Apply, Not, Binary, Slice, Pick}
+use Rattle.bv_terms.specs.Keys.{HasNumbers, Numbers}
 use Rattle.bv_terms.specs.TermTrees.{Term, Args, constant, input, apply, not_, binary, slice, pick, no_args, arg, width, joined_width, IsWidth, OperandsFit, IsTerm}
 
 -- ---- nodes
@@ -65,13 +66,19 @@ pub record IsArena (nodes : List Node) : Type 0 where
   pub terms : (k : ℕ) → k < length nodes → IsTerm (term_at nodes k)
   -- inputs are numbered in order
   pub inputs : (k i w : ℕ) → slice_get nodes k ≡ Some (Input i w) → i ≡ inputs_in (take k nodes)
-  pub small : length nodes < 2 ^ 32
+  -- a node stands once
+  pub once : (j k : ℕ) (node : Node) → slice_get nodes j ≡ Some node → slice_get nodes k ≡ Some node → j ≡ k
+  pub small : length nodes ≤ 2 ^ 25
 
--- the node is put at the end and has this number
-pub record IsAppended (old new : List Node) (node : Node) (id : ℕ) : Type 0 where
-  pub at : id ≡ length old
-  pub nodes : new ≡ old ++ node ∷ []
+-- the node has this number, and its term is made of those of its parts
+pub record IsPut (old new : List Node) (node : Node) (id : ℕ) : Type 0 where
+  pub there : id < length new
+  pub node_ : slice_get new id ≡ Some node
   pub term : term_at new id ≡ made_of (term_at old) node
+
+-- a node that was there has its number, and nothing is put in
+abbrev pub IsFound : (old new : List Node) → Node → ℕ → Type 0
+IsFound old new node id = (k : ℕ) → slice_get old k ≡ Some node → (id ≡ k) × (new ≡ old)
 
 -- each old term stays under its number
 pub record KeepsTerms (old new : List Node) : Type 0 where
@@ -89,8 +96,9 @@ IsInputTerm nodes i k = (w : ℕ) × (slice_get nodes k ≡ Some (Input i w))
 
 -- ---- what `Terms` keeps beside the nodes; its model cites it, and private clauses
 
-pub record IsKept (nodes : List Node) (ws ids : List ℕ) : Type 0 where
+pub record IsKept (nodes : List Node) (ws ids : List ℕ) (numbers : Numbers) : Type 0 where
   pub arena : IsArena nodes
+  pub numbers_ : HasNumbers nodes numbers
   pub width_count : length ws ≡ length nodes
   pub widths : (k : ℕ) → k < length nodes → slice_get ws k ≡ Some (width_at nodes k)
   pub input_count : length ids ≡ inputs_in nodes
@@ -116,7 +124,7 @@ node_width w (Binary op a b) = joined_width op (w a) (w b)
 node_width w (Slice a high low) = high - low + 1
 node_width w (Pick c a b) = w a
 
--- the node can be put at the end
+-- the node can be put in
 pub record CanFollow (nodes : List Node) (node : Node) : Type 0 where
   pub there : All (λ p. p < length nodes) (parts node)
   pub fit : WidthsFit (width_at nodes) node

@@ -1,5 +1,8 @@
 -- Cited by private clauses of `Terms::eval`: the value of a node, given those of its parts.
 use Rattle.std.specs.Prelude.{◌≡◌, ℕ, ◌<◌, ◌==◌, Bool, List, All, length, map, if◌then◌else◌, option_map, unwrap_or, slice_get}
+use Rattle.std.specs.Option.{IsSome}
+use Rattle.std.specs.Ordering.{nat_cmp}
+use Rattle.std.specs.BTreeMap.{BTreeMap, get}
 use Rattle.cocoon_num.specs.Values.{Value, number, apply_unary, apply_slice, flip}
 use Rattle.cocoon_num.specs.BitsOf.{value_of}
 use Rattle.cocoon_num.specs.declared.bits.Bits.{Bits}
@@ -9,21 +12,23 @@ use Rattle.bv_terms.specs.declared.eval.Env.{Env}
 use Rattle.bv_terms.specs.TermValues.{number_in, term_number, operated, term_value}
 use Rattle.bv_terms.specs.Arenas.{parts, term_at, WidthsFit}
 use Rattle.bv_terms.specs.Environments.{HasInput, HasTable, functions_of, inputs_of}
-use Rattle.bv_terms.specs.Needed.{IsMarked}
 
--- the value and the width of a number in a list
-abbrev pub value_in : List Bits → ℕ → Value
-value_in values k = unwrap_or (option_map value_of (slice_get values k)) (number 0 0)
+-- the values of some terms, by their numbers
+abbrev pub Known : Type 0
+Known = BTreeMap ℕ Bits
 
-abbrev pub width_in : List Bits → ℕ → ℕ
-width_in values k = unwrap_or (option_map (λ (b : Bits). b.width) (slice_get values k)) 0
+abbrev pub value_in : Known → ℕ → Value
+value_in values k = unwrap_or (option_map value_of (get nat_cmp values k)) (number 0 0)
+
+abbrev pub width_in : Known → ℕ → ℕ
+width_in values k = unwrap_or (option_map (λ (b : Bits). b.width) (get nat_cmp values k)) 0
 
 -- the numbers of arguments
-abbrev pub numbers_in : List Bits → List ℕ → List ℕ
+abbrev pub numbers_in : Known → List ℕ → List ℕ
 numbers_in values args = map (λ a. number_in (value_in values a)) args
 
 -- the value of a node whose parts have these values
-abbrev pub node_value : Env → List Bits → Node → Value
+abbrev pub node_value : Env → Known → Node → Value
 node_value env values (Constant b) = value_of b
 node_value env values (Input i w) = number w (inputs_of env i)
 node_value env values (Apply f args w) = number w (functions_of env f (numbers_in values args))
@@ -40,13 +45,7 @@ HasNode env w (Apply f args v) = HasTable env f (map w args) v
 HasNode env w node = Unit {0}
 
 -- all that the value of a node takes is there
-pub record IsReady (env : Env) (values : List Bits) (node : Node) : Type 0 where
-  pub there : All (λ p. p < length values) (parts node)
+pub record IsReady (env : Env) (values : Known) (node : Node) : Type 0 where
+  pub there : All (λ p. IsSome (get nat_cmp values p)) (parts node)
   pub fit : WidthsFit (width_in values) node
   pub has : HasNode env (width_in values) node
-
--- each term that is marked has its value
-abbrev pub AreValues : List Node → Env → List Bool → List Bits → Type 0
-AreValues nodes env marks values =
-    (k : ℕ) → k < length values → IsMarked marks k
-    → value_in values k ≡ term_value (functions_of env) (inputs_of env) (term_at nodes k)

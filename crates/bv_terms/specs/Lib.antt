@@ -1,5 +1,6 @@
 pub mod TermTrees
 pub mod TermValues
+pub mod Keys
 pub mod Arenas
 pub mod Environments
 pub mod Replacements

@@ -1,22 +1,27 @@
 -- Cited by private clauses: which terms of an arena a term is made of.
-use Rattle.std.specs.Prelude.{◌≡◌, ℕ, ◌+◌, Bool, true, List, All, length, fold, Some, slice_get, slice_set}
+use Rattle.std.specs.Prelude.{◌≡◌, ℕ, ◌<◌, ◌≤◌, ◌==◌, Bool, List, Some, slice_get}
+use Rattle.std.specs.List.{AllByRecursion, list_any}
 use Rattle.bv_terms.specs.declared.node.Node.{Node}
 use Rattle.bv_terms.specs.declared.eval.Env.{Env}
 use Rattle.bv_terms.specs.Arenas.{parts, term_at, IsArena}
 use Rattle.bv_terms.specs.Environments.{Covers}
 
--- these are marked too
-abbrev pub marked : List Bool → List ℕ → List Bool
-marked marks ids = fold (λ ms p. slice_set ms p true) marks ids
+abbrev pub is_in : List ℕ → ℕ → Bool
+is_in ps q = list_any (λ p. p == q) ps
 
-abbrev pub IsMarked : List Bool → ℕ → Type 0
-IsMarked marks k = slice_get marks k ≡ Some true
+abbrev pub IsAmong : List ℕ → ℕ → Type 0
+IsAmong ids k = (i : ℕ) × (slice_get ids i ≡ Some k)
 
-pub record AreNeeded (nodes : List Node) (id : ℕ) (marks : List Bool) : Type 0 where
+-- a number is smaller than those before it
+abbrev pub AreFalling : List ℕ → Type 0
+AreFalling ids = (i j a b : ℕ) → i < j → slice_get ids i ≡ Some a → slice_get ids j ≡ Some b → b < a
+
+-- the numbers of a term and of all that it is made of
+pub record AreNeeded (nodes : List Node) (id : ℕ) (ids : List ℕ) : Type 0 where
   pub arena : IsArena nodes
-  pub count : length marks ≡ id + 1
-  pub itself : IsMarked marks id
-  pub parts : (k : ℕ) (node : Node) → IsMarked marks k → slice_get nodes k ≡ Some node
-      → All (IsMarked marks) (parts node)
-  -- only terms that it is made of are marked
-  pub covered : (env : Env) → Covers env (term_at nodes id) → (k : ℕ) → IsMarked marks k → Covers env (term_at nodes k)
+  pub itself : IsAmong ids id
+  pub within : (k : ℕ) → IsAmong ids k → k ≤ id
+  pub falling : AreFalling ids
+  pub parts_ : (k : ℕ) (node : Node) → IsAmong ids k → slice_get nodes k ≡ Some node → AllByRecursion (IsAmong ids) (parts node)
+  -- and no others
+  pub covered : (env : Env) → Covers env (term_at nodes id) → (k : ℕ) → IsAmong ids k → Covers env (term_at nodes k)

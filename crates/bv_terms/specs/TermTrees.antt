@@ -2,7 +2,7 @@
 -- It follows the section "Terms" of docs/CLAUSES.md.
 use Rattle.std.specs.Prelude.{◌≡◌, ℕ, ◌+◌, ◌-◌, ◌^◌, ◌<◌, ◌≤◌, List, [], ◌∷◌}
 use Rattle.bv_terms.specs.declared.node.TermOp.{TermOp}
-use Rattle.bv_terms.specs.declared.node.TermOp.TheVariants.{Concat, Equal, Less}
+use Rattle.bv_terms.specs.declared.node.TermOp.TheVariants.{Add, Sub, And, Or, Xor, Concat, Equal, Less}
 
 mutual
   pub data Term : Type 0 where
@@ -20,6 +20,17 @@ mutual
   pub data Args : Type 0 where
     no_args : Args
     arg : (first : Term) (rest : Args) → Args
+
+-- operators are told apart by these
+abbrev pub op_number : TermOp → ℕ
+op_number Add = 0
+op_number Sub = 1
+op_number And = 2
+op_number Or = 3
+op_number Xor = 4
+op_number Concat = 5
+op_number Equal = 6
+op_number Less = 7
 
 -- ---- widths
 

@@ -1,18 +1,21 @@
 //! Values of terms.
 ghost use Rattle.std.specs.Prelude.{◌≡◌, ◌<◌, ◌≤◌, ◌==◌, ◌^◌, ℕ, List, IfOk, IsTrue, Some, All, if◌then◌else◌, length, slice_get};
+ghost use Rattle.std.specs.Option.{IsSome};
+ghost use Rattle.std.specs.Ordering.{nat_cmp};
+ghost use Rattle.std.specs.BTreeMap.{get};
 ghost use Rattle.cocoon_num.specs.Values as values;
 ghost use Rattle.cocoon_num.specs.BitsOf.{value_of};
 ghost use Rattle.bv_terms.specs.TermTrees.{OperandsFit};
 ghost use Rattle.bv_terms.specs.TermValues.{term_number, number_in, operated, term_value};
 ghost use Rattle.bv_terms.specs.Arenas.{term_at};
 ghost use Rattle.bv_terms.specs.Environments.{Covers, HasInput, HasTable, functions_of, inputs_of};
-ghost use Rattle.bv_terms.specs.declared.node.Node.{Node as NodeOf};
 ghost use Rattle.bv_terms.specs.Evaluated.{IsReady, node_value, numbers_in, value_in, width_in};
 
 use crate::arena::Terms;
 use crate::node::{FunId, InputId, Node, TermId, TermOp};
 use cocoon_num::{Bits, FunTable, List, NoMemory};
 use std::alloc::Global;
+use std::collections::BTreeMap;
 
 /// The numbers of inputs, and tables of functions, each at its own number.
 #[derive(Drop)]
@@ -45,25 +48,32 @@ fn operate(op: TermOp, a: Bits, b: Bits) -> Bits
 }
 
 /// The value of a part.
-fn part(values: &[Bits], id: TermId) -> Bits
-    requires { id < length values.now }
+fn part(values: &BTreeMap<TermId, Bits>, id: TermId) -> Bits
+    requires { IsSome (get nat_cmp values.now id) }
     ensures value { value_of result ≡ value_in values.now id }
     ensures width { result.width ≡ width_in values.now id }
 {
-    values[id as usize]
+    match values.get(&id) {
+        Some(value) => *value,
+        None => unreachable!(),
+    }
 }
 
 /// The number of an argument.
-fn argument(values: &[Bits], id: TermId) -> u64
-    requires there { id < length values.now }
+fn argument(values: &BTreeMap<TermId, Bits>, id: TermId) -> u64
+    requires there { IsSome (get nat_cmp values.now id) }
     requires narrow { width_in values.now id ≤ 64 }
     ensures { result ≡ number_in (value_in values.now id) }
 {
     part(values, id).value as u64
 }
 
-fn arguments(alloc: Global, values: &[Bits], args: &[TermId]) -> Result<Vec<u64>, NoMemory>
-    requires there { All (λ a. a < length values.now) args.now }
+fn arguments(
+    alloc: Global,
+    values: &BTreeMap<TermId, Bits>,
+    args: &[TermId],
+) -> Result<Vec<u64>, NoMemory>
+    requires there { All (λ a. IsSome (get nat_cmp values.now a)) args.now }
     requires narrow { All (λ a. width_in values.now a ≤ 64) args.now }
     ensures { IfOk result (λ numbers. numbers.items ≡ numbers_in values.now args.now) }
 {
@@ -96,7 +106,12 @@ impl Env {
     }
 
     /// The value of a node whose parts have these values.
-    fn value(&self, alloc: Global, values: &[Bits], node: &Node) -> Result<Bits, NoMemory>
+    fn value(
+        &self,
+        alloc: Global,
+        values: &BTreeMap<TermId, Bits>,
+        node: &Node,
+    ) -> Result<Bits, NoMemory>
         requires { IsReady self.now values.now node.now }
         ensures { IfOk result (λ value. value_of value ≡ node_value self.now values.now node.now) }
     {
@@ -122,30 +137,6 @@ fn picked(choice: Bits, first: Bits, second: Bits) -> Bits
 }
 
 impl Terms {
-    /// The value of the next term, if it is needed; else any.
-    fn next_value(
-        &self,
-        alloc: Global,
-        env: &Env,
-        needed: bool,
-        values: &[Bits],
-    ) -> Result<Bits, NoMemory>
-        requires there { length values.now < length self.now }
-        requires small { length values.now < 2 ^ 32 }
-        requires ready { IsTrue needed → (node : NodeOf)
-            → slice_get self.now (length values.now) ≡ Some node
-            → IsReady env.now values.now node }
-        ensures { IfOk result (λ value. IsTrue needed → (node : NodeOf)
-            → slice_get self.now (length values.now) ≡ Some node
-            → value_of value ≡ node_value env.now values.now node) }
-    {
-        if needed {
-            env.value(alloc, values, self.node(values.len() as TermId))
-        } else {
-            Ok(Bits::new(1, 0))
-        }
-    }
-
     /// The value of a term, by that of its inputs and functions.
     pub fn eval(&self, alloc: Global, id: TermId, env: &Env) -> Result<Bits, NoMemory>
         requires there { id < length self.now }
@@ -153,12 +144,14 @@ impl Terms {
         ensures { IfOk result (λ value. value_of value
             ≡ term_value (functions_of env.now) (inputs_of env.now) (term_at self.now id)) }
     {
-        let marks = self.needed(alloc, id)?;
-        let mut values = Vec::with_capacity(alloc, marks.len())?;
-        for needed in &marks {
-            let value = self.next_value(alloc, env, *needed, &values)?;
-            values.push(value)?;
+        let ids = self.needed(alloc, id)?;
+        let mut values = BTreeMap::new(alloc);
+        let mut at = ids.len();
+        while at > 0 {
+            at -= 1;
+            let value = env.value(alloc, &values, self.node(ids[at]))?;
+            values.insert(ids[at], value)?;
         }
-        Ok(values[id as usize])
+        Ok(part(&values, id))
     }
 }

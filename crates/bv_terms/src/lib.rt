@@ -3,6 +3,8 @@
 
 pub mod arena;
 pub mod eval;
+mod keys;
+pub mod laws;
 mod needed;
 pub mod node;
 mod substitute;

@@ -1,52 +1,42 @@
 //! Which terms a term is made of.
-ghost use Rattle.std.specs.Prelude.{◌≡◌, ◌<◌, All, IfOk, length};
+ghost use Rattle.std.specs.Prelude.{◌≡◌, ◌<◌, ◌||◌, ℕ, IfOk, OnOk, length};
+ghost use Rattle.std.specs.Ordering.{nat_cmp};
+ghost use Rattle.std.specs.BTreeSet.{contains};
 ghost use Rattle.bv_terms.specs.Arenas.{parts};
-ghost use Rattle.bv_terms.specs.Needed.{AreNeeded, marked};
+ghost use Rattle.bv_terms.specs.Needed.{AreNeeded, is_in};
 
 use crate::arena::Terms;
 use crate::node::{Node, TermId};
 use cocoon_num::NoMemory;
 use std::alloc::Global;
+use std::collections::BTreeSet;
 
-fn mark_all(marks: &mut Vec<bool>, ids: &[TermId])
-    requires { All (λ p. p < length marks.old.items) ids.now }
-    ensures { marks.new.items ≡ marked marks.old.items ids.now }
+/// The parts of a node wait too.
+fn await_parts(waiting: &mut BTreeSet<TermId>, node: &Node) -> Result<(), NoMemory>
+    ensures { OnOk result ((q : ℕ) → contains nat_cmp waiting.new q
+        ≡ (contains nat_cmp waiting.old q || is_in (parts node.now) q)) }
 {
-    for id in ids {
-        marks[*id as usize] = true;
+    for place in 0..node.part_count() {
+        waiting.insert(node.part(place))?;
     }
-}
-
-fn mark_parts(marks: &mut Vec<bool>, node: &Node)
-    requires { All (λ p. p < length marks.old.items) (parts node.now) }
-    ensures { marks.new.items ≡ marked marks.old.items (parts node.now) }
-{
-    match node {
-        Node::Constant(_) | Node::Input(_, _) => (),
-        Node::Apply(_, args, _) => mark_all(marks, args.items()),
-        Node::Not(a) | Node::Slice(a, _, _) => mark_all(marks, &[*a]),
-        Node::Binary(_, a, b) => mark_all(marks, &[*a, *b]),
-        Node::Pick(c, a, b) => mark_all(marks, &[*c, *a, *b]),
-    }
+    Ok(())
 }
 
 impl Terms {
-    /// A mark for each number up to this: whether the term is made of that term, or is it.
-    pub(crate) fn needed(&self, alloc: Global, id: TermId) -> Result<Vec<bool>, NoMemory>
+    /// The numbers of the terms that a term is made of, itself too, each once and from the largest on.
+    pub(crate) fn needed(&self, alloc: Global, id: TermId) -> Result<Vec<TermId>, NoMemory>
         requires { id < length self.now }
-        ensures { IfOk result (λ marks. AreNeeded self.now id marks.items) }
+        ensures { IfOk result (λ ids. AreNeeded self.now id ids.items) }
     {
-        let mut marks = Vec::new(alloc);
-        marks.resize(id as usize + 1, false)?;
-        marks[id as usize] = true;
-        mark_parts(&mut marks, self.node(id));
-        let mut at = id as usize;
-        while at > 0 {
-            at -= 1;
-            if marks[at] {
-                mark_parts(&mut marks, self.node(at as TermId));
-            }
+        let terms = self.count();
+        prove!(id < terms);
+        let mut ids = Vec::new(alloc);
+        let mut waiting = BTreeSet::new(alloc);
+        waiting.insert(id)?;
+        while let Some(next) = waiting.pop_last() {
+            ids.push(next)?;
+            await_parts(&mut waiting, self.node(next))?;
         }
-        Ok(marks)
+        Ok(ids)
     }
 }

@@ -1,27 +1,30 @@
 //! Terms in place of inputs.
-ghost use Rattle.std.specs.Prelude.{◌≡◌, ◌<◌, ◌^◌, ◌+◌, All, IfOk, IsTrue, Some, length, map, slice_get, slice_index};
+ghost use Rattle.std.specs.Prelude.{◌≡◌, ◌<◌, ◌≤◌, ◌+◌, ◌-◌, All, IfOk, Some, length, map, slice_get};
 ghost use Rattle.std.specs.List.{AllZip};
 ghost use Rattle.bv_terms.specs.declared.node.Node.{Node as NodeOf};
-ghost use Rattle.bv_terms.specs.Arenas.{GrowsBy, KeepsTerms, inputs_in, parts, term_at};
+ghost use Rattle.bv_terms.specs.Arenas.{GrowsBy, KeepsTerms, inputs_in, term_at};
 ghost use Rattle.bv_terms.specs.Replacements.{HasWidthOf, beside, replaced};
-ghost use Rattle.bv_terms.specs.Rebuilt.{CanRebuild, IsRebuilt, IsTable, in_place_of, with_parts};
+ghost use Rattle.bv_terms.specs.Rebuilt.{AreReplacedFrom, CanRebuild, IsRebuilt, IsTable, StandsFrom, in_place_of, name_in, with_parts};
 
 use crate::arena::Terms;
 use crate::node::{InputId, Node, TermId};
 use cocoon_num::{List, NoMemory};
 use std::alloc::Global;
+use std::collections::BTreeMap;
 
 /// The number that stands in the place of a part.
-fn renamed(ids: &[TermId], part: TermId) -> TermId
-    requires { part < length ids.now }
-    ensures { result ≡ slice_index ids.now part }
+fn renamed(ids: &BTreeMap<TermId, TermId>, part: TermId) -> TermId
+    ensures { result ≡ name_in ids.now part }
 {
-    ids[part as usize]
+    ids.get(&part).copied().unwrap_or(part)
 }
 
-fn all_renamed(alloc: Global, ids: &[TermId], parts: &[TermId]) -> Result<Vec<TermId>, NoMemory>
-    requires { All (λ p. p < length ids.now) parts.now }
-    ensures { IfOk result (λ others. others.items ≡ map (slice_index ids.now) parts.now) }
+fn all_renamed(
+    alloc: Global,
+    ids: &BTreeMap<TermId, TermId>,
+    parts: &[TermId],
+) -> Result<Vec<TermId>, NoMemory>
+    ensures { IfOk result (λ others. others.items ≡ map (name_in ids.now) parts.now) }
 {
     let mut others = Vec::with_capacity(alloc, parts.len())?;
     for part in parts {
@@ -30,44 +33,13 @@ fn all_renamed(alloc: Global, ids: &[TermId], parts: &[TermId]) -> Result<Vec<Te
     Ok(others)
 }
 
-/// Whether a part stands in its own place.
-fn stays(ids: &[TermId], part: TermId) -> bool
-    requires { part < length ids.now }
-    ensures { IsTrue result → slice_index ids.now part ≡ part }
-{
-    renamed(ids, part) == part
-}
-
-fn all_stay(ids: &[TermId], parts: &[TermId]) -> bool
-    requires { All (λ p. p < length ids.now) parts.now }
-    ensures { IsTrue result → map (slice_index ids.now) parts.now ≡ parts.now }
-{
-    for part in parts {
-        if !stays(ids, *part) {
-            return false;
-        }
-    }
-    true
-}
-
-/// Whether the node has the same parts then.
-fn keeps_parts(ids: &[TermId], node: &Node) -> bool
-    requires { All (λ p. p < length ids.now) (parts node.now) }
-    ensures { IsTrue result → with_parts ids.now node.now ≡ node.now }
-{
-    match node {
-        Node::Constant(_) | Node::Input(_, _) => true,
-        Node::Apply(_, args, _) => all_stay(ids, args.items()),
-        Node::Not(a) | Node::Slice(a, _, _) => stays(ids, *a),
-        Node::Binary(_, a, b) => stays(ids, *a) && stays(ids, *b),
-        Node::Pick(c, a, b) => stays(ids, *c) && stays(ids, *a) && stays(ids, *b),
-    }
-}
-
 /// The node with other parts, each in the place of an old one.
-fn with_parts(alloc: Global, ids: &[TermId], node: &Node) -> Result<Node, NoMemory>
-    requires { All (λ p. p < length ids.now) (parts node.now) }
-    ensures { IfOk result (λ other. other ≡ with_parts ids.now node.now) }
+fn with_parts(
+    alloc: Global,
+    ids: &BTreeMap<TermId, TermId>,
+    node: &Node,
+) -> Result<Node, NoMemory>
+    ensures { IfOk result (λ other. other ≡ with_parts (name_in ids.now) node.now) }
 {
     Ok(match node {
         Node::Constant(value) => Node::Constant(*value),
@@ -84,66 +56,52 @@ fn with_parts(alloc: Global, ids: &[TermId], node: &Node) -> Result<Node, NoMemo
 }
 
 /// The term for an input, if there is one, else its own.
-fn in_place_of(table: &[Option<TermId>], input: InputId, own: TermId) -> TermId
-    requires { input < length table.now }
+fn in_place_of(table: &BTreeMap<InputId, TermId>, input: InputId, own: TermId) -> TermId
     ensures { result ≡ in_place_of table.now input own }
 {
-    table[input as usize].unwrap_or(own)
+    table.get(&input).copied().unwrap_or(own)
+}
+
+/// For each input the first term that stands beside it.
+fn replacements(
+    alloc: Global,
+    from: &[InputId],
+    to: &[TermId],
+) -> Result<BTreeMap<InputId, TermId>, NoMemory>
+    requires { length from.now ≡ length to.now }
+    ensures { IfOk result (λ table. IsTable from.now to.now table) }
+{
+    let mut table = BTreeMap::new(alloc);
+    let mut at = from.len();
+    while at > 0 {
+        at -= 1;
+        table.insert(from[at], to[at])?;
+    }
+    Ok(table)
 }
 
 impl Terms {
-    /// For each input the term that stands beside it, if one does.
-    fn table(
-        &self,
-        alloc: Global,
-        from: &[InputId],
-        to: &[TermId],
-    ) -> Result<Vec<Option<TermId>>, NoMemory>
-        requires inputs { All (λ i. i < inputs_in self.now) from.now }
-        requires lengths { length from.now ≡ length to.now }
-        ensures { IfOk result (λ table. IsTable self.now from.now to.now table.items) }
-    {
-        let mut table = Vec::new(alloc);
-        table.resize(self.input_count() as usize, None)?;
-        let mut at = from.len();
-        while at > 0 {
-            at -= 1;
-            table[from[at] as usize] = Some(to[at]);
-        }
-        Ok(table)
-    }
-
-    /// What the next term becomes, if it is needed: the same term where its parts stay, else one that is put in.
+    /// What a term becomes whose parts have become these.
     fn rebuild(
         &mut self,
         alloc: Global,
-        needed: bool,
-        table: &[Option<TermId>],
-        ids: &[TermId],
+        table: &BTreeMap<InputId, TermId>,
+        ids: &BTreeMap<TermId, TermId>,
+        own: TermId,
     ) -> Result<TermId, NoMemory>
-        requires there { length ids.now < length self.old }
-        requires small { length ids.now < 2 ^ 32 }
-        requires can { IsTrue needed → (node : NodeOf)
-            → slice_get self.old (length ids.now) ≡ Some node
-            → CanRebuild self.old table.now ids.now node }
-        ensures rebuilt { IfOk result (λ id. IsTrue needed → (node : NodeOf)
-            → slice_get self.old (length ids.now) ≡ Some node
-            → IsRebuilt self.old self.new table.now ids.now (length ids.now) node id) }
+        requires there { own < length self.old }
+        requires can { (node : NodeOf) → slice_get self.old own ≡ Some node
+            → CanRebuild self.old (name_in ids.now) node }
+        ensures rebuilt { IfOk result (λ id. (node : NodeOf) → slice_get self.old own ≡ Some node
+            → IsRebuilt self.old self.new table.now (name_in ids.now) own node id) }
         ensures kept { KeepsTerms self.old self.new }
         ensures few { GrowsBy 1 self.old self.new }
     {
-        let own = ids.len() as TermId;
-        if !needed {
-            return Ok(own);
-        }
         if let Node::Input(input, _) = self.node(own) {
             return Ok(in_place_of(table, *input, own));
         }
-        if keeps_parts(ids, self.node(own)) {
-            return Ok(own);
-        }
         let node = with_parts(alloc, ids, self.node(own))?;
-        self.append(node, self.width(own))
+        self.put(node, self.width(own))
     }
 
     /// The term in which each of these inputs is replaced by the term beside it. At most as many terms are put in as stand up
@@ -165,13 +123,44 @@ impl Terms {
         ensures kept { KeepsTerms self.old self.new }
         ensures few { GrowsBy (id + 1) self.old self.new }
     {
-        let marks = self.needed(alloc, id)?;
-        let table = self.table(alloc, from, to)?;
-        let mut ids = Vec::with_capacity(alloc, marks.len())?;
-        for needed in &marks {
-            let next = self.rebuild(alloc, *needed, &table, &ids)?;
-            ids.push(next)?;
+        let needed = self.needed(alloc, id)?;
+        let table = replacements(alloc, from, to)?;
+        let mut ids = BTreeMap::new(alloc);
+        let mut at = needed.len();
+        while at > 0 {
+            at -= 1;
+            let next = self.rebuild(alloc, &table, &ids, needed[at])?;
+            ids.insert(needed[at], next)?;
         }
-        Ok(ids[id as usize])
+        Ok(renamed(&ids, id))
+    }
+
+    /// The terms from a number on, in which each of these inputs is replaced by the term beside it, in their order. An input
+    /// stands from that number on too.
+    pub fn substitute_from(
+        &mut self,
+        alloc: Global,
+        first: TermId,
+        from: &[InputId],
+        to: &[TermId],
+    ) -> Result<Vec<TermId>, NoMemory>
+        requires inputs { All (StandsFrom self.old first) from.now }
+        requires terms { All (λ t. t < length self.old) to.now }
+        requires widths { AllZip (HasWidthOf self.old) from.now to.now }
+        ensures terms { IfOk result (λ ids. AreReplacedFrom self.old self.new
+            (beside from.now (map (term_at self.old) to.now)) first ids.items) }
+        ensures kept { KeepsTerms self.old self.new }
+        ensures few { GrowsBy (length self.old - first) self.old self.new }
+    {
+        let last = self.count();
+        let table = replacements(alloc, from, to)?;
+        let mut ids = BTreeMap::new(alloc);
+        let mut all = Vec::new(alloc);
+        for own in first..last {
+            let next = self.rebuild(alloc, &table, &ids, own)?;
+            ids.insert(own, next)?;
+            all.push(next)?;
+        }
+        Ok(all)
     }
 }

@@ -80,6 +80,23 @@ pub(crate) fn pick(terms: &mut Terms, c: TermId, a: TermId, b: TermId) -> Option
     terms.pick(c, a, b).ok()
 }
 
+/// A function at two arguments, of a width.
+pub(crate) fn apply(
+    terms: &mut Terms,
+    function: u32,
+    a: TermId,
+    b: TermId,
+    width: u8,
+) -> Option<TermId> {
+    if a >= terms.count() || b >= terms.count() || width < 1 || width > 128 {
+        return None;
+    }
+    if terms.width(a) > 64 || terms.width(b) > 64 {
+        return None;
+    }
+    terms.apply(function, &[a, b], width).ok()
+}
+
 /// A term with another one in the place of an input.
 pub(crate) fn replaced(
     alloc: Global,

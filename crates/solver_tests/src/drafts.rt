@@ -1,5 +1,5 @@
 //! Terms by the words that say them.
-use crate::building::{binary, bits, input, input_term, not, pick, replaced, slice};
+use crate::building::{apply, binary, bits, input, input_term, not, pick, replaced, slice};
 use bv_terms::{TermId, TermOp, Terms};
 use case_files::{first_word, number};
 use cocoon_num::Bits;
@@ -12,7 +12,7 @@ pub(crate) struct Draft {
     /// The number that each input is given, in the order of the words.
     pub(crate) inputs: Vec<Bits>,
     /// The terms that wait to be parts, the last one on top.
-    waiting: Vec<TermId>,
+    pub(crate) waiting: Vec<TermId>,
 }
 
 /// A number below 256.
@@ -109,6 +109,15 @@ impl Draft {
         slice(&mut self.terms, part, small(high)?, small(low)?)
     }
 
+    /// `Apply.FUNCTION.WIDTH`: a function at the last two.
+    fn call(&mut self, said: &str) -> Option<TermId> {
+        let (function, width) = said.split_once('.')?;
+        let second = self.waiting.pop()?;
+        let first = self.waiting.pop()?;
+        let function = u32::try_from(number(function)?).ok()?;
+        apply(&mut self.terms, function, first, second, small(width)?)
+    }
+
     /// `Put.INPUT`: the last but one with the last in the place of the input.
     fn put(&mut self, digits: &str) -> Option<TermId> {
         let by = self.waiting.pop()?;
@@ -118,8 +127,8 @@ impl Draft {
         replaced(alloc, &mut self.terms, term, input, by)
     }
 
-    /// The term of a word with a number in it: an input, the term of one, a slice, a term put in the place of an input, or a
-    /// constant.
+    /// The term of a word with a number in it: an input, the term of one, a slice, an application, a term put in the place of
+    /// an input, or a constant.
     fn numbered(&mut self, word: &str) -> Option<TermId> {
         if let Some(rest) = word.strip_prefix("in") {
             return self.input(given(rest)?);
@@ -129,6 +138,9 @@ impl Draft {
         }
         if let Some(places) = word.strip_prefix("Slice.") {
             return self.cut(places);
+        }
+        if let Some(said) = word.strip_prefix("Apply.") {
+            return self.call(said);
         }
         if let Some(digits) = word.strip_prefix("Put.") {
             return self.put(digits);
@@ -166,8 +178,8 @@ impl Draft {
         Some(())
     }
 
-    /// The last term of the words. A part in quotes, as `"3 x0 Add"`, stands for its words so many times.
-    pub(crate) fn read(alloc: Global, words: &str, blank: Option<Bits>) -> Option<(Draft, TermId)> {
+    /// All terms of the words. A part in quotes, as `"3 x0 Add"`, stands for its words so many times.
+    pub(crate) fn read_all(alloc: Global, words: &str, blank: Option<Bits>) -> Option<Draft> {
         let mut draft = Draft::new(alloc);
         let mut is_quoted = false;
         for piece in words.split('"') {
@@ -178,6 +190,12 @@ impl Draft {
             }
             is_quoted = !is_quoted;
         }
+        Some(draft)
+    }
+
+    /// The last term of the words.
+    pub(crate) fn read(alloc: Global, words: &str, blank: Option<Bits>) -> Option<(Draft, TermId)> {
+        let mut draft = Draft::read_all(alloc, words, blank)?;
         let goal = draft.waiting.pop()?;
         Some((draft, goal))
     }

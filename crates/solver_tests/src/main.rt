@@ -13,6 +13,7 @@ mod extending;
 mod goals;
 mod known;
 mod lists;
+mod numbers;
 mod reading;
 mod searching;
 mod values;
@@ -20,6 +21,7 @@ mod values;
 use case_files::{Printer, Subject, first_word, try_words};
 use dimacs_texts::{Kind, put_searches, put_texts};
 use goals::{put_inputs, put_size, put_solutions};
+use numbers::put_numbers;
 use std::process::ExitCode;
 use values::put_values;
 
@@ -41,6 +43,7 @@ impl<'r> Subject for Cases<'r> {
             "solutions" => put_solutions(self.rt.alloc(), rest, given),
             "size" => put_size(self.rt.alloc(), rest, given),
             "inputs" => put_inputs(self.rt.alloc(), rest, given),
+            "terms" => put_numbers(self.rt.alloc(), rest, given),
             "lists" => put_texts(self.rt, Kind::List, rest, given),
             "logs" => put_texts(self.rt, Kind::Log, rest, given),
             "searches" => put_searches(self.rt, rest, given),

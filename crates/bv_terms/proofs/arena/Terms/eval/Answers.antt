@@ -1,57 +1,28 @@
-use Rattle.std.proofs.Common.{[], ◌∷◌, length, ap, sym, subst, arith, length-append}
-use Rattle.bv_terms.specs.Needed.{AreNeeded}
-use Rattle.bv_terms.proofs.EvalFacts.{eval-ready, eval-next, eval-whole}
+use Rattle.std.proofs.Common.{◌≡◌, ◌-◌, Some, slice_get, subst, ◌∙◌, arith}
+use Rattle.std.specs.Ordering.{nat_cmp}
+use Rattle.std.specs.BTreeMap.{UpdatesBy}
+use Rattle.bv_terms.proofs.Evaluating.{at-is, at-there, next-evaluated, next-ready, whole-evaluated}
 use Rattle.bv_terms.proofs.arena.Terms.eval.Goals as goal
 
-pub loop-needed-init : goal.loop-needed-init
-loop-needed-init c = record {
-  count = ap length c.in_ok-values.ensures.items;
-  evaluated = record {
-    there = c.requires.there;
-    needed = subst (AreNeeded c.args.self.now c.args.id) (sym c.deref-needed-items.ensures.value) c.in_ok-marks.ensures;
-    covers = c.requires.covered;
-    values = λ k l. absurd (omega (arith, ap length c.in_ok-values.ensures.items));
-  };
-}
+pub node-requires : goal.node-requires
+node-requires c =
+    at-there c.args.self.now c.args.env.now c.args.id c.in_ok-ids.ids.items c.loop-at.at c.loop-at.values c.index.result.now c.loop-at.invariant c.loop-at-test.true c.requires.there c.index.ensures
 
-pub next_value-requires-clause-there : goal.next_value-requires-clause-there
-next_value-requires-clause-there c =
-    let n = c.loop-needed.invariant.evaluated.needed.count in
-    let t = c.loop-needed.invariant.evaluated.there in
-    let e = c.loop-needed.invariant.count in
-    let l = c.loop-needed-test.true in
-    omega (arith, ap length c.deref.ensures.value)
+pub value-requires : goal.value-requires
+value-requires c =
+    let e = at-is c.args.self.now c.args.env.now c.args.id c.in_ok-ids.ids.items c.loop-at.at c.loop-at.values c.index.result.now c.loop-at.invariant c.loop-at-test.true c.index.ensures in
+    (next-ready c.args.self.now c.args.env.now c.args.id c.in_ok-ids.ids.items c.loop-at.at c.loop-at.values c.node.result.now c.loop-at.invariant c.loop-at-test.true
+    (subst (λ k. slice_get c.args.self.now k ≡ Some c.node.result.now) e c.node.ensures.node)).ready
 
-pub next_value-requires-clause-small : goal.next_value-requires-clause-small
-next_value-requires-clause-small c =
-    let n = c.loop-needed.invariant.evaluated.needed.count in
-    let t = c.loop-needed.invariant.evaluated.there in
-    let s = c.loop-needed.invariant.evaluated.needed.arena.small in
-    let e = c.loop-needed.invariant.count in
-    let l = c.loop-needed-test.true in
-    omega (arith, ap length c.deref.ensures.value)
-
-pub next_value-requires-clause-ready : goal.next_value-requires-clause-ready
-next_value-requires-clause-ready c =
-    λ t node e. eval-ready c.args.self.now c.args.env.now c.deref-needed-items.result.now c.args.id c.loop-needed.values.items c.deref.result.now c.loop-needed.needed-index _ node
-    c.loop-needed.invariant.evaluated c.loop-needed.invariant.count c.loop-needed-test.true c.deref.ensures.value t e
-
-pub loop-needed-preserved : goal.loop-needed-preserved
-loop-needed-preserved c = record {
-  count = omega (arith, c.loop-needed.invariant.count, ap length c.in_ok-push.ensures.items, length-append c.loop-needed.values.items (c.in_ok-value.value ∷ []));
-  evaluated = eval-next c.args.self.now c.args.env.now c.deref-needed-items.result.now c.args.id c.loop-needed.values.items c.deref.result.now c.loop-needed.needed-index _
-      c.in_ok-value.value c.push.new.self.items c.loop-needed.invariant.evaluated c.loop-needed.invariant.count c.loop-needed-test.true c.deref.ensures.value
-      c.in_ok-push.ensures.items c.in_ok-value.ensures;
-}
-
-pub index-requires : goal.index-requires
-index-requires c =
-    let n = c.loop-needed.invariant.evaluated.needed.count in
-    let e = c.loop-needed.invariant.count in
-    let l = c.loop-needed-test.false in
-    omega (arith, c.loop-needed.values.ok.0)
+pub loop-at-preserved : goal.loop-at-preserved
+loop-at-preserved c =
+    let e = at-is c.args.self.now c.args.env.now c.args.id c.in_ok-ids.ids.items c.loop-at.at c.loop-at.values c.index.result.now c.loop-at.invariant c.loop-at-test.true c.index.ensures in
+    let f = at-is c.args.self.now c.args.env.now c.args.id c.in_ok-ids.ids.items c.loop-at.at c.loop-at.values c.index-in-loop-at.result.now c.loop-at.invariant c.loop-at-test.true c.index-in-loop-at.ensures in
+    next-evaluated c.args.self.now c.args.env.now c.args.id c.in_ok-ids.ids.items c.loop-at.at c.loop-at.values c.insert.new.self c.node.result.now c.in_ok-value.value c.loop-at.invariant
+    c.loop-at-test.true (subst (λ k. slice_get c.args.self.now k ≡ Some c.node.result.now) e c.node.ensures.node) c.in_ok-value.ensures
+    (subst (λ k. UpdatesBy nat_cmp (nat_cmp k) c.loop-at.values c.insert.new.self (Some c.in_ok-value.value)) f c.in_ok-insert.ensures.updates)
 
 pub returns : goal.returns
 returns c =
-    eval-whole c.args.self.now c.args.env.now c.deref-needed-items.result.now c.args.id c.loop-needed.values.items c.loop-needed.needed-index c.index.result.now
-    c.loop-needed.invariant.evaluated c.loop-needed.invariant.count c.loop-needed-test.false c.index.ensures
+    c.part.ensures.value
+    ∙ (whole-evaluated c.args.self.now c.args.env.now c.args.id c.in_ok-ids.ids.items c.loop-at.at c.loop-at.values c.loop-at.invariant (let l = c.loop-at-test.false in omega arith)).is

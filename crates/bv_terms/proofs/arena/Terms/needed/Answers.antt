@@ -1,25 +1,26 @@
-use Rattle.std.proofs.Common.{◌-◌, ◌∙◌, arith, refl, false, true}
-use Rattle.bv_terms.proofs.NeededFacts.{needed-start, needed-step, needed-pass, read-mark, resized, unread}
+use Rattle.bv_terms.specs.Arenas.{parts}
+use Rattle.bv_terms.proofs.Members.{none-left}
+use Rattle.bv_terms.proofs.NeededFacts.{needed-all, needed-first, needed-smaller, needed-step, taken}
 use Rattle.bv_terms.proofs.arena.Terms.needed.Goals as goal
 
-pub loop-at-init : goal.loop-at-init
-loop-at-init c =
-    needed-start c.args.self.now c.args.id c.resize.new.self.items _ c.mark_parts.new.marks.items c.node.result.now c.node.ensures.arena c.node.ensures.node
-    (c.in_ok-resize.ensures.items ∙ resized _ _ _ false c.new-marks.ensures.items c.new-marks.ensures.len) refl c.mark_parts.ensures
+pub loop-next-init : goal.loop-next-init
+loop-next-init c =
+    needed-first c.args.self.now c.args.id c.new-ids.result.items c.new-waiting.result c.insert.new.self c.count-terms.ensures.arena c.requires c.new-ids.ensures.items
+    c.new-waiting.ensures.empty c.in_ok-insert.ensures.updates
 
-pub loop-at-preserved-then-index : goal.loop-at-preserved-then-index
-loop-at-preserved-then-index c =
-    let b = c.loop-at.invariant.bounded in
-    let n = c.loop-at.invariant.count in
-    let p = c.loop-at-test.true in
-    needed-step c.args.self.now c.args.id c.loop-at.at c.loop-at.marks.items c.mark_parts-then-index.new.marks.items c.node-then-index.result.now
-    p c.loop-at.invariant (read-mark c.loop-at.marks.items (c.loop-at.at - 1) c.index.result.now true (omega arith) c.index.ensures c.if-index.true)
-    c.node-then-index.ensures.node c.mark_parts-then-index.ensures
+pub loop-next-smaller : goal.loop-next-smaller
+loop-next-smaller c =
+    needed-smaller c.args.self.now c.args.id c.loop-next.ids.items c.push.new.self.items c.loop-next.waiting c.in-Some.next c.loop-next.invariant c.in-Some.ensures.member
+    c.in_ok-push.ensures.items
 
-pub loop-at-preserved : goal.loop-at-preserved
-loop-at-preserved c =
-    let b = c.loop-at.invariant.bounded in
-    let n = c.loop-at.invariant.count in
-    let p = c.loop-at-test.true in
-    needed-pass c.args.self.now c.args.id c.loop-at.at c.loop-at.marks.items p c.loop-at.invariant
-    (λ m. unread c.loop-at.marks.items (c.loop-at.at - 1) m (read-mark c.loop-at.marks.items (c.loop-at.at - 1) c.index.result.now false (omega arith) c.index.ensures c.if-index.false))
+pub loop-next-preserved : goal.loop-next-preserved
+loop-next-preserved c =
+    needed-step c.args.self.now c.args.id c.loop-next.ids.items c.push.new.self.items c.loop-next.waiting c.await_parts.new.waiting c.in-Some.next c.node.result.now
+    c.loop-next.invariant c.node.ensures.node
+    (taken c.loop-next.waiting c.pop_last.new.self c.await_parts.new.waiting c.in-Some.next (parts c.node.result.now) c.in-Some.ensures.member c.in-Some.ensures.greatest
+    c.in-Some.ensures.updates c.in_ok-await_parts.ensures) c.in_ok-push.ensures.items
+
+pub returns : goal.returns
+returns c =
+    needed-all c.args.self.now c.args.id c.loop-next.ids.items c.loop-next.waiting c.loop-next.invariant
+    (none-left c.pop_last.result c.loop-next.waiting.keys c.in_default.is c.pop_last.ensures.variant)

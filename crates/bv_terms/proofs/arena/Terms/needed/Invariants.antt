@@ -1,8 +1,8 @@
-use Rattle.bv_terms.proofs.NeededFacts.{NeededFrom}
+use Rattle.bv_terms.proofs.NeededFacts.{NeededFrom, bound}
 use Rattle.bv_terms.proofs.arena.Terms.needed.Given as goal
 
-abbrev pub invariant-loop-at : goal.invariant-loop-at
-invariant-loop-at l = NeededFrom l.self l.id l.at l.marks.items
+abbrev pub invariant-loop-next : goal.invariant-loop-next
+invariant-loop-next l = NeededFrom l.self l.id l.ids.items l.waiting
 
-abbrev pub decreases-loop-at : goal.decreases-loop-at
-decreases-loop-at l = l.at
+abbrev pub decreases-loop-next : goal.decreases-loop-next
+decreases-loop-next l = bound l.ids.items l.id

@@ -1,12 +1,8 @@
-use Rattle.std.proofs.Common.{◌≡◌, length, map}
-use Rattle.bv_terms.specs.Arenas.{GrowsBy, term_at}
-use Rattle.bv_terms.specs.Replacements.{beside}
-use Rattle.bv_terms.proofs.ReplaceFacts.{Rebuilding}
+use Rattle.bv_terms.proofs.Substituting.{Substituting}
 use Rattle.bv_terms.proofs.arena.Terms.substitute.Given as goal
 
-abbrev pub invariant-loop-needed : goal.invariant-loop-needed
-invariant-loop-needed l = record {
-  count : length l.ids.items ≡ l.needed-index;
-  rebuilt : Rebuilding l.fn.self l.self (beside l.from (map (term_at l.fn.self) l.to)) l.id l.needed-items l.ids.items;
-  grown : GrowsBy l.needed-index l.fn.self l.self;
-}
+abbrev pub invariant-loop-at : goal.invariant-loop-at
+invariant-loop-at l = Substituting l.fn.self l.self l.from l.to l.id l.needed.items l.at l.ids
+
+abbrev pub decreases-loop-at : goal.decreases-loop-at
+decreases-loop-at l = l.at
