@@ -1,4 +1,4 @@
--- What is read after a write over an older bundle that stopped.
+-- What is read after a write that stopped, and that one file of the network gives one network.
 use Rattle.std.proofs.Common.{◌≡◌, ◌⊎◌, inl, inr, ℕ, zero, suc, ◌+◌, List, [], ◌∷◌, ◌++◌, map, take, Option, Some, None, refl, sym, ap, ap₂, subst, ◌∙◌, arith}
 use Rattle.std.specs.FinMap.{get}
 use Rattle.std.proofs.lemmas.List.{append_assoc}
@@ -10,12 +10,13 @@ use Rattle.p4_ir.specs.NetTree.{NetData, SwitchFiles}
 use Rattle.net_bundle.specs.Bundle.{MadeFile, all_switch_files, bundle, certificate_files, certificates_name, net_text}
 use Rattle.net_bundle.specs.BundleNames.{digest_of, file_name, net_name, program_name, rows_name}
 use Rattle.net_bundle.specs.NetJson.{KeptDigest, NetFile, array_data, digest_data, net_data, number_data}
-use Rattle.net_bundle.specs.Network.{SwitchReads, SwitchesRead}
+use Rattle.net_bundle.specs.Network.{InBundle, SwitchReads, SwitchesRead}
 use Rattle.net_bundle.specs.Writing.{NotWritten, SomeWritten, with_files}
 use Rattle.net_bundle.specs.declared.fault.BundleFault.{BundleFault}
 use Rattle.net_bundle.specs.declared.fault.BundleFault.TheVariants.{Folder, Limit, NoMemory}
 use Rattle.net_bundle.specs.declared.file.BundleFile.TheVariants.{Program, Rows, Network}
-use Rattle.bundle_reader.specs.Mixed.{NoTwoAlike}
+use Rattle.bundle_reader.specs.Mixed.{NoTwoAlike, SameNetFile}
+use Rattle.bundle_reader.specs.OneReading.{OneReading}
 use Rattle.bundle_reader.specs.Readings.{AllShort, IsShort, ReadsAs}
 use Rattle.bundle_reader.proofs.Put.{HasName, after, apart}
 
@@ -79,20 +80,34 @@ lists_same a b c d rest others e = record { one = cc; two = cc; rest_same = cc }
 two_same : (first prefix rest others kept : List KeptDigest) (a b c d : KeptDigest) → first ≡ a ∷ b ∷ [] → prefix ≡ c ∷ d ∷ [] → kept ≡ first ++ rest → kept ≡ prefix ++ others → SameTwo a b c d rest others
 two_same first prefix rest others kept a b c d p q f g = lists_same a b c d rest others (sym (ap (λ l. l ++ rest) p) ∙ sym f ∙ g ∙ ap (λ l. l ++ others) q)
 
--- a file of the same digest had these bytes
-was_same : (was is : Files) → NoTwoAlike was is → (out : List ℕ) (name : ℕ → List ℕ) (m n : ℕ) (x y : List ℕ) → m ≡ n → get was (file_name out (name m)) ≡ Some x → get is (file_name out (name n)) ≡ Some y
-    → digest_of x ≡ digest_of y → get was (file_name out (name n)) ≡ Some y
-was_same was is alike out name m n x y e g h d =
-    let under : get was (file_name out (name n)) ≡ Some x = subst (λ (k : ℕ). get was (file_name out (name k)) ≡ Some x) e g in
-    under ∙ ap Some (alike (file_name out (name n)) x y under h d)
+-- a name of a part of the switches is one of all
+in_more : (out name : List ℕ) (s : SwitchFiles) (ss : List SwitchFiles) → InBundle out ss name → InBundle out (s ∷ ss) name
+in_more out name s ss (inl e) = inl e
+in_more out name s ss (inr (r, c, e)) = inr (r, (suc c.0, omega (arith, c.1), c.2), e)
 
-switch_back : (was is : Files) → NoTwoAlike was is → (out : List ℕ) (first prefix : List KeptDigest) (s u : SwitchFiles) → s.number ≡ u.number → (r : SwitchReads was out first s) (q : SwitchReads is out prefix u)
-    → digest_of r.program_text ≡ digest_of q.program_text → digest_of r.rows_text ≡ digest_of q.rows_text → SwitchReads was out prefix u
-switch_back was is alike out first prefix s u e r q d c = record {
+none_alike : (was is : Files) (out : List ℕ) (s : SwitchFiles) (ss : List SwitchFiles) → NoTwoAlike out (s ∷ ss) was is → NoTwoAlike out ss was is
+none_alike was is out s ss alike = λ name x y i. alike name x y (in_more out name s ss i)
+
+program_in : (out : List ℕ) (s u : SwitchFiles) (ss : List SwitchFiles) → s.number ≡ u.number → InBundle out (s ∷ ss) (file_name out (program_name u.number))
+program_in out s u ss e = inr (s, (0, omega arith, refl), inl (ap (λ (k : ℕ). file_name out (program_name k)) (sym e)))
+
+rows_in : (out : List ℕ) (s u : SwitchFiles) (ss : List SwitchFiles) → s.number ≡ u.number → InBundle out (s ∷ ss) (file_name out (rows_name u.number))
+rows_in out s u ss e = inr (s, (0, omega arith, refl), inr (ap (λ (k : ℕ). file_name out (rows_name k)) (sym e)))
+
+-- a file of the same digest had these bytes
+was_same : (was is : Files) (out : List ℕ) (ss : List SwitchFiles) → NoTwoAlike out ss was is → (name : ℕ → List ℕ) (m n : ℕ) (x y : List ℕ) → m ≡ n → InBundle out ss (file_name out (name n))
+    → get was (file_name out (name m)) ≡ Some x → get is (file_name out (name n)) ≡ Some y → digest_of x ≡ digest_of y → get was (file_name out (name n)) ≡ Some y
+was_same was is out ss alike name m n x y e i g h d =
+    let under : get was (file_name out (name n)) ≡ Some x = subst (λ (k : ℕ). get was (file_name out (name k)) ≡ Some x) e g in
+    under ∙ ap Some (alike (file_name out (name n)) x y i under h d)
+
+switch_back : (was is : Files) (out : List ℕ) (first prefix : List KeptDigest) (s u : SwitchFiles) (ss : List SwitchFiles) → NoTwoAlike out (s ∷ ss) was is → s.number ≡ u.number
+    → (r : SwitchReads was out first s) (q : SwitchReads is out prefix u) → digest_of r.program_text ≡ digest_of q.program_text → digest_of r.rows_text ≡ digest_of q.rows_text → SwitchReads was out prefix u
+switch_back was is out first prefix s u ss alike e r q d c = record {
   program_text = q.program_text;
   rows_text = q.rows_text;
-  program_is = was_same was is alike out program_name s.number u.number r.program_text q.program_text e r.program_is q.program_is d;
-  rows_are = was_same was is alike out rows_name s.number u.number r.rows_text q.rows_text e r.rows_are q.rows_are c;
+  program_is = was_same was is out (s ∷ ss) alike program_name s.number u.number r.program_text q.program_text e (program_in out s u ss e) r.program_is q.program_is d;
+  rows_are = was_same was is out (s ∷ ss) alike rows_name s.number u.number r.rows_text q.rows_text e (rows_in out s u ss e) r.rows_are q.rows_are c;
   digests = q.digests;
   program_reads = q.program_reads;
   rows_read = q.rows_read;
@@ -100,21 +115,21 @@ switch_back was is alike out first prefix s u e r q d c = record {
   loads = q.loads;
 }
 
-switches_back : (was is : Files) → NoTwoAlike was is → (out : List ℕ) (kept : List KeptDigest) (ns : List ℕ) (ss us : List SwitchFiles) → SwitchesRead was out kept ns ss → SwitchesRead is out kept ns us
-    → SwitchesRead was out kept ns us
-switches_back was is alike out kept [] [] [] r q = q
-switches_back was is alike out kept [] [] (u ∷ us) r q = absurd q
-switches_back was is alike out kept [] (s ∷ ss) us r q = absurd r
-switches_back was is alike out kept (n ∷ ns) [] us r q = absurd r
-switches_back was is alike out kept (n ∷ ns) (s ∷ ss) [] r q = absurd q
-switches_back was is alike out kept (n ∷ ns) (s ∷ ss) (u ∷ us) (first, rest, at, parts, here, more) (prefix, others, at', parts', here', more') =
+switches_back : (was is : Files) (out : List ℕ) (kept : List KeptDigest) (ns : List ℕ) (ss us : List SwitchFiles) → NoTwoAlike out ss was is → SwitchesRead was out kept ns ss
+    → SwitchesRead is out kept ns us → SwitchesRead was out kept ns us
+switches_back was is out kept [] [] [] alike r q = q
+switches_back was is out kept [] [] (u ∷ us) alike r q = absurd q
+switches_back was is out kept [] (s ∷ ss) us alike r q = absurd r
+switches_back was is out kept (n ∷ ns) [] us alike r q = absurd r
+switches_back was is out kept (n ∷ ns) (s ∷ ss) [] alike r q = absurd q
+switches_back was is out kept (n ∷ ns) (s ∷ ss) (u ∷ us) alike (first, rest, at, parts, here, more) (prefix, others, at', parts', here', more') =
     let same = two_same first prefix rest others kept _ _ _ _ here.digests here'.digests parts parts' in (
       prefix,
       others,
       at',
       parts',
-      switch_back was is alike out first prefix s u (at ∙ sym at') here here' (ap (λ (k : KeptDigest). k.digest) same.one) (ap (λ (k : KeptDigest). k.digest) same.two),
-      switches_back was is alike out others ns ss us (subst (λ k. SwitchesRead was out k ns ss) same.rest_same more) more',
+      switch_back was is out first prefix s u ss alike (at ∙ sym at') here here' (ap (λ (k : KeptDigest). k.digest) same.one) (ap (λ (k : KeptDigest). k.digest) same.two),
+      switches_back was is out others ns ss us (none_alike was is out s ss alike) (subst (λ k. SwitchesRead was out k ns ss) same.rest_same more) more',
     )
 
 short_back : (was is : Files) (out : List ℕ) (kept : List KeptDigest) (ns : List ℕ) (ss us : List SwitchFiles) → SwitchesRead was out kept ns ss → SwitchesRead is out kept ns us → AllShort was out ss
@@ -186,9 +201,8 @@ kept_same f g e =
 
 -- ---- networks
 
-reads_back : (was is : Files) → NoTwoAlike was is → (out : List ℕ) (old n : NetData) → get is (file_name out net_name) ≡ get was (file_name out net_name) → ReadsAs was out old → ReadsAs is out n
-    → ReadsAs was out n
-reads_back was is alike out old n stays was_reads is_reads =
+reads_back : (was is : Files) (out : List ℕ) (old n : NetData) → SameNetFile out was is → NoTwoAlike out old.switches was is → ReadsAs was out old → ReadsAs is out n → ReadsAs was out n
+reads_back was is out old n stays alike was_reads is_reads =
     let a = was_reads.0 in
     let b = is_reads.0 in
     let text : a.text ≡ b.text = some_same a.text b.text (sym a.text_is ∙ sym stays ∙ b.text_is) in
@@ -204,7 +218,7 @@ reads_back was is alike out old n stays was_reads is_reads =
         ports = b.ports;
         links = b.links;
         hosts = b.hosts;
-        switches = switches_back was is alike out b.file.files b.file.switches old.switches n.switches before b.switches;
+        switches = switches_back was is out b.file.files b.file.switches old.switches n.switches alike before b.switches;
       },
       was_reads.1,
       short_back was is out b.file.files b.file.switches old.switches n.switches before b.switches was_reads.2,
@@ -213,16 +227,34 @@ reads_back was is alike out old n stays was_reads is_reads =
     data_same : (x y : Data) → ◌≡◌ {A = Option Data} (Some x) (Some y) → x ≡ y
     data_same x y e = cc
 
-pub old_or_new : (was is : Files) (out design : List ℕ) (old new n : NetData) (certificates : Option (List ℕ)) (fault : BundleFault) → NoTwoAlike was is → ReadsAs was out old
-    → NotWritten out (bundle design new certificates) (Some was) (Some is) fault → ReadsAs is out n → ReadsAs was out n ⊎ (Some is ≡ with_files out (bundle design new certificates) (Some was))
-old_or_new was is out design old new n certificates fault alike was_reads stopped reads =
+-- what the law `one_file_one_network` says
+abbrev pub OneNetwork : Type 0
+OneNetwork = (was is : Files) (out : List ℕ) (old n : NetData) → SameNetFile out was is → NoTwoAlike out old.switches was is → ReadsAs was out old → ReadsAs is out n → n ≡ old
+
+pub one_network : ((files : Files) (out : List ℕ) → OneReading files out) → OneNetwork
+one_network law was is out old n stays alike was_reads is_reads =
+    (law was out).one_network n old (reads_back was is out old n stays alike was_reads is_reads) was_reads
+
+-- ---- a write that stopped
+
+pub left : (was is : Files) (out design : List ℕ) (new : NetData) (certificates : Option (List ℕ)) (fault : BundleFault) → NotWritten out (bundle design new certificates) (Some was) (Some is) fault
+    → SameNetFile out was is ⊎ (Some is ≡ with_files out (bundle design new certificates) (Some was))
+left was is out design new certificates fault stopped =
     let some = some_written out (bundle design new certificates) (Some was) (Some is) fault stopped in
     let others : List MadeFile = all_switch_files new.switches ++ certificate_files certificates in
     let last : MadeFile = record { file = Network; bytes = net_text design new } in
     let order : bundle design new certificates ≡ others ++ last ∷ [] = sym (append_assoc (all_switch_files new.switches) (certificate_files certificates) (last ∷ [])) in
     let put : Some is ≡ with_files out (take some.0 (others ++ last ∷ [])) (Some was) = some.1 ∙ ap (λ fs. with_files out (take some.0 fs) (Some was)) order in
     elim (last_taken some.0 others last) [
-      | inl e ↦ inl (reads_back was is alike out old n
-          (net_stays was is out some.0 others (others_apart out certificates new.switches) (put ∙ ap (λ fs. with_files out fs (Some was)) e)) was_reads reads)
+      | inl e ↦ inl (net_stays was is out some.0 others (others_apart out certificates new.switches) (put ∙ ap (λ fs. with_files out fs (Some was)) e))
       | inr e ↦ inr (put ∙ ap (λ fs. with_files out fs (Some was)) (e ∙ sym order))
+    ]
+
+pub old_or_new : OneNetwork → (once was is : Files) (out design : List ℕ) (old new n : NetData) (certificates : Option (List ℕ)) (fault : BundleFault) → SameNetFile out once was
+    → NoTwoAlike out old.switches once is → ReadsAs once out old → NotWritten out (bundle design new certificates) (Some was) (Some is) fault → ReadsAs is out n
+    → (n ≡ old) ⊎ (Some is ≡ with_files out (bundle design new certificates) (Some was))
+old_or_new law once was is out design old new n certificates fault same alike once_reads stopped reads =
+    elim (left was is out design new certificates fault stopped) [
+      | inl e ↦ inl (law once is out old n (e ∙ same) alike once_reads reads)
+      | inr e ↦ inr e
     ]

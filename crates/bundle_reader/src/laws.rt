@@ -1,6 +1,6 @@
 //! Laws of bundles that are written and read. The functions do nothing; their contracts are the laws.
 ghost use Rattle.std.specs.Prelude.{◌≡◌, ◌⊎◌, List, Option, Some, ℕ};
-ghost use Rattle.bundle_reader.specs.Mixed.{NoTwoAlike};
+ghost use Rattle.bundle_reader.specs.Mixed.{NoTwoAlike, SameNetFile};
 ghost use Rattle.bundle_reader.specs.OneReading.{OneReading};
 ghost use Rattle.bundle_reader.specs.Readings.{ReadsAs};
 ghost use Rattle.cocoon_io.specs.Files.{Files};
@@ -23,17 +23,6 @@ pub fn written_reads_back()
         → AllFit (bundle design net certificates) → Network is out net → ReadsAs is out net }
 {}
 
-/// After a write over an older bundle that stopped, what is read is what the old files read as, or the new bundle is there
-/// whole, where no two different files have one digest. A mix of both is refused.
-pub fn old_new_or_refused()
-    ensures { (was is : Files) (out design : List ℕ) (old new read : NetData)
-        (certificates : Option (List ℕ)) (fault : BundleFault)
-        → NoTwoAlike was is → ReadsAs was out old
-        → NotWritten out (bundle design new certificates) (Some was) (Some is) fault
-        → ReadsAs is out read → ReadsAs was out read
-        ⊎ (Some is ≡ with_files out (bundle design new certificates) (Some was)) }
-{}
-
 /// The files of a folder give, under a name, one network at most, have one first fault at most, and never both. A failed call
 /// of the folder and being out of memory are no faults of the files.
 pub fn one_reading()
@@ -43,4 +32,34 @@ pub fn one_reading()
     net_form_is_exact();
     rows_form_is_exact();
     rows_without_fault_load();
+}
+
+/// Where the file of the network is the same in two folders, both give one network at most, if no two different files of its
+/// switches have one digest.
+pub fn one_file_one_network()
+    ensures { (was is : Files) (out : List ℕ) (old read : NetData)
+        → SameNetFile out was is → NoTwoAlike out old.switches was is
+        → ReadsAs was out old → ReadsAs is out read → read ≡ old }
+{
+    one_reading();
+}
+
+/// After a write that stopped, over whatever stood there, the file of the network is the one of before, byte for byte, or the
+/// new bundle is there whole. So what is read then is the network of the old `net.json`, with the digests that it keeps, or the
+/// new one. If that `net.json` gave a network once, with the files that stood beside it then, it is that network, where no
+/// two different files of its switches have one digest. A mix of both bundles is refused.
+pub fn old_new_or_refused()
+    ensures left { (was is : Files) (out design : List ℕ) (new : NetData)
+        (certificates : Option (List ℕ)) (fault : BundleFault)
+        → NotWritten out (bundle design new certificates) (Some was) (Some is) fault
+        → SameNetFile out was is
+        ⊎ (Some is ≡ with_files out (bundle design new certificates) (Some was)) }
+    ensures read { (once was is : Files) (out design : List ℕ) (old new read : NetData)
+        (certificates : Option (List ℕ)) (fault : BundleFault)
+        → SameNetFile out once was → NoTwoAlike out old.switches once is → ReadsAs once out old
+        → NotWritten out (bundle design new certificates) (Some was) (Some is) fault
+        → ReadsAs is out read → (read ≡ old)
+        ⊎ (Some is ≡ with_files out (bundle design new certificates) (Some was)) }
+{
+    one_file_one_network();
 }

@@ -9,4 +9,7 @@ pub mod reading;
 mod switches;
 
 pub use fault::ReadFault;
+pub use loaded_net::Net;
+pub use p4_read::P4Fault;
+pub use p4_run::LoadFault;
 pub use reading::read_bundle;

@@ -10,5 +10,7 @@ mod layout;
 pub mod resolving;
 
 pub use checked::Checked;
+pub use declarations::FunId;
+pub use design_limits::most_of;
 pub use fault::{TypeFault, rule_name};
 pub use resolving::resolve;

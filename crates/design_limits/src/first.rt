@@ -77,20 +77,21 @@ fn count_over(
     ensures { IfOk result (λ found. found
         ≡ option_map reported (first_above (most name) (counts (design_of design.now) name))) }
 {
+    let most = most_of(name);
     match name {
-        LimitName::Refines => Ok(counts::over(counts::block_count(&design.refines), 16)),
-        LimitName::Within => Ok(counts::within_over(&design.refines, 12)),
-        LimitName::Ports => Ok(counts::ports_over(decls, 256)),
-        LimitName::Roles => Ok(counts::over(counts::role_count(alloc, decls)?, 64)),
-        LimitName::Functions => Ok(counts::over(counts::function_count(decls), 128)),
-        LimitName::Assumptions => Ok(counts::over(counts::assumption_count(decls), 64)),
-        LimitName::Params => Ok(counts::params_over(decls, 8)),
-        LimitName::Headers => Ok(counts::over(counts::header_count(&design.headers), 16)),
-        LimitName::Fields => Ok(counts::over(counts::field_count(&design.headers), 64)),
-        LimitName::Paths => Ok(counts::paths_over(decls, 4096)),
+        LimitName::Refines => Ok(counts::over(counts::block_count(&design.refines), most)),
+        LimitName::Within => Ok(counts::within_over(&design.refines, most)),
+        LimitName::Ports => Ok(counts::ports_over(decls, most)),
+        LimitName::Roles => Ok(counts::over(counts::role_count(alloc, decls)?, most)),
+        LimitName::Functions => Ok(counts::over(counts::function_count(decls), most)),
+        LimitName::Assumptions => Ok(counts::over(counts::assumption_count(decls), most)),
+        LimitName::Params => Ok(counts::params_over(decls, most)),
+        LimitName::Headers => Ok(counts::over(counts::header_count(&design.headers), most)),
+        LimitName::Fields => Ok(counts::over(counts::field_count(&design.headers), most)),
+        LimitName::Paths => Ok(counts::paths_over(decls, most)),
         LimitName::Expanded => {
             let known = forms_of(alloc, decls)?;
-            Ok(counts::nodes_over(decls, &known, 65536))
+            Ok(counts::nodes_over(decls, &known, most))
         }
         _ => Ok(None),
     }

@@ -3,6 +3,7 @@
 use Rattle.std.specs.Prelude.{ℕ, nat_lt, List, [], ◌∷◌, map, length, if◌then◌else◌, Option, Some, None, option_and_then, slice_get}
 use Rattle.cocoon_num.specs.Tree.{Design}
 use Rattle.cocoon_num.specs.declared.limit_name.LimitName.TheVariants as limit
+use Rattle.p4_ir.specs.FileSizes.{most_file_bytes}
 use Rattle.lower_body.specs.Counting.{role_size}
 use Rattle.lower_body.specs.Whole.{SwitchRole}
 use Rattle.lowered_net.specs.Counts.{Counted, most_hosts, most_members, most_sites, most_switches, most_tables}
@@ -25,7 +26,7 @@ of_groups gs = map (λ (g : ForkGroup). record { limit = limit.Members; count = 
 
 -- the first switch, where the code of the programs is so large that their texts are over the limit of a file
 abbrev pub long_program : SwitchRole → List ℕ → Option ℕ
-long_program r switches = option_and_then (λ s. if nat_lt 4194304 (role_size r) then Some s else None) (slice_get switches 0)
+long_program r switches = option_and_then (λ s. if nat_lt most_file_bytes (role_size r) then Some s else None) (slice_get switches 0)
 
 -- the most rows that a file can hold, since its text has at least 20 bytes for each
 abbrev pub most_file_rows : ℕ

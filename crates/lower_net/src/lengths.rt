@@ -12,16 +12,14 @@ use cocoon_num::NoMemory;
 use cocoon_resolve::Checked;
 use lower_rows::{ForkGroup, has_more_rows};
 use lower_switch::{Parts, program_size, switch_code};
+use p4_ir::MOST_FILE_BYTES;
 use runtime_defs::Defs;
 use std::alloc::Global;
-
-/// The most bytes of the file of a program, and of that of rows. The text of a program has at least as many as its code is large.
-pub const MOST_FILE_BYTES: u64 = 4_194_304;
 
 /// The most rows that a file can hold, since its text has at least 20 bytes for each.
 pub const MOST_FILE_ROWS: u64 = 209_715;
 
-/// The first switch, where the code of its program is too large.
+/// The first switch, where the code of its program is too large: the text has at least as many bytes as the code is large.
 pub(crate) fn find_long_program(
     alloc: Global,
     checked: &Checked,

@@ -4,6 +4,7 @@ use Rattle.std.proofs.Common.{◌≡◌, ℕ, ◌<◌, ◌≤◌, nat_lt, Bool, 
 use Rattle.std.proofs.lemmas.Bool.Decides.{nat_tests}
 use Rattle.cocoon_num.specs.Tree.{Design}
 use Rattle.p4_emit.specs.Printed.{printed}
+use Rattle.p4_ir.specs.FileSizes.{most_file_bytes}
 use Rattle.p4_ir.specs.NetTree.{NetData}
 use Rattle.p4_ir.specs.P4Tree.{Program}
 use Rattle.p4_ir.specs.Program.{block_of}
@@ -39,9 +40,9 @@ starts_long : ProgramsLong → (d : Design) (places : Places) (parts : NetParts)
     → StartsLong switch (network d places parts switches hosts).switches
 starts_long law d places parts [] hosts switch h = absurd (cc)
 starts_long law d places parts (s ∷ more) hosts switch h =
-    let is = found (nat_lt 4194304 (role_size parts.role)) s switch h in
-    let test : nat_lt 4194304 (role_size parts.role) ≡ true = is.1 in
-    let large : 4194304 < role_size parts.role = grind (arith, nat_tests) in
+    let is = found (nat_lt most_file_bytes (role_size parts.role)) s switch h in
+    let test : nat_lt most_file_bytes (role_size parts.role) ≡ true = is.1 in
+    let large : most_file_bytes < role_size parts.role = grind (arith, nat_tests) in
     let long : role_size parts.role ≤ length (printed (switch_program parts.role s)) = law parts.role s (switch_program parts.role s) refl refl in
     (is.0, omega arith)
 
@@ -53,33 +54,33 @@ long_programs law d places switch h =
 -- ---- rows
 
 -- a text over the limit
-over : (n : ℕ) → nat_lt 4194304 n ≡ true → 4194304 < n
+over : (n : ℕ) → nat_lt most_file_bytes n ≡ true → most_file_bytes < n
 over n h = grind (arith, nat_tests, h)
 
-within : (n : ℕ) → nat_lt 4194304 n ≡ false → n ≤ 4194304
+within : (n : ℕ) → nat_lt most_file_bytes n ≡ false → n ≤ most_file_bytes
 within n h = grind (arith, nat_tests, h)
 
 many : (n : ℕ) → nat_lt most_file_rows n ≡ true → most_file_rows < n
 many n h = grind (arith, nat_tests, h)
 
 starts_with : (d : Design) (places : Places) (parts : NetParts) (switches hosts : List ℕ) (switch : ℕ) → Some switch ≡ many_rows d places parts.role switches
-    → (nat_lt 4194304 (length (printed (switch_program parts.role switch))) ≡ true → StartsLong switch (network d places parts switches hosts).switches)
-    × (nat_lt 4194304 (length (printed (switch_program parts.role switch))) ≡ false → StartsFull switch (network d places parts switches hosts).switches)
+    → (nat_lt most_file_bytes (length (printed (switch_program parts.role switch))) ≡ true → StartsLong switch (network d places parts switches hosts).switches)
+    × (nat_lt most_file_bytes (length (printed (switch_program parts.role switch))) ≡ false → StartsFull switch (network d places parts switches hosts).switches)
 starts_with d places parts [] hosts switch h = absurd (cc)
 starts_with d places parts (s ∷ more) hosts switch h =
     let rows = all_rows (switch_rows d places (switch_made parts.role s)) in
     let is = found (nat_lt most_file_rows (length rows)) s switch h in (
-      λ long. (is.0, over (length (printed (switch_program parts.role s))) (subst (λ n. nat_lt 4194304 (length (printed (switch_program parts.role n))) ≡ true) (sym is.0) long)),
+      λ long. (is.0, over (length (printed (switch_program parts.role s))) (subst (λ n. nat_lt most_file_bytes (length (printed (switch_program parts.role n))) ≡ true) (sym is.0) long)),
       λ short. (
         is.0,
-        within (length (printed (switch_program parts.role s))) (subst (λ n. nat_lt 4194304 (length (printed (switch_program parts.role n))) ≡ false) (sym is.0) short),
+        within (length (printed (switch_program parts.role s))) (subst (λ n. nat_lt most_file_bytes (length (printed (switch_program parts.role n))) ≡ false) (sym is.0) short),
         many (length rows) is.1,
       ),
     )
 
 pub files_are_long : (d : Design) (places : Places) (switch : ℕ) → FirstManyRows d places (Some switch)
     → (net : NetData) × (p : Program) × IsNetwork d places net × FirstOver d places None × RunsProgram d switch p
-    × (IsTrue (nat_lt 4194304 (length (printed p))) → StartsLong switch net.switches) × (nat_lt 4194304 (length (printed p)) ≡ false → StartsFull switch net.switches)
+    × (IsTrue (nat_lt most_file_bytes (length (printed p))) → StartsLong switch net.switches) × (nat_lt most_file_bytes (length (printed p)) ≡ false → StartsFull switch net.switches)
 unfolding RunsProgram
 files_are_long d places switch h =
     let w = h.within in

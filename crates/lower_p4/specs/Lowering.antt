@@ -7,6 +7,7 @@ use Rattle.cocoon_types.specs.Tables.{defs_of}
 use Rattle.cocoon_types.specs.Rules.{WellFormed}
 use Rattle.cocoon_types.specs.DefsRules.{DefsFit}
 use Rattle.lowered.specs.Delivers.{DeliversExactly, DeliversWithin}
+use Rattle.p4_ir.specs.FileSizes.{most_file_bytes}
 use Rattle.p4_ir.specs.P4Tree.{Program}
 use Rattle.p4_ir.specs.NetTree.{SwitchFiles, NetData}
 use Rattle.p4_ir.specs.NetFits.{net_fits}
@@ -47,12 +48,12 @@ pub record IsSound (design : Design) (defs : DefsText) (net : NetData) : Type 0 
 -- the first switch has this number, and the text of its program has more bytes than its file may have
 abbrev pub StartsLong : (switch : ℕ) → List SwitchFiles → Type 0
 StartsLong switch [] = ⊥
-StartsLong switch (s ∷ ss) = (s.number ≡ switch) × (4194304 < length (printed s.program))
+StartsLong switch (s ∷ ss) = (s.number ≡ switch) × (most_file_bytes < length (printed s.program))
 
 -- the first switch has this number, the text of its program fits its file, and it has more rows than a file can hold
 abbrev pub StartsFull : (switch : ℕ) → List SwitchFiles → Type 0
 StartsFull switch [] = ⊥
-StartsFull switch (s ∷ ss) = (s.number ≡ switch) × (length (printed s.program) ≤ 4194304) × (most_file_rows < length (all_rows s.rows))
+StartsFull switch (s ∷ ss) = (s.number ≡ switch) × (length (printed s.program) ≤ most_file_bytes) × (most_file_rows < length (all_rows s.rows))
 
 -- why there is no network of a design under tables
 abbrev pub HasNoNetwork : Design → Places → LowerFault → Type 0

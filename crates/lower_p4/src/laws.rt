@@ -14,6 +14,7 @@ ghost use Rattle.lowered_net.specs.Counts.{FirstOver};
 ghost use Rattle.lowered.specs.Delivers.{DeliversExactly, DeliversWithin};
 ghost use Rattle.lowered_net.specs.Network.{IsNetwork};
 ghost use Rattle.p4_emit.specs.Printed.{printed};
+ghost use Rattle.p4_ir.specs.FileSizes.{most_file_bytes};
 ghost use Rattle.p4_ir.specs.NetFits.{net_fits};
 ghost use Rattle.p4_ir.specs.NetTree.{NetData};
 ghost use Rattle.p4_ir.specs.P4Tree as tree;
@@ -80,8 +81,8 @@ pub fn first_files_are_long()
     ensures { (d : Design) (places : Places) (switch : ℕ) → FirstManyRows d places (Some switch)
         → (net : NetData) × (p : tree.Program) × IsNetwork d places net × FirstOver d places None
         × RunsProgram d switch p
-        × (IsTrue (nat_lt 4194304 (length (printed p))) → StartsLong switch net.switches)
-        × (nat_lt 4194304 (length (printed p)) ≡ false → StartsFull switch net.switches) }
+        × (IsTrue (nat_lt most_file_bytes (length (printed p))) → StartsLong switch net.switches)
+        × (nat_lt most_file_bytes (length (printed p)) ≡ false → StartsFull switch net.switches) }
 {}
 
 /// The program of the first switch can be printed, where the network is within the limits.

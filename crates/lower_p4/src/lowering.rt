@@ -12,6 +12,7 @@ ghost use Rattle.lower_p4.specs.Grounds.{HoldsFields, WasRead};
 ghost use Rattle.lower_p4.specs.LowerLimits.{IsWithin};
 ghost use Rattle.lower_p4.specs.Lowering.{AreOfText, HasNoNetwork, IsLowering, IsSound, NotLowered};
 ghost use Rattle.p4_emit.specs.Printed.{printed};
+ghost use Rattle.p4_ir.specs.FileSizes.{most_file_bytes};
 ghost use Rattle.p4_ir.specs.P4Tree as tree;
 ghost use Rattle.p4_ir.specs.Program.{program_of};
 
@@ -21,10 +22,9 @@ use crate::laws::{
 };
 use cocoon_num::NoMemory;
 use cocoon_resolve::Checked;
-use lower_net::lengths::MOST_FILE_BYTES;
 use lower_net::{LowerFault, program};
 use p4_emit::emit;
-use p4_ir::{NetData, Program, SwitchFiles};
+use p4_ir::{MOST_FILE_BYTES, NetData, Program, SwitchFiles};
 use runtime_defs::Defs;
 use sound_types::laws::code_literals_fit;
 use std::alloc::Global;
@@ -78,7 +78,7 @@ fn has_long_text(
     requires fits { FitsDesign (design_of checked.now) defs.now }
     requires many { FirstManyRows (design_of checked.now) defs.now (Some switch) }
     ensures { (p : tree.Program) → RunsProgram (design_of checked.now) switch p
-        → IfOk result (λ long. long ≡ nat_lt 4194304 (length (printed p))) }
+        → IfOk result (λ long. long ≡ nat_lt most_file_bytes (length (printed p))) }
 {
     first_programs_are_kinded();
     code_literals_fit();

@@ -5,6 +5,7 @@ use Rattle.std.specs.FinMap.{get}
 use Rattle.cocoon_io.specs.Files.{Files}
 use Rattle.cocoon_io.specs.Calls.{with_file, Rose}
 use Rattle.cocoon_io.specs.declared.folder.FolderFault.TheVariants.{Failed}
+use Rattle.p4_ir.specs.FileSizes.{most_file_bytes}
 use Rattle.p4_ir.specs.NetTree.{NetData}
 use Rattle.net_bundle.specs.declared.file.BundleFile.{BundleFile}
 use Rattle.net_bundle.specs.declared.file.BundleFile.TheVariants.{Certificates}
@@ -35,10 +36,14 @@ pub record StopsAt (out : List ℕ) (fs : List MadeFile) (file : BundleFile) (wa
 
 -- ---- limits
 
+-- the most bytes of the file of certificates
+abbrev pub most_certificate_bytes : ℕ
+most_certificate_bytes = 67108864
+
 -- a file has at most so many bytes
 abbrev pub most_of : BundleFile → ℕ
-most_of Certificates = 67108864
-most_of _ = 4194304
+most_of Certificates = most_certificate_bytes
+most_of _ = most_file_bytes
 
 abbrev pub AllFit : List MadeFile → Type 0
 AllFit [] = Unit {0}

@@ -4,7 +4,11 @@ ghost use Rattle.net_bundle.specs.Bundle.{name_of, whole_name};
 ghost use Rattle.net_bundle.specs.Writing.{most_of};
 
 use cocoon_num::NoMemory;
+use p4_ir::MOST_FILE_BYTES;
 use std::alloc::Global;
+
+/// The most bytes of the file of certificates.
+pub const MOST_CERTIFICATE_BYTES: u64 = 67_108_864;
 
 /// A file of a bundle.
 #[derive(Clone, Copy, Debug, Drop, PartialEq, Eq)]
@@ -46,8 +50,8 @@ impl BundleFile {
         ensures { result ≡ most_of self }
     {
         match self {
-            BundleFile::Certificates => 67_108_864,
-            _ => 4_194_304,
+            BundleFile::Certificates => MOST_CERTIFICATE_BYTES,
+            _ => MOST_FILE_BYTES,
         }
     }
 }

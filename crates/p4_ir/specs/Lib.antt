@@ -12,3 +12,4 @@ pub mod Loading
 pub mod Wiring
 pub mod NetFits
 pub mod NetOf
+pub mod FileSizes

@@ -9,6 +9,6 @@ pub mod network;
 pub mod program;
 pub mod rows;
 
-pub use network::{HostPort, Link, LinkEnd, NetData, SwitchFiles};
+pub use network::{HostPort, Link, LinkEnd, MOST_FILE_BYTES, NetData, SwitchFiles};
 pub use program::{Control, P4Binary, P4Expr, P4Field, P4Header, P4Stmt, P4Unary, Program, Table};
 pub use rows::{Group, KeyRow, RowsFile, TableRows};

@@ -4,6 +4,9 @@ use crate::program::Program;
 use crate::rows::RowsFile;
 use cocoon_num::List;
 
+/// The most bytes of the file of a program, of that of rows, and of that of the whole network.
+pub const MOST_FILE_BYTES: u64 = 4_194_304;
+
 /// Where a link ends.
 #[derive(Clone, Copy, Debug, Drop, PartialEq, Eq)]
 pub enum LinkEnd {

@@ -1,5 +1,5 @@
 //! Visits: ingress, and egress for each member of a group.
-ghost use Rattle.std.specs.Prelude.{◌≡◌, ◌<◌, ◌≤◌, ◌^◌, false, IfSome, IsTrue, length, option_map, Some, true};
+ghost use Rattle.std.specs.Prelude.{◌≡◌, ◌<◌, ◌≤◌, ◌^◌, false, IfSome, IsTrue, length, None, option_map, Some, true};
 ghost use Rattle.cocoon_num.specs.Lists.{ascend};
 ghost use Rattle.cocoon_num.specs.Packets.{header_bytes, Layout};
 ghost use Rattle.packed_fields.specs.AtOnce.{bytes_in, widths_in};
@@ -119,7 +119,8 @@ fn leave(loaded: &Loaded, bytes: &mut Vec<u8>, registers: &Registers)
 }
 
 impl Loaded {
-    /// Runs ingress for bytes that come in at a port. Bytes that are shorter than the headers are dropped.
+    /// Runs ingress for bytes that come in at a port. Bytes that are shorter than the headers are dropped, and leave the frame
+    /// as it was.
     pub fn ingress(&self, frame: &mut Frame, port: u16, bytes: &[u8]) -> Next
         requires { Fits (program_in self.now) frame.old }
         ensures fits { Fits (program_in self.now) frame.new }
@@ -130,6 +131,8 @@ impl Loaded {
         ensures headers { AreHeaders (layout_in self.now)
             (ingress_left (program_in self.now) (rows_in self.now) port bytes.now)
             (headers_in frame.new) }
+        ensures kept { ingress_left (program_in self.now) (rows_in self.now) port bytes.now ≡ None
+            → frame.new ≡ frame.old }
     {
         if bytes.len() < self.header_bytes {
             return Next::Drop;

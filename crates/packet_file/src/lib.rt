@@ -6,5 +6,5 @@ mod bytes;
 mod lines;
 pub mod packet;
 
-pub use lines::read_packets;
+pub use lines::{MOST_BYTES, read_packets};
 pub use packet::{Packet, PacketFault};

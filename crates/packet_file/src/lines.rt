@@ -15,7 +15,7 @@ use std::alloc::Global;
 use text_lines::{Line, read_number, split_lines, split_parts};
 
 /// The most bytes of a packet.
-const MOST_BYTES: usize = 65_535;
+pub const MOST_BYTES: u64 = 65_535;
 
 /// The packet that two parts of a line are.
 fn read_both(alloc: Global, host: &[u8], bytes: &[u8]) -> Result<Option<Packet>, NoMemory>
@@ -51,7 +51,7 @@ fn read_line(alloc: Global, net: &Net, line: Line<'_>) -> Result<Packet, PacketF
     let Some(packet) = read_parts(alloc, &parts)? else {
         return Err(PacketFault::Form(line.number));
     };
-    if packet.bytes.len() > MOST_BYTES {
+    if packet.bytes.len() as u64 > MOST_BYTES {
         return Err(PacketFault::TooLong(packet.bytes.len() as u64));
     }
     if net.has_host(packet.host) {

@@ -37,7 +37,7 @@ use std::alloc::Global;
 use std::marker::Model;
 
 /// The most rows that definitions may have.
-const MOST_ROWS: u64 = 8192;
+pub const MOST_ROWS: u64 = 8192;
 
 /// The definitions of a design: what each function that is defined at run time gives.
 #[derive(Drop)]

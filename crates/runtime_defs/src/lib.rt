@@ -14,6 +14,6 @@ mod row_keys;
 mod tables;
 mod true_numbers;
 
-pub use defs::{Defs, bind};
+pub use defs::{Defs, MOST_ROWS, bind};
 pub use fault::DefsFault;
 pub use finding::first_fault;

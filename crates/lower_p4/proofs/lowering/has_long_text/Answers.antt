@@ -1,6 +1,7 @@
 use Rattle.std.proofs.Common.{◌≡◌, nat_lt, length, rules, sym, ap, ◌∙◌}
 use Rattle.cocoon_syntax.specs.TreeOf.{design_of}
 use Rattle.p4_emit.specs.Printed.{printed}
+use Rattle.p4_ir.specs.FileSizes.{most_file_bytes}
 use Rattle.p4_ir.specs.Program.{program_of}
 use Rattle.lower_p4.specs.Accepts.{RunsProgram}
 use Rattle.lower_p4.proofs.OneNetwork.{one_program}
@@ -25,4 +26,4 @@ returns c = λ p runs.
     let is : p ≡ program_of c.in_ok-program.program =
     one_program d c.args.switch p (program_of c.in_ok-program.program) runs (w.parts, w.parts_are, c.in_ok-program.ensures w.parts w.parts_are) in
     let size : c.len.result ≡ length c.in_ok-text.text.items = search rules in
-    ap (nat_lt 4194304) (size ∙ ap length (c.in_ok-text.ensures.text ∙ ap printed (sym is)))
+    ap (nat_lt most_file_bytes) (size ∙ ap length (c.in_ok-text.ensures.text ∙ ap printed (sym is)))
