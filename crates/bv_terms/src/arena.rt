@@ -116,7 +116,14 @@ impl Terms {
         if let Some(id) = number(&self.numbers, &key) {
             return Ok(id);
         }
-        push(&mut self.nodes, &mut self.widths, &mut self.numbers, key, node, width)
+        push(
+            &mut self.nodes,
+            &mut self.widths,
+            &mut self.numbers,
+            key,
+            node,
+            width,
+        )
     }
 
     /// The term of a number.
@@ -155,8 +162,10 @@ impl Terms {
         requires args { All (λ a. a < length self.old) args.now }
         requires widths { All (λ a. width_at self.old a ≤ 64) args.now }
         requires width { IsWidth width }
-        ensures put { IfOk result (λ id. IsPut self.old self.new (Node.Apply function args.now width) id) }
-        ensures found { IfOk result (λ id. IsFound self.old self.new (Node.Apply function args.now width) id) }
+        ensures put { IfOk result (λ id.
+            IsPut self.old self.new (Node.Apply function args.now width) id) }
+        ensures found { IfOk result (λ id.
+            IsFound self.old self.new (Node.Apply function args.now width) id) }
         ensures kept { KeepsTerms self.old self.new }
         ensures few { GrowsBy 1 self.old self.new }
         ensures refused { OnErr result (self.new ≡ self.old) }

@@ -65,7 +65,10 @@ pub(crate) fn key_of(alloc: Global, node: &Node) -> Result<Vec<u64>, NoMemory>
             Vec::from_slice(alloc, &[4, operator(*op), u64::from(*a), u64::from(*b)])?
         }
         Node::Slice(a, high, low) => {
-            Vec::from_slice(alloc, &[5, u64::from(*a), u64::from(*high), u64::from(*low)])?
+            Vec::from_slice(
+                alloc,
+                &[5, u64::from(*a), u64::from(*high), u64::from(*low)],
+            )?
         }
         Node::Pick(c, a, b) => {
             Vec::from_slice(alloc, &[6, u64::from(*c), u64::from(*a), u64::from(*b)])?
