@@ -3,9 +3,8 @@
 
     .ci/program.py [PROGRAM]     tries crates/cocoon/out/cocoon, or another one
 
-That a file is handed to the disk before it takes its name is seen with a pipe in the place of the file beside it: all bytes come, and then
-the pipe cannot be synced, so the program reports a fault and the old file stays. It prints a line for each thing that is wrong, and ends with
-status 1 if there is one.
+That a file is handed to the disk before it takes its name is seen in the program's calls of the system (`system_calls.py`). It prints a line for each
+thing that is wrong, and ends with status 1 if there is one.
 """
 
 import contextlib
@@ -13,11 +12,12 @@ import os
 import pathlib
 import re
 import resource
-import select
 import subprocess
 import sys
 import tempfile
 import threading
+
+from system_calls import traced
 
 TOP = pathlib.Path(__file__).resolve().parent.parent
 EXAMPLES = TOP / "examples"
@@ -81,6 +81,10 @@ class Room:
     def bundle(self):
         return {name: self.content(name) for name in BUNDLE}
 
+    def beside(self):
+        """The names of the files that are being written, or were."""
+        return sorted(path.name for path in self.at.glob("*.new"))
+
 
 WRONG = []
 
@@ -131,28 +135,94 @@ def try_no_memory(room):
 
 
 def try_sync(room):
-    """Each file of the bundle: what it was stays while the new one is written, until that is handed to the disk, which a pipe cannot be."""
+    """Each file of the bundle is made new beside, handed whole to the disk, and only then takes its name."""
+    words = [room.program, "compile", "other.ccn", "other.defs", "net"]
     room.compile("other")
     new = room.bundle()
+    room.compile("one")
+    old = room.bundle()
+    status, line, calls = traced(words, room.at)
+    expect(status == 0, "a traced compile ends with 0", (status, line))
     for name in BUNDLE:
+        moves = [place for place, call in enumerate(calls) if (call.name, call.paths) == ("rename", (f"{name}.new", name))]
+        opens = [place for place, call in enumerate(calls) if call.name == "openat" and call.paths == (f"{name}.new",)]
+        if not (len(moves) == len(opens) == 1):
+            expect(False, f"{name} is made beside, once, and moved, once", calls)
+            continue
+        opened, *rest = calls[opens[0] : moves[0]]
+        expect(opened.flags & os.O_CREAT and opened.flags & os.O_EXCL, f"the file beside {name} is created and not opened", opened)
+        expect(all(call.descriptor == opened.answer for call in rest), f"nothing else is done while {name} is written", rest)
+        *writes, last = rest
+        expect(sum(call.answer for call in writes if call.name == "write") == len(new[name]), f"{name} is written whole into the file beside", writes)
+        expect((last.name, last.answer) == ("fsync", 0), f"{name} is handed to the disk before it takes its name", last)
+    for number, name in enumerate(BUNDLE):
+        for call in ("fsync", "rename"):
+            room.compile("one")
+            status, line, _ = traced(words, room.at, failing=(call, number))
+            expect((status, line) == (9, f"write fault {name}\n"), f"a fault of {call} of {name} is reported", (status, line))
+            left = {**new, **{it: old[it] for it in BUNDLE[number:]}}
+            expect(room.bundle() == left and not room.beside(), f"after a fault of {call} {name} is as it was, and nothing lies beside it", room.beside())
+
+
+def identity(path):
+    """What is at this path itself, whatever it leads to; None of nothing."""
+    if not os.path.lexists(path):
+        return None
+    found = os.lstat(path)
+    return found.st_ino, found.st_mode, found.st_size, found.st_mtime_ns
+
+
+def try_beside(room):
+    """What has the name of a file beside already is neither opened nor changed, and the bundle is written all the same."""
+    room.compile("other")
+    new = room.bundle()
+    victim = room.at / "victim"
+    kinds = {
+        "a file": lambda path: path.write_text("as it was"),
+        "a link": lambda path: path.symlink_to("victim"),
+        "a link that leads nowhere": lambda path: path.symlink_to("nowhere"),
+        "a hard link": lambda path: path.hardlink_to(victim),
+        "a pipe": os.mkfifo,
+        "a folder": os.mkdir,
+    }
+    for kind, make in kinds.items():
+        victim.write_text("as it was")
         room.compile("one")
-        old = room.bundle()
-        beside = room.at / f"{name}.new"
-        os.mkfifo(beside)
-        pipe = os.open(beside, os.O_RDONLY | os.O_NONBLOCK)
-        with subprocess.Popen([room.program, "compile", "other.ccn", "other.defs", "net"], cwd=room.at, stdout=subprocess.PIPE, text=True) as process:
-            # (a pipe that nobody writes to yet would be at its end)
-            if not select.select([pipe], [], [], SECONDS)[0]:
-                process.kill()
-            os.set_blocking(pipe, True)
-            first = os.read(pipe, 4096)
-            expect(room.content(name) == old[name], f"{name} is as it was while the new one is written")
-            with os.fdopen(pipe, "rb") as rest:
-                came = first + rest.read()
-            line = process.communicate()[0]
-        expect(came == new[name], f"{name} is written whole into the file beside")
-        expect((process.returncode, line) == (9, f"write fault {name}\n"), f"{name} is handed to the disk, and a fault of that is told", line)
-        expect(room.content(name) == old[name] and not os.path.lexists(beside), f"after the fault {name} is as it was, and nothing lies beside it")
+        places = [room.at / f"{name}{number}.new" for name in BUNDLE for number in ("", ".1")]
+        for path in places:
+            make(path)
+        found = [identity(path) for path in places]
+        ran = room.compile("other")
+        expect(ran[0] == 0 and room.bundle() == new, f"with {kind} beside each file a bundle is compiled", ran)
+        expect([identity(path) for path in places] == found, f"{kind} beside is as it was")
+        for path in filter(os.path.lexists, places):
+            (os.rmdir if kind == "a folder" else os.unlink)(path)
+        expect(victim.read_text() == "as it was" and not (room.at / "nowhere").exists(), f"what {kind} leads to is as it was")
+        expect(not room.beside(), f"with {kind} beside nothing else is left there", room.beside())
+
+
+def try_races(room, rounds=20):
+    """Two runs at once on one bundle: what is read afterwards is the network of one of them, or it is refused since its files do not belong together."""
+    (room.at / "p.txt").write_text("".join(f"{host} {tag:02x}\n" for host in (0, 7, 199) for tag in range(256)))
+    seen = {}
+    for name in ("one", "other"):
+        room.compile(name)
+        seen[name] = room.run("forward", "net", "p.txt")
+    expect(seen["one"] != seen["other"] and not seen["one"][0] and not seen["other"][0], "the two networks are told apart by packets")
+    stale = re.compile(rf"bundle ({'|'.join(map(re.escape, BUNDLE))}) stale [0-9a-f]{{64}} [0-9a-f]{{64}}\n")
+    counts = dict.fromkeys(("one", "other", "stale"), 0)
+    for number in range(rounds):
+        both = [subprocess.Popen([room.program, "compile", f"{name}.ccn", f"{name}.defs", "net"], cwd=room.at, stdout=subprocess.DEVNULL)
+                for name in (("one", "other"), ("other", "one"))[number % 2]]
+        ended = [process.wait(SECONDS) for process in both]
+        expect(ended == [0, 0], "both of two runs on one bundle end with 0", ended)
+        ran = room.run("forward", "net", "p.txt")
+        kind = next((name for name, it in seen.items() if it == ran), "stale" if ran[0] == 7 and stale.fullmatch(ran[1]) else None)
+        expect(kind, "after two runs on one bundle there is one of both networks, or it is stale", (ran[0], ran[1][:100]))
+        if kind:
+            counts[kind] += 1
+    expect(not room.beside(), "two runs on one bundle leave nothing beside", room.beside())
+    return counts
 
 
 def try_rename(room):
@@ -164,7 +234,7 @@ def try_rename(room):
         expect(room.compile("other")[0] == 0, "a bundle is compiled over another")
         for name, file in opened.items():
             expect(file.read() == old[name], f"who has opened {name} before reads the old one")
-    expect(not list(room.at.glob("*.new")), "no file stays beside those of a bundle")
+    expect(not room.beside(), "no file stays beside those of a bundle", room.beside())
 
 
 def try_readers(room):
@@ -217,7 +287,7 @@ def main(words):
         sys.exit("program: it is not built: run `rt ci`")
     with tempfile.TemporaryDirectory(prefix="cocoon-program-") as folder:
         room = Room(pathlib.Path(folder), program)
-        for attempt in (try_statuses, try_no_memory, try_sync, try_rename, try_readers, try_main):
+        for attempt in (try_statuses, try_no_memory, try_sync, try_beside, try_races, try_rename, try_readers, try_main):
             attempt(room)
     print("\n".join([*WRONG, f"program: {len(WRONG)} wrong" if WRONG else "program: all is as it should be"]))
     return 1 if WRONG else 0

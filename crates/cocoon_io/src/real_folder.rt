@@ -4,12 +4,17 @@ ghost use Rattle.std.specs.Prelude.{◌≡◌, ◌-◌, ◌^◌, ◌≤◌, ◌<
 
 use crate::{Folder, FolderFault};
 use std::alloc::Global;
-use std::fs::{self, OpenFile};
+use std::fs::{self, File, OpenFile};
 use std::io::{self, ErrorKind, Read, Write};
 use std::rt::Files;
 
-/// The machine's files. A name is used as a path. A write makes the file under the name with `.new`
-/// after it, and moves it to the name once the disk has all of it.
+// How many files of runs that were killed may lie beside before a write fails.
+const NAMES_BESIDE: u32 = 1_000;
+
+/// The machine's files. A name is used as a path. A write makes a new file beside, under the first of
+/// `NAME.new`, `NAME.1.new`, `NAME.2.new` and so on that is free, and moves it to the name once the
+/// disk has all of it. What has such a name already, as a file of another run, a link or a pipe, is
+/// neither opened nor changed.
 #[derive(Drop)]
 pub struct RealFolder<'r, R: Files> {
     rt: &'r R,
@@ -100,8 +105,7 @@ fn within(bytes: Vec<u8>, limit: u64) -> Result<Option<Vec<u8>>, FolderFault>
 
 // Replaces the file by a whole new one.
 fn replace(rt: &impl Files, alloc: Global, name: &str, bytes: &[u8]) -> io::Result<()> {
-    let beside = format!(in alloc; "{name}.new")?;
-    let file = fs::create(rt, beside.as_str())?;
+    let (beside, file) = create_beside(rt, alloc, name)?;
     let moved = match fill(file, bytes) {
         Ok(()) => fs::rename(rt, beside.as_str(), name),
         Err(error) => Err(error),
@@ -110,6 +114,21 @@ fn replace(rt: &impl Files, alloc: Global, name: &str, bytes: &[u8]) -> io::Resu
         let _ = fs::remove_file(rt, beside.as_str());
     }
     moved
+}
+
+// A new file beside, with its name. It is created, never opened: two runs have two files.
+fn create_beside<R: Files>(rt: &R, alloc: Global, name: &str) -> io::Result<(String, R::File)> {
+    let mut beside = format!(in alloc; "{name}.new")?;
+    for number in 1..NAMES_BESIDE {
+        match File::create_new(rt, beside.as_str()) {
+            Ok(file) => return Ok((beside, file)),
+            Err(error) if error.kind() == ErrorKind::AlreadyExists => {}
+            Err(error) => return Err(error),
+        }
+        beside = format!(in alloc; "{name}.{number}.new")?;
+    }
+    let file = File::create_new(rt, beside.as_str())?;
+    Ok((beside, file))
 }
 
 // Writes all bytes through to the disk.
