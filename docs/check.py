@@ -12,7 +12,7 @@
 
 A command is a line that begins with `$ ` in a block marked `console`; the lines after it are all that it prints on the standard output (a last
 line feed that is not printed is not missed). The
-commands of one page run one after another, in one shell and in one new directory, which has `cocoon` and a copy of `examples`.
+commands of one page run one after another, in one shell and in one new directory, which has `cocoon`, `tools` and a copy of `examples`.
 It prints a line for each thing that is wrong, and ends with status 1 if there is one.
 """
 
@@ -39,7 +39,7 @@ def crate_names():
 
 
 def pages():
-    return [TOP / "README.md", *sorted((TOP / "docs").glob("*.md")), *sorted((TOP / "examples").rglob("*.md")), *sorted((TOP / "editors").glob("*.md"))]
+    return [TOP / "README.md", *sorted((TOP / "docs").glob("*.md")), *sorted((TOP / "examples").rglob("*.md")), *sorted((TOP / "editors").glob("*.md")), *sorted((TOP / "tools").glob("*.md"))]
 
 
 def said(page):
@@ -285,7 +285,8 @@ def check_page(page):
     if not commands:
         return []
     with tempfile.TemporaryDirectory() as room:
-        (pathlib.Path(room) / "cocoon").symlink_to(TOP / "cocoon")
+        for name in ("cocoon", "tools"):
+            (pathlib.Path(room) / name).symlink_to(TOP / name)
         shutil.copytree(TOP / "examples", pathlib.Path(room) / "examples")
         # each command finds the status of the one before it in $?
         script = "".join(f"(exit $status); {command}\nstatus=$?; echo '{MARK}'\n" for _, command, _ in commands)
