@@ -1,12 +1,15 @@
 -- The least hidden choice among some choices, and among those of a body.
-use Rattle.std.specs.Prelude.{◌≡◌, ℕ, ◌<◌, ◌≤◌, ◌⊎◌, ◌==◌, ◌&&◌, ◌||◌, Bool, true, false, nat_lt, List, [], ◌∷◌, ◌++◌, if◌then◌else◌, Option, Some, None, refl}
-use Rattle.std.proofs.Common.{sym, ◌∙◌, ap, subst, inl, inr, arith}
+use Rattle.std.specs.Prelude.{◌≡◌, ℕ, ◌<◌, ◌≤◌, ◌⊎◌, ◌==◌, ◌&&◌, ◌||◌, Bool, true, false, nat_lt, List, [], ◌∷◌, ◌++◌, length, if◌then◌else◌, Option, Some, None, refl}
+use Rattle.std.proofs.Common.{sym, ◌∙◌, ap, ap₂, subst, inl, inr, arith}
 use Rattle.std.proofs.Math.Bool.{or-false}
 use Rattle.std.proofs.lemmas.Bool.{eqb-true, eq-eqb, ltb-true, ltb-false, or_cases, and_parts, cases_Bool}
 use Rattle.cocoon_num.specs.Tree.{Block, HeaderDecl, Design}
 use Rattle.cocoon_num.specs.Lists.{has_number}
 use Rattle.cocoon_types.specs.ReadBack.{hidden_in}
-use Rattle.read_back.specs.Following.{Names, body_names, is_hidden, choices_in, IsLeastHidden, comes_before, lesser}
+use Rattle.read_back.specs.declared.scope.FieldName.{FieldName}
+use Rattle.read_back.specs.declared.steps.Step.{Step}
+use Rattle.read_back.specs.Steps.{StepsOf, is_hidden_by}
+use Rattle.read_back.specs.Following.{Names, at_choice, at_start, finds_in, names_in, body_names, is_hidden, choices_in, IsLeastOf, IsLeastHidden, comes_before, lesser}
 use Rattle.read_back.specs.Least.{IsLeast}
 use Rattle.read_back.proofs.Paths.{member_is}
 use Rattle.read_back.proofs.Lists.{apart, number_append}
@@ -20,36 +23,36 @@ last_or_before c m cs h =
       | inr e ↦ inr (eqb-true m c (sym (or-false (m == c)) ∙ e))
     ]
 
--- a choice is hidden, as one that is equal to it
-hidden_at : (hs : List HeaderDecl) (b : Block) (c m : ℕ) → m ≡ c → is_hidden (body_names m hs) b ≡ is_hidden (body_names c hs) b
-hidden_at hs b c m e = ap (λ k. is_hidden (body_names k hs) b) e
+-- a number passes a test, as one that is equal to it
+same_test : (f : ℕ → Bool) (c m : ℕ) → m ≡ c → f m ≡ f c
+same_test f c m e = ap f e
 
-taken : (hs : List HeaderDecl) (b : Block) (cs : List ℕ) (c : ℕ) (least : Option ℕ) → comes_before c least ≡ true → is_hidden (body_names c hs) b ≡ true → IsLeastHidden hs b cs least → IsLeastHidden hs b (cs ++ (c ∷ [])) (Some c)
-taken hs b cs c None before hidden is =
-    (hidden, λ m has h. elim (last_or_before c m cs has) [ inl e ↦ apart (is_hidden (body_names m hs) b) h (is m e) | inr e ↦ omega arith ])
-taken hs b cs c (Some k) before hidden is =
+taken : (f : ℕ → Bool) (cs : List ℕ) (c : ℕ) (least : Option ℕ) → comes_before c least ≡ true → f c ≡ true → IsLeastOf f cs least → IsLeastOf f (cs ++ (c ∷ [])) (Some c)
+taken f cs c None before passes is =
+    (passes, λ m has h. elim (last_or_before c m cs has) [ inl e ↦ apart (f m) h (is m e) | inr e ↦ omega arith ])
+taken f cs c (Some k) before passes is =
     let below : c < k = ltb-true c k before in
-    (hidden, λ m has h. elim (last_or_before c m cs has) [ inl e ↦ let l : k ≤ m = is.1 m e h in omega arith | inr e ↦ omega arith ])
+    (passes, λ m has h. elim (last_or_before c m cs has) [ inl e ↦ let l : k ≤ m = is.1 m e h in omega arith | inr e ↦ omega arith ])
 
-left : (hs : List HeaderDecl) (b : Block) (cs : List ℕ) (c : ℕ) (least : Option ℕ) → (comes_before c least && is_hidden (body_names c hs) b) ≡ false → IsLeastHidden hs b cs least → IsLeastHidden hs b (cs ++ (c ∷ [])) least
-left hs b cs c None unmet is = λ m has. elim (last_or_before c m cs has) [ inl e ↦ is m e | inr e ↦ hidden_at hs b c m e ∙ unmet ]
-left hs b cs c (Some k) unmet is = (
+left : (f : ℕ → Bool) (cs : List ℕ) (c : ℕ) (least : Option ℕ) → (comes_before c least && f c) ≡ false → IsLeastOf f cs least → IsLeastOf f (cs ++ (c ∷ [])) least
+left f cs c None unmet is = λ m has. elim (last_or_before c m cs has) [ inl e ↦ is m e | inr e ↦ same_test f c m e ∙ unmet ]
+left f cs c (Some k) unmet is = (
   is.0,
   λ m has h. elim (last_or_before c m cs has) [
     | inl e ↦ is.1 m e h
     | inr e ↦ elim (cases_Bool (nat_lt c k)) [
-      | inl l ↦ apart (is_hidden (body_names c hs) b) (sym (hidden_at hs b c m e) ∙ h) (ap (λ d. d && is_hidden (body_names c hs) b) (sym l) ∙ unmet)
+      | inl l ↦ apart (f c) (sym (same_test f c m e) ∙ h) (ap (λ d. d && f c) (sym l) ∙ unmet)
       | inr l ↦ let g : k ≤ c = ltb-false c k l in omega arith
     ]
   ],
 )
 
--- one more choice
-pub one_more : (hs : List HeaderDecl) (b : Block) (cs : List ℕ) (c : ℕ) (least : Option ℕ) → IsLeastHidden hs b cs least → IsLeastHidden hs b (cs ++ (c ∷ [])) (lesser (body_names c hs) b least)
-one_more hs b cs c least is = by_test (comes_before c least && is_hidden (body_names c hs) b) refl where
-  by_test : (d : Bool) → (comes_before c least && is_hidden (body_names c hs) b) ≡ d → IsLeastHidden hs b (cs ++ (c ∷ [])) (if d then Some c else least)
-  by_test true e = let both = and_parts (comes_before c least) (is_hidden (body_names c hs) b) e in taken hs b cs c least both.0 both.1 is
-  by_test false e = left hs b cs c least e is
+-- one more number
+one_more : (f : ℕ → Bool) (cs : List ℕ) (c : ℕ) (least : Option ℕ) → IsLeastOf f cs least → IsLeastOf f (cs ++ (c ∷ [])) (lesser f c least)
+one_more f cs c least is = by_test (comes_before c least && f c) refl where
+  by_test : (d : Bool) → (comes_before c least && f c) ≡ d → IsLeastOf f (cs ++ (c ∷ [])) (if d then Some c else least)
+  by_test true e = let both = and_parts (comes_before c least) (f c) e in taken f cs c least both.0 both.1 is
+  by_test false e = left f cs c least e is
 
 no_numbers : (ns : List ℕ) → ((c : ℕ) → has_number c ns ≡ false) → ns ≡ []
 no_numbers [] h = refl
@@ -66,7 +69,29 @@ of_body d b (Some m) is = (
 )
 
 -- the same where the loop over the choices meets it
-pub more_tried : (hs : List HeaderDecl) (b : Block) (n : Names) (tried more : List ℕ) (c : ℕ) (least found : Option ℕ) → n ≡ body_names c hs → more ≡ tried ++ (c ∷ []) → found ≡ lesser n b least → IsLeastHidden hs b tried least → IsLeastHidden hs b more found
-more_tried hs b n tried more c least found is grown next h =
-    subst (λ (o : Option ℕ). IsLeastHidden hs b more o) (sym (next ∙ ap (λ (m : Names). lesser m b least) is))
-    (subst (λ (ns : List ℕ). IsLeastHidden hs b ns (lesser (body_names c hs) b least)) (sym grown) (one_more hs b tried c least h))
+pub more_tried : (f : ℕ → Bool) (tried more : List ℕ) (c : ℕ) (least found : Option ℕ) → more ≡ tried ++ (c ∷ []) → found ≡ lesser f c least → IsLeastOf f tried least → IsLeastOf f more found
+more_tried f tried more c least found grown next h =
+    subst (λ (o : Option ℕ). IsLeastOf f more o) (sym next) (subst (λ (ns : List ℕ). IsLeastOf f ns (lesser f c least)) (sym grown) (one_more f tried c least h))
+
+-- tests that agree have the same least number
+pub same_least : (f g : ℕ → Bool) (cs : List ℕ) (o : Option ℕ) → ((c : ℕ) → f c ≡ g c) → IsLeastOf f cs o → IsLeastOf g cs o
+same_least f g cs None same is = λ c has. sym (same c) ∙ is c has
+same_least f g cs (Some m) same is = (sym (same m) ∙ is.0, λ c has h. is.1 c has (same c ∙ h))
+
+pub none_tried : (f : ℕ → Bool) (cs : List ℕ) → cs ≡ [] → IsLeastOf f cs None
+none_tried f cs is = λ c has. apart (has_number c cs) has (ap (has_number c) is)
+
+-- the steps of a body find its hidden choices
+pub body_hidden : (c : ℕ) (hs : List HeaderDecl) (b : Block) (n : Names) (names : List FieldName) (ss all : List Step) → StepsOf n b ss → all ≡ ss → n.fields ≡ names_in hs → n.vars ≡ [] → names ≡ names_in hs →
+    is_hidden_by c all (at_start names) ≡ is_hidden (body_names c hs) b
+body_hidden c hs b n names ss all steps same fields vars are =
+    let names_with : List FieldName → List (List ℕ) → Names = λ fs vs. record { choice = c; fields = fs; vars = vs } in
+    ap (λ xs. is_hidden_by c xs (at_start names)) same
+    ∙ ap (λ f. f (at_start names)) (steps c (λ q. false))
+    ∙ ap (λ fs. finds_in (at_choice c n) b (λ q. false) (at_start fs)) are
+    ∙ ap₂ (λ fs vs. finds_in (names_with fs vs) b (λ q. false) (at_start (names_in hs))) fields vars
+
+-- nothing was noted
+pub none_noted : (xs ys : List ℕ) (n : ℕ) → (n == 0) ≡ true → n ≡ length xs → xs ≡ ys → ys ≡ []
+none_noted xs [] n zero many same = refl
+none_noted xs (y ∷ ys) n zero many same = let e : 0 ≡ length (y ∷ ys) = sym (eqb-true n 0 zero) ∙ many ∙ ap length same in absurd cc

@@ -4,5 +4,7 @@ pub mod Paths
 pub mod Unmade
 pub mod Tests
 pub mod Running
+pub mod Resolving
 pub mod LeastHidden
 pub mod Seen
+pub mod Found

@@ -1,12 +1,23 @@
 -- Tests on lists of states, as the loops over them meet them.
-use Rattle.std.specs.Prelude.{◌≡◌, ℕ, ◌<◌, ◌||◌, Bool, true, false, List, [], ◌∷◌, ◌++◌, map, length, get_or, refl}
-use Rattle.std.specs.List.{list_any}
-use Rattle.std.proofs.Common.{sym, ◌∙◌, ap}
+use Rattle.std.specs.Prelude.{◌≡◌, ℕ, ◌<◌, ◌&&◌, ◌||◌, Bool, true, false, List, [], ◌∷◌, ◌++◌, cond, map, length, get_or, refl}
+use Rattle.std.specs.List.{list_any, dedup, dedup_from}
+use Rattle.std.specs.Bool.{beq, Decides}
+use Rattle.std.specs.Cmp.Lexicographic.{pointwise}
+use Rattle.std.proofs.Common.{sym, ◌∙◌, ap, ap₂}
+use Rattle.std.proofs.lemmas.Bool.{and_parts}
+use Rattle.std.proofs.lemmas.Slice.Eq.{slice_eq-Decides}
+use Rattle.read_back.specs.declared.state.Held.{Held}
 use Rattle.std.proofs.Math.Bool.{or-false}
 use Rattle.std.proofs.lemmas.List.Folds.{list_any-append, list_any_at}
 use Rattle.read_back.specs.declared.state.State.{State}
-use Rattle.read_back.specs.Following.{Holding, holding_of, some_holds}
+use Rattle.read_back.specs.Following.{Holding}
+use Rattle.read_back.specs.Steps.{holding_of, some_holds}
 use Rattle.read_back.proofs.Lists.{either, crossed, any_map}
+
+doubled : (a b c : Bool) → a ≡ b → (a || c) ≡ (a || (b || c))
+doubled true b c h = refl
+doubled false true c h = absurd cc
+doubled false false c h = refl
 
 or_true : (a : Bool) → true ≡ (a || true)
 or_true true = refl
@@ -53,3 +64,39 @@ one_more t u found new before rest state h last pushed same =
 
 pub same_tests : (t : Holding → Bool) (xs ys : List State) → map holding_of xs ≡ map holding_of ys → some_holds t xs ≡ some_holds t ys
 same_tests t xs ys h = sym (any_map t holding_of xs) ∙ ap (list_any t) h ∙ any_map t holding_of ys
+
+-- ---- each state once
+
+-- two truth values that are found equal
+same_bools : (a b : Bool) → beq a b ≡ true → a ≡ b
+same_bools true true h = refl
+same_bools false false h = refl
+same_bools true false h = absurd cc
+same_bools false true h = absurd cc
+
+-- two states that are found equal, as the derived `==` compares them
+pub same_states : (E : Held → Held → Bool) → ((a b : Held) → Decides (E a b) (a ≡ b)) → (x y : State) →
+    (beq x.made y.made && (beq x.met y.met && (pointwise E x.fields.items y.fields.items && pointwise E x.vars.items y.vars.items))) ≡ true → holding_of x ≡ holding_of y
+same_states E decides x y h =
+    let made = and_parts (beq x.made y.made) (beq x.met y.met && (pointwise E x.fields.items y.fields.items && pointwise E x.vars.items y.vars.items)) h in
+    let met = and_parts (beq x.met y.met) (pointwise E x.fields.items y.fields.items && pointwise E x.vars.items y.vars.items) made.1 in
+    let both = and_parts (pointwise E x.fields.items y.fields.items) (pointwise E x.vars.items y.vars.items) met.1 in
+    let fields : x.fields.items ≡ y.fields.items = (slice_eq-Decides decides x.fields.items y.fields.items (pointwise E x.fields.items y.fields.items) refl).0 both.0 in
+    let vars : x.vars.items ≡ y.vars.items = (slice_eq-Decides decides x.vars.items y.vars.items (pointwise E x.vars.items y.vars.items) refl).0 both.1 in
+    let put : Bool → Bool → List Held → List Held → Holding = λ a b fs vs. record { made = a; met = b; fields = fs; vars = vs } in
+    ap₂ (λ (a b : Bool). put a b x.fields.items x.vars.items) (same_bools x.made y.made made.0) (same_bools x.met y.met met.0)
+    ∙ ap₂ (λ (fs vs : List Held). put y.made y.met fs vs) fields vars
+
+one_kept : (t : Holding → Bool) (k s : State) (b : Bool) (with_k with_s ss : List State) → (b ≡ true → holding_of s ≡ holding_of k) →
+    some_holds t with_k ≡ (t (holding_of k) || some_holds t ss) → some_holds t with_s ≡ (t (holding_of s) || some_holds t ss) →
+    some_holds t (cond b with_k (k ∷ with_s)) ≡ (t (holding_of k) || (t (holding_of s) || some_holds t ss))
+one_kept t k s true with_k with_s ss same first second = first ∙ doubled (t (holding_of k)) (t (holding_of s)) (some_holds t ss) (ap t (sym (same refl)))
+one_kept t k s false with_k with_s ss same first second = ap (either (t (holding_of k))) second
+
+kept_once : (t : Holding → Bool) (E : State → State → Bool) → ((x y : State) → E x y ≡ true → holding_of x ≡ holding_of y) → (k : State) (ss : List State) → some_holds t (dedup_from E k ss) ≡ (t (holding_of k) || some_holds t ss)
+kept_once t E same k [] = refl
+kept_once t E same k (s ∷ ss) = one_kept t k s (E s k) (dedup_from E k ss) (dedup_from E s ss) ss (same s k) (kept_once t E same k ss) (kept_once t E same s ss)
+
+pub each_once : (t : Holding → Bool) (E : State → State → Bool) → ((x y : State) → E x y ≡ true → holding_of x ≡ holding_of y) → (ss : List State) → some_holds t (dedup E ss) ≡ some_holds t ss
+each_once t E same [] = refl
+each_once t E same (s ∷ ss) = kept_once t E same s ss

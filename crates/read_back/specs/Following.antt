@@ -8,8 +8,6 @@ use Rattle.cocoon_num.specs.Names.{same_name}
 use Rattle.read_back.specs.declared.scope.FieldName.{FieldName}
 use Rattle.read_back.specs.declared.scope.Scope.{Scope}
 use Rattle.read_back.specs.declared.state.Held.{Held}
-use Rattle.read_back.specs.declared.run.Reached.{Reached}
-use Rattle.read_back.specs.declared.state.State.{State}
 
 -- the choice that is followed, the fields of the packet, and the variables, the latest last
 pub record Names : Type 0 where
@@ -28,12 +26,13 @@ pub record Holding : Type 0 where
 abbrev pub first_vars : (count : ℕ) → Names → Names
 first_vars count n = record n { vars = take count n.vars }
 
--- what a value of the code stands for
-abbrev pub names_of : Scope → Names
-names_of s = record { choice = s.choice; fields = s.fields.items; vars = s.vars.items }
+-- where the choice of this token index is followed
+abbrev pub at_choice : ℕ → Names → Names
+at_choice c n = record n { choice = c }
 
-abbrev pub holding_of : State → Holding
-holding_of s = record { made = s.made; met = s.met; fields = s.fields.items; vars = s.vars.items }
+-- what a value of the code stands for, before a choice is followed
+abbrev pub names_of : Scope → Names
+names_of s = record { choice = 0; fields = s.fields.items; vars = s.vars.items }
 
 -- ---- values
 
@@ -183,53 +182,16 @@ names_in hs = flat_map names_of_header hs
 abbrev pub body_names : (choice : ℕ) → List HeaderDecl → Names
 body_names c hs = record { choice = c; fields = names_in hs; vars = [] }
 
--- what a path holds where a body begins
+-- what a path holds where a body begins, in a packet with these fields
+abbrev pub at_start : List FieldName → Holding
+at_start names = record { made = false; met = false; fields = map (λ (f : FieldName). nothing) names; vars = [] }
+
 abbrev pub at_first : Names → Holding
-at_first n = record { made = false; met = false; fields = map (λ (f : FieldName). nothing) n.fields; vars = [] }
+at_first n = at_start n.fields
 
 -- some path through a body hides the choice
 abbrev pub is_hidden : Names → Block → Bool
 is_hidden n b = finds_in n b (λ q. false) (at_first n)
-
--- ---- states of the code
-
--- some state passes a test
-abbrev pub some_holds : (Holding → Bool) → List State → Bool
-some_holds t ss = list_any (λ (s : State). t (holding_of s)) ss
-
--- the choice was hidden, or some state that goes on passes a test
-abbrev pub reaches : (Holding → Bool) → Reached → Bool
-reaches t r = r.hides || some_holds t r.states.items
-
--- of states, those where their paths go on after a statement or enter its blocks
-abbrev pub Moves : Names → Stmt → List State → List State → Type 0
-Moves n s states found = (t : Holding → Bool) → some_holds t found ≡ some_holds (λ q. t (moved n s q)) states
-
--- some states with one more
-abbrev pub Pushes : List State → Holding → List State → Type 0
-Pushes states h found = (t : Holding → Bool) → some_holds t found ≡ (some_holds t states || t h)
-
--- some states with others, which leave a block
-abbrev pub Leaves : Names → List State → List State → List State → Type 0
-Leaves n states leaving found =
-    (t : Holding → Bool) → some_holds t found ≡ (some_holds t states || some_holds (λ q. t (leaves n q)) leaving)
-
--- what was reached of some states by a statement that has no block and sends nothing
-abbrev pub ReachesMoved : Names → Stmt → List State → Reached → Type 0
-ReachesMoved n s states r = (t : Holding → Bool) → reaches t r ≡ some_holds (λ q. t (moved n s q)) states
-
--- what was reached of some states by a statement
-abbrev pub ReachesAfter : Names → Stmt → List State → Reached → Type 0
-ReachesAfter n s states r = (t : Holding → Bool) → reaches t r ≡ some_holds (finds n s t) states
-
--- what was reached of them by a block
-abbrev pub ReachesIn : Names → Block → List State → Reached → Type 0
-ReachesIn n b states r = (t : Holding → Bool) → reaches t r ≡ some_holds (finds_in n b t) states
-
--- what was reached by two blocks, after leaving them
-abbrev pub Joins : Names → Reached → Reached → Reached → Type 0
-Joins n first second r =
-    (t : Holding → Bool) → reaches t r ≡ (reaches (λ q. t (leaves n q)) first || reaches (λ q. t (leaves n q)) second)
 
 -- ---- choices
 
@@ -251,17 +213,20 @@ abbrev mutual
   choices_in no_stmts = []
   choices_in (stmt first rest) = choices_of first ++ choices_in rest
 
+-- the least of some numbers that pass a test, if one of them does
+abbrev pub IsLeastOf : (ℕ → Bool) → List ℕ → Option ℕ → Type 0
+IsLeastOf f cs None = (c : ℕ) → has_number c cs ≡ true → f c ≡ false
+IsLeastOf f cs (Some m) = (f m ≡ true) × ((c : ℕ) → has_number c cs ≡ true → f c ≡ true → m ≤ c)
+
 -- the least of some choices that is hidden in a body, if one of them is
 abbrev pub IsLeastHidden : List HeaderDecl → Block → List ℕ → Option ℕ → Type 0
-IsLeastHidden hs b cs None = (c : ℕ) → has_number c cs ≡ true → is_hidden (body_names c hs) b ≡ false
-IsLeastHidden hs b cs (Some m) =
-    (is_hidden (body_names m hs) b ≡ true) × ((c : ℕ) → has_number c cs ≡ true → is_hidden (body_names c hs) b ≡ true → m ≤ c)
+IsLeastHidden hs b = IsLeastOf (λ c. is_hidden (body_names c hs) b)
 
 -- a choice comes before the least so far
 abbrev pub comes_before : ℕ → Option ℕ → Bool
 comes_before c None = true
 comes_before c (Some m) = nat_lt c m
 
--- the lesser of a choice, if it is hidden, and the least so far
-abbrev pub lesser : Names → Block → Option ℕ → Option ℕ
-lesser n b least = if comes_before n.choice least && is_hidden n b then Some n.choice else least
+-- the lesser of a choice, if it passes a test, and the least so far
+abbrev pub lesser : (ℕ → Bool) → ℕ → Option ℕ → Option ℕ
+lesser f c least = if comes_before c least && f c then Some c else least

@@ -1,2 +1,4 @@
 pub mod Following
+pub mod Steps
+pub mod Places
 pub mod Least

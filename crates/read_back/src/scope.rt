@@ -16,11 +16,9 @@ pub(crate) struct FieldName {
     pub(crate) field: Text,
 }
 
-/// The choice that is followed, by its token index, the fields of the packet, and the variables,
-/// the latest last.
+/// The fields of the packet, and the variables, the latest last.
 #[derive(Drop)]
 pub(crate) struct Scope {
-    pub(crate) choice: u32,
     pub(crate) fields: Vec<FieldName>,
     pub(crate) vars: Vec<Text>,
 }

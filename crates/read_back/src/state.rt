@@ -1,17 +1,16 @@
 //! What the values of a path hold of the choice that is followed.
 ghost use Rattle.std.specs.Prelude.{◌≡◌, IfOk, OnOk, get_or, map, set};
-ghost use Rattle.cocoon_syntax.specs.TreeOf.{expr_of, name_of, stmt_of};
 ghost use Rattle.read_back.specs.Following as spec;
-ghost use Rattle.read_back.specs.Following.{at_first, holding_of, names_of};
+ghost use Rattle.read_back.specs.Steps as steps;
+ghost use Rattle.read_back.specs.Steps.{any_alone, any_within, first_held, holding_of, moved_by, place_held, value_held};
 
-use crate::exprs::{held, made_at, mentions};
-use crate::scope::{FieldName, Scope, first_field};
+use crate::scope::FieldName;
+use crate::steps::{Move, Place, Value};
 use cocoon_num::NoMemory;
-use cocoon_syntax::{Expr, Name, Stmt, StmtKind};
 use std::alloc::Global;
 
 /// Whether the choice occurs in a value, and whether it is the value.
-#[derive(Clone, Copy, Drop, PartialEq, Eq)]
+#[derive(Clone, Copy, Drop, PartialEq, Eq, PartialOrd, Ord)]
 pub(crate) struct Held {
     pub(crate) within: bool,
     pub(crate) alone: bool,
@@ -25,7 +24,7 @@ pub(crate) const NOTHING: Held = Held {
 
 /// Whether a path has made the choice, whether one of its conditions has it, and what the fields
 /// and the variables hold of it, the latest variable last.
-#[derive(Drop)]
+#[derive(Drop, PartialEq, Eq, PartialOrd, Ord)]
 pub(crate) struct State {
     pub(crate) made: bool,
     pub(crate) met: bool,
@@ -33,8 +32,8 @@ pub(crate) struct State {
     pub(crate) vars: Vec<Held>,
 }
 
-/// What stands at an index.
-pub(crate) fn held_at(held: &[Held], index: usize) -> Held
+/// What is at an index.
+fn held_at(held: &[Held], index: usize) -> Held
     ensures { result ≡ get_or held.now index spec.nothing }
 {
     match held.get(index) {
@@ -43,14 +42,14 @@ pub(crate) fn held_at(held: &[Held], index: usize) -> Held
     }
 }
 
-/// Where a body begins.
-pub(crate) fn first_state(alloc: Global, scope: &Scope) -> Result<State, NoMemory>
-    ensures { IfOk result (λ state. holding_of state ≡ at_first (names_of scope.now)) }
+/// Where a body begins, in a packet with these fields.
+pub(crate) fn first_state(alloc: Global, fields: &[FieldName]) -> Result<State, NoMemory>
+    ensures { IfOk result (λ state. holding_of state ≡ spec.at_start fields.now) }
 {
     Ok(State {
         made: false,
         met: false,
-        fields: nothing_each(alloc, &scope.fields)?,
+        fields: nothing_each(alloc, fields)?,
         vars: Vec::new(alloc),
     })
 }
@@ -65,71 +64,111 @@ fn nothing_each(alloc: Global, names: &[FieldName]) -> Result<Vec<Held>, NoMemor
     Ok(held)
 }
 
-// ---- statements
+// ---- values
 
-/// Lets a path go on after a statement, or into its blocks. The variable of a `fork` is bound
-/// already.
-pub(crate) fn move_on(state: &mut State, scope: &Scope, stmt: &Stmt) -> Result<(), NoMemory>
-    ensures { OnOk result (holding_of state.new ≡
-        spec.moved (names_of scope.now) (stmt_of stmt.now) (holding_of state.old)) }
+/// The choice that a statement at this token index makes.
+fn made_by(choice: u32, at: u32) -> Held
+    ensures { result ≡ steps.made_by choice at }
 {
-    match &stmt.kind {
-        StmtKind::Let(_, _, value) => {
-            let value = held(scope, state, value);
-            state.vars.push(value)?;
+    let same = choice == at;
+    Held {
+        within: same,
+        alone: same,
+    }
+}
+
+fn place_held(state: &State, choice: u32, place: Place) -> Held
+    ensures { result ≡ place_held choice (holding_of state.now) place }
+{
+    match place {
+        Place::Field(index) => held_at(&state.fields, index),
+        Place::Var(index) => held_at(&state.vars, index),
+        Place::Token(at) => made_by(choice, at),
+    }
+}
+
+/// Whether the choice is within one of some places.
+pub(crate) fn any_within(state: &State, choice: u32, places: &[Place]) -> bool
+    ensures { result ≡ any_within choice (holding_of state.now) places.now }
+{
+    for place in places {
+        if place_held(state, choice, *place).within {
+            return true;
         }
-        StmtKind::SetField(header, field, value) => {
-            let value = held(scope, state, value);
-            set_field(state, scope, header, field, value);
+    }
+    false
+}
+
+/// Whether it is alone in one of them.
+pub(crate) fn any_alone(state: &State, choice: u32, places: &[Place]) -> bool
+    ensures { result ≡ any_alone choice (holding_of state.now) places.now }
+{
+    for place in places {
+        if place_held(state, choice, *place).alone {
+            return true;
         }
-        StmtKind::If(condition, _, _) => meet(state, scope, condition),
-        StmtKind::Filter(condition) => meet(state, scope, condition),
-        StmtKind::HavocVar(_, _) => choose_var(state, scope, stmt.at)?,
-        StmtKind::HavocField(header, field) => {
-            choose(state, scope, stmt.at);
-            set_field(state, scope, header, field, made_at(scope, stmt.at));
+    }
+    false
+}
+
+fn value_held(state: &State, choice: u32, value: &Value) -> Held
+    ensures { result ≡ value_held choice (holding_of state.now) value.now }
+{
+    Held {
+        within: any_within(state, choice, &value.within),
+        alone: any_alone(state, choice, &value.whole),
+    }
+}
+
+// ---- moves
+
+/// Lets a path go on.
+pub(crate) fn move_on(state: &mut State, choice: u32, step: &Move) -> Result<(), NoMemory>
+    ensures { OnOk result
+        (holding_of state.new ≡ moved_by choice step.now (holding_of state.old)) }
+{
+    match step {
+        Move::Bind(value) => {
+            let held = value_held(state, choice, value);
+            state.vars.push(held)?;
         }
-        StmtKind::Assume(condition) => meet(state, scope, condition),
-        StmtKind::Fork(_, _, condition, _) => {
-            choose_var(state, scope, stmt.at)?;
-            meet(state, scope, condition);
+        Move::Set(index, value) => {
+            let held = value_held(state, choice, value);
+            set_field(state, *index, held);
         }
-        StmtKind::Send(_, _) => {}
+        Move::Meet(value) => meet(state, choice, value),
+        Move::ChooseVar(at) => {
+            choose(state, choice, *at);
+            state.vars.push(made_by(choice, *at))?;
+        }
+        Move::ChooseField(index, at) => {
+            choose(state, choice, *at);
+            set_field(state, *index, made_by(choice, *at));
+        }
     }
     Ok(())
 }
 
-fn meet(state: &mut State, scope: &Scope, condition: &Expr)
-    ensures { holding_of state.new ≡
-        spec.meets (names_of scope.now) (expr_of condition.now) (holding_of state.old) }
+fn meet(state: &mut State, choice: u32, value: &Value)
+    ensures { holding_of state.new ≡ steps.meets choice value.now (holding_of state.old) }
 {
-    if mentions(scope, state, condition) {
+    if any_within(state, choice, &value.within) {
         state.met = true;
     }
 }
 
-fn choose(state: &mut State, scope: &Scope, at: u32)
-    ensures { holding_of state.new ≡ spec.chooses (names_of scope.now) at (holding_of state.old) }
+fn choose(state: &mut State, choice: u32, at: u32)
+    ensures { holding_of state.new ≡ steps.chosen choice at (holding_of state.old) }
 {
-    if scope.choice == at {
+    if choice == at {
         state.made = true;
     }
 }
 
-fn choose_var(state: &mut State, scope: &Scope, at: u32) -> Result<(), NoMemory>
-    ensures { OnOk result (holding_of state.new ≡
-        spec.chooses_var (names_of scope.now) at (holding_of state.old)) }
+fn set_field(state: &mut State, index: Option<usize>, value: Held)
+    ensures { holding_of state.new ≡ steps.with_field_at index value (holding_of state.old) }
 {
-    choose(state, scope, at);
-    state.vars.push(made_at(scope, at))?;
-    Ok(())
-}
-
-fn set_field(state: &mut State, scope: &Scope, header: &Name, field: &Name, value: Held)
-    ensures { holding_of state.new ≡ spec.with_field (names_of scope.now)
-        (name_of header.now) (name_of field.now) value (holding_of state.old) }
-{
-    if let Some(index) = first_field(&scope.fields, header.text.bytes(), field.text.bytes()) {
+    if let Some(index) = index {
         set(&mut state.fields, index, value);
     }
 }
@@ -140,4 +179,11 @@ fn set(held: &mut Vec<Held>, index: usize, value: Held)
     if index < held.len() {
         held[index] = value;
     }
+}
+
+/// Ends all but the first variables.
+pub(crate) fn leave(state: &mut State, count: usize)
+    ensures { holding_of state.new ≡ first_held count (holding_of state.old) }
+{
+    state.vars.truncate(count);
 }

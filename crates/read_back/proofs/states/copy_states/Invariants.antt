@@ -1,5 +1,5 @@
 use Rattle.std.proofs.Common.{◌≡◌, map, take}
-use Rattle.read_back.specs.Following.{holding_of}
+use Rattle.read_back.specs.Steps.{holding_of}
 use Rattle.read_back.proofs.states.copy_states.Given as goal
 
 abbrev pub invariant-loop-state : goal.invariant-loop-state

@@ -1,9 +1,10 @@
 use Rattle.std.proofs.Common.{◌≡◌, ◌||◌, Bool, vec_len}
-use Rattle.read_back.specs.Following.{Holding, leaves, names_of, some_holds}
+use Rattle.read_back.specs.Following.{Holding}
+use Rattle.read_back.specs.Steps.{first_held, some_holds}
 use Rattle.read_back.proofs.states.leave_all.Given as goal
 
 abbrev pub invariant-loop-state : goal.invariant-loop-state
-invariant-loop-state l = (t : Holding → Bool) → (some_holds t l.found.items || some_holds (λ s. t (leaves (names_of l.scope) s)) l.states.items) ≡ (some_holds t l.fn.found.items || some_holds (λ s. t (leaves (names_of l.scope) s)) l.fn.states.items)
+invariant-loop-state l = (t : Holding → Bool) → (some_holds t l.found.items || some_holds (λ s. t (first_held l.count s)) l.states.items) ≡ (some_holds t l.fn.found.items || some_holds (λ s. t (first_held l.count s)) l.fn.states.items)
 
 abbrev pub decreases-loop-state : goal.decreases-loop-state
 decreases-loop-state l = vec_len l.states
