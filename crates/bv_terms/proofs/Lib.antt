@@ -3,6 +3,7 @@ pub mod KeyFacts
 pub mod NodeFacts
 pub mod Members
 pub mod OneNumber
+pub mod SameTerms
 pub mod ArenaFacts
 pub mod ValueFacts
 pub mod EvalFacts

@@ -7,3 +7,4 @@ pub mod Replacements
 pub mod Needed
 pub mod Evaluated
 pub mod Rebuilt
+pub mod Walks
