@@ -3,9 +3,10 @@
 use Rattle.std.specs.Prelude.{◌≡◌, ℕ, ◌+◌, ◌*◌, ◌^◌, ◌<◌, ℤ, Bool, true, List, [], ◌∷◌, length, IsTrue, if◌then◌else◌}
 use Rattle.bv_terms.specs.TermTrees.{Term, input}
 use Rattle.bv_terms.specs.TermValues.{Inputs}
+use Rattle.bv_terms.specs.Walks.{is_among, walk}
 use Rattle.cnf_core.specs.Satisfying.{makes_true}
 use Rattle.cnf_core.specs.declared.clauses.Assignment.{Assignment}
-use Rattle.bit_blast.specs.Clauses.{bits_in, clauses_of, goal_blasted, is_among, vars_of, walk}
+use Rattle.bit_blast.specs.Clauses.{bits_in, clauses_of, goal_blasted, vars_of}
 use Rattle.bit_blast.specs.Meanings.{all_hold}
 
 -- the number of these bits, from bit 0 on
