@@ -13,7 +13,7 @@ use Rattle.std.proofs.lemmas.Option.{slice_get_within}
 use Rattle.bv_terms.specs.declared.node.Node.{Node}
 use Rattle.bv_terms.specs.declared.node.Node.TheVariants.{Constant, Input, Apply, Not, Binary, Slice, Pick}
 use Rattle.bv_terms.specs.TermTrees.{Term, constant, width, IsTerm, IsWidth}
-use Rattle.bv_terms.specs.Arenas.{parts, made_of, nth, with_node, node_width, term_at, width_at, count_input, inputs_in, IsArena, IsPut, IsFound, KeepsTerms, IsKept, IsInputTerm, CanFollow, GrowsBy}
+use Rattle.bv_terms.specs.Arenas.{parts, made_of, nth, with_node, node_width, term_at, width_at, count_input, inputs_in, IsArena, IsPut, IsFound, KeepsTerms, IsKept, IsInputTerm, CanFollow, GrowsBy, HasOneMore}
 use Rattle.bv_terms.specs.Keys.{Numbers, number_of, node_key, key_cmp, HasNumbers}
 use Rattle.bv_terms.proofs.KeyFacts.{absent, present, numbers-same, numbers-more}
 use Rattle.bv_terms.proofs.Seams.{snoc-cases, snoc-old, snoc-last}
@@ -294,8 +294,12 @@ input-put old ns ns' ws is w i k numbers v kept ie ke nis =
     (subst (λ os. IsPut os ns' (Input i w) k) v (subst (λ ms. IsPut ns ms (Input i w) k) (sym nis)
     (subst (IsPut ns (ns ++ Input i w ∷ []) (Input i w)) (sym ke) (put-last ns (Input i w)))))
 
-pub input-more : (old ns ns' : List Node) (i w : ℕ) → ns ≡ old → ns' ≡ ns ++ Input i w ∷ [] → inputs_in ns' ≡ inputs_in old + 1
-input-more old ns ns' i w v nis = let e = ap inputs_in nis in let f = one-more ns (Input i w) in let g = ap inputs_in v in omega arith
+pub input-more : (old ns ns' : List Node) (i w k : ℕ) → ns ≡ old → k ≡ length ns → ns' ≡ ns ++ Input i w ∷ [] → HasOneMore old ns' k
+input-more old ns ns' i w k v ke nis = record {
+  inputs = (let e = ap inputs_in nis in let f = one-more ns (Input i w) in let g = ap inputs_in v in omega arith);
+  terms = omega (arith, ap length nis, ap length v, length-append ns (Input i w ∷ []));
+  new_ = omega (arith, ap length v);
+}
 
 pub input-keeps : (old ns ns' : List Node) (n : Node) → ns ≡ old → ns' ≡ ns ++ n ∷ [] → KeepsTerms old ns'
 input-keeps old ns ns' n v nis = subst (λ os. KeepsTerms os ns') v (subst (KeepsTerms ns) (sym nis) (kept-terms ns n))
