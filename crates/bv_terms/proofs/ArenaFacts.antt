@@ -197,6 +197,18 @@ fewer c (n ∷ ns) (suc k) i w e = fewer (count_input c n) ns k i w e
 pub input-below : (ns : List Node) (k i w : ℕ) → IsArena ns → slice_get ns k ≡ Some (Input i w) → i < inputs_in ns
 input-below ns k i w a e = subst (λ j. j < inputs_in ns) (sym (a.inputs k i w e)) (fewer 0 ns k i w e)
 
+rises : (c : ℕ) (ns : List Node) (j k i w : ℕ) → j < k → slice_get ns j ≡ Some (Input i w) → fold count_input c (take j ns) < fold count_input c (take k ns)
+rises c [] j k i w l e = absurd cc
+rises c (n ∷ ns) j zero i w l e = absurd (omega arith)
+rises c (n ∷ ns) zero (suc k) i w l e =
+    let n-is : n ≡ Input i w = cc in
+    subst (λ m. c < fold count_input (count_input c m) (take k ns)) (sym n-is) (let g = counts-grow (suc c) (take k ns) in omega arith)
+rises c (n ∷ ns) (suc j) (suc k) i w l e = rises (count_input c n) ns j k i w (omega arith) e
+
+-- of two inputs the one with the smaller number was put in first
+pub inputs-rise : (ns : List Node) → IsArena ns → (j k i i' w w' : ℕ) → j < k → slice_get ns j ≡ Some (Input i w) → slice_get ns k ≡ Some (Input i' w') → i < i'
+inputs-rise ns a j k i i' w w' l e f = let r = rises 0 ns j k i w l e in let x = a.inputs j i w e in let y = a.inputs k i' w' f in omega arith
+
 input-absent : (ns : List Node) (i w : ℕ) → IsArena ns → i ≡ inputs_in ns → IsAbsent ns (Input i w)
 input-absent ns i w a e k h = let l = input-below ns k i w a h in omega arith
 
