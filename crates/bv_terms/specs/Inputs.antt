@@ -1,7 +1,8 @@
 -- Cited by laws on terms and by the contract of a copy: which inputs and functions a term has, numbers that fit
 -- them, and other names for inputs.
-use Rattle.std.specs.Prelude.{◌≡◌, ℕ, ◌^◌, ◌<◌, true, List, []}
+use Rattle.std.specs.Prelude.{◌≡◌, ℕ, true, List, []}
 use Rattle.std.specs.List.{AllZip}
+use Rattle.cocoon_num.specs.Values.{FitsWidth}
 use Rattle.bv_terms.specs.TermTrees.{Term, Args, constant, input, apply, not_, binary, slice, pick, no_args, arg, arg_widths}
 use Rattle.bv_terms.specs.TermValues.{Functions, Inputs}
 use Rattle.bv_terms.specs.Walks.{is_among, walk}
@@ -14,17 +15,14 @@ Applies t f args w = is_among (walk t []) (apply f args w) ≡ true
 
 -- ---- numbers that fit
 
-abbrev pub Fits : (width n : ℕ) → Type 0
-Fits w n = n < 2 ^ w
-
 abbrev pub InputsFit : Term → Inputs → Type 0
-InputsFit t ins = (i w : ℕ) → Mentions t i w → Fits w (ins i)
+InputsFit t ins = (i w : ℕ) → Mentions t i w → FitsWidth w (ins i)
 
 -- each function gives numbers of its width, at numbers that fit its arguments
 abbrev pub FunctionsFit : Term → Functions → Type 0
 FunctionsFit t F =
     (f w : ℕ) (args : Args) → Applies t f args w
-    → (xs : List ℕ) → AllZip Fits (arg_widths args) xs → Fits w (F f xs)
+    → (xs : List ℕ) → AllZip FitsWidth (arg_widths args) xs → FitsWidth w (F f xs)
 
 -- ---- other names
 
