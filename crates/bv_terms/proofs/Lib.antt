@@ -4,6 +4,7 @@ pub mod NodeFacts
 pub mod Members
 pub mod OneNumber
 pub mod SameTerms
+pub mod Subterms
 pub mod ArenaFacts
 pub mod ValueFacts
 pub mod EvalFacts

@@ -8,3 +8,4 @@ pub mod Needed
 pub mod Evaluated
 pub mod Rebuilt
 pub mod Walks
+pub mod Inputs
