@@ -14,7 +14,8 @@ use Rattle.bv_terms.specs.Walks.{is_among, walk}
 use Rattle.bit_blast.specs.Clauses.{Blasted, bits_in, blasted, clauses_of, goal_bit, goal_blasted, circuit_of, vars_of, with_term}
 use Rattle.bit_blast.specs.Goals.{IsGoal}
 use Rattle.bit_blast.specs.Meanings.{IsValuation, all_hold}
-use Rattle.bit_blast.specs.Readings.{Extends, InputsFit, ReadsAs, input_bits, number_read}
+use Rattle.bv_terms.specs.Inputs.{InputsFit}
+use Rattle.bit_blast.specs.Readings.{Extends, ReadsAs, input_bits, number_read}
 use Rattle.term_walk.proofs.Sights.{among-last, among-more}
 use Rattle.bit_blast.specs.Orders.{Fresh, Ordered}
 use Rattle.bit_blast.proofs.Defining.{Agree, AllNamed, ClausesNamed, Defines, Named, every-append, hold-both, hold-parts, holds-same, lit, lit-same, lit-valuation, opp, put, put-here, put-other}

@@ -8,7 +8,8 @@ ghost use Rattle.bit_blast.specs.Gates.{and_gate, carry_gate, choice_gate, or_ga
 ghost use Rattle.bit_blast.specs.Meanings.{IsValuation, all_hold};
 ghost use Rattle.bit_blast.specs.Blasting.{IsClauses};
 ghost use Rattle.bit_blast.specs.Goals.{IsGoal};
-ghost use Rattle.bit_blast.specs.Readings.{Extends, InputsFit, Mentions, ReadsAs, input_bits};
+ghost use Rattle.bit_blast.specs.Readings.{Extends, ReadsAs, input_bits};
+ghost use Rattle.bv_terms.specs.Inputs.{InputsFit, Mentions};
 ghost use Rattle.bv_terms.specs.TermValues.{Functions, Inputs, term_value};
 ghost use Rattle.cnf_core.specs.Satisfying.{Satisfies, makes_true};
 ghost use Rattle.cnf_core.specs.declared.clauses.Assignment.{Assignment};
