@@ -13,7 +13,7 @@ use Rattle.std.proofs.lemmas.Option.{slice_get_within}
 use Rattle.bv_terms.specs.declared.node.Node.{Node}
 use Rattle.bv_terms.specs.declared.node.Node.TheVariants.{Constant, Input, Apply, Not, Binary, Slice, Pick}
 use Rattle.bv_terms.specs.TermTrees.{Term, constant, width, IsTerm, IsWidth}
-use Rattle.bv_terms.specs.Arenas.{parts, made_of, nth, with_node, node_width, term_at, width_at, count_input, inputs_in, IsArena, IsPut, IsFound, KeepsTerms, IsKept, IsInputTerm, CanFollow, GrowsBy}
+use Rattle.bv_terms.specs.Arenas.{parts, made_of, nth, with_node, node_width, term_at, width_at, count_input, inputs_in, IsArena, IsPut, IsFound, KeepsTerms, IsKept, IsInputTerm, CanFollow, GrowsBy, HasOneMore}
 use Rattle.bv_terms.specs.Keys.{Numbers, number_of, node_key, key_cmp, HasNumbers}
 use Rattle.bv_terms.proofs.KeyFacts.{absent, present, numbers-same, numbers-more}
 use Rattle.bv_terms.proofs.Seams.{snoc-cases, snoc-old, snoc-last}
@@ -197,6 +197,18 @@ fewer c (n ∷ ns) (suc k) i w e = fewer (count_input c n) ns k i w e
 pub input-below : (ns : List Node) (k i w : ℕ) → IsArena ns → slice_get ns k ≡ Some (Input i w) → i < inputs_in ns
 input-below ns k i w a e = subst (λ j. j < inputs_in ns) (sym (a.inputs k i w e)) (fewer 0 ns k i w e)
 
+rises : (c : ℕ) (ns : List Node) (j k i w : ℕ) → j < k → slice_get ns j ≡ Some (Input i w) → fold count_input c (take j ns) < fold count_input c (take k ns)
+rises c [] j k i w l e = absurd cc
+rises c (n ∷ ns) j zero i w l e = absurd (omega arith)
+rises c (n ∷ ns) zero (suc k) i w l e =
+    let n-is : n ≡ Input i w = cc in
+    subst (λ m. c < fold count_input (count_input c m) (take k ns)) (sym n-is) (let g = counts-grow (suc c) (take k ns) in omega arith)
+rises c (n ∷ ns) (suc j) (suc k) i w l e = rises (count_input c n) ns j k i w (omega arith) e
+
+-- of two inputs the one with the smaller number was put in first
+pub inputs-rise : (ns : List Node) → IsArena ns → (j k i i' w w' : ℕ) → j < k → slice_get ns j ≡ Some (Input i w) → slice_get ns k ≡ Some (Input i' w') → i < i'
+inputs-rise ns a j k i i' w w' l e f = let r = rises 0 ns j k i w l e in let x = a.inputs j i w e in let y = a.inputs k i' w' f in omega arith
+
 input-absent : (ns : List Node) (i w : ℕ) → IsArena ns → i ≡ inputs_in ns → IsAbsent ns (Input i w)
 input-absent ns i w a e k h = let l = input-below ns k i w a h in omega arith
 
@@ -294,8 +306,12 @@ input-put old ns ns' ws is w i k numbers v kept ie ke nis =
     (subst (λ os. IsPut os ns' (Input i w) k) v (subst (λ ms. IsPut ns ms (Input i w) k) (sym nis)
     (subst (IsPut ns (ns ++ Input i w ∷ []) (Input i w)) (sym ke) (put-last ns (Input i w)))))
 
-pub input-more : (old ns ns' : List Node) (i w : ℕ) → ns ≡ old → ns' ≡ ns ++ Input i w ∷ [] → inputs_in ns' ≡ inputs_in old + 1
-input-more old ns ns' i w v nis = let e = ap inputs_in nis in let f = one-more ns (Input i w) in let g = ap inputs_in v in omega arith
+pub input-more : (old ns ns' : List Node) (i w k : ℕ) → ns ≡ old → k ≡ length ns → ns' ≡ ns ++ Input i w ∷ [] → HasOneMore old ns' k
+input-more old ns ns' i w k v ke nis = record {
+  inputs = (let e = ap inputs_in nis in let f = one-more ns (Input i w) in let g = ap inputs_in v in omega arith);
+  terms = omega (arith, ap length nis, ap length v, length-append ns (Input i w ∷ []));
+  new_ = omega (arith, ap length v);
+}
 
 pub input-keeps : (old ns ns' : List Node) (n : Node) → ns ≡ old → ns' ≡ ns ++ n ∷ [] → KeepsTerms old ns'
 input-keeps old ns ns' n v nis = subst (λ os. KeepsTerms os ns') v (subst (KeepsTerms ns) (sym nis) (kept-terms ns n))

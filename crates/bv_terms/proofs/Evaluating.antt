@@ -17,7 +17,7 @@ use Rattle.bv_terms.specs.Needed.{AreNeeded, IsAmong}
 use Rattle.bv_terms.specs.Evaluated.{Known, node_value, IsReady}
 use Rattle.bv_terms.proofs.Members.{both, read-index}
 use Rattle.bv_terms.proofs.EvalFacts.{HasValue, Ready, is-ready, has-more}
-use Rattle.bv_terms.proofs.NeededFacts.{needed-later}
+use Rattle.bv_terms.proofs.NeededFacts.{covered, needed-later}
 
 -- the terms from a place on have their values
 pub record Evaluating (nodes : List Node) (env : Env) (id : ℕ) (ids : List ℕ) (at : ℕ) (values : Known) : Type 0 where
@@ -35,7 +35,7 @@ next-ready nodes env id ids at values node h p e =
     let k = slice_index ids (at - 1) in
     let here : slice_get ids (at - 1) ≡ Some k = next-at ids at p h.within in
     let below : AllByRecursion (λ q. q < k) (parts node) = recursion_from_All (λ q. q < k) (parts node) (h.needed.arena.below k node e) in
-    is-ready nodes env values k node h.needed.arena e (h.needed.covered env h.covers k (at - 1, here))
+    is-ready nodes env values k node h.needed.arena e (covered nodes id env h.needed.arena h.covers k (h.needed.only k (at - 1, here)))
     (both (λ q. q < k) (IsAmong ids) (HasValue nodes env values)
     (λ q l a. let r = needed-later nodes id ids h.needed (at - 1) k q here l a in h.have r.0 q (let m = r.1 in omega arith) r.2)
     (parts node) below (h.needed.parts_ k node (at - 1, here) e))

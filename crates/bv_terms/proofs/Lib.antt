@@ -3,6 +3,8 @@ pub mod KeyFacts
 pub mod NodeFacts
 pub mod Members
 pub mod OneNumber
+pub mod SameTerms
+pub mod Subterms
 pub mod ArenaFacts
 pub mod ValueFacts
 pub mod EvalFacts

@@ -14,7 +14,7 @@ use Rattle.bv_terms.specs.declared.node.Node.{Node}
 use Rattle.bv_terms.specs.declared.eval.Env.{Env}
 use Rattle.bv_terms.specs.Arenas.{parts, made_of, term_at, IsArena}
 use Rattle.bv_terms.specs.Environments.{Covers}
-use Rattle.bv_terms.specs.Needed.{AreNeeded, AreFalling, IsAmong, is_in}
+use Rattle.bv_terms.specs.Needed.{AreNeeded, AreFalling, IsAmong, IsMadeOf, is_in, part_of, whole}
 use Rattle.bv_terms.proofs.Members.{at-number, in-all, all-in, each}
 use Rattle.bv_terms.proofs.EvalFacts.{parts-covered}
 use Rattle.bv_terms.proofs.Seams.{snoc-cases, snoc-old, snoc-last}
@@ -85,7 +85,7 @@ pub record NeededFrom (nodes : List Node) (id : ℕ) (ids : List ℕ) (waiting :
   pub falling : AreFalling ids
   pub below : (q i a : ℕ) → Waits waiting q → slice_get ids i ≡ Some a → q < a
   pub parts_ : (k : ℕ) (node : Node) → IsAmong ids k → slice_get nodes k ≡ Some node → AllByRecursion (IsKnown ids waiting) (parts node)
-  pub covered : (env : Env) → Covers env (term_at nodes id) → (k : ℕ) → IsKnown ids waiting k → Covers env (term_at nodes k)
+  pub only : (k : ℕ) → IsKnown ids waiting k → IsMadeOf nodes id k
 
 known-more : (ids : List ℕ) (old new : BTreeSet ℕ) (next : ℕ) (ps : List ℕ) → Taken old new next ps → (k : ℕ) → IsKnown ids old k → IsKnown (ids ++ next ∷ []) new k
 known-more ids old new next ps t k (inl a) = inl (among-more ids next k a)
@@ -140,9 +140,8 @@ needed-step nodes id ids more old new next node h e t m =
             let same : node ≡ n = (let q : Some node ≡ Some n = sym e ∙ ap (slice_get nodes) s ∙ f in cc) in
             subst (λ (x : Node). AllByRecursion (IsKnown (ids ++ next ∷ []) new) (parts x)) same (each (λ p w. inr w) ps t.parts)
       ];
-      covered = λ env c. known-cases (λ k. Covers env (term_at nodes k)) ids old new next ps t (h.covered env c)
-          (recursion_from_All (λ p. Covers env (term_at nodes p)) ps
-          (parts-covered env (term_at nodes) node (subst (Covers env) (h.arena.made next node e) (h.covered env c next (inr t.itself)))));
+      only = known-cases (IsMadeOf nodes id) ids old new next ps t h.only
+          (each (λ p i. part_of (h.only next (inr t.itself)) e i) ps (all-in ps));
     })
 
 -- nothing but the term itself waits at first
@@ -156,7 +155,7 @@ needed-first nodes id ids empty waiting a l n z up = subst (λ xs. NeededFrom no
   falling = λ i j x y less f g. absurd cc;
   below = λ q i x w f. absurd cc;
   parts_ = λ k node h e. absurd (none k h);
-  covered = λ env c k h. subst (λ x. Covers env (term_at nodes x)) (sym (only k h)) c;
+  only = λ k h. subst (IsMadeOf nodes id) (sym (only k h)) whole;
 })
   where
     none : (k : ℕ) → IsAmong [] k → ⊥
@@ -176,12 +175,23 @@ needed-all nodes id ids waiting h z = record {
   within = λ k a. h.within k (inl a);
   falling = h.falling;
   parts_ = λ k node a e. each now (parts node) (h.parts_ k node a e);
-  covered = λ env c k a. h.covered env c k (inl a);
+  only = λ k a. h.only k (inl a);
 }
   where
     now : (k : ℕ) → IsKnown ids waiting k → IsAmong ids k
     now k (inl a) = a
     now k (inr w) = absurd (false≢true (ap (list_any (is_at (nat_cmp k))) (sym z) ∙ w))
+
+-- what holds of a term and goes over to parts holds of all that it is made of
+pub inherits : (nodes : List Node) (id : ℕ) (P : ℕ → Type 0) → ((k : ℕ) (node : Node) → slice_get nodes k ≡ Some node → P k → AllByRecursion P (parts node)) → P id
+    → (k : ℕ) → IsMadeOf nodes id k → P k
+inherits nodes id P f h k whole = h
+inherits nodes id P f h p (part_of {k = k} {node = node} m e i) = in-all P (parts node) p (f k node e (inherits nodes id P f h k m)) i
+
+pub covered : (nodes : List Node) (id : ℕ) (env : Env) → IsArena nodes → Covers env (term_at nodes id) → (k : ℕ) → IsMadeOf nodes id k → Covers env (term_at nodes k)
+covered nodes id env a c =
+    inherits nodes id (λ k. Covers env (term_at nodes k))
+    (λ k node e h. recursion_from_All (λ p. Covers env (term_at nodes p)) (parts node) (parts-covered env (term_at nodes) node (subst (Covers env) (a.made k node e) h))) c
 
 -- the numbers that are taken fall
 pub needed-smaller : (nodes : List Node) (id : ℕ) (ids more : List ℕ) (waiting : BTreeSet ℕ) (next : ℕ) → NeededFrom nodes id ids waiting → Waits waiting next → more ≡ ids ++ next ∷ []

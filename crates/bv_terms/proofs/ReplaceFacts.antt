@@ -26,7 +26,7 @@ there-args : (n : ℕ) (name : ℕ → ℕ) (xs : List ℕ) → AllByRecursion (
 there-args n name [] h = tt
 there-args n name (a ∷ xs) h = (h.0, there-args n name xs h.1)
 
-there-with : (n : ℕ) (name : ℕ → ℕ) (node : Node) → AllByRecursion (λ p. name p < n) (parts node) → AllByRecursion (λ q. q < n) (parts (with_parts name node))
+pub there-with : (n : ℕ) (name : ℕ → ℕ) (node : Node) → AllByRecursion (λ p. name p < n) (parts node) → AllByRecursion (λ q. q < n) (parts (with_parts name node))
 there-with n name (Constant b) h = tt
 there-with n name (Input i w) h = tt
 there-with n name (Apply f args w) h = there-args n name args h
@@ -39,7 +39,7 @@ narrow-args : (u w : ℕ → ℕ) (name : ℕ → ℕ) (xs : List ℕ) → AllBy
 narrow-args u w name [] e h = tt
 narrow-args u w name (a ∷ xs) e h = (subst (λ k. k ≤ 64) (sym e.0) h.0, narrow-args u w name xs e.1 h.1)
 
-fit-with : (u w : ℕ → ℕ) (name : ℕ → ℕ) (node : Node) → AllByRecursion (λ p. u (name p) ≡ w p) (parts node) → WidthsFit w node → WidthsFit u (with_parts name node)
+pub fit-with : (u w : ℕ → ℕ) (name : ℕ → ℕ) (node : Node) → AllByRecursion (λ p. u (name p) ≡ w p) (parts node) → WidthsFit w node → WidthsFit u (with_parts name node)
 fit-with u w name (Constant b) e h = tt
 fit-with u w name (Input i v) e h = h
 fit-with u w name (Apply f args v) e h =
@@ -49,7 +49,7 @@ fit-with u w name (Binary op a b) e h = subst (λ k. OperandsFit op k (u (name b
 fit-with u w name (Slice a high low) e h = (h.0, subst (λ k. high < k) (sym e.0) h.1)
 fit-with u w name (Pick c a b) e h = (e.0 ∙ h.0, e.1.0 ∙ h.1 ∙ sym e.1.1.0)
 
-width-with : (u w : ℕ → ℕ) (name : ℕ → ℕ) (node : Node) → AllByRecursion (λ p. u (name p) ≡ w p) (parts node) → node_width u (with_parts name node) ≡ node_width w node
+pub width-with : (u w : ℕ → ℕ) (name : ℕ → ℕ) (node : Node) → AllByRecursion (λ p. u (name p) ≡ w p) (parts node) → node_width u (with_parts name node) ≡ node_width w node
 width-with u w name (Constant b) e = refl
 width-with u w name (Input i v) e = refl
 width-with u w name (Apply f args v) e = refl

@@ -90,6 +90,12 @@ pub record GrowsBy (most : ℕ) (old new : List Node) : Type 0 where
   pub inputs : inputs_in new ≡ inputs_in old
   pub terms : length new ≤ length old + most
 
+-- there is one more input and one more term, which has this number
+pub record HasOneMore (old new : List Node) (id : ℕ) : Type 0 where
+  pub inputs : inputs_in new ≡ inputs_in old + 1
+  pub terms : length new ≡ length old + 1
+  pub new_ : length old ≤ id
+
 -- the input is the term under this number
 abbrev pub IsInputTerm : List Node → ℕ → ℕ → Type 0
 IsInputTerm nodes i k = (w : ℕ) × (slice_get nodes k ≡ Some (Input i w))

@@ -7,3 +7,5 @@ pub mod Replacements
 pub mod Needed
 pub mod Evaluated
 pub mod Rebuilt
+pub mod Walks
+pub mod Inputs

@@ -3,7 +3,7 @@ ghost use Rattle.std.specs.Prelude.{◌≡◌, ◌≤◌, ◌<◌, ◌+◌, ◌^
 ghost use Rattle.bv_terms.specs.TermTrees.{IsWidth, OperandsFit, joined_width};
 ghost use Rattle.std.specs.BTreeMap.{UpdatesBy};
 ghost use Rattle.bv_terms.specs.Keys.{key_cmp, number_of};
-ghost use Rattle.bv_terms.specs.Arenas.{CanFollow, GrowsBy, IsArena, IsFound, IsInputTerm, IsPut, KeepsTerms, count_input, inputs_in, node_width, width_at};
+ghost use Rattle.bv_terms.specs.Arenas.{CanFollow, GrowsBy, HasOneMore, IsArena, IsFound, IsInputTerm, IsPut, KeepsTerms, count_input, inputs_in, node_width, width_at};
 
 use crate::keys::key_of;
 use crate::node::{FunId, InputId, Node, TermId, TermOp};
@@ -100,8 +100,8 @@ impl Terms {
         }
     }
 
-    /// The number of a node that is no input: its own where it is there, else it is put in.
-    pub(crate) fn put(&mut self, node: Node, width: u8) -> Result<TermId, NoMemory>
+    /// The number of a node of this width, in bits, that is no input: its own if it is there, else it is put in.
+    pub fn put(&mut self, node: Node, width: u8) -> Result<TermId, NoMemory>
         requires follows { CanFollow self.old node }
         requires width { width ≡ node_width (width_at self.old) node }
         requires no_input { count_input 0 node ≡ 0 }
@@ -142,7 +142,7 @@ impl Terms {
         requires { IsWidth width }
         ensures put { IfOk result (λ id.
             IsPut self.old self.new (Node.Input (inputs_in self.old) width) id) }
-        ensures more { OnOk result (inputs_in self.new ≡ inputs_in self.old + 1) }
+        ensures more { IfOk result (λ id. HasOneMore self.old self.new id) }
         ensures kept { KeepsTerms self.old self.new }
         ensures refused { OnErr result (self.new ≡ self.old) }
     {

@@ -12,3 +12,4 @@ mod substitute;
 pub use arena::Terms;
 pub use eval::Env;
 pub use node::{FunId, InputId, Node, TermId, TermOp};
+pub use substitute::with_parts;

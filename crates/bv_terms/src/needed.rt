@@ -24,7 +24,7 @@ fn await_parts(waiting: &mut BTreeSet<TermId>, node: &Node) -> Result<(), NoMemo
 
 impl Terms {
     /// The numbers of the terms that a term is made of, itself too, each once and from the largest on.
-    pub(crate) fn needed(&self, alloc: Global, id: TermId) -> Result<Vec<TermId>, NoMemory>
+    pub fn needed(&self, alloc: Global, id: TermId) -> Result<Vec<TermId>, NoMemory>
         requires { id < length self.now }
         ensures { IfOk result (λ ids. AreNeeded self.now id ids.items) }
     {

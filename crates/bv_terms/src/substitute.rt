@@ -33,8 +33,12 @@ fn all_renamed(
     Ok(others)
 }
 
-/// The node with other parts, each in the place of an old one.
-fn with_parts(alloc: Global, ids: &BTreeMap<TermId, TermId>, node: &Node) -> Result<Node, NoMemory>
+/// The node with other parts, each in the place of an old one. One that has no other stays.
+pub fn with_parts(
+    alloc: Global,
+    ids: &BTreeMap<TermId, TermId>,
+    node: &Node,
+) -> Result<Node, NoMemory>
     ensures { IfOk result (λ other. other ≡ with_parts (name_in ids.now) node.now) }
 {
     Ok(match node {

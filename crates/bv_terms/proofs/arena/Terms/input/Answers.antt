@@ -25,7 +25,8 @@ returns-clause-put c =
     c.self.inside.numbers c.self.view_is c.self.invariant n c.in_ok-id.ensures.at c.in_ok-id.ensures.nodes
 
 pub returns-clause-more : goal.returns-clause-more
-returns-clause-more c = input-more c.args.self.now c.self.inside.nodes.items c.push.new.nodes.items _ c.args.width c.self.view_is c.in_ok-id.ensures.nodes
+returns-clause-more c =
+    input-more c.args.self.now c.self.inside.nodes.items c.push.new.nodes.items _ c.args.width c.in_ok-id.id c.self.view_is c.in_ok-id.ensures.at c.in_ok-id.ensures.nodes
 
 pub returns-clause-kept : goal.returns-clause-kept
 returns-clause-kept c = input-keeps c.args.self.now c.self.inside.nodes.items c.push.new.nodes.items _ c.self.view_is c.in_ok-id.ensures.nodes

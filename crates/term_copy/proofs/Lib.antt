@@ -1,0 +1,2 @@
+pub mod InputLists
+pub mod Copies

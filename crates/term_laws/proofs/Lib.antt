@@ -1,0 +1,2 @@
+pub mod FittingValues
+pub mod RenamedTerms
