@@ -25,11 +25,11 @@ pub asserted-reason : (cs ds : List (List ℤ)) (c ts us : List ℤ) (l : ℤ) (
 asserted-reason cs ds c ts us l n e k is f = subst (λ es. IsForcedBy es (us ++ l ∷ []) (length us) n) (sym e)
     (forced-here (cs ++ c ∷ []) us l c n (ap (slice_get (cs ++ c ∷ [])) is ∙ get-last cs c) (subst (λ vs. forces vs c l ≡ true) (sym k) f))
 
-pub asserted-watching : (ts us : List ℤ) (seen : ℕ) (starts : List ℕ) (c : List ℤ) (pair : Pair) → seen ≤ length ts → us ≡ ts ++ pair.first.number ∷ [] → IsAsserting ts starts c pair
-    → IsWatching us seen starts c pair
-asserted-watching ts us seen starts c pair within e h =
+pub asserted-watching : (ts us : List ℤ) (propagated : ℕ) (starts : List ℕ) (c : List ℤ) (pair : Pair) → propagated ≤ length ts → us ≡ ts ++ pair.first.number ∷ [] → IsAsserting ts starts c pair
+    → IsWatching us propagated starts c pair
+asserted-watching ts us propagated starts c pair within e h =
     let f = forced-parts ts c pair.first.number h.forces in
-    subst (λ vs. IsWatching vs seen starts c pair) (sym e) (record {
+    subst (λ vs. IsWatching vs propagated starts c pair) (sym e) (record {
       inside = λ a b are. elim are [
         | inl x ↦ ap (has_literal c) (sym x.0) ∙ f.within
         | inr y ↦ ap (has_literal c) (sym y.0) ∙ h.inside
@@ -57,9 +57,9 @@ asserted-watching ts us seen starts c pair within e h =
       ];
     })
 
--- before any decision, and before anything was looked at
-module _ (ts : List ℤ) (seen : ℕ) (starts : List ℕ) (c : List ℤ) (pair : Pair) (early : seen ≡ 0) (undecided : starts ≡ []) where
-  pub begun-once : pair.second.number ≡ pair.first.number → has_literal c pair.first.number ≡ true → has_literal ts pair.first.number ≡ true → IsWatching ts seen starts c pair
+-- before any decision, and before anything was propagated
+module _ (ts : List ℤ) (propagated : ℕ) (starts : List ℕ) (c : List ℤ) (pair : Pair) (early : propagated ≡ 0) (undecided : starts ≡ []) where
+  pub begun-once : pair.second.number ≡ pair.first.number → has_literal c pair.first.number ≡ true → has_literal ts pair.first.number ≡ true → IsWatching ts propagated starts c pair
   begun-once is inside on =
       let r = has-place ts pair.first.number on in
       record {
@@ -71,7 +71,7 @@ module _ (ts : List ℤ) (seen : ℕ) (starts : List ℕ) (c : List ℤ) (pair :
         two = inr (record { place = r.0; within = r.1; literal = r.2; first = λ i lt. absurd (omega (arith, lt, ap length undecided)) });
       }
 
-  pub begun-twice : pair.second.number ≢ pair.first.number → has_literal c pair.first.number ≡ true → has_literal c pair.second.number ≡ true → IsWatching ts seen starts c pair
+  pub begun-twice : pair.second.number ≢ pair.first.number → has_literal c pair.first.number ≡ true → has_literal c pair.second.number ≡ true → IsWatching ts propagated starts c pair
   begun-twice differ inside beside = record {
     inside = λ a b are. elim are [
       | inl x ↦ ap (has_literal c) (sym x.0) ∙ inside

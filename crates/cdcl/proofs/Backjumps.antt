@@ -6,8 +6,8 @@ use Rattle.std.specs.List.{All}
 use Rattle.cnf_core.specs.Licensing.{IsNew}
 use Rattle.cnf_core.specs.Deriving.{forces}
 use Rattle.cnf_core.specs.Literals.{Names, has_literal, opposite}
-use Rattle.cnf_core.specs.Trails.{IsApart, WeighsAs, literal_at}
-use Rattle.cnf_core.specs.declared.weight.Weight.TheVariants.{Open}
+use Rattle.cnf_core.specs.Trails.{IsApart, HasStatus, literal_at}
+use Rattle.cnf_core.specs.declared.clause_status.ClauseStatus.TheVariants.{Open}
 use Rattle.cdcl.specs.Marks.{count_from, is_marked, marked_literals}
 use Rattle.cdcl.specs.Searching.{IsClosed}
 use Rattle.cdcl.proofs.Counting.{OneMarked, one-marked}
@@ -37,7 +37,7 @@ module _ (cs : List (List ℤ)) (ts : List ℤ) (apart : IsApart ts) (vars : ℕ
   back-new cut le above closed = learned-new cs ts apart vars named marks last.place second (omega (arith, last.within, sized)) last.marked others
       cut le (omega (arith, above, last.above)) closed
 
-  pub back-open : ((p : ℕ) → second ≡ p + 1 → is_marked marks p ≡ true) → (s : ℕ) → s < second → WeighsAs (take s ts) (map opposite (marked_literals marks ts)) Open
+  pub back-open : ((p : ℕ) → second ≡ p + 1 → is_marked marks p ≡ true) → (s : ℕ) → s < second → HasStatus (take s ts) (map opposite (marked_literals marks ts)) Open
   back-open marked s lt =
       let w = second - 1 in
       learned-open cs ts apart vars named marks s last.place w (omega (arith, lt, low, last.above)) (omega (arith, lt))
@@ -52,13 +52,13 @@ module _ (cs : List (List ℤ)) (ts : List ℤ) (apart : IsApart ts) (vars : ℕ
         let less : i < level = omega (arith, lt, ap length fewer, length-take-le level starts (omega (arith, within))) in
         (less, ap (λ bs. get_or bs i 0) fewer ∙ get_or-take level starts i 0 less)
 
-    pub back-unforced : (i : ℕ) → i < length ss → WeighsAs (take (get_or ss i 0) us) (map opposite (marked_literals marks ts)) Open
+    pub back-unforced : (i : ℕ) → i < length ss → HasStatus (take (get_or ss i 0) us) (map opposite (marked_literals marks ts)) Open
     back-unforced i lt =
         let k = start-kept i lt in
         let early = below i k.0 in
         let taken : take (get_or ss i 0) us ≡ take (get_or starts i 0) ts
         = ap (λ n. take n us) k.1 ∙ ap (take (get_or starts i 0)) back ∙ take-take (get_or starts i 0) cut ts (omega (arith, early, le)) in
-        subst (λ vs. WeighsAs vs (map opposite (marked_literals marks ts)) Open) (sym taken) (back-open marked (get_or starts i 0) early)
+        subst (λ vs. HasStatus vs (map opposite (marked_literals marks ts)) Open) (sym taken) (back-open marked (get_or starts i 0) early)
 
     module _ (pair : Pair) (first : (p : ℕ) → floor ≤ p → p < length ts → is_marked marks p ≡ true → pair.first.number ≡ opposite (literal_at ts p))
         (beside : (p : ℕ) → second ≡ p + 1 → pair.second.number ≡ opposite (literal_at ts p)) (alone : second ≡ 0 → pair.second.number ≡ pair.first.number) where

@@ -6,14 +6,14 @@ use Rattle.std.proofs.lemmas.List.{get_or-set_same, get_or-set_other, reverse-ap
 use Rattle.std.specs.List.{All}
 use Rattle.cnf_core.specs.Deriving.{Refutes, is_conflict, is_false}
 use Rattle.cnf_core.specs.Literals.{Names, has_literal, opposite, same}
-use Rattle.cnf_core.specs.Trails.{IsApart, WeighsAs, literal_at}
-use Rattle.cnf_core.specs.declared.weight.Weight.TheVariants.{Open}
+use Rattle.cnf_core.specs.Trails.{IsApart, HasStatus, literal_at}
+use Rattle.cnf_core.specs.declared.clause_status.ClauseStatus.TheVariants.{Open}
 use Rattle.cdcl.specs.Marks.{MarksToo, Shows, count_from, is_marked, marked_literals}
 use Rattle.cdcl.proofs.Counting.{count-some}
 use Rattle.cdcl.proofs.Trailing.{at-some}
 use Rattle.cdcl.specs.Searching.{IsClosed, IsForcedBy}
 use Rattle.cnf_core.proofs.LiteralFacts.{has-at, has-place, opposite-opposite, same-is, same-same}
-use Rattle.cnf_core.proofs.Weighing.{each-has, has-prefix, has-last}
+use Rattle.cnf_core.proofs.ClauseStatuses.{each-has, has-prefix, has-last}
 use Rattle.cdcl.proofs.Membership.{each-from, forced-from, forced-parts, has-append, has-one, has-take, no-opposite, same-place, take-place}
 
 -- ---- the literals that are marked
@@ -151,7 +151,7 @@ pub conflict-counts : (clauses : List (List ℤ)) (ts : List ℤ) (floor n : ℕ
     → MarksToo c ts old marks → length marks ≡ length ts → IsClosed clauses (take floor ts) → 1 ≤ count_from floor marks
 conflict-counts clauses ts floor n c old marks e conflict m sized closed = elim (cases_lt 0 (count_from floor marks)) [
   | inl some ↦ omega (arith, some)
-  | inr none ↦ absurd (both_ways (is_conflict (take floor ts) c) (at-some (λ d. WeighsAs (take floor ts) d Open) clauses n c closed e).0
+  | inr none ↦ absurd (both_ways (is_conflict (take floor ts) c) (at-some (λ d. HasStatus (take floor ts) d Open) clauses n c closed e).0
       (each-from (is_false (take floor ts)) c (λ l h.
       let found = has-place ts (opposite l) (each-has (is_false ts) c l conflict h) in
       let marked = m.marks found.0 found.1 ∙ or_right (is_marked old found.0) (has_literal c (opposite (literal_at ts found.0)))

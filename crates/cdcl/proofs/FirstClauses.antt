@@ -19,7 +19,7 @@ use Rattle.cdcl.proofs.Jumping.{get-prefix}
 
 pub watched-none : (vars : ℕ) (cs : List (List ℤ)) (w : Watches) → w.pairs.items ≡ [] → length w.lists.items ≡ vars * 2 + 2 → IsWatched vars cs [] 0 [] w
 watched-none vars cs w none rooms = record {
-  seen_true = omega arith;
+  propagated_true = omega arith;
   decided = λ i lt. absurd (omega (arith, lt));
   watching = λ k c pair e f. absurd (none-some pair (ap (λ ps. slice_get ps k) (sym none) ∙ f));
   listed = λ k pair a b f. absurd (none-some pair (ap (λ ps. slice_get ps k) (sym none) ∙ f));

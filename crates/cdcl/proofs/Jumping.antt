@@ -9,10 +9,10 @@ use Rattle.cocoon_num.specs.Lists.{has_number}
 use Rattle.cnf_core.specs.Clauses.{literals}
 use Rattle.cnf_core.specs.Deriving.{Derived, EachDerived, Follows, forces, known}
 use Rattle.cnf_core.specs.Licensing.{BringsNew, IsNew}
-use Rattle.cnf_core.specs.Trails.{WeighsAs, literal_at}
+use Rattle.cnf_core.specs.Trails.{HasStatus, literal_at}
 use Rattle.cnf_core.specs.declared.clauses.Cnf.{Cnf}
 use Rattle.cnf_core.specs.declared.log.Step.{Step}
-use Rattle.cnf_core.specs.declared.weight.Weight.TheVariants.{Open}
+use Rattle.cnf_core.specs.declared.clause_status.ClauseStatus.TheVariants.{Open}
 use Rattle.cdcl.specs.Searching.{IsClosed, IsReasoned}
 
 -- ---- lists with one more
@@ -120,7 +120,7 @@ reasoned-cut clauses ts us reasons rs starts ss b cut h within is k m n =
 -- ---- one clause more, which forced nothing where a decision was made
 
 pub reasoned-clause : (clauses : List (List ℤ)) (c : List ℤ) (ts : List ℤ) (reasons : List (Option ℕ)) (starts : List ℕ) → IsReasoned clauses ts reasons starts
-    → ((i : ℕ) → i < length starts → WeighsAs (take (get_or starts i 0) ts) c Open) → IsReasoned (clauses ++ c ∷ []) ts reasons starts
+    → ((i : ℕ) → i < length starts → HasStatus (take (get_or starts i 0) ts) c Open) → IsReasoned (clauses ++ c ∷ []) ts reasons starts
 reasoned-clause clauses c ts reasons starts h unforced = record {
   sized = h.sized;
   forced = λ p lt none.
@@ -128,8 +128,8 @@ reasoned-clause clauses c ts reasons starts h unforced = record {
       let g = f.2 in (f.0, f.1, (g.0, get-prefix clauses (c ∷ []) f.0 g.0 g.1, g.2));
   rising = h.rising;
   under = h.under;
-  closed = λ i lt. All-append (λ d. WeighsAs (take (get_or starts i 0) ts) d Open) clauses (c ∷ []) (h.closed i lt)
-      (All-cons (λ d. WeighsAs (take (get_or starts i 0) ts) d Open) c [] (unforced i lt) (All-nil (λ d. WeighsAs (take (get_or starts i 0) ts) d Open)));
+  closed = λ i lt. All-append (λ d. HasStatus (take (get_or starts i 0) ts) d Open) clauses (c ∷ []) (h.closed i lt)
+      (All-cons (λ d. HasStatus (take (get_or starts i 0) ts) d Open) c [] (unforced i lt) (All-nil (λ d. HasStatus (take (get_or starts i 0) ts) d Open)));
 }
 
 -- ---- a log with one step more

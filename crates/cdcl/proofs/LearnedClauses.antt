@@ -8,12 +8,12 @@ use Rattle.cocoon_num.specs.Lists.{has_number, no_repeats}
 use Rattle.cnf_core.specs.Deriving.{Follows, Refutes, forces, is_conflict, is_false}
 use Rattle.cnf_core.specs.Licensing.{IsNew, subsumed_by}
 use Rattle.cnf_core.specs.Literals.{Names, has_literal, opposite, variable}
-use Rattle.cnf_core.specs.Trails.{IsApart, WeighsAs, literal_at}
-use Rattle.cnf_core.specs.declared.weight.Weight.TheVariants.{Open}
+use Rattle.cnf_core.specs.Trails.{IsApart, HasStatus, literal_at}
+use Rattle.cnf_core.specs.declared.clause_status.ClauseStatus.TheVariants.{Open}
 use Rattle.cdcl.specs.Marks.{Shows, is_marked, marked_literals, opposite_at}
 use Rattle.cdcl.specs.Searching.{IsClosed}
 use Rattle.cnf_core.proofs.LiteralFacts.{opposite-opposite, variable-opposite}
-use Rattle.cnf_core.proofs.Weighing.{each-has}
+use Rattle.cnf_core.proofs.ClauseStatuses.{each-has}
 use Rattle.cdcl.proofs.Membership.{IsForced, each-from, forced-from, forced-parts, has-take, no-opposite-taken, not-taken, opposite-same, same-place}
 use Rattle.cdcl.proofs.Conflicts.{has-opposites, marked-at, marked-place, opposites-has, opposites-twice}
 
@@ -97,7 +97,7 @@ module _ (clauses : List (List ℤ)) (ts : List ℤ) (apart : IsApart ts) (vars 
       λ k d lt. false_from_ne_true (subsumed_by (map opposite (marked_literals marks ts)) (get_or clauses k d)) (λ all. none (get_or clauses k d) (closed k d lt) all),
     )
       where
-        none : (c : List ℤ) → WeighsAs (take cut ts) c Open → subsumed_by (map opposite (marked_literals marks ts)) c ≡ true → ⊥
+        none : (c : List ℤ) → HasStatus (take cut ts) c Open → subsumed_by (map opposite (marked_literals marks ts)) c ≡ true → ⊥
         none c unforced all = elim (cases_Bool (has_literal c (opposite (literal_at ts u)))) [
           | inl on ↦ both_ways (forces (take cut ts) c (opposite (literal_at ts u))) (unforced.1 (opposite (literal_at ts u)))
               (forced-from (take cut ts) c (opposite (literal_at ts u)) (record {
@@ -115,7 +115,7 @@ module _ (clauses : List (List ℤ)) (ts : List ℤ) (apart : IsApart ts) (vars 
 
   -- nothing is forced by it before its two last literals are false
   pub learned-open : (s u w : ℕ) → s ≤ u → s ≤ w → u < length ts → w < length ts → u ≢ w → is_marked marks u ≡ true → is_marked marks w ≡ true
-      → WeighsAs (take s ts) (map opposite (marked_literals marks ts)) Open
+      → HasStatus (take s ts) (map opposite (marked_literals marks ts)) Open
   learned-open s u w su sw lu lw differs mu mw = (
     false_from_ne_true (is_conflict (take s ts) (map opposite (marked_literals marks ts))) (λ all.
         both_ways (is_false (take s ts) (opposite (literal_at ts u))) (not_false u su lu)

@@ -7,7 +7,7 @@ use Rattle.cnf_core.specs.Literals.{Names, has_literal, opposite, same, variable
 use Rattle.cnf_core.specs.Deriving.{forces, has_no_value, is_false}
 use Rattle.cnf_core.specs.Trails.{IsApart, literal_at}
 use Rattle.cnf_core.proofs.LiteralFacts.{has-at, has-place, opposite-opposite, opposite-other, same-is, same-same, variable-opposite}
-use Rattle.cnf_core.proofs.Weighing.{each-has}
+use Rattle.cnf_core.proofs.ClauseStatuses.{each-has}
 
 -- ---- literals
 

@@ -12,7 +12,7 @@ use Rattle.cnf_core.specs.TrailViews.{trues}
 use Rattle.cnf_core.specs.declared.clauses.Cnf.{Cnf}
 use Rattle.cnf_core.specs.declared.lit.Lit.{Lit}
 use Rattle.cnf_core.proofs.LiteralFacts.{has-at, same-is}
-use Rattle.cnf_core.proofs.Weighing.{each-weaker}
+use Rattle.cnf_core.proofs.ClauseStatuses.{each-weaker}
 use Rattle.cdcl.specs.States.{VisitsClause, VisitsNumber, clauses_of}
 use Rattle.cdcl.specs.Watching.{AreWatched}
 use Rattle.cdcl.specs.declared.propagation.Visit.{Visit}

@@ -4,12 +4,12 @@ use Rattle.std.specs.List.{All}
 use Rattle.cocoon_num.specs.Lists.{has_number}
 use Rattle.cnf_core.specs.Deriving.{forces, is_conflict, is_false}
 use Rattle.cnf_core.specs.Literals.{has_literal}
-use Rattle.cnf_core.specs.Trails.{WeighsAs, literal_at}
-use Rattle.cnf_core.specs.declared.weight.Weight.TheVariants.{Open}
+use Rattle.cnf_core.specs.Trails.{HasStatus, literal_at}
+use Rattle.cnf_core.specs.declared.clause_status.ClauseStatus.TheVariants.{Open}
 
 -- nothing is forced any more, and nothing is a conflict
 abbrev pub IsClosed : (clauses : List (List ℤ)) → (trues : List ℤ) → Type 0
-IsClosed clauses trues = All (λ c. WeighsAs trues c Open) clauses
+IsClosed clauses trues = All (λ c. HasStatus trues c Open) clauses
 
 -- the clause of this number is a conflict
 abbrev pub IsConflictAt : (clauses : List (List ℤ)) → (trues : List ℤ) → ℕ → Type 0

@@ -28,31 +28,31 @@ pub record IsSound (cnf : Cnf) (s : Search) : Type 0 where
 
 -- the clauses that have watched literals keep the watch invariant
 abbrev pub HasWatches : Cnf → Search → Type 0
-HasWatches cnf s = IsWatched cnf.vars (clauses_of cnf s) (trues s.trail) s.seen s.starts.items s.watches
+HasWatches cnf s = IsWatched cnf.vars (clauses_of cnf s) (trues s.trail) s.propagated s.starts.items s.watches
 
 -- and all clauses have some
 pub record IsReady (cnf : Cnf) (s : Search) : Type 0 where
   pub count : length s.watches.pairs.items ≡ length (clauses_of cnf s)
   pub watched : HasWatches cnf s
 
--- before any decision, and before anything was looked at, so many clauses have watched literals
+-- before any decision, and before anything was propagated, this many clauses have watched literals
 pub record IsBegun (cnf : Cnf) (s : Search) (number : ℕ) : Type 0 where
   pub count : length s.watches.pairs.items ≡ number
   pub watched : HasWatches cnf s
   pub steps : s.steps.items ≡ []
   pub starts : s.starts.items ≡ []
-  pub seen : s.seen ≡ 0
+  pub propagated : s.propagated ≡ 0
 
 -- the next clause can watch these
 abbrev pub WatchesNext : Cnf → Search → Pair → Type 0
 WatchesNext cnf s pair = (clause : List ℤ) × (slice_get (clauses_of cnf s) (length s.watches.pairs.items) ≡ Some clause)
-    × IsWatching (trues s.trail) s.seen s.starts.items clause pair
+    × IsWatching (trues s.trail) s.propagated s.starts.items clause pair
 
 pub record IsSameButWatches (old new : Search) : Type 0 where
   pub steps : new.steps.items ≡ old.steps.items
   pub trues : trues new.trail ≡ trues old.trail
   pub starts : new.starts.items ≡ old.starts.items
-  pub seen : new.seen ≡ old.seen
+  pub propagated : new.propagated ≡ old.propagated
 
 abbrev pub SameSteps : (old new : Search) → Type 0
 SameSteps old new = new.steps.items ≡ old.steps.items
@@ -97,21 +97,21 @@ pub record IsLonger (old new : Search) : Type 0 where
   pub trues : trues new.trail ≡ trues old.trail ++ more
   pub fewer : not_true new.trail + length more ≤ not_true old.trail
 
--- the next place of the list, once the clause at a place was looked at
-abbrev pub TakesEntry : Cnf → (old new : Search) (off : ℤ) (at number : ℕ) → Option ℕ → Type 0
-TakesEntry cnf old new off at number (Some next) = IsLookedAt (trues new.trail) new.watches off next
+-- the next place of the list, once the clause at a place was visited
+abbrev pub PropagatesClause : Cnf → (old new : Search) (off : ℤ) (at number : ℕ) → Option ℕ → Type 0
+PropagatesClause cnf old new off at number (Some next) = IsLookedAt (trues new.trail) new.watches off next
     × (length (list_of new.watches off) + at + 1 ≤ length (list_of old.watches off) + next)
-TakesEntry cnf old new off at number None = IsConflictAt (clauses_of cnf new) (trues new.trail) number
+PropagatesClause cnf old new off at number None = IsConflictAt (clauses_of cnf new) (trues new.trail) number
 
--- what was found at the clauses that watch a literal
-abbrev pub LooksAt : Cnf → Search → (off : ℤ) → Option ℕ → Type 0
-LooksAt cnf s off (Some number) = IsConflictAt (clauses_of cnf s) (trues s.trail) number
-LooksAt cnf s off None = IsLookedAt (trues s.trail) s.watches off (length (list_of s.watches off))
+-- the number of a conflict, or each clause that watches the literal was visited
+abbrev pub PropagatesLiteral : Cnf → Search → (off : ℤ) → Option ℕ → Type 0
+PropagatesLiteral cnf s off (Some number) = IsConflictAt (clauses_of cnf s) (trues s.trail) number
+PropagatesLiteral cnf s off None = IsLookedAt (trues s.trail) s.watches off (length (list_of s.watches off))
 
--- the number of a conflict, or all was looked at, and nothing is forced any more
+-- the number of a conflict, or all was propagated, and nothing is forced any more
 abbrev pub Settled : Cnf → Search → Option ℕ → Type 0
 Settled cnf s (Some number) = IsConflictAt (clauses_of cnf s) (trues s.trail) number
-Settled cnf s None = (s.seen ≡ length (trues s.trail)) × IsClosed (clauses_of cnf s) (trues s.trail)
+Settled cnf s None = (s.propagated ≡ length (trues s.trail)) × IsClosed (clauses_of cnf s) (trues s.trail)
 
 -- the number of a conflict before any decision, or each clause is watched
 abbrev pub Begins : Cnf → Search → Option ℕ → Type 0
@@ -119,9 +119,9 @@ Begins cnf s (Some number) = IsConflictAt (clauses_of cnf s) (trues s.trail) num
 Begins cnf s None = IsReady cnf s
 
 -- the number of a conflict, or nothing is forced any more and each variable has a value
-abbrev pub RanAs : Cnf → Search → Option ℕ → Type 0
-RanAs cnf s (Some number) = IsConflictAt (clauses_of cnf s) (trues s.trail) number
-RanAs cnf s None = IsClosed (clauses_of cnf s) (trues s.trail) × IsTotal cnf.vars (trues s.trail)
+abbrev pub IsNextConflict : Cnf → Search → Option ℕ → Type 0
+IsNextConflict cnf s (Some number) = IsConflictAt (clauses_of cnf s) (trues s.trail) number
+IsNextConflict cnf s None = IsClosed (clauses_of cnf s) (trues s.trail) × IsTotal cnf.vars (trues s.trail)
 
 -- the literal names a variable that has no value
 abbrev pub CanDecide : (vars : ℕ) → (trues : List ℤ) → Lit → Type 0
@@ -147,7 +147,7 @@ pub record IsAsserting (trues : List ℤ) (starts : List ℕ) (clause : List ℤ
   pub two : (pair.first.number ≢ pair.second.number) ⊎ (length starts ≡ 0)
 
 -- nothing but the trail is cut back, to the start of this level
-pub record GoesBack (old new : Search) (level : ℕ) : Type 0 where
+pub record Backtracks (old new : Search) (level : ℕ) : Type 0 where
   pub steps : new.steps.items ≡ old.steps.items
   pub trues : trues new.trail ≡ take (slice_index old.starts.items level) (trues old.trail)
   pub starts : new.starts.items ≡ take level old.starts.items

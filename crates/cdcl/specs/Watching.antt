@@ -47,23 +47,23 @@ pub record IsTrueFirst (trues : List ℤ) (starts : List ℕ) (l : ℤ) : Type 0
   pub literal : literal_at trues place ≡ l
   pub first : (i : ℕ) → i < length starts → place < slice_index starts i
 
--- where the first literal is false and was looked at, the other is true, set at the same level or an earlier one
-abbrev pub IsBeside : (trues : List ℤ) (seen : ℕ) (starts : List ℕ) (a b : ℤ) → Type 0
-IsBeside trues seen starts a b = (p : ℕ) → p < seen → literal_at trues p ≡ opposite a → IsTrueBy trues starts p b
+-- if the first literal is false and was propagated, the other is true, set at the same level or an earlier one
+abbrev pub IsBeside : (trues : List ℤ) (propagated : ℕ) (starts : List ℕ) (a b : ℤ) → Type 0
+IsBeside trues propagated starts a b = (p : ℕ) → p < propagated → literal_at trues p ≡ opposite a → IsTrueBy trues starts p b
 
 -- a clause watches two different literals of its own, or one that is true at level 0
-pub record IsWatching (trues : List ℤ) (seen : ℕ) (starts : List ℕ) (clause : List ℤ) (pair : Pair) : Type 0 where
+pub record IsWatching (trues : List ℤ) (propagated : ℕ) (starts : List ℕ) (clause : List ℤ) (pair : Pair) : Type 0 where
   pub inside : (a b : ℤ) → AreWatched pair a b → IsTrue (has_literal clause a)
-  pub beside : (a b : ℤ) → AreWatched pair a b → IsBeside trues seen starts a b
+  pub beside : (a b : ℤ) → AreWatched pair a b → IsBeside trues propagated starts a b
   pub two : (pair.first.number ≢ pair.second.number) ⊎ IsTrueFirst trues starts pair.first.number
 
 -- the watch invariant, for the clauses that have a pair
-pub record IsWatched (vars : ℕ) (clauses : List (List ℤ)) (trues : List ℤ) (seen : ℕ) (starts : List ℕ) (w : Watches) : Type 0 where
-  -- what was looked at is true
-  pub seen_true : seen ≤ length trues
-  -- all was looked at where a decision was made
-  pub decided : (i : ℕ) → i < length starts → slice_index starts i ≤ seen
-  pub watching : (k : ℕ) (clause : List ℤ) (pair : Pair) → slice_get clauses k ≡ Some clause → slice_get w.pairs.items k ≡ Some pair → IsWatching trues seen starts clause pair
+pub record IsWatched (vars : ℕ) (clauses : List (List ℤ)) (trues : List ℤ) (propagated : ℕ) (starts : List ℕ) (w : Watches) : Type 0 where
+  -- what was propagated is true
+  pub propagated_true : propagated ≤ length trues
+  -- all was propagated when a decision was made
+  pub decided : (i : ℕ) → i < length starts → slice_index starts i ≤ propagated
+  pub watching : (k : ℕ) (clause : List ℤ) (pair : Pair) → slice_get clauses k ≡ Some clause → slice_get w.pairs.items k ≡ Some pair → IsWatching trues propagated starts clause pair
   pub listed : (k : ℕ) (pair : Pair) (a b : ℤ) → slice_get w.pairs.items k ≡ Some pair → AreWatched pair a b → IsListed (list_of w a) 0 k
   -- each literal has a list
   pub rooms : (l : ℤ) → variable l ≤ vars → index_of l < length w.lists.items

@@ -11,11 +11,11 @@ use std::alloc::Global;
 pub(crate) struct Analysis {
     /// By the place of a literal on the trail.
     pub marks: Vec<bool>,
-    /// Where the last level begins.
+    /// The place on the trail at which the last level starts.
     pub floor: usize,
-    /// How many literals of the last level are marked.
+    /// How many literals of the last level are marked. The clause of the marks is asserting when one is left.
     pub count: usize,
-    /// The clauses that were resolved, the conflict first.
+    /// The numbers of the clauses that were resolved, the conflict first.
     pub hints: Vec<u32>,
     ghost counted: { count ≡ count_from floor marks.items },
 }

@@ -34,7 +34,7 @@ pub fn solve(alloc: Global, cnf: &Cnf, conflicts: u64) -> Result<Answer, NoMemor
     }
     match conflict {
         Some(number) => unsat(alloc, cnf, search, number),
-        None => decided(alloc, cnf, search, conflicts),
+        None => decide_and_learn(alloc, cnf, search, conflicts),
     }
 }
 
@@ -53,7 +53,12 @@ fn unsat(alloc: Global, cnf: &Cnf, search: Search, conflict: u32) -> Result<Answ
 }
 
 /// Decides and learns until there is an answer.
-fn decided(alloc: Global, cnf: &Cnf, search: Search, conflicts: u64) -> Result<Answer, NoMemory>
+fn decide_and_learn(
+    alloc: Global,
+    cnf: &Cnf,
+    search: Search,
+    conflicts: u64,
+) -> Result<Answer, NoMemory>
     requires sound { IsSound cnf.now search }
     requires named { WellNamed cnf.now }
     requires ready { IsReady cnf.now search }
@@ -64,14 +69,15 @@ fn decided(alloc: Global, cnf: &Cnf, search: Search, conflicts: u64) -> Result<A
     let mut search = search;
     let mut order = Order::new(alloc, cnf.vars)?;
     while (search.steps.len() as u64) < conflicts {
-        let Some(conflict) = search.run(cnf, &order)? else {
+        let Some(conflict) = search.next_conflict(cnf, &order)? else {
             return Ok(Answer::Satisfied(search.assignment(alloc, cnf)?));
         };
         if search.starts.is_empty() {
             return unsat(alloc, cnf, search, conflict);
         }
         search.learn(alloc, cnf, conflict)?;
-        order.note(cnf, &search);
+        order.decay();
+        order.bump(cnf, &search);
     }
     Ok(Answer::Spent(search.into_log()))
 }

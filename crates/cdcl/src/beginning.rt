@@ -1,4 +1,4 @@
-//! How a search begins: with the watched literals of the clauses that are given, and with what these force.
+//! How a search begins: the clauses that are given are attached, and those of one literal put it on the trail.
 ghost use Rattle.std.specs.Prelude.{[], ◌+◌, ◌<◌, ◌≡◌, ◌^◌, IfOk, IsFalse, IsTrue, length, OnOk, slice_get, Some};
 ghost use Rattle.cnf_core.specs.Clauses.{literals};
 ghost use Rattle.cnf_core.specs.Deriving.{is_conflict};
@@ -32,12 +32,12 @@ impl Search {
             reasons,
             starts,
             watches,
-            seen: 0,
+            propagated: 0,
         })
     }
 
-    /// Watches the clauses that are given, and makes true what those of one literal force. Besides gives the number of a
-    /// clause that is a conflict already.
+    /// Attaches the clauses that are given, and puts on the trail what those of one literal force. Besides gives the
+    /// number of a clause that is a conflict already.
     pub fn new(alloc: Global, cnf: &Cnf) -> Result<(Search, Option<u32>), NoMemory>
         requires named { WellNamed cnf.now }
         requires numbered { length cnf.now.clauses < 2 ^ 32 }
@@ -58,7 +58,7 @@ impl Search {
         Ok((search, None))
     }
 
-    /// Watches the next clause, or makes its only literal true. False if the clause is a conflict.
+    /// Attaches the next clause, and puts its literal on the trail if it is unit. False if it is a conflict.
     fn watch_given(&mut self, cnf: &Cnf, clause: &Clause, number: u32) -> Result<bool, NoMemory>
         requires sound { IsSound cnf.now self.old }
         requires named { WellNamed cnf.now }
@@ -111,7 +111,7 @@ impl Search {
                 Ok(true)
             }
             Visit::Forces(lit) => {
-                self.force(cnf, lit, number)?;
+                self.enqueue(cnf, lit, number)?;
                 self.watch(cnf, Pair::twice(lit))?;
                 Ok(true)
             }

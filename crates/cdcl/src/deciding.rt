@@ -1,11 +1,11 @@
-//! Decisions, where nothing is forced any more.
+//! Decisions, made when nothing is forced any more.
 ghost use Rattle.std.specs.Prelude.{◌≡◌, ◌≤◌, ◌<◌, ◌^◌, IfOk, IsTrue, length, OnOk, pos};
 ghost use Rattle.cnf_core.specs.Deriving.{has_no_value};
 ghost use Rattle.cnf_core.specs.Literals.{Names};
 ghost use Rattle.cnf_core.specs.Satisfying.{HasAllValues, Satisfies, WellNamed};
 ghost use Rattle.cnf_core.specs.TrailViews.{not_true, room, trues};
 ghost use Rattle.cdcl.specs.Searching.{IsClosed, IsTotal};
-ghost use Rattle.cdcl.specs.States.{CanDecide, clauses_of, Decides, IsReady, IsSound, RanAs, SameSteps};
+ghost use Rattle.cdcl.specs.States.{CanDecide, clauses_of, Decides, IsReady, IsSound, IsNextConflict, SameSteps};
 ghost use Rattle.cdcl.specs.declared.search.Search.{Search};
 
 use crate::order::Order;
@@ -17,7 +17,7 @@ use std::alloc::Global;
 impl Search {
     /// The last variable that has no value. Clauses of goals number a gate after what it is made of, so it is one near the
     /// goal.
-    fn last_open(&self) -> Option<Lit>
+    fn last_unassigned(&self) -> Option<Lit>
         ensures { Decides (room self.now.trail) (trues self.now.trail) result }
     {
         for index in (0..self.trail.vars()).rev() {
@@ -29,8 +29,8 @@ impl Search {
         None
     }
 
-    /// The variable without a value that comes first in the order; among equals the last one. `last` is the last one of all.
-    fn first_open(&self, order: &Order, last: Lit) -> Lit
+    /// The variable without a value that comes first in the order; among equals the last one. `last` is the last of all.
+    fn first_unassigned(&self, order: &Order, last: Lit) -> Lit
         requires { CanDecide (room self.now.trail) (trues self.now.trail) last }
         ensures { CanDecide (room self.now.trail) (trues self.now.trail) result }
     {
@@ -48,20 +48,20 @@ impl Search {
     fn next_decision(&self, order: &Order) -> Option<Lit>
         ensures { Decides (room self.now.trail) (trues self.now.trail) result }
     {
-        match self.last_open() {
-            Some(last) => Some(self.first_open(order, last)),
+        match self.last_unassigned() {
+            Some(last) => Some(self.first_unassigned(order, last)),
             None => None,
         }
     }
 
-    /// Begins a level.
+    /// Begins a level with this decision.
     fn decide(&mut self, cnf: &Cnf, lit: Lit) -> Result<(), NoMemory>
         requires sound { IsSound cnf.now self.old }
         requires named { Names (room self.old.trail) lit.number }
         requires no_value { IsTrue (has_no_value (trues self.old.trail) lit.number) }
         requires closed { IsClosed (clauses_of cnf.now self.old) (trues self.old.trail) }
         requires ready { IsReady cnf.now self.old }
-        requires seen { self.old.seen ≡ length (trues self.old.trail) }
+        requires propagated { self.old.propagated ≡ length (trues self.old.trail) }
         ensures sound { OnOk result (IsSound cnf.now self.new) }
         ensures ready { OnOk result (IsReady cnf.now self.new) }
         ensures steps { SameSteps self.old self.new }
@@ -73,15 +73,16 @@ impl Search {
         Ok(())
     }
 
-    /// Goes on until a clause is a conflict, whose number it gives then, or each variable has a value and none is.
-    pub fn run(&mut self, cnf: &Cnf, order: &Order) -> Result<Option<u32>, NoMemory>
+    /// Propagates and decides until a clause is a conflict, whose number it gives then, or each variable has a value and
+    /// none is.
+    pub fn next_conflict(&mut self, cnf: &Cnf, order: &Order) -> Result<Option<u32>, NoMemory>
         requires sound { IsSound cnf.now self.old }
         requires named { WellNamed cnf.now }
         requires ready { IsReady cnf.now self.old }
         ensures sound { OnOk result (IsSound cnf.now self.new) }
         ensures ready { OnOk result (IsReady cnf.now self.new) }
         ensures steps { SameSteps self.old self.new }
-        ensures ran { IfOk result (λ found. RanAs cnf.now self.new found) }
+        ensures ran { IfOk result (λ found. IsNextConflict cnf.now self.new found) }
     {
         loop {
             if let Some(conflict) = self.propagate(cnf)? {

@@ -1,4 +1,4 @@
-//! From a conflict to the clause that is learned.
+//! From a conflict to the clause that is learned, and back to the level at which it forces a literal.
 ghost use Rattle.std.specs.Prelude.{[], ◌≡◌, ◌≤◌, ◌<◌, ◌+◌, ◌-◌, ◌^◌, ◌++◌, ◌∷◌, false, IfOk, IsTrue, length, map, OnOk, slice_get, slice_index, Some, take, ℕ};
 ghost use Rattle.cocoon_num.specs.Lists.{has_number};
 ghost use Rattle.cnf_core.specs.Clauses.{literals};
@@ -6,23 +6,24 @@ ghost use Rattle.cnf_core.specs.Deriving.{Follows};
 ghost use Rattle.cnf_core.specs.Licensing.{IsNew};
 ghost use Rattle.cnf_core.specs.Literals.{opposite};
 ghost use Rattle.cnf_core.specs.Satisfying.{WellNamed};
-ghost use Rattle.cnf_core.specs.Trails.{literal_at, numbers, WeighsAs};
+ghost use Rattle.cnf_core.specs.Trails.{literal_at, numbers, HasStatus};
 ghost use Rattle.cnf_core.specs.TrailViews.{trues};
 ghost use Rattle.cdcl.specs.Marks.{is_marked, marked_literals, opposite_at};
 ghost use Rattle.cdcl.specs.Analyses.{IsSameBut};
 ghost use Rattle.cdcl.specs.Resolving.{Analyzed, IsLevel, IsResolved, MarksClause, MarksNumber};
 ghost use Rattle.cdcl.specs.Searching.{HasReason, IsConflictAt};
-ghost use Rattle.cdcl.specs.States.{clauses_of, GoesBack, HasWatches, IsAsserting, IsReady, IsSound, RefutesIn};
+ghost use Rattle.cdcl.specs.States.{clauses_of, Backtracks, HasWatches, IsAsserting, IsReady, IsSound, RefutesIn};
 
 use crate::analysis::Analysis;
 use crate::search::Search;
 use crate::watches::Pair;
-use cnf_core::{Clause, Cnf, Lit, Log, Step, Weight};
+use cnf_core::{Clause, ClauseStatus, Cnf, Lit, Log, Step};
 use cocoon_num::{List, NoMemory};
 use std::alloc::Global;
 
 impl Search {
-    /// Marks what a conflict follows from, until as many literals of the last level are left.
+    /// Marks what a conflict follows from, until `keep` literals of the last level are left: one, the first unique
+    /// implication point, or none before any decision. The last level starts at `floor`.
     pub fn analyze(
         &self,
         alloc: Global,
@@ -42,7 +43,7 @@ impl Search {
             (trues self.now.trail) floor keep analysis) }
     {
         let mut analysis = Analysis::new(alloc, self.trail.len(), floor)?;
-        self.take_clause(cnf, &mut analysis, conflict)?;
+        self.add_antecedent(cnf, &mut analysis, conflict)?;
         let mut top = self.trail.len();
         while keep < analysis.count {
             top -= 1;
@@ -51,8 +52,13 @@ impl Search {
         Ok(analysis)
     }
 
-    /// Marks what makes the literals of this clause false, and notes its number.
-    fn take_clause(&self, cnf: &Cnf, analysis: &mut Analysis, number: u32) -> Result<(), NoMemory>
+    /// Resolves with the clause of this number: marks what makes its literals false, and notes it as a hint.
+    fn add_antecedent(
+        &self,
+        cnf: &Cnf,
+        analysis: &mut Analysis,
+        number: u32,
+    ) -> Result<(), NoMemory>
         requires sound { IsSound cnf.now self.now }
         requires named { WellNamed cnf.now }
         requires sized { length analysis.old.marks.items ≡ length (trues self.now.trail) }
@@ -90,7 +96,7 @@ impl Search {
         self.reasons[place]
     }
 
-    /// Replaces the literal at this place, if it is marked, by those that forced it.
+    /// Resolves with the reason of the literal at this place, if it is marked: the mark goes to those that forced it.
     fn resolve(&self, cnf: &Cnf, analysis: &mut Analysis, place: usize) -> Result<(), NoMemory>
         requires sound { IsSound cnf.now self.now }
         requires named { WellNamed cnf.now }
@@ -110,12 +116,12 @@ impl Search {
         }
         analysis.unmark(place);
         match self.reason(place) {
-            Some(number) => self.take_clause(cnf, analysis, number),
+            Some(number) => self.add_antecedent(cnf, analysis, number),
             None => Ok(()),
         }
     }
 
-    /// The learned clause: not all marked literals are true.
+    /// The learned clause: one of the marked literals is false.
     pub fn learned(&self, alloc: Global, analysis: &Analysis) -> Result<Clause, NoMemory>
         requires { length analysis.now.marks.items ≡ length (trues self.now.trail) }
         ensures { IfOk result (λ clause. literals clause
@@ -148,8 +154,8 @@ impl Search {
         Ok(())
     }
 
-    /// The level to go back to: the first at which all literals before this place are true.
-    pub fn level_before(&self, second: usize) -> usize
+    /// The level to go back to: the first at which all literals before this place are still true.
+    pub fn backtrack_level(&self, second: usize) -> usize
         ensures within { result ≤ length self.now.starts.items }
         ensures below { (i : ℕ) → i < result → slice_index self.now.starts.items i < second }
         ensures above { result < length self.now.starts.items
@@ -218,29 +224,29 @@ impl Search {
         let hints = analysis.hints(alloc)?;
         let second = analysis.last_before(floor);
         let pair = self.asserting_pair(&analysis, second);
-        let level = self.level_before(second);
-        self.go_back(cnf, level);
+        let level = self.backtrack_level(second);
+        self.backtrack(cnf, level);
         self.add_step(cnf, Step { clause, hints }, pair)?;
         Ok(())
     }
 
-    /// Takes back this level and the later ones.
-    fn go_back(&mut self, cnf: &Cnf, level: usize)
+    /// Takes back this level (counted from 0) and the later ones, so that as many levels are left.
+    fn backtrack(&mut self, cnf: &Cnf, level: usize)
         requires sound { IsSound cnf.now self.old }
         requires ready { IsReady cnf.now self.old }
         requires within { level < length self.old.starts.items }
         ensures sound { IsSound cnf.now self.new }
         ensures ready { IsReady cnf.now self.new }
-        ensures back { GoesBack self.old self.new level }
+        ensures back { Backtracks self.old self.new level }
     {
         let cut = self.starts[level];
         self.trail.truncate(cut);
         self.reasons.truncate(cut);
         self.starts.truncate(level);
-        self.seen = cut;
+        self.propagated = cut;
     }
 
-    /// Adds a step, whose clause watches these literals and forces the first.
+    /// Adds a learned clause, attaches it by these literals, and puts the first on the trail, which it forces.
     fn add_step(&mut self, cnf: &Cnf, step: Step, pair: Pair) -> Result<(), NoMemory>
         requires sound { IsSound cnf.now self.old }
         requires named { WellNamed cnf.now }
@@ -250,8 +256,8 @@ impl Search {
             (literals step.clause) step.hints }
         requires new { IsNew (clauses_of cnf.now self.old) (literals step.clause) }
         requires unforced { (i : ℕ) → i < length self.old.starts.items
-            → WeighsAs (take (slice_index self.old.starts.items i) (trues self.old.trail))
-            (literals step.clause) Weight.Open }
+            → HasStatus (take (slice_index self.old.starts.items i) (trues self.old.trail))
+            (literals step.clause) ClauseStatus.Open }
         requires asserting { IsAsserting (trues self.old.trail) self.old.starts.items
             (literals step.clause) pair }
         ensures sound { OnOk result (IsSound cnf.now self.new) }
@@ -261,12 +267,12 @@ impl Search {
     {
         let number = self.count(cnf) as u32;
         self.push_step(cnf, step)?;
-        self.force(cnf, pair.first, number)?;
+        self.enqueue(cnf, pair.first, number)?;
         self.watch(cnf, pair)?;
         Ok(())
     }
 
-    /// Adds a step to the log.
+    /// Adds a learned clause to the log.
     fn push_step(&mut self, cnf: &Cnf, step: Step) -> Result<(), NoMemory>
         requires sound { IsSound cnf.now self.old }
         requires ready { IsReady cnf.now self.old }
@@ -274,8 +280,8 @@ impl Search {
             (literals step.clause) step.hints }
         requires new { IsNew (clauses_of cnf.now self.old) (literals step.clause) }
         requires unforced { (i : ℕ) → i < length self.old.starts.items
-            → WeighsAs (take (slice_index self.old.starts.items i) (trues self.old.trail))
-            (literals step.clause) Weight.Open }
+            → HasStatus (take (slice_index self.old.starts.items i) (trues self.old.trail))
+            (literals step.clause) ClauseStatus.Open }
         ensures sound { OnOk result (IsSound cnf.now self.new) }
         ensures watched { OnOk result (HasWatches cnf.now self.new) }
         ensures clauses { OnOk result (clauses_of cnf.now self.new
@@ -285,7 +291,7 @@ impl Search {
         ensures pairs { self.new.watches ≡ self.old.watches }
         ensures trues { trues self.new.trail ≡ trues self.old.trail }
         ensures starts { self.new.starts.items ≡ self.old.starts.items }
-        ensures seen { self.new.seen ≡ self.old.seen }
+        ensures propagated { self.new.propagated ≡ self.old.propagated }
     {
         self.steps.push(step)?;
         Ok(())

@@ -1,4 +1,4 @@
-//! Unit propagation: what is forced where literals become false.
+//! Unit propagation: what clauses force when literals become false.
 ghost use Rattle.std.specs.Prelude.{[], ◌+◌, ◌<◌, ◌≡◌, ◌≤◌, ◌++◌, ◌∷◌, ◌^◌, ◌||◌, IfOk, IsTrue, length, List, OnOk, option_map, slice_get, Some, ℤ};
 ghost use Rattle.std.specs.List.{All};
 ghost use Rattle.cnf_core.specs.Clauses.{literals};
@@ -8,7 +8,7 @@ ghost use Rattle.cnf_core.specs.Satisfying.{WellNamed};
 ghost use Rattle.cnf_core.specs.Trails.{literal_at};
 ghost use Rattle.cnf_core.specs.TrailViews.{not_true, room, trues};
 ghost use Rattle.cdcl.specs.Searching.{IsForcedBy};
-ghost use Rattle.cdcl.specs.States.{clauses_of, HasWatches, Inside, IsLonger, IsReady, IsSameButWatches, IsSound, LooksAt, Replaces, SameSteps, Settled, TakesEntry, VisitsClause, VisitsNumber, WatchesNext};
+ghost use Rattle.cdcl.specs.States.{clauses_of, HasWatches, Inside, IsLonger, IsReady, IsSameButWatches, IsSound, PropagatesLiteral, Replaces, SameSteps, Settled, PropagatesClause, VisitsClause, VisitsNumber, WatchesNext};
 ghost use Rattle.cdcl.specs.Watching.{IsEntry, IsLookedAt, list_of};
 
 use crate::search::Search;
@@ -16,14 +16,14 @@ use crate::watches::Pair;
 use cnf_core::{Clause, Cnf, Lit, known_clause};
 use cocoon_num::NoMemory;
 
-/// What becomes of a clause where a literal that it may watch is false.
+/// What becomes of a clause in whose pair a literal is false.
 #[derive(Clone, Copy)]
 pub(crate) enum Visit {
-    /// It does not watch the literal, or watches a true one besides.
+    /// It does not watch the literal, or watches a true one besides: nothing changes.
     Kept,
     /// It watches these two from now on, the second in place of the false one.
     Moved(Pair),
-    /// This literal has no value, and all others are false.
+    /// It is unit: this literal has no value, and all others are false.
     Forces(Lit),
     /// All its literals are false.
     Conflict,
@@ -46,8 +46,8 @@ impl Search {
         known_clause(cnf, &self.steps, number)
     }
 
-    /// Makes the literal true that the clause of this number forces.
-    pub fn force(&mut self, cnf: &Cnf, lit: Lit, number: u32) -> Result<(), NoMemory>
+    /// Puts the literal on the trail that the clause of this number forces, which is its reason.
+    pub fn enqueue(&mut self, cnf: &Cnf, lit: Lit, number: u32) -> Result<(), NoMemory>
         requires sound { IsSound cnf.now self.old }
         requires named { Names (room self.old.trail) lit.number }
         requires no_value { IsTrue (has_no_value (trues self.old.trail) lit.number) }
@@ -59,7 +59,7 @@ impl Search {
         ensures steps { SameSteps self.old self.new }
         ensures starts { self.new.starts.items ≡ self.old.starts.items }
         ensures watches { self.new.watches ≡ self.old.watches }
-        ensures seen { self.new.seen ≡ self.old.seen }
+        ensures propagated { self.new.propagated ≡ self.old.propagated }
         ensures trues { OnOk result
             (trues self.new.trail ≡ trues self.old.trail ++ lit.number ∷ []) }
         ensures fewer { OnOk result (not_true self.new.trail < not_true self.old.trail) }
@@ -69,7 +69,7 @@ impl Search {
         Ok(())
     }
 
-    /// The next clause watches these literals.
+    /// Attaches the next clause: it watches these literals.
     pub fn watch(&mut self, cnf: &Cnf, pair: Pair) -> Result<(), NoMemory>
         requires sound { IsSound cnf.now self.old }
         requires named { WellNamed cnf.now }
@@ -157,9 +157,9 @@ impl Search {
         }
     }
 
-    /// Looks at the clause of this number, at this place of the list of a literal that is false. Gives the place that is
+    /// Visits the clause of this number, at this place of the list of a literal that is false. Gives the place that is
     /// next, if the clause is no conflict.
-    fn look_at_clause(
+    fn propagate_clause(
         &mut self,
         cnf: &Cnf,
         off: Lit,
@@ -169,16 +169,16 @@ impl Search {
         requires sound { IsSound cnf.now self.old }
         requires named { WellNamed cnf.now }
         requires ready { IsReady cnf.now self.old }
-        requires false_now { self.old.seen < length (trues self.old.trail) }
-        requires off { literal_at (trues self.old.trail) self.old.seen ≡ opposite off.number }
+        requires false_now { self.old.propagated < length (trues self.old.trail) }
+        requires off { literal_at (trues self.old.trail) self.old.propagated ≡ opposite off.number }
         requires entry { IsEntry (list_of self.old.watches off.number) at number }
         requires before { IsLookedAt (trues self.old.trail) self.old.watches off.number at }
         ensures sound { OnOk result (IsSound cnf.now self.new) }
         ensures ready { OnOk result (IsReady cnf.now self.new) }
         ensures steps { SameSteps self.old self.new }
-        ensures seen { self.new.seen ≡ self.old.seen }
+        ensures propagated { self.new.propagated ≡ self.old.propagated }
         ensures trues { OnOk result (IsLonger self.old self.new) }
-        ensures next { IfOk result (λ next. TakesEntry cnf.now self.old self.new off.number at
+        ensures next { IfOk result (λ next. PropagatesClause cnf.now self.old self.new off.number at
             number next) }
     {
         match self.visit(cnf, number, off) {
@@ -188,30 +188,30 @@ impl Search {
                 Ok(Some(at))
             }
             Visit::Forces(lit) => {
-                self.force(cnf, lit, number)?;
+                self.enqueue(cnf, lit, number)?;
                 Ok(Some(at + 1))
             }
             Visit::Conflict => Ok(None),
         }
     }
 
-    /// Looks at each clause that watches a literal, which is false. Gives the number of a conflict.
-    fn look_at(&mut self, cnf: &Cnf, off: Lit) -> Result<Option<u32>, NoMemory>
+    /// Visits each clause that watches a literal, which is false. Gives the number of a conflict.
+    fn propagate_literal(&mut self, cnf: &Cnf, off: Lit) -> Result<Option<u32>, NoMemory>
         requires sound { IsSound cnf.now self.old }
         requires named { WellNamed cnf.now }
         requires ready { IsReady cnf.now self.old }
-        requires false_now { self.old.seen < length (trues self.old.trail) }
-        requires off { literal_at (trues self.old.trail) self.old.seen ≡ opposite off.number }
+        requires false_now { self.old.propagated < length (trues self.old.trail) }
+        requires off { literal_at (trues self.old.trail) self.old.propagated ≡ opposite off.number }
         ensures sound { OnOk result (IsSound cnf.now self.new) }
         ensures ready { OnOk result (IsReady cnf.now self.new) }
         ensures steps { SameSteps self.old self.new }
-        ensures seen { self.new.seen ≡ self.old.seen }
+        ensures propagated { self.new.propagated ≡ self.old.propagated }
         ensures trues { OnOk result (IsLonger self.old self.new) }
-        ensures found { IfOk result (λ found. LooksAt cnf.now self.new off.number found) }
+        ensures found { IfOk result (λ found. PropagatesLiteral cnf.now self.new off.number found) }
     {
         let mut at = 0;
         while let Some(number) = self.watches.entry(off, at) {
-            match self.look_at_clause(cnf, off, at, number)? {
+            match self.propagate_clause(cnf, off, at, number)? {
                 Some(next) => at = next,
                 None => return Ok(Some(number)),
             }
@@ -219,7 +219,7 @@ impl Search {
         Ok(None)
     }
 
-    /// Makes true what is forced, until nothing is or a clause is a conflict, whose number it gives then.
+    /// Propagates the literals of the trail until all were or a clause is a conflict, whose number it gives then.
     pub fn propagate(&mut self, cnf: &Cnf) -> Result<Option<u32>, NoMemory>
         requires sound { IsSound cnf.now self.old }
         requires named { WellNamed cnf.now }
@@ -230,12 +230,12 @@ impl Search {
         ensures fewer { OnOk result (not_true self.new.trail ≤ not_true self.old.trail) }
         ensures settled { IfOk result (λ found. Settled cnf.now self.new found) }
     {
-        while self.seen < self.trail.len() {
-            let lit = self.trail.literal(self.seen);
-            if let Some(conflict) = self.look_at(cnf, lit.opposite())? {
+        while self.propagated < self.trail.len() {
+            let lit = self.trail.literal(self.propagated);
+            if let Some(conflict) = self.propagate_literal(cnf, lit.opposite())? {
                 return Ok(Some(conflict));
             }
-            self.seen += 1;
+            self.propagated += 1;
         }
         Ok(None)
     }

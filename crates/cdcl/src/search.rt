@@ -1,4 +1,4 @@
-//! The state of a search: what is true, why, and what was learned.
+//! The state of a search: the trail, with reasons and levels; the learned clauses; the watches.
 use crate::watches::Watches;
 use cnf_core::{Step, Trail};
 
@@ -6,14 +6,14 @@ use cnf_core::{Step, Trail};
 /// there is level 0.
 #[derive(Drop)]
 pub(crate) struct Search {
-    /// The learned clauses. Their numbers follow those of the clauses that are given.
+    /// The learned clauses, with their hints. Their numbers follow those of the clauses that are given.
     pub steps: Vec<Step>,
     pub trail: Trail,
-    /// For each literal of the trail the number of the clause that forced it, or none for a decision.
+    /// For each literal of the trail the number of the clause that forced it, its reason; none for a decision.
     pub reasons: Vec<Option<u32>>,
-    /// For each decision its place on the trail.
+    /// For each decision its place on the trail, where its level starts.
     pub starts: Vec<usize>,
     pub watches: Watches,
-    /// How many literals of the trail were looked at: at each clause that watches their opposites.
-    pub seen: usize,
+    /// How many literals of the trail were propagated: each clause that watches the opposite of one was visited.
+    pub propagated: usize,
 }

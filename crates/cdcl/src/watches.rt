@@ -1,7 +1,7 @@
-//! Two watched literals in each clause. Where a watched literal is false and was looked at, the other is true and was set
+//! Two watched literals in each clause. If a watched literal is false and was propagated, the other is true and was set
 //! at the same level or an earlier one. So only a clause that watches a literal can become unit when that literal becomes
 //! false, and going back to an earlier level changes no watch. A clause that has one literal to watch, as one of one
-//! literal, watches it twice, and it is true at level 0. Clauses with opposite literals need no case: where one of the two
+//! literal, watches it twice, and it is true at level 0. Clauses with opposite literals need no case: if one of the two
 //! is false the other is true.
 ghost use Rattle.std.specs.Prelude.{◌≡◌, ◌≢◌, ◌+◌, ◌*◌, ◌<◌, ◌≤◌, ◌^◌, ◌++◌, ◌∷◌, [], ◌⊎◌, IfOk, OnOk, ℕ, ℤ, length, slice_get, slice_index, slice_set};
 ghost use Rattle.cnf_core.specs.Literals.{index_of};
@@ -125,7 +125,7 @@ impl Watches {
         self.lists[lit.index()].swap_remove(at)
     }
 
-    /// The next clause watches these literals.
+    /// Attaches the next clause: it watches these literals.
     pub fn add(&mut self, pair: Pair) -> Result<(), NoMemory>
         requires numbered { length self.old.pairs.items < 2 ^ 32 }
         requires first { index_of pair.first.number < length self.old.lists.items }

@@ -8,7 +8,6 @@ use Rattle.cdcl.proofs.search.Search.asserting_pair.Goals as goal
 
 pub opposite_before-first-requires-clause-some : goal.opposite_before-first-requires-clause-some
 opposite_before-first-requires-clause-some c =
-    let ts = trues c.args.self.now.trail in
     let a = c.args.analysis.now in
     let marks = a.marks.items in
     let end = c.last_before-end.result in

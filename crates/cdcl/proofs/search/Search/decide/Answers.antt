@@ -21,6 +21,6 @@ returns-clause-ready c =
     let s = c.args.self.now in
     record {
       count = c.requires.ready.count;
-      watched = watched-decide c.args.cnf.now.vars (clauses_of c.args.cnf.now s) (trues s.trail) (trues c.push-2.new.self) s.seen s.starts.items c.push.new.self.items s.watches c.args.lit.number c.len.result
-          c.in_ok-push-2.ensures.trues c.in_ok-push.ensures.items c.len.ensures c.requires.seen c.requires.ready.watched;
+      watched = watched-decide c.args.cnf.now.vars (clauses_of c.args.cnf.now s) (trues s.trail) (trues c.push-2.new.self) s.propagated s.starts.items c.push.new.self.items s.watches c.args.lit.number c.len.result
+          c.in_ok-push-2.ensures.trues c.in_ok-push.ensures.items c.len.ensures c.requires.propagated c.requires.ready.watched;
     }

@@ -19,5 +19,5 @@ returns-clause-begun c =
           (subst (λ bs. IsWatched vars cs [] 0 bs w) (sym no_starts) (watched-none vars cs w c.in_ok-watches.ensures.none c.in_ok-watches.ensures.rooms));
       steps = no_steps;
       starts = no_starts;
-      seen = refl;
+      propagated = refl;
     }

@@ -6,9 +6,9 @@ use Rattle.cnf_core.specs.Clauses.{literals}
 use Rattle.cnf_core.specs.Deriving.{Follows, known}
 use Rattle.cnf_core.specs.Licensing.{IsNew}
 use Rattle.cnf_core.specs.Literals.{Names, opposite}
-use Rattle.cnf_core.specs.Trails.{WeighsAs, literal_at}
+use Rattle.cnf_core.specs.Trails.{HasStatus, literal_at}
 use Rattle.cnf_core.specs.TrailViews.{trues}
-use Rattle.cnf_core.specs.declared.weight.Weight.TheVariants.{Open}
+use Rattle.cnf_core.specs.declared.clause_status.ClauseStatus.TheVariants.{Open}
 use Rattle.cdcl.specs.Marks.{count_from, is_marked, marked_literals}
 use Rattle.cdcl.specs.Searching.{IsClosed}
 use Rattle.cdcl.specs.States.{IsAsserting, clauses_of}
@@ -44,30 +44,24 @@ asserting_pair-pair-requires-clause-within c =
 pub asserting_pair-pair-requires-clause-sized : goal.asserting_pair-pair-requires-clause-sized
 asserting_pair-pair-requires-clause-sized c = c.in_ok-analysis.ensures.analyzed.1.sized
 
-pub go_back-requires-clause-within : goal.go_back-requires-clause-within
-go_back-requires-clause-within c =
+pub backtrack-requires-clause-within : goal.backtrack-requires-clause-within
+backtrack-requires-clause-within c =
     let s = c.args.self.now in
-    let cnf = c.args.cnf.now in
-    let ts = trues s.trail in
-    let cs = clauses_of cnf s in
-    let a = c.in_ok-analysis.analysis in
-    let res = c.in_ok-analysis.ensures in
-    let marks = a.marks.items in
     let floor = c.index-floor.result.now in
-    let level = c.level_before-level.result in
+    let level = c.backtrack_level-level.result in
     let second = c.last_before-second.result in
     let last = c.len-last.result - 1 in
     let within : last < length s.starts.items = omega (arith, c.len-last.ensures, s.starts.ok.0, c.requires.decided) in
     let start = get_or_read s.starts.items last floor within c.index-floor.ensures 0 in
     let before : level ≤ last = elim (cases_lt last level) [
-      | inl late ↦ absurd (omega (arith, c.level_before-level.ensures.below last late, start, c.last_before-second.ensures.within))
+      | inl late ↦ absurd (omega (arith, c.backtrack_level-level.ensures.below last late, start, c.last_before-second.ensures.within))
       | inr early ↦ early
     ] in
     let inside : level < length s.starts.items = omega (arith, before, within) in
     inside
 
 pub add_step-requires-clause-numbered : goal.add_step-requires-clause-numbered
-add_step-requires-clause-numbered c = omega (arith, c.requires.numbered, ap (λ ss. length (known c.args.cnf.now ss)) c.go_back.ensures.back.steps)
+add_step-requires-clause-numbered c = omega (arith, c.requires.numbered, ap (λ ss. length (known c.args.cnf.now ss)) c.backtrack.ensures.back.steps)
 
 pub add_step-requires-clause-follows : goal.add_step-requires-clause-follows
 add_step-requires-clause-follows c =
@@ -77,7 +71,7 @@ add_step-requires-clause-follows c =
     let cs = clauses_of cnf s in
     let a = c.in_ok-analysis.analysis in
     let analyzed = c.in_ok-analysis.ensures.analyzed in
-    subst (λ ds. Follows cnf.vars ds (literals c.in_ok-clause.clause) c.in_ok-hints.hints) (sym (ap (known cnf) c.go_back.ensures.back.steps))
+    subst (λ ds. Follows cnf.vars ds (literals c.in_ok-clause.clause) c.in_ok-hints.hints) (sym (ap (known cnf) c.backtrack.ensures.back.steps))
     (subst (λ ls. Follows cnf.vars cs ls c.in_ok-hints.hints) (sym c.in_ok-clause.ensures)
     (subst (Follows cnf.vars cs (map opposite (marked_literals a.marks.items ts))) (sym c.in_ok-hints.ensures)
     (learned-follows cs ts s.trail.apart cnf.vars (subst (λ v. All (Names v) ts) c.requires.sound.same_room s.trail.named) a.marks.items analyzed.0 a.hints.items analyzed.1.below analyzed.1.shows)))
@@ -92,13 +86,13 @@ add_step-requires-clause-new c =
     let res = c.in_ok-analysis.ensures in
     let marks = a.marks.items in
     let floor = c.index-floor.result.now in
-    let level = c.level_before-level.result in
+    let level = c.backtrack_level-level.result in
     let second = c.last_before-second.result in
     let last = c.len-last.result - 1 in
     let within : last < length s.starts.items = omega (arith, c.len-last.ensures, s.starts.ok.0, c.requires.decided) in
     let start = get_or_read s.starts.items last floor within c.index-floor.ensures 0 in
     let before : level ≤ last = elim (cases_lt last level) [
-      | inl late ↦ absurd (omega (arith, c.level_before-level.ensures.below last late, start, c.last_before-second.ensures.within))
+      | inl late ↦ absurd (omega (arith, c.backtrack_level-level.ensures.below last late, start, c.last_before-second.ensures.within))
       | inr early ↦ early
     ] in
     let inside : level < length s.starts.items = omega (arith, before, within) in
@@ -112,8 +106,8 @@ add_step-requires-clause-new c =
       | inl early ↦ omega (arith, c.requires.sound.reasoned.rising level last early within, start)
       | inr late ↦ let is : level ≡ last = omega (arith, late, before) in omega (arith, ap (λ i. get_or s.starts.items i 0) is, start)
     ] in
-    let high : second ≤ cut = c.level_before-level.ensures.above inside in
-    let back = c.go_back.ensures.back in
+    let high : second ≤ cut = c.backtrack_level-level.ensures.above inside in
+    let back = c.backtrack.ensures.back in
     subst (λ ds. IsNew ds (literals c.in_ok-clause.clause)) (sym (ap (known cnf) back.steps)) (subst (IsNew cs) (sym c.in_ok-clause.ensures)
     (back-new cs ts s.trail.apart cnf.vars named marks floor second sized counted low none cut high above (c.requires.sound.reasoned.closed level inside)))
 
@@ -127,13 +121,13 @@ add_step-requires-clause-unforced c = λ i lt.
     let res = c.in_ok-analysis.ensures in
     let marks = a.marks.items in
     let floor = c.index-floor.result.now in
-    let level = c.level_before-level.result in
+    let level = c.backtrack_level-level.result in
     let second = c.last_before-second.result in
     let last = c.len-last.result - 1 in
     let within : last < length s.starts.items = omega (arith, c.len-last.ensures, s.starts.ok.0, c.requires.decided) in
     let start = get_or_read s.starts.items last floor within c.index-floor.ensures 0 in
     let before : level ≤ last = elim (cases_lt last level) [
-      | inl late ↦ absurd (omega (arith, c.level_before-level.ensures.below last late, start, c.last_before-second.ensures.within))
+      | inl late ↦ absurd (omega (arith, c.backtrack_level-level.ensures.below last late, start, c.last_before-second.ensures.within))
       | inr early ↦ early
     ] in
     let inside : level < length s.starts.items = omega (arith, before, within) in
@@ -147,12 +141,12 @@ add_step-requires-clause-unforced c = λ i lt.
       | inl early ↦ omega (arith, c.requires.sound.reasoned.rising level last early within, start)
       | inr late ↦ let is : level ≡ last = omega (arith, late, before) in omega (arith, ap (λ i. get_or s.starts.items i 0) is, start)
     ] in
-    let high : second ≤ cut = c.level_before-level.ensures.above inside in
-    let back = c.go_back.ensures.back in
-    let new = c.go_back.new.self in
-    subst (λ ls. WeighsAs (take (get_or new.starts.items i 0) (trues new.trail)) ls Open) (sym c.in_ok-clause.ensures)
+    let high : second ≤ cut = c.backtrack_level-level.ensures.above inside in
+    let back = c.backtrack.ensures.back in
+    let new = c.backtrack.new.self in
+    subst (λ ls. HasStatus (take (get_or new.starts.items i 0) (trues new.trail)) ls Open) (sym c.in_ok-clause.ensures)
     (back-unforced cs ts s.trail.apart cnf.vars named marks floor second sized counted low none c.last_before-second.ensures.marked s.starts.items level cut inside high above
-    c.level_before-level.ensures.below (trues new.trail) new.starts.items back.trues back.starts i lt)
+    c.backtrack_level-level.ensures.below (trues new.trail) new.starts.items back.trues back.starts i lt)
 
 pub add_step-requires-clause-asserting : goal.add_step-requires-clause-asserting
 add_step-requires-clause-asserting c =
@@ -164,13 +158,13 @@ add_step-requires-clause-asserting c =
     let res = c.in_ok-analysis.ensures in
     let marks = a.marks.items in
     let floor = c.index-floor.result.now in
-    let level = c.level_before-level.result in
+    let level = c.backtrack_level-level.result in
     let second = c.last_before-second.result in
     let last = c.len-last.result - 1 in
     let within : last < length s.starts.items = omega (arith, c.len-last.ensures, s.starts.ok.0, c.requires.decided) in
     let start = get_or_read s.starts.items last floor within c.index-floor.ensures 0 in
     let before : level ≤ last = elim (cases_lt last level) [
-      | inl late ↦ absurd (omega (arith, c.level_before-level.ensures.below last late, start, c.last_before-second.ensures.within))
+      | inl late ↦ absurd (omega (arith, c.backtrack_level-level.ensures.below last late, start, c.last_before-second.ensures.within))
       | inr early ↦ early
     ] in
     let inside : level < length s.starts.items = omega (arith, before, within) in
@@ -184,15 +178,15 @@ add_step-requires-clause-asserting c =
       | inl early ↦ omega (arith, c.requires.sound.reasoned.rising level last early within, start)
       | inr late ↦ let is : level ≡ last = omega (arith, late, before) in omega (arith, ap (λ i. get_or s.starts.items i 0) is, start)
     ] in
-    let high : second ≤ cut = c.level_before-level.ensures.above inside in
-    let back = c.go_back.ensures.back in
-    let new = c.go_back.new.self in
+    let high : second ≤ cut = c.backtrack_level-level.ensures.above inside in
+    let back = c.backtrack.ensures.back in
+    let new = c.backtrack.new.self in
     let pair = c.asserting_pair-pair.result in
     let first : (p : ℕ) → floor ≤ p → p < length ts → is_marked marks p ≡ true → pair.first.number ≡ opposite (literal_at ts p)
     = λ p le lt on. c.asserting_pair-pair.ensures.first p (omega (arith, le, res.at_floor)) lt on in
     subst (λ ls. IsAsserting (trues new.trail) new.starts.items ls pair) (sym c.in_ok-clause.ensures)
     (back-asserting cs ts s.trail.apart cnf.vars named marks floor second sized counted low none c.last_before-second.ensures.marked s.starts.items level cut inside high above
-    c.level_before-level.ensures.below (trues new.trail) new.starts.items back.trues back.starts pair first c.asserting_pair-pair.ensures.second c.asserting_pair-pair.ensures.alone)
+    c.backtrack_level-level.ensures.below (trues new.trail) new.starts.items back.trues back.starts pair first c.asserting_pair-pair.ensures.second c.asserting_pair-pair.ensures.alone)
 
 pub returns-clause-one : goal.returns-clause-one
-returns-clause-one c = omega (arith, c.in_ok-add_step.ensures.one, ap length c.go_back.ensures.back.steps)
+returns-clause-one c = omega (arith, c.in_ok-add_step.ensures.one, ap length c.backtrack.ensures.back.steps)

@@ -12,4 +12,4 @@ invariant-loop-self l = record {
 }
 
 abbrev pub decreases-loop-self : goal.decreases-loop-self
-decreases-loop-self l = not_true l.self.trail + length (trues l.self.trail) - l.self.seen
+decreases-loop-self l = not_true l.self.trail + length (trues l.self.trail) - l.self.propagated

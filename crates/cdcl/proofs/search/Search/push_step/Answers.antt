@@ -33,8 +33,8 @@ returns-clause-watched c =
     let cnf = c.args.cnf.now in
     let step = c.args.step in
     let pushed = c.in_ok-push.ensures.items in
-    subst (λ cs. IsWatched cnf.vars cs (trues s.trail) s.seen s.starts.items s.watches) (known-push cnf s.steps.items step ∙ ap (known cnf) (sym pushed))
-    (watched-clauses cnf.vars (clauses_of cnf s) (literals step.clause) (trues s.trail) s.seen s.starts.items s.watches c.requires.ready.count c.requires.ready.watched)
+    subst (λ cs. IsWatched cnf.vars cs (trues s.trail) s.propagated s.starts.items s.watches) (known-push cnf s.steps.items step ∙ ap (known cnf) (sym pushed))
+    (watched-clauses cnf.vars (clauses_of cnf s) (literals step.clause) (trues s.trail) s.propagated s.starts.items s.watches c.requires.ready.count c.requires.ready.watched)
 
 pub returns-clause-clauses : goal.returns-clause-clauses
 returns-clause-clauses c =

@@ -7,7 +7,7 @@ use Rattle.cnf_core.specs.Literals.{Names, has_literal, same}
 use Rattle.cnf_core.specs.Trails.{numbers}
 use Rattle.cnf_core.specs.TrailViews.{room, trues}
 use Rattle.cnf_core.proofs.LiteralFacts.{named-item, same-same, taken-numbers}
-use Rattle.cnf_core.proofs.Weighing.{each-append}
+use Rattle.cnf_core.proofs.ClauseStatuses.{each-append}
 use Rattle.cdcl.proofs.Visiting.{has-item}
 use Rattle.cdcl.proofs.search.Search.replacement.Goals as goal
 

@@ -21,20 +21,20 @@ returns-in-Some-clause-after c =
     let n = c.in-Some.number in
     let old = c.args.analysis.now in
     let unmarked = c.unmark.new.self.marks.items in
-    let new = c.take_clause.new.analysis in
+    let new = c.add_antecedent.new.analysis in
     let before = c.requires.before in
     let within : p < length old.marks.items = omega (arith, c.requires.within, before.sized) in
     let why = c.requires.forced in
     let number : why.0 ≡ n = same_Some why.0 n (same_Some (Some why.0) c.reason.result (sym why.1 ∙ c.reason.ensures) ∙ c.in-Some.is) in
     let f = subst (IsForcedBy cs ts p) number why.2 in
-    on_ok_weaker c.take_clause.result (λ m.
+    on_ok_weaker c.add_antecedent.result (λ m.
     let marks = m.marks f.0 f.1 in
     record {
       sized = marks.sized ∙ ap length c.unmark.ensures.marks ∙ length-set old.marks.items p false ∙ before.sized;
       below = below-reason cs ts s.trail.apart (room s.trail) s.trail.named p n old.marks.items unmarked new.marks.items c.requires.within within c.unmark.ensures.marks f marks before.below;
       shows = subst (Shows cs ts new.marks.items p) (sym (m.noted ∙ ap (λ hs. hs ++ n ∷ []) c.unmark.ensures.same.same_hints))
           (shows-reason cs ts s.trail.apart (room s.trail) s.trail.named p n old.hints.items old.marks.items unmarked new.marks.items c.requires.within within f c.unmark.ensures.marks f marks before.shows);
-    }) c.take_clause.ensures
+    }) c.add_antecedent.ensures
 
 pub returns-in-None-clause-after : goal.returns-in-None-clause-after
 returns-in-None-clause-after c =

@@ -30,8 +30,8 @@ pub returns-clause-watched : goal.returns-clause-watched
 returns-clause-watched c =
     let s = c.args.self.now in
     let next = c.requires.next in
-    watched-add c.args.cnf.now.vars (clauses_of c.args.cnf.now s) (trues s.trail) s.seen s.starts.items s.watches c.add.new.self c.args.pair
+    watched-add c.args.cnf.now.vars (clauses_of c.args.cnf.now s) (trues s.trail) s.propagated s.starts.items s.watches c.add.new.self c.args.pair
     c.in_ok-add.ensures.pairs c.in_ok-add.ensures.kept c.in_ok-add.ensures.listed c.add.ensures.rooms next.0 next.1 next.2 c.requires.watched
 
 pub returns-clause-same : goal.returns-clause-same
-returns-clause-same c = record { steps = refl; trues = refl; starts = refl; seen = refl }
+returns-clause-same c = record { steps = refl; trues = refl; starts = refl; propagated = refl }
