@@ -3,14 +3,14 @@ ghost use Rattle.std.specs.Prelude.{◌≡◌, ◌+◌, ◌<◌, ◌≤◌, ◌^
 ghost use Rattle.cnf_core.specs.Satisfying.{WellNamed};
 ghost use Rattle.cnf_core.specs.TrailViews.{trues};
 ghost use Rattle.cdcl.specs.Answering.{Answers};
-ghost use Rattle.cdcl.specs.Searching.{IsConflictAt};
-ghost use Rattle.cdcl.specs.States.{clauses_of, IsReady, IsSound};
+ghost use Rattle.search_laws.specs.Searching.{IsConflictAt};
+ghost use Rattle.unit_propagation.specs.States.{clauses_of, IsReady, IsSound};
 
-use crate::order::Order;
-use crate::search::Search;
+use crate::learning::{learn, refute};
 use cnf_core::{Assignment, Cnf, Log};
 use cocoon_num::NoMemory;
 use std::alloc::Global;
+use unit_propagation::{Order, Search};
 
 #[derive(Drop)]
 pub enum Answer {
@@ -48,7 +48,7 @@ fn unsat(alloc: Global, cnf: &Cnf, search: Search, conflict: u32) -> Result<Answ
         → Answers cnf.now conflicts answer) }
 {
     let mut search = search;
-    search.refute(alloc, cnf, conflict)?;
+    refute(&mut search, alloc, cnf, conflict)?;
     Ok(Answer::Unsat(search.into_log()))
 }
 
@@ -75,7 +75,7 @@ fn decide_and_learn(
         if search.starts.is_empty() {
             return unsat(alloc, cnf, search, conflict);
         }
-        search.learn(alloc, cnf, conflict)?;
+        learn(&mut search, alloc, cnf, conflict)?;
         order.decay();
         order.bump(cnf, &search);
     }

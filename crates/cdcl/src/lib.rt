@@ -1,7 +1,7 @@
 //! Search for an assignment that satisfies clauses: conflict-driven clause learning (CDCL) with two watched literals. Each
 //! learned clause is a step of a log with the hints that derive it, so an answer can be checked without a search.
 //!
-//! For readers of MiniSat 2.2 (`core/Solver.cc`), what its parts are here:
+//! For readers of MiniSat 2.2 (`core/Solver.cc`), what its parts are here, in `watched_literals` and in `unit_propagation`:
 //!
 //! | MiniSat | Here |
 //! |---|---|
@@ -18,14 +18,14 @@
 //! | its body for one watcher | `Search::propagate_clause`, by what `Search::visit` says of the clause |
 //! | "look for new watch" | `Search::replacement` |
 //! | `newDecisionLevel`, `pickBranchLit` | `Search::decide`, `Search::next_decision` |
-//! | `analyze`, up to the first unique implication point | `Search::analyze`, with `Search::resolve` for one literal |
+//! | `analyze`, up to the first unique implication point | `analyze` of `learning`, with `resolve` for one literal |
 //! | its `seen`, `pathC` | `Analysis`: `marks`, `count` |
-//! | its `out_learnt`; the first two literals of it | `Search::learned`; `Search::asserting_pair` |
+//! | its `out_learnt`; the first two literals of it | `learned`; `asserting_pair` |
 //! | its `out_btlevel` | `Search::backtrack_level` |
 //! | `cancelUntil` | `Search::backtrack` |
-//! | `search`: what it does of a conflict | `Search::learn` |
+//! | `search`: what it does of a conflict | `learn` |
 //! | `search`: its loop | `decide_and_learn` of `answer`, with `Search::next_conflict` for what is between two conflicts |
-//! | `ok` that becomes false | a conflict before any decision, of which `Search::refute` makes the empty clause |
+//! | `ok` that becomes false | a conflict before any decision, of which `refute` makes the empty clause |
 //! | `varBumpActivity`, `varDecayActivity` | `Order::bump`, `Order::decay` |
 //!
 //! There are no restarts, no saved phases, no heap of variables; no clause is deleted, simplified or minimised, so literals
@@ -34,12 +34,6 @@
 
 mod analysis;
 mod answer;
-mod beginning;
-mod deciding;
 mod learning;
-mod order;
-mod propagation;
-mod search;
-mod watches;
 
 pub use answer::{Answer, solve};
