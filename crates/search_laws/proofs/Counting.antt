@@ -2,7 +2,7 @@
 use Rattle.std.proofs.Common.{◌≡◌, ℕ, zero, suc, ◌+◌, ◌-◌, ◌<◌, ◌≤◌, ◌||◌, ℤ, Bool, true, false, cond, List, [], ◌∷◌, ◌++◌, length, get_or, set, drop, replicate, refl, sym, ap, ◌∙◌, subst, arith, inl, inr}
 use Rattle.std.specs.List.{count_by, sum_by}
 use Rattle.std.proofs.lemmas.Bool.{cases_eq, cases_lt, both_ways, or_left, false_from_ne_true}
-use Rattle.std.proofs.lemmas.List.{drop-set-add, drop-set-lt, get_or-drop, get_or-set_same, get_or-set_other, get_or_past, length-drop}
+use Rattle.std.proofs.lemmas.List.{drop-set-add, get_or-drop, get_or-set_same, get_or-set_other, get_or_past, length-drop}
 use Rattle.std.proofs.Math.ListN.{length-set}
 use Rattle.std.proofs.lemmas.List.Sums.{sum_by-cons, sum_by-set}
 use Rattle.cnf_core.specs.Deriving.{is_false}
@@ -24,9 +24,6 @@ count-set floor marks p v le lt =
     let read : get_or (drop floor marks) k false ≡ is_marked marks p = get_or-drop floor marks k false ∙ ap (is_marked marks) at in
     ap (λ xs. sum_by one xs + one (is_marked marks p)) moved ∙ ap (λ b. sum_by one (set (drop floor marks) k v) + one b) (sym read)
     ∙ sum_by-set one (drop floor marks) k v false (omega (arith, le, lt, length-drop floor marks))
-
-pub count-kept : (floor : ℕ) (marks : List Bool) (p : ℕ) (v : Bool) → p < floor → count_from floor (set marks p v) ≡ count_from floor marks
-count-kept floor marks p v lt = ap (count_by (λ b. b)) (drop-set-lt floor marks p v lt)
 
 pub count-none : (floor n : ℕ) (marks : List Bool) → marks ≡ replicate n false → 0 ≡ count_from floor marks
 count-none floor n marks e = sym (ap (count_from floor) e ∙ none floor n)
@@ -76,16 +73,6 @@ marks-none ts marks l off = record {
     or-none : (a b : Bool) → b ≡ false → (a || b) ≡ a
     or-none true b e = refl
     or-none false b e = e
-
-pub marks-empty : (ts : List ℤ) (marks : List Bool) → MarksToo [] ts marks marks
-marks-empty ts marks = record {
-  sized = refl;
-  marks = λ p within. sym (or_false (is_marked marks p));
-}
-  where
-    or_false : (a : Bool) → (a || false) ≡ a
-    or_false true = refl
-    or_false false = refl
 
 pub marks-more : (ts xs : List ℤ) (l : ℤ) (old marks new : List Bool) (whole : List ℤ) → MarksToo xs ts old marks → MarksToo (l ∷ []) ts marks new → whole ≡ xs ++ l ∷ [] → MarksToo whole ts old new
 marks-more ts xs l old marks new whole h k e = subst (λ ys. MarksToo ys ts old new) (sym e) (record {

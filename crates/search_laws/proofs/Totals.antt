@@ -1,8 +1,8 @@
 -- Where each variable has a value and nothing is a conflict, the values satisfy the clauses.
-use Rattle.std.proofs.Common.{◌≡◌, ℕ, zero, suc, ◌+◌, ◌-◌, ◌<◌, ℤ, pos, negsuc, Bool, true, false, List, [], ◌∷◌, ◌++◌, length, get_or, map, refl, sym, ap, ◌∙◌, arith, inl, inr}
+use Rattle.std.proofs.Common.{◌≡◌, ℕ, zero, suc, ◌+◌, ◌-◌, ◌<◌, ℤ, pos, negsuc, true, false, List, [], ◌∷◌, get_or, map, refl, sym, ap, ◌∙◌, arith, inl, inr}
 use Rattle.std.specs.List.{All, list_any}
-use Rattle.std.proofs.lemmas.Bool.{cases_Bool, cases_lt, both_ways, or_cases, or_parts, and_from, not-false}
-use Rattle.std.proofs.lemmas.List.{get_or-map, get_or_append_left, get_or_push, length-append, length-map}
+use Rattle.std.proofs.lemmas.Bool.{cases_Bool, both_ways, or_cases, or_parts, and_from, not-false}
+use Rattle.std.proofs.lemmas.List.{get_or-map, get_or_append_left, length-append, length-map}
 use Rattle.std.proofs.lemmas.List.Elements.{All-head, All-tail}
 use Rattle.cocoon_num.specs.Lists.{each}
 use Rattle.cnf_core.specs.Clauses.{literals}
@@ -44,12 +44,4 @@ total-satisfies a cnf steps ts named total closed agree k d lt = elim (cases_Boo
       (closed k [] (omega (arith, lt, length-append (map literals cnf.clauses) (map (λ (s : Step). literals s.clause) steps), length-map cnf.clauses literals))).0
       (ap (is_conflict ts) (get_or_append_left (map literals cnf.clauses) (map (λ (s : Step). literals s.clause) steps) [] k (omega (arith, lt, length-map cnf.clauses literals))
       ∙ get_or-map literals cnf.clauses k d [] lt) ∙ all-false a cnf.vars ts total agree (literals (get_or cnf.clauses k d)) (named.1 k d lt) off))
-]
-
-pub agree-more : (values more : List Bool) (ts : List ℤ) (n : ℕ) (b : Bool) → length values ≡ n → ((v : ℕ) → v < n → get_or values v false ≡ has_literal ts (pos (v + 1)))
-    → more ≡ values ++ b ∷ [] → b ≡ has_literal ts (pos (n + 1)) → (v : ℕ) → v < n + 1 → get_or more v false ≡ has_literal ts (pos (v + 1))
-agree-more values more ts n b sized h e here v lt = ap (λ vs. get_or vs v false) e ∙ elim (cases_lt v n) [
-  | inl below ↦ get_or_append_left values (b ∷ []) false v (omega (arith, below, sized)) ∙ h v below
-  | inr above ↦ let is : n ≡ v = omega (arith, lt, above) in
-      get_or_push values b false v (sized ∙ is) ∙ here ∙ ap (λ k. has_literal ts (pos (k + 1))) is
 ]

@@ -1,14 +1,14 @@
 -- The reasons of a trail, as it grows.
-use Rattle.std.proofs.Common.{◌≡◌, ◌≢◌, ℕ, zero, suc, ◌+◌, ◌==◌, ◌<◌, ◌≤◌, ◌||◌, ℤ, pos, Bool, true, false, not, List, [], ◌∷◌, ◌++◌, length, get_or, take, map, Option, Some, None, refl, sym, ap, ◌∙◌, subst, arith, ◌⊎◌, inl, inr}
+use Rattle.std.proofs.Common.{◌≡◌, ◌≢◌, ℕ, zero, suc, ◌+◌, ◌==◌, ◌<◌, ◌≤◌, ◌||◌, ℤ, pos, Bool, true, false, List, [], ◌∷◌, ◌++◌, length, get_or, take, map, Option, Some, None, refl, sym, ap, ◌∙◌, subst, arith, ◌⊎◌, inl, inr}
 use Rattle.std.specs.Prelude.{slice_get}
 use Rattle.std.specs.List.{All}
-use Rattle.std.proofs.lemmas.Bool.{cases_lt, or_from, false≢true, eqb-false, or_parts, and_from, not_from_false}
+use Rattle.std.proofs.lemmas.Bool.{cases_lt, or_from, false≢true, eqb-false, or_parts}
 use Rattle.std.proofs.lemmas.List.{get_or_append_left, get_or_push, length_push, take-append-le, take_at, take_all, map-append, take_more}
 use Rattle.std.proofs.lemmas.List.Elements.{All-append, All-cons, All-head, All-map, All-nil, All-tail}
 use Rattle.std.proofs.lemmas.Option.{get_or_from_slice_get, slice_get_within}
 use Rattle.cocoon_num.specs.Lists.{has_number}
 use Rattle.cnf_core.specs.Clauses.{literals}
-use Rattle.cnf_core.specs.Deriving.{EachDerived, forces, has_no_value, is_false, known}
+use Rattle.cnf_core.specs.Deriving.{EachDerived, forces, known}
 use Rattle.cnf_core.specs.Literals.{Names, has_literal, same}
 use Rattle.cnf_core.specs.Satisfying.{WellNamed}
 use Rattle.cnf_core.specs.Trails.{literal_at}
@@ -100,17 +100,6 @@ reasoned-begun clauses ts us l reasons rs starts ss n h c e k m is = subst (λ v
     (subst (λ qs. IsReasoned clauses (ts ++ l ∷ []) qs ss) (sym k)
     (subst (λ bs. IsReasoned clauses (ts ++ l ∷ []) (reasons ++ None ∷ []) bs) (sym (m ∙ ap (λ x. starts ++ x ∷ []) is)) (reasoned-decide clauses ts l reasons starts h c)))
 
--- ---- nothing is true
-
-pub reasoned-none : (clauses : List (List ℤ)) → IsReasoned clauses [] [] []
-reasoned-none clauses = record {
-  sized = refl;
-  forced = λ p lt. absurd (omega (arith, lt));
-  rising = λ i j less lt. absurd (omega (arith, lt));
-  under = λ i lt. absurd (omega (arith, lt));
-  closed = λ i lt. absurd (omega (arith, lt));
-}
-
 -- ---- what the clause of a number is
 
 pub named-literal : {vars : ℕ} (ls : List ℤ) → All (Names vars) ls → (l : ℤ) → has_literal ls l ≡ true → Names vars l
@@ -145,10 +134,6 @@ known-named cnf steps named h = All-append (All (Names cnf.vars)) (map literals 
 
 pub at-some : (P : List ℤ → Type 0) (cs : List (List ℤ)) (k : ℕ) (c : List ℤ) → All P cs → slice_get cs k ≡ Some c → P c
 at-some P cs k c h e = subst P (get_or_from_slice_get cs k c [] e) (h k [] (slice_get_within cs k c e))
-
-pub no-value : (ts : List ℤ) (l : ℤ) → (has_literal ts l || is_false ts l) ≡ false → has_no_value ts l ≡ true
-no-value ts l e = let parts = or_parts (has_literal ts l) (is_false ts l) e in
-    and_from (not (has_literal ts l)) (not (is_false ts l)) (not_from_false (has_literal ts l) parts.0) (not_from_false (is_false ts l) parts.1)
 
 -- the literals of a clause that is known name variables
 pub pair-named : (cnf : Cnf) (steps : List Step) → WellNamed cnf → EachDerived cnf steps → (k : ℕ) (c : List ℤ) → slice_get (known cnf steps) k ≡ Some c

@@ -1,5 +1,5 @@
 -- How a search begins.
-use Rattle.std.proofs.Common.{◌≡◌, ℕ, ◌+◌, ◌*◌, ◌<◌, ℤ, true, List, [], ◌∷◌, length, get_or, map, Some, None, refl, sym, ap, ◌∙◌, arith}
+use Rattle.std.proofs.Common.{◌≡◌, ℕ, ◌+◌, ◌<◌, true, List, [], ◌∷◌, length, get_or, map, Some, None, refl, sym, ap, ◌∙◌}
 use Rattle.std.specs.Prelude.{IfOk, Result, Ok, Err, option_map, slice_get}
 use Rattle.std.proofs.lemmas.Bool.{or_left}
 use Rattle.std.proofs.lemmas.List.{append-nil, length-append, length-map}
@@ -12,9 +12,7 @@ use Rattle.cnf_core.specs.declared.clauses.Clause.{Clause}
 use Rattle.cnf_core.specs.declared.clauses.Cnf.{Cnf}
 use Rattle.cnf_core.specs.declared.lit.Lit.{Lit}
 use Rattle.cnf_core.specs.declared.log.Step.{Step}
-use Rattle.cnf_core.proofs.LiteralFacts.{index_of-below, same-same}
-use Rattle.watched_literals.specs.Watching.{IsWatched}
-use Rattle.watched_literals.specs.declared.watches.Watches.{Watches}
+use Rattle.cnf_core.proofs.LiteralFacts.{same-same}
 use Rattle.search_laws.proofs.Jumping.{get-prefix}
 
 pub given-clause : (cnf : Cnf) (steps : List Step) (i : ℕ) (x : Clause) → i < length cnf.clauses → x ≡ get_or cnf.clauses i x → slice_get (known cnf steps) i ≡ Some (literals x)

@@ -1,5 +1,5 @@
 -- A trail that becomes longer.
-use Rattle.std.proofs.Common.{◌≡◌, ℕ, ◌+◌, ◌<◌, ℤ, pos, [], ◌∷◌, ◌++◌, length, sym, ap, ◌∙◌, arith}
+use Rattle.std.proofs.Common.{◌≡◌, ℕ, ◌+◌, ◌<◌, pos, [], ◌++◌, length, sym, ap, ◌∙◌, arith}
 use Rattle.std.proofs.lemmas.List.{append-nil, append_assoc, get_or_append_left, length-append}
 use Rattle.cnf_core.specs.Trails.{literal_at}
 use Rattle.cnf_core.specs.TrailViews.{not_true, trues}
@@ -8,9 +8,6 @@ use Rattle.unit_propagation.specs.declared.search.Search.{Search}
 
 pub longer-none : (old new : Search) → trues new.trail ≡ trues old.trail → not_true new.trail ≡ not_true old.trail → IsLonger old new
 longer-none old new e k = record { more = []; trues = e ∙ sym (append-nil (trues old.trail)); fewer = omega (arith, k) }
-
-pub longer-one : (old new : Search) (l : ℤ) → trues new.trail ≡ trues old.trail ++ l ∷ [] → not_true new.trail < not_true old.trail → IsLonger old new
-longer-one old new l e k = record { more = l ∷ []; trues = e; fewer = omega (arith, k) }
 
 pub longer-more : (first second third : Search) → IsLonger first second → IsLonger second third → IsLonger first third
 longer-more first second third h k = record {

@@ -1,14 +1,12 @@
 -- Cited by the clauses of `Search`: what keeps a search right, and what its parts give.
-use Rattle.std.specs.Prelude.{◌≡◌, ◌≢◌, ℕ, ◌+◌, ◌<◌, ◌≤◌, ◌⊎◌, ◌||◌, ℤ, IsTrue, IsFalse, List, [], ◌++◌, length, slice_get, slice_index, take, Option, Some, None}
-use Rattle.cnf_core.specs.Deriving.{EachDerived, EndsEmpty, forces, has_no_value, is_conflict, is_false, known}
+use Rattle.std.specs.Prelude.{◌≡◌, ◌≢◌, ℕ, ◌+◌, ◌<◌, ◌≤◌, ◌||◌, ℤ, IsTrue, IsFalse, List, [], ◌++◌, length, slice_get, slice_index, take, Option, Some, None}
+use Rattle.cnf_core.specs.Deriving.{EachDerived, forces, has_no_value, is_conflict, is_false, known}
 use Rattle.cnf_core.specs.Licensing.{BringsNew}
 use Rattle.cocoon_num.specs.Lists.{each}
-use Rattle.cnf_core.specs.Literals.{Names, has_literal, opposite, same}
-use Rattle.cnf_core.specs.Trails.{literal_at}
+use Rattle.cnf_core.specs.Literals.{Names, has_literal, same}
 use Rattle.cnf_core.specs.TrailViews.{not_true, room, trues}
 use Rattle.cnf_core.specs.declared.clauses.Cnf.{Cnf}
 use Rattle.cnf_core.specs.declared.lit.Lit.{Lit}
-use Rattle.cnf_core.specs.declared.log.Step.{Step}
 use Rattle.search_laws.specs.Searching.{IsClosed, IsConflictAt, IsReasoned, IsTotal}
 use Rattle.watched_literals.specs.Watching.{AreWatched, IsLookedAt, IsWatched, IsWatching, list_of}
 use Rattle.unit_propagation.specs.declared.propagation.Visit.{Visit}

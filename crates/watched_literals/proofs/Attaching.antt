@@ -1,5 +1,5 @@
 -- Clauses that are attached: at the beginning of a search, and when they are learned.
-use Rattle.std.proofs.Common.{◌≡◌, ◌≢◌, ℕ, ◌+◌, ◌*◌, ◌<◌, ◌≤◌, ℤ, pos, true, List, [], ◌∷◌, ◌++◌, length, refl, sym, ap, ◌∙◌, subst, arith, inl, inr}
+use Rattle.std.proofs.Common.{◌≡◌, ℕ, ◌+◌, ◌*◌, ◌<◌, ◌≤◌, ℤ, pos, true, List, [], ◌∷◌, ◌++◌, length, refl, sym, ap, ◌∙◌, subst, arith, inl, inr}
 use Rattle.std.specs.Prelude.{slice_get}
 use Rattle.std.proofs.lemmas.Bool.{both_ways}
 use Rattle.std.proofs.lemmas.List.{get_or_append_left, get_or_push, length_push}
@@ -68,13 +68,3 @@ module _ (ts : List ℤ) (propagated : ℕ) (starts : List ℕ) (c : List ℤ) (
         beside = λ a b are p lt. absurd (omega (arith, lt, early));
         two = inr (record { place = r.0; within = r.1; literal = r.2; first = λ i lt. absurd (omega (arith, lt, ap length undecided)) });
       }
-
-  pub begun-twice : pair.second.number ≢ pair.first.number → has_literal c pair.first.number ≡ true → has_literal c pair.second.number ≡ true → IsWatching ts propagated starts c pair
-  begun-twice differ inside beside = record {
-    inside = λ a b are. elim are [
-      | inl x ↦ ap (has_literal c) (sym x.0) ∙ inside
-      | inr y ↦ ap (has_literal c) (sym y.0) ∙ beside
-    ];
-    beside = λ a b are p lt. absurd (omega (arith, lt, early));
-    two = inl (λ e. differ (sym e));
-  }

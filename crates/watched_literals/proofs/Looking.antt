@@ -1,11 +1,11 @@
 -- The watch invariant, as literals are propagated and watches change.
-use Rattle.std.proofs.Common.{◌≡◌, ◌≢◌, ℕ, ◌+◌, ◌<◌, ◌≤◌, ℤ, pos, true, false, List, [], ◌∷◌, ◌++◌, length, get_or, take, Some, None, sym, ap, ◌∙◌, subst, arith, ◌⊎◌, inl, inr}
+use Rattle.std.proofs.Common.{◌≡◌, ◌≢◌, ℕ, ◌+◌, ◌<◌, ◌≤◌, ℤ, pos, true, false, List, [], ◌∷◌, ◌++◌, length, get_or, take, Some, sym, ap, ◌∙◌, subst, arith, ◌⊎◌, inl, inr}
 use Rattle.std.specs.Prelude.{slice_get}
 use Rattle.std.proofs.Math.ListN.{set}
 use Rattle.std.proofs.lemmas.Bool.{cases_eq, cases_lt, both_ways}
 use Rattle.std.proofs.lemmas.List.{get_or_append_left, get_or_push, get_or-take, length-take-le, length_push}
 use Rattle.std.specs.List.{All}
-use Rattle.std.proofs.lemmas.Option.{none-some, same_Some, slice_get-get_or, slice_get_within}
+use Rattle.std.proofs.lemmas.Option.{same_Some, slice_get-get_or, slice_get_within}
 use Rattle.cnf_core.specs.Deriving.{is_false}
 use Rattle.cnf_core.specs.Literals.{Names, has_literal, opposite, variable}
 use Rattle.cnf_core.specs.Trails.{IsApart, literal_at}
@@ -302,10 +302,3 @@ module _ (ts : List ℤ) (apart : IsApart ts) (vars : ℕ) (named : All (Names v
 
   pub off-named : variable off ≤ vars
   off-named = omega (arith, ap variable e, variable-opposite off, (named propagated (pos 0) lt).1)
-
--- the end of a list
-pub looked-end : (ts : List ℤ) (w : Watches) (off : ℤ) (at : ℕ) → slice_get (list_of w off) at ≡ None → IsLookedAt ts w off at → IsLookedAt ts w off (length (list_of w off))
-looked-end ts w off at none looked = λ k pair b f both. elim (looked k pair b f both) [
-  | inl on ↦ inl on
-  | inr rest ↦ absurd (none-some (get_or (list_of w off) at 0) (sym none ∙ slice_get-get_or (list_of w off) at 0 (omega (arith, rest.later, rest.within))))
-]
