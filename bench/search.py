@@ -3,11 +3,15 @@
 
     bench/search.py                  all of it
     bench/search.py FOLDER           the same, with the crates and the built program kept in this folder, for a later run
-    bench/search.py FOLDER LISTS     in place of it searches through so many small lists of clauses, made by chance
+    bench/search.py FOLDER LISTS     in place of it searches through this many small lists of clauses, made by chance
+    bench/search.py FOLDER refused   in place of it refuses each allocation of some searches in turn
 
 It copies the crates that it needs, with the program `search.rt.txt`, and has `rt run` prove and build what is not kept on this machine. `cc` compiles
-`check_log.c`. MiniSat and CaDiCaL are asked where they are there.
+`check_log.c` and `refuse.c`. MiniSat and CaDiCaL are asked if they are there.
 """
+
+import collections
+import os
 
 import pathlib
 import random
@@ -21,7 +25,7 @@ import time
 TOP = pathlib.Path(__file__).resolve().parent.parent
 TESTS = TOP / "crates" / "solver_tests"
 DATA = TESTS / "data"
-NEEDED = ["cocoon_num", "name_table", "cnf_core", "proof_check", "cdcl", "case_files", "bv_terms", "term_walk", "bit_blast"]
+NEEDED = ["cocoon_num", "name_table", "cnf_core", "proof_check", "search_laws", "watched_literals", "unit_propagation", "cdcl", "case_files", "bv_terms", "term_walk", "bit_blast"]
 # Each kind with growing sizes, up to the first that takes too long.
 FORMULAS = [
     ("exchanged", [2, 4, 6, 8, 10, 12, 14]),
@@ -29,8 +33,14 @@ FORMULAS = [
     ("comparisons", [4, 8, 16, 32, 64, 128]),
     ("choices", [2, 4, 8, 16, 32]),
 ]
-SOLVERS = [("minisat", ["minisat", "-verb=0"]), ("cadical", ["cadical", "-q", "-n"])]
+SOLVERS = [
+    ("minisat", ["minisat", "-verb=1", "-no-pre"]),
+    ("minisat with its preprocessor", ["minisat", "-verb=1"]),
+    ("cadical", ["cadical", "-n"]),
+]
 MOST_SECONDS = 30
+# The least time of so many runs counts.
+RUNS = 25
 
 
 def run(words, text=""):
@@ -80,17 +90,28 @@ def solved(program, text):
     return answer, int(steps), int(micros), log
 
 
+def processor_time(words):
+    """What a process says, and its milliseconds of processor time, from its start to its end."""
+    process = subprocess.Popen(words, stdout=subprocess.PIPE, stderr=subprocess.STDOUT, text=True)
+    said = process.stdout.read()
+    _, _, used = os.wait4(process.pid, 0)
+    process.returncode = 0
+    process.stdout.close()
+    return said, (used.ru_utime + used.ru_stime) * 1000
+
+
 def outside(text):
-    """The times of other solvers, with the start of their processes, and their answers."""
+    """Of other solvers the answers, the conflicts and the least processor time of whole processes."""
     found = {}
-    for name, words in SOLVERS:
-        if shutil.which(name):
-            with tempfile.NamedTemporaryFile("w", suffix=".cnf") as file:
-                file.write(text)
-                file.flush()
-                before = time.monotonic()
-                said = run([*words, file.name])
-                found[name] = ("unsat" if "UNSAT" in said else "sat", round((time.monotonic() - before) * 1000))
+    with tempfile.NamedTemporaryFile("w", suffix=".cnf") as file:
+        file.write(text)
+        file.flush()
+        for name, words in SOLVERS:
+            if shutil.which(words[0]):
+                runs = [processor_time([*words, file.name]) for _ in range(RUNS)]
+                said = runs[0][0]
+                conflicts = re.search(r"conflicts *: *(\d+)", said)
+                found[name] = ("unsat" if "UNSAT" in said else "sat", conflicts[1] if conflicts else "0", min(millis for _, millis in runs))
     return found
 
 
@@ -265,13 +286,42 @@ def time_search(program, name, text):
     except subprocess.TimeoutExpired:
         print(f"{name}: longer than {MOST_SECONDS} s", flush=True)
         return False
+    micros = min([micros, *(solved(program, text)[2] for _ in range(RUNS - 1))])
     head = re.search(r"^p cnf (\d+) (\d+)$", text, re.MULTILINE)
     others = outside(text)
-    if any(other != answer for other, _ in others.values()):
+    if any(other != answer for other, _, _ in others.values()):
         sys.exit(f"{name}: {answer}, but {others}")
-    beside = "".join(f", {solver} {millis} ms" for solver, (_, millis) in others.items())
+    beside = "".join(f", {solver} {conflicts} conflicts {millis:.1f} ms" for solver, (_, conflicts, millis) in others.items())
     print(f"{name}: {int(head[1]):,} variables, {int(head[2]):,} clauses, {answer}, {steps:,} steps, {micros / 1000:.1f} ms{beside}", flush=True)
     return True
+
+
+def refuse_allocations(program, folder):
+    """Searches with each allocation refused in turn, alone and with all after it: the answer is the same, or there is none."""
+    library = folder / "refuse.so"
+    subprocess.run(["cc", "-shared", "-fPIC", "-o", library, TOP / "bench" / "refuse.c"], check=True)
+
+    def tried(text, refused):
+        places = {**os.environ, "LD_PRELOAD": str(library), **refused}
+        ended = subprocess.run([program, "lists"], input=text, env=places, stdout=subprocess.PIPE, stderr=subprocess.PIPE, text=True)
+        return ended.returncode, ended.stdout, int(ended.stderr.split()[-2])
+
+    for case in (DATA / "watches.dimacs").read_text().split("\n\n"):
+        name, text = case.partition("\n")[0], case.strip() + "\n"
+        status, answer, last = tried(text, {})
+        if status != 0:
+            sys.exit(f"{name}: status {status}")
+        ends = collections.Counter()
+        for on in ("0", "1"):
+            for number in range(1, last + 1):
+                status, said, _ = tried(text, {"REFUSE": str(number), "ON": on})
+                if (status, said) == (0, answer):
+                    ends["the same answer"] += 1
+                elif status == 1 and not said:
+                    ends["no memory"] += 1
+                else:
+                    sys.exit(f"{name}: with allocation {number} refused, status {status} and\n{said}")
+        print(f"{name}: {last} allocations, each refused, alone and with all after it: {dict(ends)}", flush=True)
 
 
 def time_searches(program):
@@ -285,12 +335,15 @@ def time_searches(program):
             time_search(program, head[2], case.strip() + "\n")
 
 
-def measure(folder, lists=0):
+def measure(folder, lists=None):
     program = built(folder)
     checker = folder / "check_log"
     subprocess.run(["cc", "-O2", "-o", checker, TOP / "bench" / "check_log.c"], check=True)
+    if lists == "refused":
+        refuse_allocations(program, folder)
+        return
     if lists:
-        try_lists(program, checker, lists)
+        try_lists(program, checker, int(lists))
         return
     judge_logs(program, checker)
     time_checks(program, checker)
@@ -301,7 +354,7 @@ def main():
     if len(sys.argv) > 1:
         folder = pathlib.Path(sys.argv[1]).resolve()
         folder.mkdir(exist_ok=True)
-        measure(folder, *map(int, sys.argv[2:]))
+        measure(folder, *sys.argv[2:])
     else:
         with tempfile.TemporaryDirectory() as name:
             measure(pathlib.Path(name))

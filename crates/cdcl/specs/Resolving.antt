@@ -1,7 +1,11 @@
--- Cited by the clauses of what resolves a conflict.
-use Rattle.std.specs.Prelude.{◌≡◌, ℕ, ◌<◌, ◌≤◌, ℤ, Bool, ◌⊎◌, IsTrue, List, [], ◌∷◌, ◌++◌, length, slice_get, Some, take}
-use Rattle.cdcl.specs.Marks.{MarksToo, Shows, is_marked}
-use Rattle.cdcl.specs.Searching.{IsClosed}
+-- Cited by the clauses of what resolves a conflict, and of what refutes.
+use Rattle.std.specs.Prelude.{◌≡◌, ℕ, ◌+◌, ◌<◌, ◌≤◌, ℤ, Bool, ◌⊎◌, IsTrue, List, [], ◌∷◌, ◌++◌, length, slice_get, Some, take}
+use Rattle.cnf_core.specs.Deriving.{EachDerived, EndsEmpty}
+use Rattle.cnf_core.specs.Licensing.{BringsNew}
+use Rattle.cnf_core.specs.declared.clauses.Cnf.{Cnf}
+use Rattle.cnf_core.specs.declared.log.Step.{Step}
+use Rattle.search_laws.specs.Marks.{MarksToo, Shows, is_marked}
+use Rattle.search_laws.specs.Searching.{IsClosed}
 use Rattle.cdcl.specs.declared.analysis.Analysis.{Analysis}
 
 -- all marked literals are among the first `top`, and the conflict follows from them
@@ -30,3 +34,10 @@ pub record IsResolved (clauses : List (List ℤ)) (trues : List ℤ) (floor keep
   pub at_floor : a.floor ≡ floor
   pub exact : a.count ≡ keep
   pub analyzed : (top : ℕ) × Analyzed clauses trues top a
+
+-- the steps are one more, and the last is empty; each follows, and those before the last are new
+pub record RefutesIn (cnf : Cnf) (old new : List Step) : Type 0 where
+  pub one : length new ≡ length old + 1
+  pub derived : EachDerived cnf new
+  pub ends : EndsEmpty new
+  pub new_before : (k : ℕ) → k + 1 < length new → BringsNew cnf new k

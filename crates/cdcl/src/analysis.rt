@@ -1,6 +1,6 @@
 //! Which literals of a trail a conflict follows from.
 ghost use Rattle.std.specs.Prelude.{◌≡◌};
-ghost use Rattle.cdcl.specs.Marks.{count_from};
+ghost use Rattle.search_laws.specs.Marks.{count_from};
 
 use cnf_core::{Clause, Lit, Trail};
 use cocoon_num::{List, NoMemory};
@@ -11,11 +11,11 @@ use std::alloc::Global;
 pub(crate) struct Analysis {
     /// By the place of a literal on the trail.
     pub marks: Vec<bool>,
-    /// Where the last level begins.
+    /// The place on the trail at which the last level starts.
     pub floor: usize,
-    /// How many literals of the last level are marked.
+    /// How many literals of the last level are marked. The clause of the marks is asserting when one is left.
     pub count: usize,
-    /// The clauses that were resolved, the conflict first.
+    /// The numbers of the clauses that were resolved, the conflict first.
     pub hints: Vec<u32>,
     ghost counted: { count ≡ count_from floor marks.items },
 }
@@ -27,7 +27,7 @@ impl Analysis {
     ghost use Rattle.cnf_core.specs.Literals.{Names};
     ghost use Rattle.cnf_core.specs.TrailViews.{room, trues};
     ghost use Rattle.cdcl.specs.Analyses.{IsFresh, IsSameBut};
-    ghost use Rattle.cdcl.specs.Marks.{is_marked, MarksToo};
+    ghost use Rattle.search_laws.specs.Marks.{is_marked, MarksToo};
 
     /// Nothing is marked yet, on a trail of this length.
     pub fn new(alloc: Global, len: usize, floor: usize) -> Result<Analysis, NoMemory>

@@ -3,14 +3,14 @@ ghost use Rattle.std.specs.Prelude.{◌≡◌, ◌+◌, ◌<◌, ◌≤◌, ◌^
 ghost use Rattle.cnf_core.specs.Satisfying.{WellNamed};
 ghost use Rattle.cnf_core.specs.TrailViews.{trues};
 ghost use Rattle.cdcl.specs.Answering.{Answers};
-ghost use Rattle.cdcl.specs.Searching.{IsConflictAt};
-ghost use Rattle.cdcl.specs.States.{clauses_of, IsReady, IsSound};
+ghost use Rattle.search_laws.specs.Searching.{IsConflictAt};
+ghost use Rattle.unit_propagation.specs.States.{clauses_of, IsReady, IsSound};
 
-use crate::order::Order;
-use crate::search::Search;
+use crate::learning::{learn, refute};
 use cnf_core::{Assignment, Cnf, Log};
 use cocoon_num::NoMemory;
 use std::alloc::Global;
+use unit_propagation::{Order, Search};
 
 #[derive(Drop)]
 pub enum Answer {
@@ -34,7 +34,7 @@ pub fn solve(alloc: Global, cnf: &Cnf, conflicts: u64) -> Result<Answer, NoMemor
     }
     match conflict {
         Some(number) => unsat(alloc, cnf, search, number),
-        None => decided(alloc, cnf, search, conflicts),
+        None => decide_and_learn(alloc, cnf, search, conflicts),
     }
 }
 
@@ -48,12 +48,17 @@ fn unsat(alloc: Global, cnf: &Cnf, search: Search, conflict: u32) -> Result<Answ
         → Answers cnf.now conflicts answer) }
 {
     let mut search = search;
-    search.refute(alloc, cnf, conflict)?;
+    refute(&mut search, alloc, cnf, conflict)?;
     Ok(Answer::Unsat(search.into_log()))
 }
 
 /// Decides and learns until there is an answer.
-fn decided(alloc: Global, cnf: &Cnf, search: Search, conflicts: u64) -> Result<Answer, NoMemory>
+fn decide_and_learn(
+    alloc: Global,
+    cnf: &Cnf,
+    search: Search,
+    conflicts: u64,
+) -> Result<Answer, NoMemory>
     requires sound { IsSound cnf.now search }
     requires named { WellNamed cnf.now }
     requires ready { IsReady cnf.now search }
@@ -64,14 +69,15 @@ fn decided(alloc: Global, cnf: &Cnf, search: Search, conflicts: u64) -> Result<A
     let mut search = search;
     let mut order = Order::new(alloc, cnf.vars)?;
     while (search.steps.len() as u64) < conflicts {
-        let Some(conflict) = search.run(cnf, &order)? else {
+        let Some(conflict) = search.next_conflict(cnf, &order)? else {
             return Ok(Answer::Satisfied(search.assignment(alloc, cnf)?));
         };
         if search.starts.is_empty() {
             return unsat(alloc, cnf, search, conflict);
         }
-        search.learn(alloc, cnf, conflict)?;
-        order.note(cnf, &search);
+        learn(&mut search, alloc, cnf, conflict)?;
+        order.decay();
+        order.bump(cnf, &search);
     }
     Ok(Answer::Spent(search.into_log()))
 }

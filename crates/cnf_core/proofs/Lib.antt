@@ -1,4 +1,4 @@
 pub mod LiteralFacts
 pub mod Placing
-pub mod Weighing
+pub mod ClauseStatuses
 pub mod Models

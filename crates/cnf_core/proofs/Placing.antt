@@ -9,7 +9,7 @@ use Rattle.cnf_core.specs.Deriving.{has_no_value}
 use Rattle.cnf_core.specs.Literals.{Names, has_literal, index_of, opposite, variable}
 use Rattle.cnf_core.specs.Trails.{IsApart, Placed, literal_at, numbers}
 use Rattle.cnf_core.specs.declared.lit.Lit.{Lit}
-use Rattle.cnf_core.proofs.Weighing.{open-not_true, open-not_false}
+use Rattle.cnf_core.proofs.ClauseStatuses.{open-not_true, open-not_false}
 use Rattle.cnf_core.proofs.LiteralFacts.{has-at, has-place, index_of-injective, variable-same}
 
 pub place-some : (ts : List ℤ) (ps : List ℕ) (l : ℤ) → Placed ts ps → has_literal ts l ≡ true

@@ -3,8 +3,8 @@ use Rattle.std.specs.Prelude.{◌≡◌, ◌≢◌, ℕ, ◌+◌, ◌<◌, ℤ, 
 use Rattle.cnf_core.specs.Deriving.{forces, is_conflict}
 use Rattle.cnf_core.specs.Literals.{index_of, variable}
 use Rattle.cnf_core.specs.declared.lit.Lit.{Lit}
-use Rattle.cnf_core.specs.declared.weight.Weight.{Weight}
-use Rattle.cnf_core.specs.declared.weight.Weight.TheVariants.{Conflict, Forces, Open}
+use Rattle.cnf_core.specs.declared.clause_status.ClauseStatus.{ClauseStatus}
+use Rattle.cnf_core.specs.declared.clause_status.ClauseStatus.TheVariants.{Conflict, Forces, Open}
 
 abbrev pub numbers : List Lit → List ℤ
 numbers lits = map (λ l. l.number) lits
@@ -22,9 +22,9 @@ pub record Placed (trues : List ℤ) (places : List ℕ) : Type 0 where
 abbrev pub IsApart : List ℤ → Type 0
 IsApart trues = (p q : ℕ) → p < q → q < length trues → variable (literal_at trues p) ≢ variable (literal_at trues q)
 
--- what a clause is under the literals that are true
-abbrev pub WeighsAs : (trues clause : List ℤ) → Weight → Type 0
-WeighsAs trues clause Conflict = IsTrue (is_conflict trues clause) × ((l : ℤ) → IsFalse (forces trues clause l))
-WeighsAs trues clause (Forces lit) = IsFalse (is_conflict trues clause) × IsTrue (forces trues clause lit.number)
+-- the status of a clause under the literals that are true
+abbrev pub HasStatus : (trues clause : List ℤ) → ClauseStatus → Type 0
+HasStatus trues clause Conflict = IsTrue (is_conflict trues clause) × ((l : ℤ) → IsFalse (forces trues clause l))
+HasStatus trues clause (Forces lit) = IsFalse (is_conflict trues clause) × IsTrue (forces trues clause lit.number)
     × ((l : ℤ) → IsTrue (forces trues clause l) → l ≡ lit.number)
-WeighsAs trues clause Open = IsFalse (is_conflict trues clause) × ((l : ℤ) → IsFalse (forces trues clause l))
+HasStatus trues clause Open = IsFalse (is_conflict trues clause) × ((l : ℤ) → IsFalse (forces trues clause l))

@@ -2,15 +2,15 @@
 //! what a log derives; a log that derives the empty clause shows that no assignment satisfies.
 #![tactic(auto)]
 
+pub mod clause_status;
 pub mod clauses;
 pub mod laws;
 pub mod lit;
 pub mod log;
 pub mod trail;
-pub mod weight;
 
+pub use clause_status::ClauseStatus;
 pub use clauses::{Assignment, Clause, Cnf, satisfies};
 pub use lit::Lit;
 pub use log::{Log, Step, known_clause};
 pub use trail::Trail;
-pub use weight::Weight;

@@ -4,9 +4,9 @@ ghost use Rattle.std.specs.List.{All};
 ghost use Rattle.cnf_core.specs.Literals.{Names};
 ghost use Rattle.cnf_core.specs.Trails.{IsApart, numbers, Placed};
 
+use crate::clause_status::ClauseStatus;
 use crate::clauses::Clause;
 use crate::lit::Lit;
-use crate::weight::Weight;
 use cocoon_num::NoMemory;
 use std::alloc::Global;
 
@@ -28,7 +28,7 @@ impl Trail {
     ghost use Rattle.cnf_core.specs.Deriving.{has_no_value, is_false};
     ghost use Rattle.cnf_core.specs.Clauses.{literals};
     ghost use Rattle.cnf_core.specs.Literals.{has_literal, variable};
-    ghost use Rattle.cnf_core.specs.Trails.{literal_at, WeighsAs};
+    ghost use Rattle.cnf_core.specs.Trails.{HasStatus, literal_at};
     ghost use Rattle.cnf_core.specs.TrailViews.{not_true, room, trues};
 
     /// A trail for this many variables on which nothing is true yet.
@@ -131,61 +131,61 @@ impl Trail {
         }
     }
 
-    /// What a clause is under the literals that are true.
-    pub fn weigh(&self, clause: &Clause) -> Weight
+    /// The status of a clause under the literals that are true.
+    pub fn status(&self, clause: &Clause) -> ClauseStatus
         requires { All (Names (room self.now)) (literals clause.now) }
-        ensures { WeighsAs (trues self.now) (literals clause.now) result }
+        ensures { HasStatus (trues self.now) (literals clause.now) result }
     {
-        let mut weight = Weight::Conflict;
+        let mut status = ClauseStatus::Conflict;
         for lit in clause.lits.items() {
-            weight = self.weigh_with(weight, *lit);
-            if matches!(weight, Weight::Open) {
-                return weight;
+            status = self.status_with(status, *lit);
+            if matches!(status, ClauseStatus::Open) {
+                return status;
             }
         }
-        weight
+        status
     }
 
-    /// What the clause of this weight is with one more literal.
-    fn weigh_with(&self, weight: Weight, lit: Lit) -> Weight
+    /// The status of a clause with one more literal, from that without it.
+    fn status_with(&self, status: ClauseStatus, lit: Lit) -> ClauseStatus
         requires { variable lit.number ≤ room self.now }
-        ensures { (ls : List ℤ) → WeighsAs (trues self.now) ls weight
-            → WeighsAs (trues self.now) (ls ++ lit.number ∷ []) result }
+        ensures { (ls : List ℤ) → HasStatus (trues self.now) ls status
+            → HasStatus (trues self.now) (ls ++ lit.number ∷ []) result }
     {
-        match weight {
-            Weight::Conflict => self.weigh_first(lit),
-            Weight::Forces(forced) => self.weigh_second(forced, lit),
-            Weight::Open => Weight::Open,
+        match status {
+            ClauseStatus::Conflict => self.status_with_first(lit),
+            ClauseStatus::Forces(forced) => self.status_with_second(forced, lit),
+            ClauseStatus::Open => ClauseStatus::Open,
         }
     }
 
     /// The same, where all others are false.
-    fn weigh_first(&self, lit: Lit) -> Weight
+    fn status_with_first(&self, lit: Lit) -> ClauseStatus
         requires { variable lit.number ≤ room self.now }
-        ensures { (ls : List ℤ) → WeighsAs (trues self.now) ls Weight.Conflict
-            → WeighsAs (trues self.now) (ls ++ lit.number ∷ []) result }
+        ensures { (ls : List ℤ) → HasStatus (trues self.now) ls ClauseStatus.Conflict
+            → HasStatus (trues self.now) (ls ++ lit.number ∷ []) result }
     {
         if self.is_false(lit) {
-            return Weight::Conflict;
+            return ClauseStatus::Conflict;
         }
         if self.is_true(lit) {
-            return Weight::Open;
+            return ClauseStatus::Open;
         }
-        Weight::Forces(lit)
+        ClauseStatus::Forces(lit)
     }
 
     /// The same, where the others force a literal.
-    fn weigh_second(&self, forced: Lit, lit: Lit) -> Weight
+    fn status_with_second(&self, forced: Lit, lit: Lit) -> ClauseStatus
         requires { variable lit.number ≤ room self.now }
-        ensures { (ls : List ℤ) → WeighsAs (trues self.now) ls (Weight.Forces forced)
-            → WeighsAs (trues self.now) (ls ++ lit.number ∷ []) result }
+        ensures { (ls : List ℤ) → HasStatus (trues self.now) ls (ClauseStatus.Forces forced)
+            → HasStatus (trues self.now) (ls ++ lit.number ∷ []) result }
     {
         if self.is_false(lit) {
-            return Weight::Forces(forced);
+            return ClauseStatus::Forces(forced);
         }
         if forced.is_same(lit) {
-            return Weight::Forces(forced);
+            return ClauseStatus::Forces(forced);
         }
-        Weight::Open
+        ClauseStatus::Open
     }
 }

@@ -1,4 +1,4 @@
--- What the weight of a hinted clause means for the hints after it, and which clauses are known.
+-- What the status of a hinted clause means for the hints after it, and which clauses are known.
 use Rattle.std.proofs.Common.{◌≡◌, ℕ, zero, suc, ◌+◌, ◌-◌, ◌<◌, ◌==◌, ◌&&◌, ◌||◌, ℤ, Bool, true, IsTrue, List, [], ◌∷◌, ◌++◌, length, get_or, map, take, drop, Some, None, refl, sym, ap, ◌∙◌, subst, arith, inl, inr}
 use Rattle.std.specs.Prelude.{◌↔◌, slice_get}
 use Rattle.std.specs.List.{All}
@@ -12,13 +12,13 @@ use Rattle.cnf_core.specs.Clauses.{literals}
 use Rattle.cnf_core.specs.Deriving.{Derived, EndsEmpty, Follows, Refutes, forces, has_no_value, is_conflict, is_false, known}
 use Rattle.cnf_core.specs.Literals.{Names, has_literal, same}
 use Rattle.cnf_core.specs.Satisfying.{WellNamed}
-use Rattle.cnf_core.specs.Trails.{WeighsAs}
+use Rattle.cnf_core.specs.Trails.{HasStatus}
 use Rattle.cnf_core.specs.declared.lit.Lit.{Lit}
 use Rattle.cnf_core.specs.declared.clauses.Cnf.{Cnf}
 use Rattle.cnf_core.specs.declared.log.Step.{Step}
-use Rattle.cnf_core.specs.declared.weight.Weight.{Weight}
-use Rattle.cnf_core.specs.declared.weight.Weight.TheVariants.{Conflict, Forces, Open}
-use Rattle.proof_check.specs.Hinted.{AllNamed, WeighsHint}
+use Rattle.cnf_core.specs.declared.clause_status.ClauseStatus.{ClauseStatus}
+use Rattle.cnf_core.specs.declared.clause_status.ClauseStatus.TheVariants.{Conflict, Forces, Open}
+use Rattle.proof_check.specs.Hinted.{AllNamed, HintHasStatus}
 
 pub named-literal : {vars : ℕ} (ls : List ℤ) → All (Names vars) ls → (l : ℤ) → has_literal ls l ≡ true → Names vars l
 named-literal [] named l h = absurd (false≢true h)
@@ -28,14 +28,14 @@ named-literal {vars} (m ∷ ls) named l h = elim (or_cases (same l m) (has_liter
 ]
 
 module _ (vars : ℕ) (cs : List (List ℤ)) (ts : List ℤ) (h : ℕ) where
-  pub hint-none : slice_get cs h ≡ None → WeighsHint vars cs ts h Open
+  pub hint-none : slice_get cs h ≡ None → HintHasStatus vars cs ts h Open
   hint-none e hs r = none-some r.0 (sym e ∙ r.1)
 
   module _ (c : List ℤ) (e : slice_get cs h ≡ Some c) where
     is : (d : List ℤ) → slice_get cs h ≡ Some d → d ≡ c
     is d k = same_Some d c (sym k ∙ e)
 
-    pub hint-conflict : WeighsAs ts c Conflict → WeighsHint vars cs ts h Conflict
+    pub hint-conflict : HasStatus ts c Conflict → HintHasStatus vars cs ts h Conflict
     hint-conflict w hs = (
       (λ r. elim r.2 [
         | inl last ↦ last.0
@@ -44,7 +44,7 @@ module _ (vars : ℕ) (cs : List (List ℤ)) (ts : List ℤ) (h : ℕ) where
       λ none. (c, e, inl (none, w.0)),
     )
 
-    forces-on : (lit : Lit) → WeighsAs ts c (Forces lit) → (hs : List ℕ) → Refutes cs ts (h ∷ hs) ↔ Refutes cs (ts ++ lit.number ∷ []) hs
+    forces-on : (lit : Lit) → HasStatus ts c (Forces lit) → (hs : List ℕ) → Refutes cs ts (h ∷ hs) ↔ Refutes cs (ts ++ lit.number ∷ []) hs
     forces-on lit w hs = (
       (λ r. elim r.2 [
         | inl last ↦ absurd (both_ways (is_conflict ts r.0) (ap (is_conflict ts) (is r.0 r.1) ∙ w.0) last.1)
@@ -53,16 +53,16 @@ module _ (vars : ℕ) (cs : List (List ℤ)) (ts : List ℤ) (h : ℕ) where
       λ rest. (c, e, inr (lit.number, w.1, rest)),
     )
 
-    pub hint-open : WeighsAs ts c Open → WeighsHint vars cs ts h Open
+    pub hint-open : HasStatus ts c Open → HintHasStatus vars cs ts h Open
     hint-open w hs r = elim r.2 [
       | inl last ↦ both_ways (is_conflict ts r.0) (ap (is_conflict ts) (is r.0 r.1) ∙ w.0) last.1
       | inr next ↦ both_ways (forces ts r.0 next.0) (ap (λ d. forces ts d next.0) (is r.0 r.1) ∙ w.1 next.0) next.1
     ]
 
-    pub hint-weighs : All (Names vars) c → (w : Weight) → WeighsAs ts c w → WeighsHint vars cs ts h w
-    hint-weighs named Conflict w = hint-conflict w
-    hint-weighs named Open w = hint-open w
-    hint-weighs named (Forces lit) w =
+    pub hint-has-status : All (Names vars) c → (w : ClauseStatus) → HasStatus ts c w → HintHasStatus vars cs ts h w
+    hint-has-status named Conflict w = hint-conflict w
+    hint-has-status named Open w = hint-open w
+    hint-has-status named (Forces lit) w =
         let parts = and_parts (has_literal c lit.number) (has_no_value ts lit.number && each (λ m. same lit.number m || is_false ts m) c) w.1 in
         let value = and_parts (has_no_value ts lit.number) (each (λ m. same lit.number m || is_false ts m) c) parts.1 in
         ((named-literal {vars = vars} c named lit.number parts.0).1, value.0, forces-on lit w)

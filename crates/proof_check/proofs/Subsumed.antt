@@ -13,7 +13,7 @@ use Rattle.cnf_core.specs.Licensing.{BringsNew, IsNew, subsumed_by}
 use Rattle.cnf_core.specs.Literals.{Names, has_literal, index_of, same, variable}
 use Rattle.cnf_core.specs.Trails.{literal_at, numbers}
 use Rattle.cnf_core.proofs.LiteralFacts.{has-place}
-use Rattle.cnf_core.proofs.Weighing.{each-has}
+use Rattle.cnf_core.proofs.ClauseStatuses.{each-has}
 use Rattle.cnf_core.specs.declared.clauses.Clause.{Clause}
 use Rattle.cnf_core.specs.declared.clauses.Cnf.{Cnf}
 use Rattle.cnf_core.specs.declared.lit.Lit.{Lit}

@@ -5,11 +5,11 @@ ghost use Rattle.cnf_core.specs.Clauses.{literals};
 ghost use Rattle.cnf_core.specs.Literals.{opposite, variable};
 ghost use Rattle.cnf_core.specs.Satisfying.{WellNamed};
 ghost use Rattle.cnf_core.specs.TrailViews.{room, trues};
-ghost use Rattle.proof_check.specs.Hinted.{AllNamed, WeighsHint};
+ghost use Rattle.proof_check.specs.Hinted.{AllNamed, HintHasStatus};
 ghost use Rattle.proof_check.specs.KnownClauses.{clauses_of};
 
 use crate::known::Known;
-use cnf_core::{Clause, Cnf, Lit, Log, Step, Trail, Weight};
+use cnf_core::{Clause, ClauseStatus, Cnf, Lit, Log, Step, Trail};
 use cocoon_num::NoMemory;
 use std::alloc::Global;
 
@@ -135,22 +135,22 @@ fn propagates(trail: &mut Trail, known: &Known, hints: &[u32]) -> Result<bool, N
     ensures room { room trail.new ≡ room trail.old }
 {
     for (index, hint) in hints.iter().enumerate() {
-        match weigh(trail, known, *hint) {
-            Weight::Conflict => return Ok(index + 1 == hints.len()),
-            Weight::Open => return Ok(false),
-            Weight::Forces(lit) => trail.push(lit)?,
+        match status(trail, known, *hint) {
+            ClauseStatus::Conflict => return Ok(index + 1 == hints.len()),
+            ClauseStatus::Open => return Ok(false),
+            ClauseStatus::Forces(lit) => trail.push(lit)?,
         }
     }
     Ok(false)
 }
 
-/// What the hinted clause is under the literals that are true; none is as good as one that is open.
-fn weigh(trail: &Trail, known: &Known, hint: u32) -> Weight
+/// The status of the hinted clause under the literals that are true; none is as good as one that is open.
+fn status(trail: &Trail, known: &Known, hint: u32) -> ClauseStatus
     requires { AllNamed (room trail.now) (clauses_of known.now) }
-    ensures { WeighsHint (room trail.now) (clauses_of known.now) (trues trail.now) hint result }
+    ensures { HintHasStatus (room trail.now) (clauses_of known.now) (trues trail.now) hint result }
 {
     match known.clause(hint as usize) {
-        Some(clause) => trail.weigh(clause),
-        None => Weight::Open,
+        Some(clause) => trail.status(clause),
+        None => ClauseStatus::Open,
     }
 }

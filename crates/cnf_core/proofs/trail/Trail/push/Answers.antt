@@ -5,7 +5,7 @@ use Rattle.cnf_core.specs.Trails.{numbers}
 use Rattle.cnf_core.specs.TrailViews.{trues}
 use Rattle.cnf_core.specs.declared.lit.Lit.{Lit}
 use Rattle.cnf_core.proofs.LiteralFacts.{index_of-below}
-use Rattle.cnf_core.proofs.Weighing.{open-not_true}
+use Rattle.cnf_core.proofs.ClauseStatuses.{open-not_true}
 use Rattle.cnf_core.proofs.Placing.{apart-more, fewer-zeros, named-more, named-variable, numbers-push, place-none, placed-more}
 use Rattle.cnf_core.proofs.trail.Trail.push.Goals as goal
 

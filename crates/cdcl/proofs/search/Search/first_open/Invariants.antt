@@ -1,6 +1,0 @@
-use Rattle.cnf_core.specs.TrailViews.{room, trues}
-use Rattle.cdcl.specs.States.{CanDecide}
-use Rattle.cdcl.proofs.search.Search.first_open.Given as goal
-
-abbrev pub invariant-loop-index : goal.invariant-loop-index
-invariant-loop-index l = CanDecide (room l.self.trail) (trues l.self.trail) l.first

@@ -1,0 +1,10 @@
+use Rattle.std.proofs.Common.{◌≡◌, ◌||◌, take, true}
+use Rattle.cocoon_num.specs.Lists.{each}
+use Rattle.cnf_core.specs.Deriving.{is_false}
+use Rattle.cnf_core.specs.Literals.{same}
+use Rattle.cnf_core.specs.Trails.{numbers}
+use Rattle.cnf_core.specs.TrailViews.{trues}
+use Rattle.unit_propagation.proofs.search.Search.replacement.Given as goal
+
+abbrev pub invariant-loop-lit : goal.invariant-loop-lit
+invariant-loop-lit l = each (λ m. same l.other.number m || is_false (trues l.self.trail) m) (numbers (take l.lit-index l.lit-items)) ≡ true

@@ -1,0 +1,128 @@
+//! Decisions, made when nothing is forced any more.
+ghost use Rattle.std.specs.Prelude.{◌≡◌, ◌≤◌, ◌<◌, ◌^◌, IfOk, IsTrue, length, OnOk, pos};
+ghost use Rattle.cnf_core.specs.Deriving.{has_no_value};
+ghost use Rattle.cnf_core.specs.Literals.{Names};
+ghost use Rattle.cnf_core.specs.Satisfying.{HasAllValues, Satisfies, WellNamed};
+ghost use Rattle.cnf_core.specs.TrailViews.{not_true, room, trues};
+ghost use Rattle.search_laws.specs.Searching.{IsClosed, IsTotal};
+ghost use Rattle.unit_propagation.specs.States.{CanDecide, clauses_of, Decides, IsReady, IsSound, IsNextConflict, SameSteps};
+ghost use Rattle.unit_propagation.specs.declared.search.Search.{Search};
+
+use crate::order::Order;
+use crate::search::Search;
+use cnf_core::{Assignment, Cnf, Lit};
+use cocoon_num::{List, NoMemory};
+use std::alloc::Global;
+
+impl Search {
+    /// The last variable that has no value. Clauses of goals number a gate after what it is made of, so it is one near the
+    /// goal.
+    fn last_unassigned(&self) -> Option<Lit>
+        ensures { Decides (room self.now.trail) (trues self.now.trail) result }
+    {
+        for index in (0..self.trail.vars()).rev() {
+            let lit = positive(index + 1);
+            if !self.trail.has_value(lit) {
+                return Some(lit);
+            }
+        }
+        None
+    }
+
+    /// The variable without a value that comes first in the order; among equals the last one. `last` is the last of all.
+    fn first_unassigned(&self, order: &Order, last: Lit) -> Lit
+        requires { CanDecide (room self.now.trail) (trues self.now.trail) last }
+        ensures { CanDecide (room self.now.trail) (trues self.now.trail) result }
+    {
+        let mut first = last;
+        for index in (0..self.trail.vars()).rev() {
+            let lit = positive(index + 1);
+            if !self.trail.has_value(lit) && order.is_before(lit, first) {
+                first = lit;
+            }
+        }
+        first
+    }
+
+    /// The variable that is decided next.
+    fn next_decision(&self, order: &Order) -> Option<Lit>
+        ensures { Decides (room self.now.trail) (trues self.now.trail) result }
+    {
+        match self.last_unassigned() {
+            Some(last) => Some(self.first_unassigned(order, last)),
+            None => None,
+        }
+    }
+
+    /// Begins a level with this decision.
+    fn decide(&mut self, cnf: &Cnf, lit: Lit) -> Result<(), NoMemory>
+        requires sound { IsSound cnf.now self.old }
+        requires named { Names (room self.old.trail) lit.number }
+        requires no_value { IsTrue (has_no_value (trues self.old.trail) lit.number) }
+        requires closed { IsClosed (clauses_of cnf.now self.old) (trues self.old.trail) }
+        requires ready { IsReady cnf.now self.old }
+        requires propagated { self.old.propagated ≡ length (trues self.old.trail) }
+        ensures sound { OnOk result (IsSound cnf.now self.new) }
+        ensures ready { OnOk result (IsReady cnf.now self.new) }
+        ensures steps { SameSteps self.old self.new }
+        ensures fewer { OnOk result (not_true self.new.trail < not_true self.old.trail) }
+    {
+        self.starts.push(self.trail.len())?;
+        self.trail.push(lit)?;
+        self.reasons.push(None)?;
+        Ok(())
+    }
+
+    /// Propagates and decides until a clause is a conflict, whose number it gives then, or each variable has a value and
+    /// none is.
+    pub fn next_conflict(&mut self, cnf: &Cnf, order: &Order) -> Result<Option<u32>, NoMemory>
+        requires sound { IsSound cnf.now self.old }
+        requires named { WellNamed cnf.now }
+        requires ready { IsReady cnf.now self.old }
+        ensures sound { OnOk result (IsSound cnf.now self.new) }
+        ensures ready { OnOk result (IsReady cnf.now self.new) }
+        ensures steps { SameSteps self.old self.new }
+        ensures ran { IfOk result (λ found. IsNextConflict cnf.now self.new found) }
+    {
+        loop {
+            if let Some(conflict) = self.propagate(cnf)? {
+                return Ok(Some(conflict));
+            }
+            match self.next_decision(order) {
+                Some(lit) => self.decide(cnf, lit)?,
+                None => return Ok(None),
+            }
+        }
+    }
+}
+
+impl Search {
+    /// The values of the variables.
+    pub fn assignment(&self, alloc: Global, cnf: &Cnf) -> Result<Assignment, NoMemory>
+        requires sound { IsSound cnf.now self.now }
+        requires named { WellNamed cnf.now }
+        requires closed { IsClosed (clauses_of cnf.now self.now) (trues self.now.trail) }
+        requires total { IsTotal cnf.now.vars (trues self.now.trail) }
+        ensures values { IfOk result (λ assignment. HasAllValues cnf.now assignment) }
+        ensures satisfies { IfOk result (λ assignment. Satisfies assignment cnf.now) }
+    {
+        let mut values = Vec::new(alloc);
+        for index in 0..cnf.vars {
+            values.push(self.trail.is_true(positive(index + 1)))?;
+        }
+        Ok(Assignment {
+            values: List::from(values),
+        })
+    }
+}
+
+/// The literal that is true where this variable is.
+fn positive(variable: u32) -> Lit
+    requires some { 1 ≤ variable }
+    requires few { variable < 2 ^ 31 }
+    ensures { result.number ≡ pos variable }
+{
+    Lit {
+        number: variable as i32,
+    }
+}

@@ -1,0 +1,4 @@
+pub mod Watched
+pub mod Looking
+pub mod Opening
+pub mod Attaching
