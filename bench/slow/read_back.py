@@ -50,7 +50,7 @@ def uses(choices):
 def main():
     write("states", "3, at most 5 s and 300 MiB: 12 `if`s each set another field to a sum of 50 choices", [*(f"f{i}" for i in range(12)), *(f"c{i}" for i in range(50))], kept_sums(12, 50))
     write("choices", "3, at most 5 s and 300 MiB: 2,944 choices, and conditions on each but one", ["tag"], uses(2944))
-    write("most", "MEMORY, at most 20 s and 1024 MiB: 21 `if`s each set another field to a choice, so there are 2^21 states", (f"f{i}" for i in range(21)), copies(21))
+    write("most", "12, at most 20 s and 1024 MiB: 21 `if`s each set another field to a choice, so there would be 2^21 states", (f"f{i}" for i in range(21)), copies(21))
 
 
 if __name__ == "__main__":
