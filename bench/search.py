@@ -21,7 +21,7 @@ import time
 TOP = pathlib.Path(__file__).resolve().parent.parent
 TESTS = TOP / "crates" / "solver_tests"
 DATA = TESTS / "data"
-NEEDED = ["cocoon_num", "name_table", "key_table", "cnf_core", "proof_check", "cdcl", "case_files", "bv_terms", "bit_blast"]
+NEEDED = ["cocoon_num", "name_table", "cnf_core", "proof_check", "cdcl", "case_files", "bv_terms", "term_walk", "bit_blast"]
 # Each kind with growing sizes, up to the first that takes too long.
 FORMULAS = [
     ("exchanged", [2, 4, 6, 8, 10, 12, 14]),

@@ -10,19 +10,18 @@ use Rattle.std.proofs.lemmas.Option.{slice_get_within}
 use Rattle.bv_terms.specs.declared.node.Node.{Node}
 use Rattle.bv_terms.specs.declared.node.Node.TheVariants.{Binary, Pick}
 use Rattle.bv_terms.specs.Arenas.{IsArena, term_at, width_at}
-use Rattle.bit_blast.specs.Orders.{terms_of}
 use Rattle.std.specs.List.{fold}
 use Rattle.std.proofs.lemmas.List.{length-map}
 use Rattle.bv_terms.specs.declared.node.TermOp.TheVariants.{Add, Sub, And, Or, Xor, Concat, Equal, Less}
 use Rattle.bv_terms.specs.TermTrees.{Term, constant, input, apply, not_, binary, slice, pick, width, OperandsFit, IsTerm}
 use Rattle.cnf_core.specs.Literals.{opposite}
 use Rattle.bit_blast.specs.Gates.{or_gate, true_bit, false_bit}
-use Rattle.bit_blast.specs.Clauses.{Blasted, bits_in, blasted, count_of, first_bit, goal_bit, goal_blasted, is_among, joined, circuit_of, walk, with_term}
+use Rattle.bv_terms.specs.Walks.{is_among, walk}
+use Rattle.bit_blast.specs.Clauses.{Blasted, bits_in, blasted, count_of, first_bit, goal_bit, goal_blasted, joined, circuit_of, with_term}
 use Rattle.bit_blast.specs.Counts.{operator_clauses, term_clauses, total_clauses}
 use Rattle.bit_blast.specs.Goals.{IsUnapplied}
-use Rattle.bit_blast.proofs.OrderFacts.{is-wide}
-use Rattle.bit_blast.proofs.Places.{OfParts}
-use Rattle.bit_blast.proofs.Ordered.{Ordered}
+use Rattle.bit_blast.proofs.Lengths.{is-wide}
+use Rattle.bit_blast.specs.Orders.{OfParts, Ordered, terms_of}
 use Rattle.bit_blast.proofs.Tabling.{Tabled, goal-ordered, its-tabled, no-terms, parts-each}
 
 -- a part whose first variable is n

@@ -15,7 +15,7 @@ use Rattle.bit_blast.specs.Clauses.{first_bit, joined, circuit_of}
 use Rattle.bit_blast.specs.Goals.{IsUnapplied}
 use Rattle.bit_blast.specs.Meanings.{IsValuation, all_hold}
 use Rattle.bit_blast.proofs.GateMeanings.{and-means, or-means, xor-means, same-means, choice-means, carry-means}
-use Rattle.bit_blast.proofs.Places.{OfParts}
+use Rattle.bit_blast.specs.Orders.{OfParts}
 
 -- ---- lists
 

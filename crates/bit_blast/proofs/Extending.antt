@@ -10,12 +10,14 @@ use Rattle.bv_terms.specs.TermValues.{Functions, Inputs, number_in, term_value}
 use Rattle.cnf_core.specs.Satisfying.{makes_true}
 use Rattle.cnf_core.specs.declared.clauses.Assignment.{Assignment}
 use Rattle.bit_blast.specs.Gates.{Circuit, fresh, true_bit}
-use Rattle.bit_blast.specs.Clauses.{Blasted, bits_in, blasted, clauses_of, goal_bit, goal_blasted, is_among, circuit_of, vars_of, walk, with_term}
+use Rattle.bv_terms.specs.Walks.{is_among, walk}
+use Rattle.bit_blast.specs.Clauses.{Blasted, bits_in, blasted, clauses_of, goal_bit, goal_blasted, circuit_of, vars_of, with_term}
 use Rattle.bit_blast.specs.Goals.{IsGoal}
 use Rattle.bit_blast.specs.Meanings.{IsValuation, all_hold}
-use Rattle.bit_blast.specs.Readings.{Extends, InputsFit, ReadsAs, input_bits, number_read}
-use Rattle.bit_blast.proofs.Places.{among-more}
-use Rattle.bit_blast.proofs.Ordered.{Fresh, Ordered, among-last}
+use Rattle.bv_terms.specs.Inputs.{InputsFit}
+use Rattle.bit_blast.specs.Readings.{Extends, ReadsAs, input_bits, number_read}
+use Rattle.term_walk.proofs.Sights.{among-last, among-more}
+use Rattle.bit_blast.specs.Orders.{Fresh, Ordered}
 use Rattle.bit_blast.proofs.Defining.{Agree, AllNamed, ClausesNamed, Defines, Named, every-append, hold-both, hold-parts, holds-same, lit, lit-same, lit-valuation, opp, put, put-here, put-other}
 use Rattle.bit_blast.proofs.Tabling.{Tabled, among-cases, goal-ordered, goal-tabled, goal-there, its-bits, its-defines, its-tabled, its_circuit, kept-bits, later-bits, no-terms, parts-each}
 use Rattle.bit_blast.proofs.BitNumbers.{bit, two-pow}

@@ -1,13 +1,11 @@
 pub mod BitSteps
 pub mod GateMeanings
+pub mod Lengths
 pub mod CountFacts
-pub mod OrderFacts
-pub mod WalkFacts
-pub mod Places
-pub mod Walking
 pub mod Ordered
 pub mod Defining
 pub mod Tabling
+pub mod Emitting
 pub mod BitNumbers
 pub mod Meaning
 pub mod Extending

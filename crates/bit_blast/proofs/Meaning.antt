@@ -18,7 +18,7 @@ use Rattle.bit_blast.specs.Goals.{IsUnapplied}
 use Rattle.bit_blast.specs.Meanings.{IsValuation, all_hold}
 use Rattle.bit_blast.specs.Readings.{number_read}
 use Rattle.bit_blast.proofs.GateMeanings.{and-means, or-means, xor-means, same-means, choice-means, carry-means}
-use Rattle.bit_blast.proofs.Places.{OfParts}
+use Rattle.bit_blast.specs.Orders.{OfParts}
 use Rattle.bit_blast.proofs.Defining.{AllNamed, Named, all-more, all-opposite, first-named, hold-parts, named-more, not-zero}
 use Rattle.bit_blast.proofs.BitNumbers.{add-bits, and-bits, and-true, beq-same, bit, equal-bits, less-bits, or-bits, pair-below, sum-mod, two-pow, xor-bits}
 
@@ -226,7 +226,7 @@ module _ (v : ℤ → Bool) (is : IsValuation v) where
     joined-means Add n wa wb xs ys l hx hy ex ey s fit h =
         let m = sums-mean n false_bit xs ys (omega arith) (omega arith, l) hx hy (ex ∙ fit ∙ sym ey) h in
         let less : number_read v (sums n false_bit xs ys).bits < 2 ^ length xs
-        = subst (λ k. number_read v (sums n false_bit xs ys).bits < 2 ^ k) (Rattle.bit_blast.proofs.OrderFacts.sums-length n false_bit xs ys (ex ∙ fit ∙ sym ey)) (below (sums n false_bit xs ys).bits) in
+        = subst (λ k. number_read v (sums n false_bit xs ys).bits < 2 ^ k) (Rattle.bit_blast.proofs.Lengths.sums-length n false_bit xs ys (ex ∙ fit ∙ sym ey)) (below (sums n false_bit xs ys).bits) in
         let total : number_read v (sums n false_bit xs ys).bits + 2 ^ length xs * m.0 ≡ number_read v xs + number_read v ys
         = (let a = m.1 in let b = ap bit constant_false in omega arith) in
         computed (λ w a b. (a + b) % 2 ^ w) wa wb (number_read v xs) (number_read v ys) fit
@@ -236,7 +236,7 @@ module _ (v : ℤ → Bool) (is : IsValuation v) where
         let same : length xs ≡ length zs = ex ∙ fit ∙ sym ey ∙ sym (length-map ys opposite) in
         let m = sums-mean n true_bit xs zs (omega arith) (omega arith, l) hx (all-opposite n ys hy) same h in
         let less : number_read v (sums n true_bit xs zs).bits < 2 ^ length xs
-        = subst (λ k. number_read v (sums n true_bit xs zs).bits < 2 ^ k) (Rattle.bit_blast.proofs.OrderFacts.sums-length n true_bit xs zs same) (below (sums n true_bit xs zs).bits) in
+        = subst (λ k. number_read v (sums n true_bit xs zs).bits < 2 ^ k) (Rattle.bit_blast.proofs.Lengths.sums-length n true_bit xs zs same) (below (sums n true_bit xs zs).bits) in
         let turned : number_read v zs + number_read v ys + 1 ≡ 2 ^ wb = flipped n ys hy ∙ ap (λ k. 2 ^ k) ey in
         let total : number_read v (sums n true_bit xs zs).bits + 2 ^ length xs * m.0 ≡ number_read v xs + 2 ^ wb - number_read v ys
         = (let a = m.1 in let b = ap bit constant_true in omega arith) in
@@ -292,7 +292,7 @@ module _ (v : ℤ → Bool) (is : IsValuation v) where
           ∙ ap (number (width a)) (let f = flipped n (bits a) named in let p = ap (λ k. 2 ^ k) counts in omega arith)
       part-means n (binary op a b) l h u named counts holds parts reads =
           ap (λ x. operated op x (term_value F ins b)) parts.0 ∙ ap (operated op (number (width a) (number_read v (bits a)))) parts.1
-          ∙ joined-means op n (width a) (width b) (bits a) (bits b) l named.0 named.1 counts.0 counts.1 (Rattle.bit_blast.proofs.OrderFacts.is-wide a h.0) h.2 holds
+          ∙ joined-means op n (width a) (width b) (bits a) (bits b) l named.0 named.1 counts.0 counts.1 (Rattle.bit_blast.proofs.Lengths.is-wide a h.0) h.2 holds
       part-means n (slice a high low) l h u named counts holds parts reads =
           ap (λ x. term_number (apply_slice x high low)) parts ∙ sliced-width (width a) (number_read v (bits a)) high low h.1 h.2
           ∙ ap (number (high - low + 1)) (sym (taken low (high - low + 1) (bits a) (let q = h.2 in let r = h.1 in omega arith)))

@@ -1,23 +1,12 @@
 -- The terms of a walk: each is new where it comes, and its parts come before it.
-use Rattle.std.proofs.Common.{◌≡◌, true, false, List, [], ◌∷◌, ◌++◌, ap, sym, ◌∙◌, subst, inl, inr, append_assoc}
+use Rattle.std.proofs.Common.{◌≡◌, true, List, [], ◌∷◌, ◌++◌, ap, sym, ◌∙◌, subst, inl, inr, append_assoc}
 use Rattle.std.proofs.lemmas.List.{append-nil}
-use Rattle.std.proofs.lemmas.List.Folds.{list_any-append}
-use Rattle.std.proofs.lemmas.Bool.{cases_Bool, cond-true, cond-false, or_left, or_right}
+use Rattle.std.proofs.lemmas.Bool.{cases_Bool, cond-true, cond-false}
 use Rattle.bv_terms.specs.TermTrees.{Term, constant, input, apply, not_, binary, slice, pick, IsTerm}
-use Rattle.bit_blast.specs.Clauses.{is_among, leave, same_term, walk}
+use Rattle.bv_terms.specs.Walks.{is_among, leave, walk}
 use Rattle.bit_blast.specs.Goals.{IsUnapplied}
-use Rattle.bit_blast.proofs.WalkFacts.{same-itself}
-use Rattle.bit_blast.proofs.Places.{OfParts, among-more}
-
-pub record Fresh (seen : List Term) (t : Term) : Type 0 where
-  pub term : IsTerm t
-  pub unapplied : IsUnapplied t
-  pub new : is_among seen t ≡ false
-  pub parts : OfParts (λ u. is_among seen u ≡ true) t
-
-abbrev pub Ordered : List Term → List Term → Type 0
-Ordered seen [] = Unit {0}
-Ordered seen (t ∷ ts) = Fresh seen t × Ordered (seen ++ t ∷ []) ts
+use Rattle.bit_blast.specs.Orders.{OfParts, Ordered}
+use Rattle.term_walk.proofs.Sights.{among-last, among-more}
 
 ordered-append : (seen xs ys : List Term) → Ordered seen xs → Ordered (seen ++ xs) ys → Ordered seen (xs ++ ys)
 ordered-append seen [] ys h k = subst (λ s. Ordered s ys) (append-nil seen) k
@@ -41,9 +30,6 @@ grows-then t u last after seen g k = record {
   ordered = ordered-append seen g.more k.more g.ordered (subst (λ s. Ordered s k.more) g.is k.ordered);
   there = k.there;
 }
-
-pub among-last : (seen : List Term) (t : Term) → is_among (seen ++ t ∷ []) t ≡ true
-among-last seen t = list_any-append (λ (u : Term). same_term u t) seen (t ∷ []) ∙ or_right (is_among seen t) (is_among (t ∷ []) t) (or_left (same_term t t) false (same-itself t))
 
 leave-grows : (t : Term) (seen : List Term) → IsTerm t → IsUnapplied t → OfParts (λ u. is_among seen u ≡ true) t → Grows t (leave t seen) seen
 leave-grows t seen h u ps = elim (cases_Bool (is_among seen t)) [

@@ -7,12 +7,13 @@ use Rattle.std.proofs.lemmas.Bool.{cases_Bool, cond-true, cond-false, or_cases, 
 use Rattle.bv_terms.specs.TermTrees.{Term, constant, input, apply, not_, binary, slice, pick, width, IsTerm}
 use Rattle.cnf_core.specs.Literals.{opposite}
 use Rattle.bit_blast.specs.Gates.{Circuit, choice_gate}
-use Rattle.bit_blast.specs.Clauses.{Blasted, bits_in, blasted, first_bit, goal_blasted, is_among, circuit_of, same_term, walk, with_term}
+use Rattle.bv_terms.specs.Walks.{is_among, same_term, walk}
+use Rattle.bit_blast.specs.Clauses.{Blasted, bits_in, blasted, first_bit, goal_blasted, circuit_of, with_term}
 use Rattle.bit_blast.specs.Goals.{IsUnapplied}
-use Rattle.bit_blast.proofs.WalkFacts.{same-itself, same-only}
-use Rattle.bit_blast.proofs.Places.{OfParts}
-use Rattle.bit_blast.proofs.OrderFacts.{bitwise-length, constant-length, fresh-length, joined-length, slice-length}
-use Rattle.bit_blast.proofs.Ordered.{Fresh, Ordered, walk-grows}
+use Rattle.bv_terms.proofs.SameTerms.{same-itself, same-only}
+use Rattle.bit_blast.specs.Orders.{Fresh, OfParts, Ordered}
+use Rattle.bit_blast.proofs.Lengths.{bitwise-length, constant-length, fresh-length, joined-length, slice-length}
+use Rattle.bit_blast.proofs.Ordered.{walk-grows}
 use Rattle.bit_blast.proofs.Defining.{AllNamed, ClausesNamed, Defines, all-more, clauses-more, every-append, part-defines}
 
 -- ---- rows

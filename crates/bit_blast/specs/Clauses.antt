@@ -1,65 +1,12 @@
--- Cited by the clauses of `blast`, by the laws on clauses and on walks, and by private clauses: the clauses of a goal, in their
--- order. It follows the section "Clauses" of docs/CLAUSES.md.
-use Rattle.std.specs.Prelude.{◌≡◌, ℕ, ◌+◌, ◌-◌, ◌==◌, ◌&&◌, Bool, true, false, ℤ, List, [], ◌∷◌, ◌++◌, map, take, drop, fold, length, if◌then◌else◌, slice_index_or}
-use Rattle.std.specs.List.{list_any}
+-- Cited by the clauses of `blast`, by the laws on clauses, and by private clauses: the clauses of a goal, in their order. It
+-- follows the section "Clauses" of docs/CLAUSES.md.
+use Rattle.std.specs.Prelude.{◌≡◌, ℕ, ◌+◌, ◌-◌, ℤ, List, [], ◌∷◌, ◌++◌, map, take, drop, fold, length, if◌then◌else◌, slice_index_or}
 use Rattle.bv_terms.specs.declared.node.TermOp.{TermOp}
 use Rattle.bv_terms.specs.declared.node.TermOp.TheVariants.{Add, Sub, And, Or, Xor, Concat, Equal, Less}
-use Rattle.bv_terms.specs.TermTrees.{Term, Args, constant, input, apply, not_, binary, slice, pick, no_args, arg}
+use Rattle.bv_terms.specs.TermTrees.{Term, constant, input, apply, not_, binary, slice, pick}
+use Rattle.bv_terms.specs.Walks.{same_term, walk}
 use Rattle.cnf_core.specs.Literals.{opposite}
 use Rattle.bit_blast.specs.Gates.{Circuit, and_gate, or_gate, xor_gate, choice_gate, true_bit, false_bit, constant_bits, fresh, plain, bitwise, sums, equals, less_from}
-
--- ---- equal terms: equal by structure, inputs by their numbers
-
-abbrev pub op_number : TermOp → ℕ
-op_number Add = 0
-op_number Sub = 1
-op_number And = 2
-op_number Or = 3
-op_number Xor = 4
-op_number Concat = 5
-op_number Equal = 6
-op_number Less = 7
-
-abbrev mutual
-  pub same_term : Term → Term → Bool
-  same_term (constant v m) (constant w n) = v == w && m == n
-  same_term (input i v) (input j w) = i == j && v == w
-  same_term (apply f ts v) (apply g us w) = f == g && same_args ts us && v == w
-  same_term (not_ a) (not_ b) = same_term a b
-  same_term (binary op a b) (binary op' a' b') = op_number op == op_number op' && same_term a a' && same_term b b'
-  same_term (slice a high low) (slice b high' low') = same_term a b && high == high' && low == low'
-  same_term (pick c a b) (pick c' a' b') = same_term c c' && same_term a a' && same_term b b'
-  same_term t u = false
-
-  pub same_args : Args → Args → Bool
-  same_args no_args no_args = true
-  same_args (arg t ts) (arg u us) = same_term t u && same_args ts us
-  same_args ts us = false
-
-abbrev pub is_among : List Term → Term → Bool
-is_among ts t = list_any (λ u. same_term u t) ts
-
--- ---- the walk
-
--- a term is numbered where it is left for the first time
-abbrev pub leave : Term → List Term → List Term
-leave t seen = if is_among seen t then seen else seen ++ t ∷ []
-
-abbrev mutual
-  -- the distinct terms in the order in which they are left, after those that were seen: a term's arguments first, from
-  -- left to right
-  pub walk : Term → List Term → List Term
-  walk (constant w n) seen = leave (constant w n) seen
-  walk (input i w) seen = leave (input i w) seen
-  walk (apply f args w) seen = leave (apply f args w) (walk_args args seen)
-  walk (not_ a) seen = leave (not_ a) (walk a seen)
-  walk (binary op a b) seen = leave (binary op a b) (walk b (walk a seen))
-  walk (slice a high low) seen = leave (slice a high low) (walk a seen)
-  walk (pick c a b) seen = leave (pick c a b) (walk b (walk a (walk c seen)))
-
-  pub walk_args : Args → List Term → List Term
-  walk_args no_args seen = seen
-  walk_args (arg t ts) seen = walk_args ts (walk t seen)
 
 -- ---- the bits of terms
 

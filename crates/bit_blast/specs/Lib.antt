@@ -5,9 +5,7 @@ pub mod Meanings
 pub mod Tables
 pub mod Counts
 pub mod Orders
-pub mod Seen
 pub mod Goals
-pub mod Walks
 pub mod Readings
 pub mod Blasting
 pub mod InputTables

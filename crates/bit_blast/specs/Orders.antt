@@ -1,62 +1,52 @@
 -- Cited by private clauses: terms of an arena in an order in which parts come first, and their gates.
-use Rattle.std.specs.Prelude.{◌≡◌, ℕ, ◌<◌, ◌≤◌, ℤ, suc, List, [], ◌∷◌, map, length, take, Option, Some, None, option_map, option_and_then, unwrap_or, if◌then◌else◌, slice_get}
-use Rattle.std.specs.List.{All}
+use Rattle.std.specs.Prelude.{◌≡◌, ℕ, ◌<◌, true, false, List, [], ◌∷◌, ◌++◌, All, length, map}
 use Rattle.bv_terms.specs.declared.node.Node.{Node}
-use Rattle.bv_terms.specs.declared.node.Node.TheVariants.{Apply}
-use Rattle.bv_terms.specs.TermTrees.{Term, width}
-use Rattle.bv_terms.specs.Arenas.{IsArena, parts, term_at}
+use Rattle.bv_terms.specs.TermTrees.{Term, not_, binary, slice, pick, IsTerm}
+use Rattle.bv_terms.specs.Arenas.{IsArena, term_at}
+use Rattle.bv_terms.specs.Walks.{AreNumbersOf, is_among, walk}
 use Rattle.bit_blast.specs.declared.made.Gates.{Gates}
 use Rattle.bit_blast.specs.declared.table.Table.{Table}
-use Rattle.bit_blast.specs.Clauses.{same_term, blasted}
+use Rattle.bit_blast.specs.Clauses.{bits_in, blasted}
+use Rattle.bit_blast.specs.Emitted.{listed}
 use Rattle.bit_blast.specs.Gates.{true_bit}
-use Rattle.bit_blast.specs.Emitted.{numbers, listed}
-
--- the index of the first of some terms that is equal
-abbrev pub first_index : List Term → Term → Option ℕ
-first_index [] u = None
-first_index (t ∷ ts) u = if same_term t u then Some 0 else option_map suc (first_index ts u)
+use Rattle.bit_blast.specs.Goals.{IsGoal, IsUnapplied}
+use Rattle.bit_blast.specs.Tables.{bits_at}
 
 abbrev pub terms_of : List Node → List ℕ → List Term
 terms_of nodes order = map (term_at nodes) order
 
--- a part of the k-th term has a smaller index, that of the first term which is equal to its own
-pub record IsBefore (nodes : List Node) (order : List ℕ) (indices : List (Option ℕ)) (k p : ℕ) : Type 0 where
-  pub index : ℕ
-  pub has : option_and_then (λ (i : Option ℕ). i) (slice_get indices p) ≡ Some index
-  pub smaller : index < k
-  pub there : slice_get (terms_of nodes order) index ≡ Some (term_at nodes p)
-  pub first : first_index (terms_of nodes order) (term_at nodes p) ≡ Some index
+-- what holds of the parts of a term without functions
+abbrev pub OfParts : (Term → Type 0) → Term → Type 0
+OfParts P (not_ a) = P a
+OfParts P (binary op a b) = P a × P b
+OfParts P (slice a high low) = P a
+OfParts P (pick c a b) = P c × P a × P b
+OfParts P t = Unit {0}
 
-pub record IsOrder (nodes : List Node) (order : List ℕ) (indices : List (Option ℕ)) : Type 0 where
-  pub arena : IsArena nodes
+-- a term that was not seen before, and its parts were
+pub record Fresh (seen : List Term) (t : Term) : Type 0 where
+  pub term : IsTerm t
+  pub unapplied : IsUnapplied t
+  pub new : is_among seen t ≡ false
+  pub parts : OfParts (λ u. is_among seen u ≡ true) t
+
+abbrev pub Ordered : List Term → List Term → Type 0
+Ordered seen [] = Unit {0}
+Ordered seen (t ∷ ts) = Fresh seen t × Ordered (seen ++ t ∷ []) ts
+
+pub record IsOrder (nodes : List Node) (order : List ℕ) : Type 0 where
   pub there : All (λ id. id < length nodes) order
-  pub before_ : (k id : ℕ) (node : Node) → slice_get order k ≡ Some id → slice_get nodes id ≡ Some node
-      → All (IsBefore nodes order indices k) (parts node)
-  -- no term is an application
-  pub unapplied : (k id f w : ℕ) (args : List ℕ) → slice_get order k ≡ Some id
-      → slice_get nodes id ≡ Some (Apply f args w) → ⊥
+  pub ordered : Ordered [] (terms_of nodes order)
 
-abbrev pub row_numbers : Table → List (List ℤ)
-row_numbers table = map (λ row. numbers row.items) table.rows.items
+-- a goal's terms, in the order of the walk
+pub record IsWalked (nodes : List Node) (goal : ℕ) (order : List ℕ) : Type 0 where
+  pub arena : IsArena nodes
+  pub there : goal < length nodes
+  pub goal_ : IsGoal (term_at nodes goal)
+  pub order_ : AreNumbersOf nodes (walk (term_at nodes goal) []) order
 
--- each term beside its bits
-abbrev pub rows_of : List Term → List (List ℤ) → List (Term × List ℤ)
-rows_of (t ∷ ts) (bits ∷ rows) = (t, bits) ∷ rows_of ts rows
-rows_of ts rows = []
-
--- the table and the gates of these terms
-pub record IsTable (ts : List Term) (gates : Gates) (table : Table) : Type 0 where
-  pub rows_are : (blasted ts).table ≡ rows_of ts (row_numbers table)
+-- the gates and the bits of these terms
+pub record IsEmitted (nodes : List Node) (ts : List Term) (gates : Gates) (table : Table) : Type 0 where
+  pub bits_are : (k : ℕ) → k < length nodes → bits_at table k ≡ bits_in (blasted ts).table (term_at nodes k)
   pub clauses_are : listed gates ≡ (true_bit ∷ []) ∷ (blasted ts).clauses
   pub next_is : gates.next ≡ (blasted ts).next
-
--- the first i of some terms have their gates, and the table is one for all of them
-pub record IsEmitted (nodes : List Node) (order : List ℕ) (indices : List (Option ℕ)) (i : ℕ) (gates : Gates)
-    (table : Table) : Type 0 where
-  pub order_ : IsOrder nodes order indices
-  pub indices_are : table.indices.items ≡ indices
-  pub count : length table.rows.items ≡ i
-  pub within : i ≤ length order
-  pub table_ : IsTable (take i (terms_of nodes order)) gates table
-  pub widths : (k : ℕ) (t : Term) → k < i → slice_get (terms_of nodes order) k ≡ Some t
-      → length (unwrap_or (slice_get (row_numbers table) k) []) ≡ width t

@@ -1,5 +1,7 @@
 -- Cited by private clauses: the bits of a node, given those of its parts.
-use Rattle.std.specs.Prelude.{◌≡◌, ℕ, ◌+◌, ◌-◌, ◌<◌, ◌≤◌, ℤ, List, [], map, take, drop, length, Option, Some, option_map, option_and_then, unwrap_or, slice_get}
+use Rattle.std.specs.Prelude.{◌≡◌, ℕ, ◌+◌, ◌-◌, ◌<◌, ◌≤◌, ℤ, List, [], map, take, drop, length, option_map, unwrap_or}
+use Rattle.std.specs.Ordering.{nat_cmp}
+use Rattle.std.specs.BTreeMap.{get}
 use Rattle.bv_terms.specs.declared.node.Node.{Node}
 use Rattle.bv_terms.specs.declared.node.Node.TheVariants.{Constant, Input, Apply, Not, Binary, Slice, Pick}
 use Rattle.cnf_core.specs.Literals.{opposite}
@@ -8,32 +10,19 @@ use Rattle.bit_blast.specs.Gates.{Circuit, choice_gate, constant_bits, fresh, pl
 use Rattle.bit_blast.specs.Clauses.{OperandsMatch, first_bit, joined}
 use Rattle.bit_blast.specs.Emitted.{numbers}
 
--- the index of a term's bits, and these
-abbrev pub index_at : Table → ℕ → Option ℕ
-index_at t term = option_and_then (λ i. i) (slice_get t.indices.items term)
-
+-- the bits of a term: none, if it has no row
 abbrev pub bits_at : Table → ℕ → List ℤ
-bits_at t term =
-    let row = option_and_then (λ i. slice_get t.rows.items i) (index_at t term) in
-    unwrap_or (option_map (λ row. numbers row.items) row) []
-
--- the term has bits there
-abbrev pub HasRow : Table → ℕ → Type 0
-HasRow t term = (i : ℕ) × (index_at t term ≡ Some i) × (i < length t.rows.items)
+bits_at t term = unwrap_or (option_map (λ row. numbers row.items) (get nat_cmp t.rows term)) []
 
 abbrev pub count_at : Table → ℕ → ℕ
 count_at t term = length (bits_at t term)
 
--- each part has bits, as many as its place takes
+-- each part has as many bits as its place takes
 abbrev pub HasBits : Table → Node → Type 0
-HasBits t (Constant b) = Unit {0}
-HasBits t (Input i w) = Unit {0}
-HasBits t (Apply f args w) = Unit {0}
-HasBits t (Not a) = HasRow t a
-HasBits t (Binary op a b) =
-    HasRow t a × HasRow t b × OperandsMatch op (count_at t a) (count_at t b) × (0 < count_at t a)
-HasBits t (Slice a high low) = HasRow t a × (low ≤ high) × (high < count_at t a)
-HasBits t (Pick c a b) = HasRow t c × HasRow t a × HasRow t b × (0 < count_at t c) × (count_at t a ≡ count_at t b)
+HasBits t (Binary op a b) = OperandsMatch op (count_at t a) (count_at t b) × (0 < count_at t a)
+HasBits t (Slice a high low) = (low ≤ high) × (high < count_at t a)
+HasBits t (Pick c a b) = (0 < count_at t c) × (count_at t a ≡ count_at t b)
+HasBits t node = Unit {0}
 
 -- the bits and gates of a node, by those of its parts, as `circuit_of` gives them of the node's term
 abbrev pub circuit_of_node : (ℕ → List ℤ) → (n : ℕ) → Node → Circuit

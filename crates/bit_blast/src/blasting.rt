@@ -9,11 +9,11 @@ ghost use Rattle.bit_blast.specs.Goals.{IsUnapplied};
 use crate::counts::clause_count;
 use crate::emit::assemble;
 use crate::inputs::InputMap;
-use crate::walk::distinct;
 use bv_terms::{TermId, Terms};
 use cnf_core::Cnf;
 use cocoon_num::NoMemory;
 use std::alloc::Global;
+use term_walk::distinct;
 
 /// More clauses are refused.
 const MOST_CLAUSES: u64 = 4_000_000;
@@ -50,10 +50,11 @@ pub fn blast(alloc: Global, terms: &Terms, goal: TermId) -> Result<(Cnf, InputMa
     ensures few { IfOk result (λ made. count_of (term_at terms.now goal) ≤ most_clauses) }
     ensures fault { IfErr result (λ fault. IsFault (term_at terms.now goal) fault) }
 {
-    let walk = distinct(alloc, terms, goal)?;
-    let count = clause_count(terms, &walk.order)?;
+    prove!(goal < terms.count());
+    let order = distinct(alloc, terms, goal)?;
+    let count = clause_count(terms, &order)?;
     if count > MOST_CLAUSES {
         return Err(BlastFault::Clauses(count));
     }
-    Ok(assemble(alloc, terms, goal, walk)?)
+    Ok(assemble(alloc, terms, goal, &order)?)
 }

@@ -1,42 +1,34 @@
 //! Terms' gates in their order.
-ghost use Rattle.std.specs.Prelude.{◌<◌, ◌^◌, IfOk, length};
+ghost use Rattle.std.specs.Prelude.{◌<◌, ◌^◌, IfOk};
 ghost use Rattle.bv_terms.specs.Arenas.{term_at};
 ghost use Rattle.bit_blast.specs.Blasting.{IsClauses, MapsInputs};
-ghost use Rattle.bit_blast.specs.Orders.{IsEmitted, IsOrder};
-ghost use Rattle.bit_blast.specs.Goals.{IsGoal};
-ghost use Rattle.bit_blast.specs.Walks.{WalkDone};
+ghost use Rattle.bit_blast.specs.Orders.{IsEmitted, IsOrder, IsWalked, terms_of};
 
 use crate::bit::Bit;
 use crate::inputs::InputMap;
 use crate::made::Gates;
 use crate::parts::first;
 use crate::table::Table;
-use crate::walk::Walk;
 use bv_terms::{TermId, Terms};
 use cnf_core::Cnf;
 use cocoon_num::NoMemory;
 use std::alloc::Global;
+use std::collections::BTreeMap;
 
 /// The gates of terms, each after those that it is made of.
-pub(crate) fn emit(
-    alloc: Global,
-    terms: &Terms,
-    order: &[TermId],
-    indices: Vec<Option<usize>>,
-) -> Result<(Gates, Table), NoMemory>
-    requires { IsOrder terms.now order.now indices.items }
-    ensures { IfOk result (λ made. IsEmitted terms.now order.now indices.items
-        (length order.now) made.0 made.1) }
+fn emit(alloc: Global, terms: &Terms, order: &[TermId]) -> Result<(Gates, Table), NoMemory>
+    requires { IsOrder terms.now order.now }
+    ensures { IfOk result (λ made.
+        IsEmitted terms.now (terms_of terms.now order.now) made.0 made.1) }
 {
     let mut gates = Gates::new(alloc);
     gates.add(alloc, &[Bit::constant(true)])?;
     let mut table = Table {
-        rows: Vec::new(alloc),
-        indices,
+        rows: BTreeMap::new(alloc),
     };
     for term in order {
         let bits = gates.node_bits(alloc, &table, terms.node(*term))?;
-        table.rows.push(bits)?;
+        table.rows.insert(*term, bits)?;
     }
     Ok((gates, table))
 }
@@ -46,16 +38,14 @@ pub(crate) fn assemble(
     alloc: Global,
     terms: &Terms,
     goal: TermId,
-    walk: Walk,
+    order: &[TermId],
 ) -> Result<(Cnf, InputMap), NoMemory>
-    requires walked { WalkDone terms.now goal walk.order.items walk.indices.items }
-    requires goal { IsGoal (term_at terms.now goal) }
+    requires { IsWalked terms.now goal order.now }
     ensures clauses { IfOk result (λ made. IsClauses made.0 (term_at terms.now goal)) }
     ensures small { IfOk result (λ made. made.0.vars < 2 ^ 31) }
     ensures inputs { IfOk result (λ made. MapsInputs terms.now (term_at terms.now goal) made.1) }
 {
-    let Walk { order, indices, .. } = walk;
-    let (mut gates, table) = emit(alloc, terms, &order, indices)?;
+    let (mut gates, table) = emit(alloc, terms, order)?;
     let inputs = InputMap::new(alloc, terms, &table)?;
     let bit = first(table.bits(goal));
     gates.add(alloc, &[bit])?;

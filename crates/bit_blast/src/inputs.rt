@@ -93,7 +93,7 @@ impl InputBits {
         let term = terms.input_term(input);
         Ok(InputBits {
             width: terms.width(term),
-            bits: table.copy_bits(alloc, term)?,
+            bits: Vec::from_slice(alloc, table.bits(term))?,
         })
     }
 }

@@ -1,31 +1,20 @@
-//! What the definitions say of terms, walks and gates. The functions do nothing; their contracts are the laws.
+//! What the definitions say of gates and clauses. The functions do nothing; their contracts are the laws.
 ghost use Rattle.std.specs.Prelude.{◌≡◌, ◌≢◌, ◌↔◌, IsTrue, ℕ, length, ◌&&◌, ◌||◌, [], ◌∷◌, Bool, List, if◌then◌else◌, negsuc, not, pos, true, ℤ};
 ghost use Rattle.bv_terms.specs.TermTrees.{Term, binary, input};
 ghost use Rattle.bv_terms.specs.declared.node.TermOp.TheVariants.{And};
-ghost use Rattle.bit_blast.specs.Clauses.{clauses_of, same_term, vars_of, walk};
-ghost use Rattle.bit_blast.specs.Seen.{Seen};
+ghost use Rattle.bit_blast.specs.Clauses.{clauses_of, vars_of};
 ghost use Rattle.std.specs.Bool.{beq};
 ghost use Rattle.bit_blast.specs.Gates.{and_gate, carry_gate, choice_gate, or_gate, same_gate, xor_gate};
 ghost use Rattle.bit_blast.specs.Meanings.{IsValuation, all_hold};
 ghost use Rattle.bit_blast.specs.Blasting.{IsClauses};
 ghost use Rattle.bit_blast.specs.Goals.{IsGoal};
-ghost use Rattle.bit_blast.specs.Readings.{Extends, InputsFit, Mentions, ReadsAs, input_bits};
+ghost use Rattle.bit_blast.specs.Readings.{Extends, ReadsAs, input_bits};
+ghost use Rattle.bv_terms.specs.Inputs.{InputsFit, Mentions};
 ghost use Rattle.bv_terms.specs.TermValues.{Functions, Inputs, term_value};
 ghost use Rattle.cnf_core.specs.Satisfying.{Satisfies, makes_true};
 ghost use Rattle.cnf_core.specs.declared.clauses.Assignment.{Assignment};
 ghost use Rattle.cnf_core.specs.declared.clauses.Cnf.{Cnf};
 ghost use Rattle.cocoon_num.specs.Values.{number};
-
-/// Terms are told apart by how they are built, inputs by their numbers.
-pub fn equal_terms_are_the_same()
-    ensures itself { (t : Term) → same_term t t ≡ true }
-    ensures only { (t u : Term) → same_term t u ≡ true → t ≡ u }
-{}
-
-/// A walk numbers nothing in a term that it saw with all that the term is made of.
-pub fn a_walk_passes_over_what_it_saw()
-    ensures { (t : Term) (seen : List Term) → Seen seen t → walk t seen ≡ seen }
-{}
 
 /// No gate is left out because it is trivial: 1 is the constant, 2 the input, 3 the gate.
 pub fn and_of_one_input_has_five_clauses()

@@ -13,7 +13,6 @@ pub mod laws;
 mod made;
 mod parts;
 mod table;
-mod walk;
 
 pub use blasting::{BlastFault, blast};
 pub use inputs::InputMap;

@@ -1,7 +1,7 @@
 //! The bits of the terms so far.
 ghost use Rattle.std.specs.Prelude.{◌≡◌, IfOk};
 ghost use Rattle.bit_blast.specs.Emitted.{AreGates, numbers};
-ghost use Rattle.bit_blast.specs.Tables.{HasBits, HasRow, bits_at, index_at, circuit_of_node};
+ghost use Rattle.bit_blast.specs.Tables.{HasBits, bits_at, circuit_of_node};
 
 use crate::bit::Bit;
 use crate::joining::{BitGate, flipped};
@@ -10,44 +10,22 @@ use crate::parts::{constant_bits, slice_bits};
 use bv_terms::{Node, TermId};
 use cocoon_num::NoMemory;
 use std::alloc::Global;
+use std::collections::BTreeMap;
 
-/// The bits of each distinct term, and for each term of the arena the index of its bits, if any.
+/// The bits of each term that was made.
 #[derive(Drop)]
 pub(crate) struct Table {
-    pub(crate) rows: Vec<Vec<Bit>>,
-    pub(crate) indices: Vec<Option<usize>>,
+    pub(crate) rows: BTreeMap<TermId, Vec<Bit>>,
 }
 
 impl Table {
+    /// The bits of a term, none if it was not made.
     pub(crate) fn bits(&self, term: TermId) -> &[Bit]
-        requires { HasRow self.now term }
         ensures { numbers result.now ≡ bits_at self.now term }
     {
-        match self.indices[term as usize] {
-            Some(index) => &self.rows[index],
-            None => unreachable!(),
-        }
-    }
-
-    fn index(&self, term: TermId) -> Option<usize>
-        ensures { result ≡ index_at self.now term }
-    {
-        match self.indices.get(term as usize) {
-            Some(index) => *index,
-            None => None,
-        }
-    }
-
-    /// The bits of a term, none if it has no place.
-    pub(crate) fn copy_bits(&self, alloc: Global, term: TermId) -> Result<Vec<Bit>, NoMemory>
-        ensures { IfOk result (λ bits. numbers bits.items ≡ bits_at self.now term) }
-    {
-        let Some(index) = self.index(term) else {
-            return Ok(Vec::new(alloc));
-        };
-        match self.rows.get(index) {
-            Some(bits) => Ok(Vec::from_slice(alloc, bits)?),
-            None => Ok(Vec::new(alloc)),
+        match self.rows.get(&term) {
+            Some(bits) => bits,
+            None => &[],
         }
     }
 }

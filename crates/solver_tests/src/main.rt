@@ -21,7 +21,7 @@ mod values;
 use case_files::{Printer, Subject, first_word, try_words};
 use dimacs_texts::{Kind, put_searches, put_texts};
 use goals::{put_inputs, put_size, put_solutions};
-use numbers::put_numbers;
+use numbers::{Found, put_numbers, put_walk};
 use std::process::ExitCode;
 use values::put_values;
 
@@ -44,6 +44,8 @@ impl<'r> Subject for Cases<'r> {
             "size" => put_size(self.rt.alloc(), rest, given),
             "inputs" => put_inputs(self.rt.alloc(), rest, given),
             "terms" => put_numbers(self.rt.alloc(), rest, given),
+            "walk" => put_walk(self.rt.alloc(), rest, Found::All, given),
+            "applications" => put_walk(self.rt.alloc(), rest, Found::Applications, given),
             "lists" => put_texts(self.rt, Kind::List, rest, given),
             "logs" => put_texts(self.rt, Kind::Log, rest, given),
             "searches" => put_searches(self.rt, rest, given),

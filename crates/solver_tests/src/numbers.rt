@@ -1,19 +1,58 @@
 //! The numbers of terms.
-use crate::drafts::Draft;
-use case_files::Printer;
-use std::alloc::Global;
+ghost use Rattle.std.specs.Prelude.{◌<◌, length};
 
-/// Puts the number of each term that the words leave, in their order.
-pub fn put_numbers(alloc: Global, words: &str, given: &mut Printer) {
-    let Some(draft) = Draft::read_all(alloc, words, None) else {
-        return given.put("no term");
-    };
+use crate::drafts::Draft;
+use bv_terms::{TermId, Terms};
+use case_files::Printer;
+use cocoon_num::NoMemory;
+use std::alloc::Global;
+use term_walk::{applications, distinct};
+
+/// Which terms a walk over a term finds.
+#[derive(Clone, Copy, Drop)]
+pub enum Found {
+    All,
+    Applications,
+}
+
+fn put_terms(terms: &[TermId], given: &mut Printer) {
     let mut is_first = true;
-    for term in &draft.waiting {
+    for term in terms {
         if !is_first {
             given.put(" ");
         }
         given.put_number(u64::from(*term));
         is_first = false;
+    }
+}
+
+/// Puts the number of each term that the words leave, in their order.
+pub fn put_numbers(alloc: Global, words: &str, given: &mut Printer) {
+    match Draft::read_all(alloc, words, None) {
+        Some(draft) => put_terms(&draft.waiting, given),
+        None => given.put("no term"),
+    }
+}
+
+fn found(alloc: Global, terms: &Terms, term: TermId, found: Found) -> Result<Vec<TermId>, NoMemory>
+    requires { term < length terms.now }
+{
+    match found {
+        Found::All => distinct(alloc, terms, term),
+        Found::Applications => applications(alloc, terms, term),
+    }
+}
+
+/// Puts the numbers of the terms that the last term of the words is made of, in the order of the walk.
+pub fn put_walk(alloc: Global, words: &str, kind: Found, given: &mut Printer) {
+    let Some((draft, term)) = Draft::read(alloc, words, None) else {
+        return given.put("no term");
+    };
+    if term >= draft.terms.count() {
+        return given.put("no term");
+    }
+    match found(alloc, &draft.terms, term, kind) {
+        Ok(order) => put_terms(&order, given),
+        Err(_) => given.lose(),
     }
 }

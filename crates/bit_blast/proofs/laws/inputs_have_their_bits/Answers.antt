@@ -1,7 +1,8 @@
 use Rattle.std.proofs.lemmas.Bool.{false_from_ne_true}
 use Rattle.bv_terms.specs.TermTrees.{input}
 use Rattle.std.proofs.Common.{[]}
-use Rattle.bit_blast.specs.Clauses.{goal_blasted, is_among, walk}
+use Rattle.bv_terms.specs.Walks.{is_among, walk}
+use Rattle.bit_blast.specs.Clauses.{goal_blasted}
 use Rattle.bit_blast.proofs.Tabling.{goal-tabled, no-bits}
 use Rattle.bit_blast.proofs.laws.inputs_have_their_bits.Goals as goal
 

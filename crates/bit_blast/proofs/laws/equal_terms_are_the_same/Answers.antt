@@ -1,8 +1,0 @@
-use Rattle.bit_blast.proofs.WalkFacts.{same-itself, same-only}
-use Rattle.bit_blast.proofs.laws.equal_terms_are_the_same.Goals as goal
-
-pub returns : goal.returns
-returns c = record {
-  itself = same-itself;
-  only = same-only;
-}
