@@ -47,24 +47,42 @@ fn try_chain(rt: &HostRuntime, count: u32) -> Result<(), Fail> {
     put(rt, "copy of the chain", count, &start)
 }
 
-/// Small terms over a large arena: they are made, and their values; or they are made and copied.
-fn try_small(rt: &HostRuntime, count: u32, calls: u32) -> Result<(), Fail> {
+/// Small terms over a large arena: each is made, and its value is taken.
+fn try_values(rt: &HostRuntime, terms: &mut Terms, calls: u32) -> Result<(), Fail> {
     let env = no_inputs(rt);
-    let mut terms = Terms::new(rt.alloc());
-    chain(&mut terms, count).ok_or("no chain")?;
     let start = Instant::now(rt)?;
     for number in 0..calls {
-        let term = small(&mut terms, number).ok_or("no term")?;
+        let term = small(terms, number).ok_or("no term")?;
         terms.eval(rt.alloc(), term, &env).ok().ok_or("no value")?;
     }
-    put(rt, "values of small terms", calls, &start)?;
+    put(rt, "values of small terms", calls, &start)
+}
+
+/// Each is made and copied.
+fn try_copies(rt: &HostRuntime, terms: &mut Terms, calls: u32) -> Result<(), Fail> {
     let mut other = Terms::new(rt.alloc());
     let start = Instant::now(rt)?;
     for number in 0..calls {
-        let term = small(&mut terms, number).ok_or("no term")?;
-        copy(rt.alloc(), &terms, term, &mut other).ok().ok_or("no copy")?;
+        let term = small(terms, number).ok_or("no term")?;
+        copy(rt.alloc(), terms, term, &mut other).ok().ok_or("no copy")?;
     }
     put(rt, "copies of small terms", calls, &start)
+}
+
+/// Each is made and rebuilt, alone and with the terms after it.
+fn try_replaced(rt: &HostRuntime, terms: &mut Terms, calls: u32) -> Result<(), Fail> {
+    let start = Instant::now(rt)?;
+    for number in 0..calls {
+        let term = small(terms, number).ok_or("no term")?;
+        terms.substitute(rt.alloc(), term, &[], &[]).ok().ok_or("no term")?;
+    }
+    put(rt, "substitutions in small terms", calls, &start)?;
+    let start = Instant::now(rt)?;
+    for _ in 0..calls {
+        let last = terms.count().saturating_sub(1);
+        terms.substitute_from(rt.alloc(), last, &[], &[]).ok().ok_or("no terms")?;
+    }
+    put(rt, "substitutions in the last term", calls, &start)
 }
 
 /// One term, so often.
@@ -96,7 +114,11 @@ fn main(rt: HostRuntime) -> Result<(), Fail> {
     for _ in 0..3 {
         try_chain(&rt, 1_000_000)?;
         try_chain(&rt, 500_000)?;
-        try_small(&rt, 1_000_000, 4_096)?;
+        let mut terms = Terms::new(rt.alloc());
+        chain(&mut terms, 1_000_000).ok_or("no chain")?;
+        try_values(&rt, &mut terms, 4_096)?;
+        try_copies(&rt, &mut terms, 4_096)?;
+        try_replaced(&rt, &mut terms, 4_096)?;
         try_again(&rt, 1_000_000)?;
         try_constants(&rt, "constants", 1_000_000, 1)?;
         try_constants(&rt, "constants of one hash", 1_000_000, CHOSEN)?;
