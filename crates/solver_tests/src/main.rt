@@ -23,7 +23,7 @@ use case_files::{Printer, Subject, first_word, try_words};
 use copies::put_copied;
 use dimacs_texts::{Kind, put_searches, put_texts};
 use goals::{put_inputs, put_size, put_solutions};
-use numbers::{Found, put_needed, put_numbers, put_replaced, put_walk};
+use numbers::{put_needed, put_numbers, put_replaced, put_walk};
 use std::process::ExitCode;
 use values::put_values;
 
@@ -49,8 +49,8 @@ impl<'r> Subject for Cases<'r> {
             "copied" => put_copied(self.rt.alloc(), rest, given),
             "needed" => put_needed(self.rt.alloc(), rest, given),
             "replaced" => put_replaced(self.rt.alloc(), rest, given),
-            "walk" => put_walk(self.rt.alloc(), rest, Found::All, given),
-            "applications" => put_walk(self.rt.alloc(), rest, Found::Applications, given),
+            "walk" => put_walk(self.rt.alloc(), rest, numbers::Kind::All, given),
+            "applications" => put_walk(self.rt.alloc(), rest, numbers::Kind::Applications, given),
             "lists" => put_texts(self.rt, Kind::List, rest, given),
             "logs" => put_texts(self.rt, Kind::Log, rest, given),
             "searches" => put_searches(self.rt, rest, given),

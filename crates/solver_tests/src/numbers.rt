@@ -9,9 +9,9 @@ use cocoon_num::NoMemory;
 use std::alloc::Global;
 use term_walk::{applications, distinct};
 
-/// Which terms a walk over a term finds.
+/// Which terms of a walk are asked for.
 #[derive(Clone, Copy, Drop)]
-pub enum Found {
+pub enum Kind {
     All,
     Applications,
 }
@@ -35,24 +35,24 @@ pub fn put_numbers(alloc: Global, words: &str, given: &mut Printer) {
     }
 }
 
-fn found(alloc: Global, terms: &Terms, term: TermId, found: Found) -> Result<Vec<TermId>, NoMemory>
+fn walked(alloc: Global, terms: &Terms, term: TermId, kind: Kind) -> Result<Vec<TermId>, NoMemory>
     requires { term < length terms.now }
 {
-    match found {
-        Found::All => distinct(alloc, terms, term),
-        Found::Applications => applications(alloc, terms, term),
+    match kind {
+        Kind::All => distinct(alloc, terms, term),
+        Kind::Applications => applications(alloc, terms, term),
     }
 }
 
 /// Puts the numbers of the terms that the last term of the words is made of, in the order of the walk.
-pub fn put_walk(alloc: Global, words: &str, kind: Found, given: &mut Printer) {
+pub fn put_walk(alloc: Global, words: &str, kind: Kind, given: &mut Printer) {
     let Some((draft, term)) = Draft::read(alloc, words, None) else {
         return given.put("no term");
     };
     if term >= draft.terms.count() {
         return given.put("no term");
     }
-    match found(alloc, &draft.terms, term, kind) {
+    match walked(alloc, &draft.terms, term, kind) {
         Ok(order) => put_terms(&order, given),
         Err(_) => given.lose(),
     }
