@@ -114,6 +114,24 @@ pub(crate) fn replaced(
     terms.substitute(alloc, term, &[input], &[by]).ok()
 }
 
+/// The terms from a number on with another one in the place of an input, if the input stands from there on too.
+pub(crate) fn all_replaced(
+    alloc: Global,
+    terms: &mut Terms,
+    first: TermId,
+    input: u32,
+    by: TermId,
+) -> Option<Vec<TermId>> {
+    if by >= terms.count() || input >= terms.input_count() {
+        return None;
+    }
+    let own = terms.input_term(input);
+    if own < first || terms.width(own) != terms.width(by) {
+        return None;
+    }
+    terms.substitute_from(alloc, first, &[input], &[by]).ok()
+}
+
 /// The term of an input.
 pub(crate) fn input_term(terms: &Terms, input: u32) -> Option<TermId> {
     if input < terms.input_count() {

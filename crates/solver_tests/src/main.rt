@@ -6,6 +6,7 @@
 #![tactic(auto)]
 
 mod building;
+mod copies;
 mod dimacs_texts;
 mod drafts;
 mod evaluating;
@@ -19,9 +20,10 @@ mod searching;
 mod values;
 
 use case_files::{Printer, Subject, first_word, try_words};
+use copies::put_copied;
 use dimacs_texts::{Kind, put_searches, put_texts};
 use goals::{put_inputs, put_size, put_solutions};
-use numbers::{put_numbers, put_walk};
+use numbers::{put_needed, put_numbers, put_replaced, put_walk};
 use std::process::ExitCode;
 use values::put_values;
 
@@ -44,6 +46,9 @@ impl<'r> Subject for Cases<'r> {
             "size" => put_size(self.rt.alloc(), rest, given),
             "inputs" => put_inputs(self.rt.alloc(), rest, given),
             "terms" => put_numbers(self.rt.alloc(), rest, given),
+            "copied" => put_copied(self.rt.alloc(), rest, given),
+            "needed" => put_needed(self.rt.alloc(), rest, given),
+            "replaced" => put_replaced(self.rt.alloc(), rest, given),
             "walk" => put_walk(self.rt.alloc(), rest, numbers::Kind::All, given),
             "applications" => put_walk(self.rt.alloc(), rest, numbers::Kind::Applications, given),
             "lists" => put_texts(self.rt, Kind::List, rest, given),

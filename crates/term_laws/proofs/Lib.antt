@@ -1,2 +1,3 @@
 pub mod FittingValues
 pub mod RenamedTerms
+pub mod RenamedClauses
