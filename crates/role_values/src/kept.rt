@@ -11,7 +11,7 @@ use std::alloc::Global;
 use std::collections::BTreeMap;
 
 /// The most values that are kept. One more is out of memory.
-const MOST_KEPT: usize = 1 << 25;
+const MOST_KEPT: usize = 1 << 21;
 
 /// Calls of functions with bodies, each with its value.
 #[derive(Drop)]
