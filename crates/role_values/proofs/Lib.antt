@@ -7,3 +7,4 @@ pub mod Numbers
 pub mod TableValues
 pub mod ParamWidths
 pub mod FieldPlacing
+pub mod KeptValues

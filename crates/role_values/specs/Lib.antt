@@ -5,6 +5,7 @@ pub mod DeclaredWidths
 pub mod ByTables
 pub mod Finds
 pub mod Scenes
+pub mod Kept
 pub mod Stands
 pub mod Written
 pub mod FieldPlaces

@@ -6,6 +6,7 @@ pub mod bindings;
 pub mod evaluation;
 pub mod fields;
 mod functions;
+mod kept;
 pub mod laws;
 pub mod operators;
 pub mod value;
