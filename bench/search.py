@@ -161,8 +161,27 @@ def is_satisfiable(variables, clauses, tables):
     return left != 0
 
 
-def try_lists(program, checker, count):
+def try_cases(folder, cases):
+    """Has the program of the cases, where it is built, search through the same lists: it also makes the search with smaller budgets, and checks the logs
+    of these."""
+    program, room = TESTS / "out" / "solver_tests", folder / "lists"
+    if not program.exists():
+        return
+    shutil.rmtree(room, ignore_errors=True)
+    room.mkdir()
+    lines = []
+    for first in range(0, len(cases), 1000):
+        part, name = cases[first : first + 1000], f"{first // 1000:03}.dimacs"
+        (room / name).write_text("\n\n".join(part) + "\n")
+        lines.append(f"  {len(part)} as wanted | searches 1000000 {name}\n")
+    (room / "lists.cases").write_text("".join(lines))
+    said = subprocess.run([program, "lists.cases"], cwd=room, stdout=subprocess.PIPE, text=True).stdout
+    print(f"by the program of the cases, {len(cases)} lists in parts of 1000: {said.splitlines()[-1]}")
+
+
+def try_lists(program, checker, count, folder):
     """Searches through lists made by chance: each answer against all assignments, each log by both checks."""
+    cases = []
     luck, tables = random.Random(7), {variables: truth_tables(variables) for variables in range(3, 13)}
     found = {"sat": 0, "unsat": 0}
     for first in range(0, count, 1000):
@@ -177,9 +196,11 @@ def try_lists(program, checker, count):
             if wanted == "unsat" and run([checker], f"{text}\n{log}\n").split()[0] != "true":
                 sys.exit(f"the log does not derive the empty clause:\n{text}\n{log}")
             found[wanted] += 1
+            cases.append(f"c {wanted} {len(cases)}\n{text}")
     if sum(found.values()) != count:
         sys.exit(f"{sum(found.values())} answers to {count} lists")
     print(f"lists with the answer of all assignments: {found['sat']} that are satisfied, and {found['unsat']} that are not, whose logs both checks accept")
+    try_cases(folder, cases)
 
 
 def mutated(step, luck):
@@ -343,7 +364,7 @@ def measure(folder, lists=None):
         refuse_allocations(program, folder)
         return
     if lists:
-        try_lists(program, checker, int(lists))
+        try_lists(program, checker, int(lists), folder)
         return
     judge_logs(program, checker)
     time_checks(program, checker)
