@@ -1,10 +1,12 @@
-//! A command has one outcome at most. The function does nothing; its contract is the law.
-ghost use Rattle.std.specs.Prelude.{Result};
+//! What follows from the promises of this crate. The functions do nothing; their contracts are the
+//! laws.
+ghost use Rattle.std.specs.Prelude.{List, Result, ℕ};
 ghost use Rattle.command_line.specs.Command as spec;
-ghost use Rattle.cocoon_cli.specs.Run.{IsOnly};
-ghost use Rattle.cocoon_cli.specs.Steps.{HasOutcome, Inputs};
+ghost use Rattle.cocoon_cli.specs.Outcomes.{HasOutcome};
+ghost use Rattle.cocoon_cli.specs.Run.{Call, IsOnly, Keeps, KeepsMore};
+ghost use Rattle.cocoon_cli.specs.Steps.{Inputs};
+ghost use Rattle.cocoon_cli.specs.declared.answer.Report.{Report};
 ghost use Rattle.cocoon_cli.specs.declared.refusal.Refusal.{Refusal};
-ghost use Rattle.cocoon_cli.specs.declared.report.Report.{Report};
 
 use bundle_reader::laws::one_reading;
 use case_runs::laws::one_step;
@@ -15,8 +17,9 @@ use lower_p4::laws::one_lowering;
 use plain_parser::text_laws::{one_definitions_tree, one_tree};
 
 /// By what is read of its files, a command has one outcome at most: the first step that refuses,
-/// with its status and its line, or its report. Of `forward` it is said where the content of the
-/// folder is known.
+/// with its status and its line, or its report. Of a command that reads a bundle it is said where the
+/// content of the folder is known. Of one with a step that is decided by a search two outcomes are
+/// alike, or the search was given up in one of them.
 pub fn one_outcome()
     ensures { (c : spec.Command) (inputs : Inputs) (outcome : Result Report Refusal)
         → HasOutcome c inputs outcome → IsOnly c inputs outcome }
@@ -32,4 +35,12 @@ pub fn one_outcome()
     one_lowering();
     one_step();
     one_reading();
+}
+
+/// What follows from what a call keeps: when the words are reported as no command, which statuses
+/// speak of a fault that was counted, and which leave the folder as it was.
+pub fn calls_keep_more()
+    ensures { (last_failure : List ℕ → Type 0) (call : Call) → Keeps last_failure call
+        → KeepsMore call }
+{
 }
