@@ -95,7 +95,7 @@ pub struct Totals {
 }
 
 /// How many of each thing a network has.
-fn totals(net: &NetData) -> Totals
+fn count_parts(net: &NetData) -> Totals
     ensures { result ≡ totals_of (net_of net.now) }
 {
     Totals {
@@ -136,7 +136,7 @@ pub fn compile<'w>(
     ensures quiet { IfErr result IsQuiet }
 {
     let net = network(alloc, design, defs)?;
-    let line = totals_line(alloc, totals(&net))?;
+    let line = totals_line(alloc, count_parts(&net))?;
     Ok(Answer {
         report: Report::success(line.into_bytes()),
         writing: Writing::Bundle(names.out, net),
