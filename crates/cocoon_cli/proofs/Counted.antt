@@ -13,28 +13,28 @@ use Rattle.cocoon_cli.specs.declared.refusal.Refusal.{Refusal}
 use Rattle.cocoon_cli.specs.declared.refusal.Refusal.TheVariants as refusal
 use Rattle.cocoon_cli.specs.FileNames.{bundle_in, name_in}
 use Rattle.cocoon_cli.specs.Reading.{FileNotRead, NamesBundleFailure, NamesReadFailure, ReadFaultRose, bundle_refusal}
-use Rattle.cocoon_cli.specs.Report.{Fault, of_read, of_write, of_memory, no_fault, fault_in, fault_of}
+use Rattle.cocoon_cli.specs.Report.{Fault, by_read, by_write, by_memory, no_fault, fault_in, fault_of}
 use Rattle.cocoon_cli.specs.Run.{Count, CountsFault, NamesFault, Uncounted, count}
 use Rattle.cocoon_cli.specs.Shell.{Called, IsNoFault, IsQuiet}
 
 -- ---- answers that are passed on
 
-pub passed : {A B : Type 0} (P : Result B Refusal → Type 0) (answer : Result B Refusal) (r : Refusal) → IsErrAnd answer (λ x. x ≡ r) → P (Err r) → P answer
+pub passed : {B : Type 0} (P : Result B Refusal → Type 0) (answer : Result B Refusal) (r : Refusal) → IsErrAnd answer (λ x. x ≡ r) → P (Err r) → P answer
 passed P (Ok b) r h k = absurd h
 passed P (Err x) r h k = subst (λ (y : Refusal). P (Err y)) (sym h) k
 
 -- ---- no fault
 
 pub uncounted : (reads writes : Count) (f : Fault) → IsNoFault f → Uncounted reads → Uncounted writes → CountsFault reads writes f
-uncounted reads writes (of_read file) q r w = absurd q
-uncounted reads writes (of_write file) q r w = absurd q
-uncounted reads writes of_memory q r w = (r, w)
+uncounted reads writes (by_read file) q r w = absurd q
+uncounted reads writes (by_write file) q r w = absurd q
+uncounted reads writes by_memory q r w = (r, w)
 uncounted reads writes no_fault q r w = (r, w)
 
 pub unnamed : (last : List ℕ → Type 0) (c : Command) (f : Fault) → IsNoFault f → NamesFault last c f
-unnamed last c (of_read file) q = absurd q
-unnamed last c (of_write file) q = absurd q
-unnamed last c of_memory q = tt
+unnamed last c (by_read file) q = absurd q
+unnamed last c (by_write file) q = absurd q
+unnamed last c by_memory q = tt
 unnamed last c no_fault q = tt
 
 -- ---- one call after others in which no call of the folder failed

@@ -26,9 +26,9 @@ use Rattle.cocoon_cli.specs.Headline.{Compiled, CompiledOf, none_besides}
 use Rattle.cocoon_cli.specs.Leaves.{Writing, nothing, bundle, own, Leaves, LeavesFault, MayWriteFiles, Writes, with_writing}
 use Rattle.cocoon_cli.specs.Outcomes.{AllGood, none, good, Answers, Ends, no_memory, Reports}
 use Rattle.cocoon_cli.specs.Reading.{bundle_refusal}
-use Rattle.cocoon_cli.specs.Report.{Fault, of_read, of_write, of_memory, no_fault, fault_of}
+use Rattle.cocoon_cli.specs.Report.{Fault, by_read, by_write, by_memory, no_fault, fault_of}
 use Rattle.cocoon_cli.specs.Run.{InputsAre, Performs, inputs_of}
-use Rattle.cocoon_cli.specs.Shell.{AllWritten, Asked, CanWrite, Fits, HoldsNet, IsGiven, IsNoFault, IsQuiet, NotAllWritten, Plans, ReadsAll, ReadsNot, writing_of}
+use Rattle.cocoon_cli.specs.Shell.{AllWritten, Asked, CanWrite, Fits, HoldsNet, IsGiven, IsNoFault, IsQuiet, IsReading, NotAllWritten, Plans, ReadsAll, ReadsNot, writing_of}
 use Rattle.cocoon_cli.specs.Steps.{Inputs, Step, MakesFiles, asks, bundle_within, bundle_written, reads, steps, writes}
 use Rattle.cocoon_cli.proofs.Compiling.{makes}
 use Rattle.cocoon_cli.proofs.Ending.{all_good, ends_after, ends_before, next, refused, stopped}
@@ -37,33 +37,36 @@ use Rattle.cocoon_cli.proofs.TextSteps.{Texts}
 -- ---- what is left where nothing was written
 
 -- a refusal before the writes
-left_same : (c : Command) (i : Inputs) (before after : Option Files) (f : Fault) → ((file : CommandFile) → f ≡ of_write file → ⊥) → after ≡ before → LeavesFault c i before after f
-left_same c i before after (of_read file) never same = same
-left_same c i before after (of_write file) never same = absurd (never file refl)
-left_same c i before after of_memory never same = inl same
-left_same c i before after no_fault never same = same
+left_same : (c : Command) (i : Inputs) (before after : Option Files) (f : Fault) → IsReading f → after ≡ before → LeavesFault c i before after f
+left_same c i before after (by_read file) q same = same
+left_same c i before after (by_write file) q same = absurd q
+left_same c i before after by_memory q same = inl same
+left_same c i before after no_fault q same = same
+
+quiet_reading : (f : Fault) → IsNoFault f → IsReading f
+quiet_reading (by_read file) q = tt
+quiet_reading (by_write file) q = q
+quiet_reading by_memory q = tt
+quiet_reading no_fault q = tt
 
 -- ---- what is read
 
-pub unread : (c : Command) (before after : Option Files) (r : Refusal) → after ≡ before → ((file : CommandFile) → fault_of r ≡ of_write file → ⊥) → ReadsNot c before r → Performs c before after (Err r)
-unread c before after r same never h = record {
+pub unread : (c : Command) (before after : Option Files) (r : Refusal) → after ≡ before → ReadsNot c before r → Performs c before after (Err r)
+unread c before after r same h = record {
   inputs = h.inputs;
   inputs_are = h.inputs_are;
   answers = inl (ends_before h.inputs (Err r) (reads c) (asks c ++ writes c) h.ends);
-  leaves = left_same c h.inputs before after (fault_of r) never same;
+  leaves = left_same c h.inputs before after (fault_of r) h.reading same;
 }
 
 -- ---- what is answered
-
-quiet_never : (f : Fault) → IsNoFault f → (file : CommandFile) → f ≡ of_write file → ⊥
-quiet_never f q file e = subst IsNoFault e q
 
 pub unanswered : (c : Command) (before after : Option Files) (read : Read) (r : Refusal) → after ≡ before → ReadsAll c before read → IsQuiet r → ((i : Inputs) → IsGiven c i read → Asked c i (Err r)) → Performs c before after (Err r)
 unanswered c before after read r same g quiet h = record {
   inputs = g.inputs;
   inputs_are = g.inputs_are;
   answers = inl (ends_after g.inputs (Err r) (reads c) (asks c ++ writes c) g.good (h g.inputs g.given));
-  leaves = left_same c g.inputs before after (fault_of r) (quiet_never (fault_of r) quiet) same;
+  leaves = left_same c g.inputs before after (fault_of r) (quiet_reading (fault_of r) quiet) same;
 }
 
 -- ---- what is written

@@ -1,5 +1,7 @@
 -- What is read for a command, file after file.
-use Rattle.std.proofs.Common.{◌≡◌, ◌≤◌, ◌<◌, ◌^◌, ℕ, zero, suc, List, [], ◌∷◌, ◌++◌, length, replicate, Option, Some, None, Result, Ok, Err, refl, sym, ap, ap₂, subst, ◌∙◌, ◌⊎◌, inl, inr, arith}
+use Rattle.std.specs.Prelude.{Vec}
+use Rattle.std.specs.declared.alloc.Global.{Global}
+use Rattle.std.proofs.Common.{IfErr, IfOk, ◌≡◌, ◌≤◌, ◌<◌, ◌^◌, ℕ, zero, suc, List, [], ◌∷◌, ◌++◌, length, replicate, Option, Some, None, Result, Ok, Err, refl, sym, ap, ap₂, subst, ◌∙◌, ◌⊎◌, inl, inr, arith}
 use Rattle.cocoon_io.specs.Files.{Files}
 use Rattle.cocoon_io.specs.declared.folder.FolderFault.TheVariants.{Failed, TooLong as Long, NoMemory as Wanting}
 use Rattle.bundle_reader.specs.FolderCounts as counts
@@ -18,10 +20,12 @@ use Rattle.cocoon_cli.specs.declared.refusal.Refusal.{Refusal}
 use Rattle.cocoon_cli.specs.declared.refusal.Refusal.TheVariants as refusal
 use Rattle.cocoon_cli.specs.FileNames.{bundle_in, most_in, name_in}
 use Rattle.cocoon_cli.specs.Outcomes.{AllGood, none, good, Ends, no_memory}
-use Rattle.cocoon_cli.specs.Reading.{FileNotRead, HasFile, HasLongFile, IsOfFiles, IsUnread, LacksFile, NamesBundleFailure, ReadFaultRose, unread_as}
-use Rattle.cocoon_cli.specs.Run.{InputsAre, inputs_of}
-use Rattle.cocoon_cli.specs.Shell.{Given, GivenNet, HasNet, HasWanted, LacksNet, LacksWanted, ReadsAll, ReadsNot}
+use Rattle.cocoon_cli.specs.Reading.{FileNotRead, HasFile, HasLongFile, IsOfFiles, IsRead, IsUnread, LacksFile, NamesBundleFailure, NamesReadFailure, ReadFaultRose, unread_as}
+use Rattle.cocoon_cli.specs.Report.{fault_of}
+use Rattle.cocoon_cli.specs.Run.{InputsAre, count, inputs_of}
+use Rattle.cocoon_cli.specs.Shell.{Called, Given, GivenNet, HasNet, HasWanted, IsReading, LacksNet, LacksWanted, ReadsAll, ReadsNot}
 use Rattle.cocoon_cli.specs.Steps.{Inputs, Step, bundle_reads, bundle_steps, file_steps, is_there, is_within, reads}
+use Rattle.cocoon_cli.proofs.Counted.{bundle_counts, bundle_names, file_counts, file_names}
 use Rattle.cocoon_cli.proofs.Ending.{all_good, ends_after, ends_before, next, refused, stopped}
 
 -- ---- what is read
@@ -170,31 +174,47 @@ from_case c = file_steps Case (most_in c Case) ++ from_packets c
 abbrev from_definitions : Command → List Step
 from_definitions c = file_steps Definitions (most_in c Definitions) ++ from_case c
 
-not_read : (c : Command) (content : Option Files) (a : Inputs) (r : Refusal) → Ends (pick c content a) (Err r) (reads c) → ReadsNot c content r
-not_read c content a r h = record { inputs = pick c content a; inputs_are = picked c content a; ends = h }
+-- no read answers that a write failed
+file_reading : (content : Option Files) (n : List ℕ) (file : CommandFile) (most : Option ℕ) (r : Refusal) → LacksWanted content n file most r → IsReading (fault_of r)
+file_reading content n file None r h = absurd h
+file_reading content n file (Some most) (refusal.WriteFault f) h = h
+file_reading content n file (Some most) r h = tt
+
+unread_reading : (fault : ReadFault) → IsReading (fault_of (unread_as fault))
+unread_reading (read.Folder file Failed) = tt
+unread_reading (read.Folder file (Long n)) = tt
+unread_reading (read.Folder file Wanting) = tt
+unread_reading fault = tt
+
+net_reading : (content : Option Files) (o : Option (List ℕ)) (r : Refusal) → LacksNet content o r → IsReading (fault_of r)
+net_reading content None r h = absurd h
+net_reading content (Some o) r h = subst (λ (x : Refusal). IsReading (fault_of x)) (sym h.2) (unread_reading h.0)
+
+not_read : (c : Command) (content : Option Files) (a : Inputs) (r : Refusal) → IsReading (fault_of r) → Ends (pick c content a) (Err r) (reads c) → ReadsNot c content r
+not_read c content a r q h = record { inputs = pick c content a; inputs_are = picked c content a; ends = h; reading = q }
 
 pub no_design : (c : Command) (content : Option Files) (r : Refusal) → Lacks c content Design r → ReadsNot c content r
 no_design c content r h =
     let a = answered (shown r (most_in c Design)) None None None in
-    not_read c content a r (ends_before _ _ (file_steps Design (most_in c Design)) (from_definitions c) (kind_ends c content a Design (most_in c Design) r refl h))
+    not_read c content a r (file_reading content (name_in c Design) Design (most_in c Design) r h) (ends_before _ _ (file_steps Design (most_in c Design)) (from_definitions c) (kind_ends c content a Design (most_in c Design) r refl h))
 
 pub no_definitions : (c : Command) (content : Option Files) (x : List ℕ) (r : Refusal) → Has c content Design x → Lacks c content Definitions r → ReadsNot c content r
 no_definitions c content x r d h =
     let a = answered (Some x) (shown r (most_in c Definitions)) None None in
-    not_read c content a r (ends_after _ _ (file_steps Design (most_in c Design)) (from_definitions c) (file_good c content a Design x refl d)
+    not_read c content a r (file_reading content (name_in c Definitions) Definitions (most_in c Definitions) r h) (ends_after _ _ (file_steps Design (most_in c Design)) (from_definitions c) (file_good c content a Design x refl d)
     (ends_before _ _ (file_steps Definitions (most_in c Definitions)) (from_case c) (kind_ends c content a Definitions (most_in c Definitions) r refl h)))
 
 pub no_case : (c : Command) (content : Option Files) (x y : List ℕ) (r : Refusal) → Has c content Design x → Has c content Definitions y → Lacks c content Case r → ReadsNot c content r
 no_case c content x y r d e h =
     let a = answered (Some x) (Some y) (shown r (most_in c Case)) None in
-    not_read c content a r (ends_after _ _ (file_steps Design (most_in c Design)) (from_definitions c) (file_good c content a Design x refl d)
+    not_read c content a r (file_reading content (name_in c Case) Case (most_in c Case) r h) (ends_after _ _ (file_steps Design (most_in c Design)) (from_definitions c) (file_good c content a Design x refl d)
     (ends_after _ _ (file_steps Definitions (most_in c Definitions)) (from_case c) (file_good c content a Definitions y refl e)
     (ends_before _ _ (file_steps Case (most_in c Case)) (from_packets c) (kind_ends c content a Case (most_in c Case) r refl h))))
 
 pub no_packets : (c : Command) (content : Option Files) (x y z : List ℕ) (r : Refusal) → Has c content Design x → Has c content Definitions y → Has c content Case z → Lacks c content Packets r → ReadsNot c content r
 no_packets c content x y z r d e f h =
     let a = answered (Some x) (Some y) (Some z) (shown r (most_in c Packets)) in
-    not_read c content a r (ends_after _ _ (file_steps Design (most_in c Design)) (from_definitions c) (file_good c content a Design x refl d)
+    not_read c content a r (file_reading content (name_in c Packets) Packets (most_in c Packets) r h) (ends_after _ _ (file_steps Design (most_in c Design)) (from_definitions c) (file_good c content a Design x refl d)
     (ends_after _ _ (file_steps Definitions (most_in c Definitions)) (from_case c) (file_good c content a Definitions y refl e)
     (ends_after _ _ (file_steps Case (most_in c Case)) (from_packets c) (file_good c content a Case z refl f)
     (ends_before _ _ (file_steps Packets (most_in c Packets)) (bundle_steps (bundle_in c)) (kind_ends c content a Packets (most_in c Packets) r refl h)))))
@@ -209,28 +229,28 @@ pub record HasFiles (c : Command) (content : Option Files) (x y z w : List ℕ) 
 pub no_net : (c : Command) (content : Option Files) (x y z w : List ℕ) (r : Refusal) → HasFiles c content x y z w → LacksNet content (bundle_in c) r → ReadsNot c content r
 no_net c content x y z w r g h =
     let a = answered (Some x) (Some y) (Some z) (Some w) in
-    not_read c content a r (ends_after _ _ (file_steps Design (most_in c Design)) (from_definitions c) (file_good c content a Design x refl g.design)
+    not_read c content a r (net_reading content (bundle_in c) r h) (ends_after _ _ (file_steps Design (most_in c Design)) (from_definitions c) (file_good c content a Design x refl g.design)
     (ends_after _ _ (file_steps Definitions (most_in c Definitions)) (from_case c) (file_good c content a Definitions y refl g.definitions)
     (ends_after _ _ (file_steps Case (most_in c Case)) (from_packets c) (file_good c content a Case z refl g.case)
     (ends_after _ _ (file_steps Packets (most_in c Packets)) (bundle_steps (bundle_in c)) (file_good c content a Packets w refl g.packets)
     (net_ends (pick c content a) content (bundle_in c) r (content_is c content (Some x) (Some y) (Some z) (Some w)) h)))))
 
-pub all_read : (c : Command) (content : Option Files) (read : Read) → HasFiles c content read.design.items read.definitions.items read.case.items read.packets.items → HasNet content (bundle_in c) read.net → ReadsAll c content read
-all_read c content read g h =
-    let x = read.design.items in
-    let y = read.definitions.items in
-    let z = read.case.items in
-    let w = read.packets.items in
+pub all_read : (c : Command) (content : Option Files) (of : Read) → HasFiles c content of.design.items of.definitions.items of.case.items of.packets.items → HasNet content (bundle_in c) of.net → ReadsAll c content of
+all_read c content of g h =
+    let x = of.design.items in
+    let y = of.definitions.items in
+    let z = of.case.items in
+    let w = of.packets.items in
     let a = answered (Some x) (Some y) (Some z) (Some w) in
     let i = pick c content a in
-    let n : GivenNet i (bundle_in c) read.net = given_net i content (bundle_in c) read.net (content_is c content (Some x) (Some y) (Some z) (Some w)) h in
+    let n : GivenNet i (bundle_in c) of.net = given_net i content (bundle_in c) of.net (content_is c content (Some x) (Some y) (Some z) (Some w)) h in
     record {
       inputs = i;
       inputs_are = picked c content a;
       good = all_good i (file_steps Design (most_in c Design)) (from_definitions c) (file_good c content a Design x refl g.design)
           (all_good i (file_steps Definitions (most_in c Definitions)) (from_case c) (file_good c content a Definitions y refl g.definitions)
           (all_good i (file_steps Case (most_in c Case)) (from_packets c) (file_good c content a Case z refl g.case)
-          (all_good i (file_steps Packets (most_in c Packets)) (bundle_steps (bundle_in c)) (file_good c content a Packets w refl g.packets) (net_good i (bundle_in c) read.net n))));
+          (all_good i (file_steps Packets (most_in c Packets)) (bundle_steps (bundle_in c)) (file_good c content a Packets w refl g.packets) (net_good i (bundle_in c) of.net n))));
       given = record {
         design = given c content a Design (most_in c Design) x refl g.design;
         definitions = given c content a Definitions (most_in c Definitions) y refl g.definitions;
@@ -298,3 +318,44 @@ names_by last o read.NoMemory h = tt
 
 pub names : (last : List ℕ → Type 0) (o : List ℕ) (fault : ReadFault) (r : Refusal) → r ≡ unread_as fault → counts.NamesFailure last o fault → NamesBundleFailure last o r
 names last o fault r e h = subst (NamesBundleFailure last o) (sym e) (names_by last o fault h)
+
+-- ---- what the parts of reading answer
+
+pub wanted_read : (content : Option Files) (n k : List ℕ) (o : Option ℕ) (m : ℕ) (answer : Result (Vec ℕ Global) Refusal) → o ≡ Some m → k ≡ n
+    → IfOk answer (λ v. HasFile content k m v.items) → IfOk answer (λ v. length v.items ≤ m) → IfOk answer (λ v. HasWanted content n o v.items)
+wanted_read content n k o m (Ok v) e f h l = subst (λ (p : Option ℕ). HasWanted content n p v.items) (sym e) (subst (λ (x : List ℕ). HasFile content x m v.items) f h, l)
+wanted_read content n k o m (Err r) e f h l = tt
+
+pub wanted_short : (m : ℕ) (answer : Result (Vec ℕ Global) Refusal) → m < 2 ^ 31 → IfOk answer (λ v. length v.items ≤ m) → IfOk answer (λ v. length v.items < 2 ^ 31)
+wanted_short m (Ok v) s l = let a : m < 2 ^ 31 = s in let b : length v.items ≤ m = l in omega arith
+wanted_short m (Err r) s l = tt
+
+pub wanted_lacks : (content : Option Files) (n k : List ℕ) (file : CommandFile) (o : Option ℕ) (m : ℕ) (answer : Result (Vec ℕ Global) Refusal) → o ≡ Some m → k ≡ n
+    → IfErr answer (FileNotRead content k file m) → IfErr answer (LacksWanted content n file o)
+wanted_lacks content n k file o m (Ok v) e f h = tt
+wanted_lacks content n k file o m (Err r) e f h = subst (λ (p : Option ℕ). LacksWanted content n file p r) (sym e) (subst (λ (x : List ℕ). FileNotRead content x file m r) f h)
+
+pub file_called : (last : List ℕ → Type 0) (c : Command) (content : Option Files) (k : List ℕ) (file : CommandFile) (m : ℕ) (last_read : Option ℕ) (r0 r1 : ℕ) (last_write : Option ℕ) (w0 w1 : ℕ) (answer : Result (Vec ℕ Global) Refusal) → k ≡ name_in c file
+    → IfErr answer (FileNotRead content k file m) → IfErr answer (ReadFaultRose last_read r0 r1) → IfOk answer (λ v. r1 ≡ r0) → IfErr answer (NamesReadFailure last k) → w1 ≡ w0
+    → Called last c (count last_read r0 r1) (count last_write w0 w1) answer
+file_called last c content k file m last_read r0 r1 last_write w0 w1 (Ok v) f h rose same n w = record { counts = (same, w); named = tt }
+file_called last c content k file m last_read r0 r1 last_write w0 w1 (Err r) f h rose same n w = record {
+  counts = file_counts content k file m last_read r0 r1 (count last_write w0 w1) r h rose w;
+  named = file_names last c content file m r (subst (λ (x : List ℕ). FileNotRead content x file m r) f h) (subst (λ (x : List ℕ). NamesReadFailure last x r) f n);
+}
+
+pub net_read : (content : Option Files) (o : Option (List ℕ)) (out : List ℕ) (net : Net) → Some out ≡ o → IsRead content out net → HasNet content o (Some net)
+net_read content o out net e h = subst (λ (p : Option (List ℕ)). HasNet content p (Some net)) e h
+
+pub net_lacks : (content : Option Files) (o : Option (List ℕ)) (out : List ℕ) (r : Refusal) → Some out ≡ o → IsUnread content out r → LacksNet content o r
+net_lacks content o out r e h = subst (λ (p : Option (List ℕ)). LacksNet content p r) e h
+
+pub net_none : (content : Option Files) (o : Option (List ℕ)) → None ≡ o → HasNet content o None
+net_none content o e = subst (λ (p : Option (List ℕ)). HasNet content p None) e tt
+
+pub net_called : (last : List ℕ → Type 0) (c : Command) (out : List ℕ) (last_read : Option ℕ) (r0 r1 : ℕ) (last_write : Option ℕ) (w0 w1 : ℕ) (r : Refusal) → Some out ≡ bundle_in c
+    → ReadFaultRose last_read r0 r1 r → NamesBundleFailure last out r → w1 ≡ w0 → Called {A = Option Net} last c (count last_read r0 r1) (count last_write w0 w1) (Err r)
+net_called last c out last_read r0 r1 last_write w0 w1 r e rose n w = record {
+  counts = bundle_counts last out last_read r0 r1 (count last_write w0 w1) r n rose w;
+  named = bundle_names last c out r (bundle_is c out (sym e)) n;
+}

@@ -21,7 +21,7 @@ use Rattle.cocoon_cli.specs.Headline.{CompiledOf}
 use Rattle.cocoon_cli.specs.FileNames.{name_in}
 use Rattle.cocoon_cli.specs.Leaves.{Writing, nothing as nothing_written, bundle, own, Leaves, LeavesAll, LeavesSome, LeavesFault, SomeOf, StopsIn, Writes, with_writing}
 use Rattle.cocoon_cli.specs.Outcomes.{Ends, EndsAt, no_memory as out_of_memory, at_step, at_fault, AllGood, FirstWith, here, later, StopsAt as StopsAtStep, Answers, HasOutcome, Reports, ReportsOutcome}
-use Rattle.cocoon_cli.specs.Report.{Ending, Fault, of_read, of_write, of_memory, no_fault, Puts, all, a_prefix, nothing, Prints, ending_of, fault_in, fault_of, line_with, no_memory, refusal_line, refusal_status, status_of, usage, verdict_status}
+use Rattle.cocoon_cli.specs.Report.{Ending, Fault, by_read, by_write, by_memory, no_fault, Puts, all, a_prefix, nothing, Prints, ending_of, fault_in, fault_of, line_with, no_memory, refusal_line, refusal_status, status_of, usage, verdict_status}
 use Rattle.cocoon_cli.specs.Run.{Call, Counted, CountsFault, Uncounted, MayCount, of_read as counts_read, of_write as counts_write, of_memory as counts_memory, Count, inputs_of, InputsAre, Performs, IsOnly, Cause, CauseOf, LineNames, NamesFault, EndsWith, Yields, to_read_fault, to_write_fault, to_no_memory, TheOutcome, OutcomeOf, DoneOf, LeavesOf, MayWrite, done, failed, UsageOf, Keeps, KeepsMore}
 use Rattle.cocoon_cli.specs.Run as run
 use Rattle.cocoon_cli.specs.Steps.{Inputs, Step, is_there, is_within, design_reads, design_well_formed, design_within, definitions_read, definitions_fit, definitions_within, design_accepted, lowering_within, level_there, lines_formed, bundle_reads, packets_judged, copies_within, bundle_within, bundle_written, Stops, steps}
@@ -122,9 +122,9 @@ IsRefusing s = Unit {0}
 
 -- the status of a refusal is that of the fault that it speaks of, or none of these
 abbrev Suits : Fault → Status → Type 0
-Suits (of_read file) s = s ≡ ReadFault
-Suits (of_write file) s = s ≡ WriteFault
-Suits of_memory s = s ≡ NoMemory
+Suits (by_read file) s = s ≡ ReadFault
+Suits (by_write file) s = s ≡ WriteFault
+Suits by_memory s = s ≡ NoMemory
 Suits no_fault s = IsRefusing s
 
 refusal_suits : (r : Refusal) → Suits (fault_of r) (refusal_status r)
@@ -134,15 +134,15 @@ refusal_suits refusal.NoMemory = refl
 refusal_suits r = tt
 
 never_done : (f : Fault) (s : Status) → Suits f s → s ≡ Done → ⊥
-never_done (of_read file) s h e = let no : ◌≡◌ {A = Status} ReadFault Done = sym h ∙ e in cc
-never_done (of_write file) s h e = let no : ◌≡◌ {A = Status} WriteFault Done = sym h ∙ e in cc
-never_done of_memory s h e = let no : ◌≡◌ {A = Status} NoMemory Done = sym h ∙ e in cc
+never_done (by_read file) s h e = let no : ◌≡◌ {A = Status} ReadFault Done = sym h ∙ e in cc
+never_done (by_write file) s h e = let no : ◌≡◌ {A = Status} WriteFault Done = sym h ∙ e in cc
+never_done by_memory s h e = let no : ◌≡◌ {A = Status} NoMemory Done = sym h ∙ e in cc
 never_done no_fault s h e = subst IsRefusing e h
 
 never_used : (f : Fault) (s : Status) → Suits f s → s ≡ Usage → ⊥
-never_used (of_read file) s h e = let no : ◌≡◌ {A = Status} ReadFault Usage = sym h ∙ e in cc
-never_used (of_write file) s h e = let no : ◌≡◌ {A = Status} WriteFault Usage = sym h ∙ e in cc
-never_used of_memory s h e = let no : ◌≡◌ {A = Status} NoMemory Usage = sym h ∙ e in cc
+never_used (by_read file) s h e = let no : ◌≡◌ {A = Status} ReadFault Usage = sym h ∙ e in cc
+never_used (by_write file) s h e = let no : ◌≡◌ {A = Status} WriteFault Usage = sym h ∙ e in cc
+never_used by_memory s h e = let no : ◌≡◌ {A = Status} NoMemory Usage = sym h ∙ e in cc
 never_used no_fault s h e = subst IsRefusing e h
 
 -- a verdict has none of these statuses
@@ -172,17 +172,17 @@ usage_of (Some c) call h = λ u. elim (ends call (ending_of c h.outcome) h.print
 ]
 
 -- a refusal with the status of a read fault speaks of one
-reads_fault : (P : Fault → Type 0) (f : Fault) (s : Status) → Suits f s → s ≡ ReadFault → ((file : CommandFile) → P (of_read file)) → P f
-reads_fault P (of_read file) s h e at_read = at_read file
-reads_fault P (of_write file) s h e at_read = let no : ◌≡◌ {A = Status} WriteFault ReadFault = sym h ∙ e in cc
-reads_fault P of_memory s h e at_read = let no : ◌≡◌ {A = Status} NoMemory ReadFault = sym h ∙ e in cc
+reads_fault : (P : Fault → Type 0) (f : Fault) (s : Status) → Suits f s → s ≡ ReadFault → ((file : CommandFile) → P (by_read file)) → P f
+reads_fault P (by_read file) s h e at_read = at_read file
+reads_fault P (by_write file) s h e at_read = let no : ◌≡◌ {A = Status} WriteFault ReadFault = sym h ∙ e in cc
+reads_fault P by_memory s h e at_read = let no : ◌≡◌ {A = Status} NoMemory ReadFault = sym h ∙ e in cc
 reads_fault P no_fault s h e at_read = absurd (subst IsRefusing e h)
 
 -- one with that of a write fault
-writes_fault : (P : Fault → Type 0) (f : Fault) (s : Status) → Suits f s → s ≡ WriteFault → ((file : CommandFile) → P (of_write file)) → P f
-writes_fault P (of_read file) s h e at_write = let no : ◌≡◌ {A = Status} ReadFault WriteFault = sym h ∙ e in cc
-writes_fault P (of_write file) s h e at_write = at_write file
-writes_fault P of_memory s h e at_write = let no : ◌≡◌ {A = Status} NoMemory WriteFault = sym h ∙ e in cc
+writes_fault : (P : Fault → Type 0) (f : Fault) (s : Status) → Suits f s → s ≡ WriteFault → ((file : CommandFile) → P (by_write file)) → P f
+writes_fault P (by_read file) s h e at_write = let no : ◌≡◌ {A = Status} ReadFault WriteFault = sym h ∙ e in cc
+writes_fault P (by_write file) s h e at_write = at_write file
+writes_fault P by_memory s h e at_write = let no : ◌≡◌ {A = Status} NoMemory WriteFault = sym h ∙ e in cc
 writes_fault P no_fault s h e at_write = absurd (subst IsRefusing e h)
 
 -- a command whose ending has the status of a read fault was stopped by one
@@ -229,9 +229,9 @@ write_fault_of (Some c) call h w = elim (sink_fault call (ending_of c h.outcome)
 
 -- the ending has the status of a fault of the folder, or none was counted
 counts_or_none : (reads writes : Count) (f : Fault) (s : Status) → Suits f s → CountsFault reads writes f → MayCount s ⊎ (Uncounted reads × Uncounted writes)
-counts_or_none reads writes (of_read file) s h k = inl (counts_read h)
-counts_or_none reads writes (of_write file) s h k = inl (counts_write h)
-counts_or_none reads writes of_memory s h k = inr k
+counts_or_none reads writes (by_read file) s h k = inl (counts_read h)
+counts_or_none reads writes (by_write file) s h k = inl (counts_write h)
+counts_or_none reads writes by_memory s h k = inr k
 counts_or_none reads writes no_fault s h k = inr k
 
 none_or_fault : (c : Command) (reads writes : Count) (outcome : Result Report Refusal) → CountsFault reads writes (fault_in outcome) → MayCount (ending_of c outcome).status ⊎ (Uncounted reads × Uncounted writes)
@@ -279,8 +279,8 @@ write_fault_printed call f (inr (nothing e n)) d = let no : ◌≡◌ {A = Statu
 
 -- the line of a refusal that speaks of a fault of the folder
 abbrev Says : Command → Fault → List ℕ → Type 0
-Says c (of_read file) line = line ≡ line_with (codes "read fault ") (name_in c file)
-Says c (of_write file) line = line ≡ line_with (codes "write fault ") (name_in c file)
+Says c (by_read file) line = line ≡ line_with (codes "read fault ") (name_in c file)
+Says c (by_write file) line = line ≡ line_with (codes "write fault ") (name_in c file)
 Says c f line = Unit {0}
 
 refusal_says : (c : Command) (r : Refusal) → Says c (fault_of r) (refusal_line c r)
@@ -378,9 +378,9 @@ stops_some (bundle o fs) file before after h = absurd h
 stops_some (own f name bytes) file before after h = h.1
 
 leaves_fault : (c : Command) (i : Inputs) (before after : Option Files) (f : Fault) → LeavesFault c i before after f → LeavesSome c i before after
-leaves_fault c i before after (of_read file) h = inl h
-leaves_fault c i before after (of_write file) (w, may, h) = inr (w, may, stops_some w file before after h)
-leaves_fault c i before after of_memory h = h
+leaves_fault c i before after (by_read file) h = inl h
+leaves_fault c i before after (by_write file) (w, may, h) = inr (w, may, stops_some w file before after h)
+leaves_fault c i before after by_memory h = h
 leaves_fault c i before after no_fault h = inl h
 
 leaves_some : (c : Command) (i : Inputs) (before after : Option Files) (outcome : Result Report Refusal) → Leaves c i before after outcome → LeavesSome c i before after
@@ -389,9 +389,9 @@ leaves_some c i before after (Err r) h = leaves_fault c i before after (fault_of
 
 -- a fault that wrote nothing, or a status that may have
 fault_writes : (c : Command) (i : Inputs) (before after : Option Files) (f : Fault) (s : Status) → Suits f s → LeavesFault c i before after f → MayWrite s ⊎ (after ≡ before)
-fault_writes c i before after (of_read file) s e h = inr h
-fault_writes c i before after (of_write file) s e h = inl (failed e)
-fault_writes c i before after of_memory s e h = inl (run.no_memory e)
+fault_writes c i before after (by_read file) s e h = inr h
+fault_writes c i before after (by_write file) s e h = inl (failed e)
+fault_writes c i before after by_memory s e h = inl (run.no_memory e)
 fault_writes c i before after no_fault s e h = inr h
 
 -- what a command that reports this writes, and the status of its report

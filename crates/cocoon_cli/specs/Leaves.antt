@@ -11,7 +11,7 @@ use Rattle.cocoon_cli.specs.declared.files.CommandFile.TheVariants.{Bundle}
 use Rattle.cocoon_cli.specs.declared.refusal.Refusal.{Refusal}
 use Rattle.command_line.specs.Command.{Command, compile, step, forward}
 use Rattle.cocoon_cli.specs.Outcomes.{AllGood}
-use Rattle.cocoon_cli.specs.Report.{Fault, of_read, of_write, of_memory, no_fault, fault_of}
+use Rattle.cocoon_cli.specs.Report.{Fault, by_read, by_write, by_memory, no_fault, fault_of}
 use Rattle.cocoon_cli.specs.Steps.{Inputs, MakesFiles, steps}
 
 -- ---- what is written
@@ -73,10 +73,10 @@ LeavesSome c inputs before after =
 
 -- where there is a refusal; a write fault is about the file at which the writes stopped
 abbrev pub LeavesFault : Command → Inputs → (before after : Option Files) → Fault → Type 0
-LeavesFault c inputs before after (of_read file) = after ≡ before
-LeavesFault c inputs before after (of_write file) =
+LeavesFault c inputs before after (by_read file) = after ≡ before
+LeavesFault c inputs before after (by_write file) =
     (w : Writing) × Writes c inputs w × StopsIn w file before after
-LeavesFault c inputs before after of_memory = LeavesSome c inputs before after
+LeavesFault c inputs before after by_memory = LeavesSome c inputs before after
 LeavesFault c inputs before after no_fault = after ≡ before
 
 -- what a command with this outcome leaves

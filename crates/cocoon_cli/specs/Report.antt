@@ -112,13 +112,13 @@ refusal_status (refusal.NoFile file) = status.NoFile
 
 -- what of the folder or of memory an outcome speaks of
 pub data Fault : Type 0 where
-  of_read of_write : CommandFile → Fault
-  of_memory no_fault : Fault
+  by_read by_write : CommandFile → Fault
+  by_memory no_fault : Fault
 
 abbrev pub fault_of : Refusal → Fault
-fault_of (refusal.ReadFault file) = of_read file
-fault_of (refusal.WriteFault file) = of_write file
-fault_of refusal.NoMemory = of_memory
+fault_of (refusal.ReadFault file) = by_read file
+fault_of (refusal.WriteFault file) = by_write file
+fault_of refusal.NoMemory = by_memory
 fault_of _ = no_fault
 
 abbrev pub fault_in : {A : Type 0} → Result A Refusal → Fault

@@ -14,7 +14,7 @@ use Rattle.command_line.specs.Words.{command}
 use Rattle.cocoon_cli.specs.FileNames.{bundle_in, name_in}
 use Rattle.cocoon_cli.specs.Leaves.{Leaves, LeavesAll, LeavesSome}
 use Rattle.cocoon_cli.specs.Outcomes.{Agree, Answers, HasOutcome, Reports, is_any_searched}
-use Rattle.cocoon_cli.specs.Report.{Ending, Fault, of_read, of_write, of_memory, no_fault, Prints, ending_of, fault_in, line_with, usage}
+use Rattle.cocoon_cli.specs.Report.{Ending, Fault, by_read, by_write, by_memory, no_fault, Prints, ending_of, fault_in, line_with, usage}
 use Rattle.cocoon_cli.specs.Steps.{Inputs, steps}
 
 -- the number of a status
@@ -87,15 +87,15 @@ pub record Performs (c : Command) (before after : Option Files) (outcome : Resul
 
 -- The fault of the folder that an outcome speaks of was counted, and no other was.
 abbrev pub CountsFault : (reads writes : Count) → Fault → Type 0
-CountsFault reads writes (of_read file) = Counted reads × Uncounted writes
-CountsFault reads writes (of_write file) = Uncounted reads × Counted writes
-CountsFault reads writes of_memory = Uncounted reads × Uncounted writes
+CountsFault reads writes (by_read file) = Counted reads × Uncounted writes
+CountsFault reads writes (by_write file) = Uncounted reads × Counted writes
+CountsFault reads writes by_memory = Uncounted reads × Uncounted writes
 CountsFault reads writes no_fault = Uncounted reads × Uncounted writes
 
 -- a fault of the folder is about the file of its last call that failed
 abbrev pub NamesFault : (List ℕ → Type 0) → Command → Fault → Type 0
-NamesFault last_failure c (of_read file) = last_failure (name_in c file)
-NamesFault last_failure c (of_write file) = last_failure (name_in c file)
+NamesFault last_failure c (by_read file) = last_failure (name_in c file)
+NamesFault last_failure c (by_write file) = last_failure (name_in c file)
 NamesFault last_failure c fault = Unit {0}
 
 -- a command has an outcome, and its ending is printed

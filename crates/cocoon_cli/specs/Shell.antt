@@ -29,7 +29,7 @@ use Rattle.cocoon_cli.specs.FileNames.{bundle_in, most_in, name_in}
 use Rattle.cocoon_cli.specs.Leaves.{Writing, nothing, bundle, own, with_writing}
 use Rattle.cocoon_cli.specs.Outcomes.{AllGood, Ends, Reports}
 use Rattle.cocoon_cli.specs.Reading.{FileNotRead, HasFile, IsRead, IsUnread, bundle_refusal}
-use Rattle.cocoon_cli.specs.Report.{Fault, of_read, of_write, fault_in, fault_of}
+use Rattle.cocoon_cli.specs.Report.{Fault, by_read, by_write, fault_in, fault_of}
 use Rattle.cocoon_cli.specs.Run.{Count, CountsFault, InputsAre, NamesFault, Performs}
 use Rattle.cocoon_cli.specs.Steps.{Inputs, BundleIs, asks, reads, writes}
 
@@ -63,10 +63,15 @@ LacksNet content (Some out) r = IsUnread content out r
 
 -- ---- calls of the folder
 
+-- it is no failed write
+abbrev pub IsReading : Fault → Type 0
+IsReading (by_write file) = ⊥
+IsReading fault = Unit {0}
+
 -- it is no fault of the folder
 abbrev pub IsNoFault : Fault → Type 0
-IsNoFault (of_read file) = ⊥
-IsNoFault (of_write file) = ⊥
+IsNoFault (by_read file) = ⊥
+IsNoFault (by_write file) = ⊥
 IsNoFault fault = Unit {0}
 
 -- The fault that the answer speaks of was counted, and no other, and it is about the file of the last
@@ -114,6 +119,7 @@ pub record ReadsNot (c : Command) (content : Option Files) (r : Refusal) : Type 
   pub inputs : Inputs
   pub inputs_are : InputsAre c content inputs
   pub ends : Ends inputs (Err r) (reads c)
+  pub reading : IsReading (fault_of r)
 
 -- ---- answers
 

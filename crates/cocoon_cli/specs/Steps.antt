@@ -41,7 +41,7 @@ use Rattle.cocoon_cli.specs.declared.refusal.InputFault.TheVariants.{NoTree, Rul
 use Rattle.cocoon_cli.specs.declared.refusal.DefinitionsFault.TheVariants as definitions
 use Rattle.cocoon_cli.specs.declared.refusal.Refusal.{Refusal}
 use Rattle.cocoon_cli.specs.declared.refusal.Refusal.TheVariants as refusal
-use Rattle.cocoon_cli.specs.declared.report.Report.{Report}
+use Rattle.cocoon_cli.specs.declared.answer.Report.{Report}
 use Rattle.case_file.specs.Cases as cases
 use Rattle.case_file.specs.Cases.{case_of}
 use Rattle.cocoon_types.specs.Design.{last_level}

@@ -19,7 +19,7 @@ use cocoon_resolve::{Checked, TypeFault, resolve};
 use cocoon_syntax::{DefsText, Design};
 use cocoon_text::{Unread, position_of, read_defs, read_design};
 use cocoon_types::TypeRule;
-use declarations::FunId;
+use cocoon_resolve::FunId;
 use runtime_defs::{Defs, DefsFault, bind};
 use sound_types::laws::code_literals_fit;
 use std::alloc::Global;

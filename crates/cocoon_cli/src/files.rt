@@ -1,5 +1,5 @@
 //! The files that a command reads and writes.
-ghost use Rattle.std.specs.Prelude.{◌≡◌, ℕ, IfOk, List, option_map, string_bytes};
+ghost use Rattle.std.specs.Prelude.{◌≡◌, IfOk, option_map, string_bytes};
 ghost use Rattle.command_line.specs.Command as spec;
 ghost use Rattle.command_line.specs.Stands.{stands_for};
 ghost use Rattle.cocoon_cli.specs.FileNames.{bundle_in, name_in};
@@ -92,36 +92,59 @@ impl CommandFile {
         ensures { IsWanted (stands_for command.now) self result }
     {
         match command {
-            Command::Compile(names) => self.of_texts(names.design, names.defs),
-            Command::Step(asked) => match self {
-                CommandFile::Case => Some(Wanted {
-                    name: asked.file,
-                    most: CASE_MOST,
-                }),
-                _ => self.of_texts(asked.design, asked.defs),
-            },
-            Command::Forward(asked) => match self {
-                CommandFile::Packets => Some(Wanted {
-                    name: asked.packets,
-                    most: PACKETS_MOST,
-                }),
-                _ => None,
-            },
+            Command::Compile(names) => self.of_compile(names),
+            Command::Step(asked) => self.of_step(asked),
+            Command::Forward(asked) => self.of_forward(asked),
         }
     }
 
-    /// The same of a command that reads a design and definitions.
-    fn of_texts<'w>(self, design: &'w str, defs: &'w str) -> Option<Wanted<'w>>
-        ensures { (out : List ℕ) → IsWanted (spec.compile design.now defs.now out) self result }
+    fn of_compile<'w>(self, names: &Compile<'w>) -> Option<Wanted<'w>>
+        ensures { IsWanted
+            (spec.compile names.now.design.now names.now.defs.now names.now.out.now) self result }
     {
         match self {
             CommandFile::Design => Some(Wanted {
-                name: design,
+                name: names.design,
                 most: DESIGN_MOST,
             }),
             CommandFile::Definitions => Some(Wanted {
-                name: defs,
+                name: names.defs,
                 most: DEFINITIONS_MOST,
+            }),
+            _ => None,
+        }
+    }
+
+    fn of_step<'w>(self, asked: &Step<'w>) -> Option<Wanted<'w>>
+        ensures { IsWanted
+            (spec.step asked.now.design.now asked.now.defs.now asked.now.level asked.now.file.now)
+            self result }
+    {
+        match self {
+            CommandFile::Design => Some(Wanted {
+                name: asked.design,
+                most: DESIGN_MOST,
+            }),
+            CommandFile::Definitions => Some(Wanted {
+                name: asked.defs,
+                most: DEFINITIONS_MOST,
+            }),
+            CommandFile::Case => Some(Wanted {
+                name: asked.file,
+                most: CASE_MOST,
+            }),
+            _ => None,
+        }
+    }
+
+    fn of_forward<'w>(self, asked: &Forward<'w>) -> Option<Wanted<'w>>
+        ensures { IsWanted
+            (spec.forward asked.now.out.now asked.now.packets.now asked.now.hops) self result }
+    {
+        match self {
+            CommandFile::Packets => Some(Wanted {
+                name: asked.packets,
+                most: PACKETS_MOST,
             }),
             _ => None,
         }

@@ -1,9 +1,10 @@
 //! What follows from the promises of this crate. The functions do nothing; their contracts are the
 //! laws.
-ghost use Rattle.std.specs.Prelude.{List, Result, ℕ};
+ghost use Rattle.std.specs.Prelude.{Result};
 ghost use Rattle.command_line.specs.Command as spec;
 ghost use Rattle.cocoon_cli.specs.Outcomes.{HasOutcome};
-ghost use Rattle.cocoon_cli.specs.Run.{Call, IsOnly, Keeps, KeepsMore};
+ghost use Rattle.command_line.specs.Words.{command};
+ghost use Rattle.cocoon_cli.specs.Run.{Call, CauseOf, IsOnly, KeepsMore};
 ghost use Rattle.cocoon_cli.specs.Steps.{Inputs};
 ghost use Rattle.cocoon_cli.specs.declared.answer.Report.{Report};
 ghost use Rattle.cocoon_cli.specs.declared.refusal.Refusal.{Refusal};
@@ -37,10 +38,9 @@ pub fn one_outcome()
     one_reading();
 }
 
-/// What follows from what a call keeps: when the words are reported as no command, which statuses
+/// What follows from the cause of an answer: when the words are reported as no command, which statuses
 /// speak of a fault that was counted, and which leave the folder as it was.
 pub fn calls_keep_more()
-    ensures { (last_failure : List ℕ → Type 0) (call : Call) → Keeps last_failure call
-        → KeepsMore call }
+    ensures { (call : Call) → CauseOf (command call.words) call → KeepsMore call }
 {
 }
