@@ -85,7 +85,7 @@ no_fault x y r h = tt
 
 -- ---- a network that is made
 
-pub makes : (i : Inputs) (x y : List ℕ) (net : NetData) → Texts i x y → LowersTexts x y net → Makes i net
+abbrev pub makes : (i : Inputs) (x y : List ℕ) (net : NetData) → Texts i x y → LowersTexts x y net → Makes i net
 makes i x y net g h = record {
   design = h.tree;
   defs = h.binds.entries;

@@ -167,13 +167,13 @@ bundle_unwritten d e o i before after read net fault.NoMemory r a g l (inr n) =
 
 not_written : (c : Command) (i : Inputs) (before after : Option Files) (read : Read) (w : Written) (r : Refusal) → AllGood i (reads c) → AllGood i (asks c) → IsGiven c i read → Plans c read w
     → NotAllWritten (writing_of c read w) before after r → Unwritten c i before after r
-not_written (compile d e o) i before after read (written.Bundle name net) r rs as g p h =
+not_written (compile d e o) i before after read (written.Bundle name net) r rs ask g p h =
     let n = subst (λ out. NotWritten out (bundle_of.bundle read.design.items (net_of net) None) before after h.0) p.0 h.1 in
-    subst (λ (x : Refusal). Unwritten (compile d e o) i before after x) (sym h.2) (bundle_unwritten d e o i before after read (net_of net) h.0 rs as g p.1 n)
-not_written (compile d e o) i before after read written.Nothing r rs as g p h = absurd p
-not_written (compile d e o) i before after read (written.Own file bytes) r rs as g p h = absurd p
-not_written (step d e l f) i before after read w r rs as g p h = absurd (subst (λ (x : Written). NotAllWritten (writing_of (step d e l f) read x) before after r) p h)
-not_written (forward o q n) i before after read w r rs as g p h = absurd (subst (λ (x : Written). NotAllWritten (writing_of (forward o q n) read x) before after r) p h)
+    subst (λ (x : Refusal). Unwritten (compile d e o) i before after x) (sym h.2) (bundle_unwritten d e o i before after read (net_of net) h.0 rs ask g p.1 n)
+not_written (compile d e o) i before after read written.Nothing r rs ask g p h = absurd p
+not_written (compile d e o) i before after read (written.Own file bytes) r rs ask g p h = absurd p
+not_written (step d e l f) i before after read w r rs ask g p h = absurd (subst (λ (x : Written). NotAllWritten (writing_of (step d e l f) read x) before after r) p h)
+not_written (forward o q n) i before after read w r rs ask g p h = absurd (subst (λ (x : Written). NotAllWritten (writing_of (forward o q n) read x) before after r) p h)
 
 pub unwritten : (c : Command) (before mid after : Option Files) (read : Read) (answer : Answer) (r : Refusal) → mid ≡ before → ReadsAll c before read → ((i : Inputs) → IsGiven c i read → Asked c i (Ok answer)) → Plans c read answer.writing
     → NotAllWritten (writing_of c read answer.writing) mid after r → Performs c before after (Err r)
@@ -187,15 +187,6 @@ unwritten c before mid after read answer r same g h p n =
       answers = inl (ends_after i (Err r) (reads c) (asks c ++ writes c) g.good (ends_after i (Err r) (asks c) (writes c) a u.ends));
       leaves = u.leaves;
     }
-
--- ---- what may be written
-
-pub can_write : (c : Command) (read : Read) (w : Written) → Plans c read w → CanWrite c w
-can_write (compile d e o) read (written.Bundle name net) p = (λ file. ap (λ out. whole_name out file) p.0, p.1.lowering.writable)
-can_write (compile d e o) read written.Nothing p = absurd p
-can_write (compile d e o) read (written.Own file bytes) p = absurd p
-can_write (step d e l f) read w p = subst (CanWrite (step d e l f)) (sym p) tt
-can_write (forward o q n) read w p = subst (CanWrite (forward o q n)) (sym p) tt
 
 -- ---- the main promise
 

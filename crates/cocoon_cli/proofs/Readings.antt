@@ -1,7 +1,5 @@
 -- What is read for a command, file after file.
-use Rattle.std.specs.Prelude.{Vec}
-use Rattle.std.specs.declared.alloc.Global.{Global}
-use Rattle.std.proofs.Common.{IfErr, IfOk, ◌≡◌, ◌≤◌, ◌<◌, ◌^◌, ℕ, zero, suc, List, [], ◌∷◌, ◌++◌, length, replicate, Option, Some, None, Result, Ok, Err, refl, sym, ap, ap₂, subst, ◌∙◌, ◌⊎◌, inl, inr, arith}
+use Rattle.std.proofs.Common.{◌≡◌, ◌≤◌, ◌<◌, ◌^◌, ℕ, zero, suc, List, [], ◌∷◌, ◌++◌, length, replicate, Option, Some, None, Result, Ok, Err, refl, sym, ap, ap₂, subst, ◌∙◌, ◌⊎◌, inl, inr, arith}
 use Rattle.cocoon_io.specs.Files.{Files}
 use Rattle.cocoon_io.specs.declared.folder.FolderFault.TheVariants.{Failed, TooLong as Long, NoMemory as Wanting}
 use Rattle.bundle_reader.specs.FolderCounts as counts
@@ -10,7 +8,6 @@ use Rattle.bundle_reader.specs.declared.fault.ReadFault.{ReadFault}
 use Rattle.bundle_reader.specs.declared.fault.ReadFault.TheVariants as read
 use Rattle.loaded_net.specs.Nets.{net_in}
 use Rattle.loaded_net.specs.declared.net.Net.{Net}
-use Rattle.net_bundle.specs.Bundle.{whole_name}
 use Rattle.net_bundle.specs.declared.file.BundleFile.{BundleFile}
 use Rattle.command_line.specs.Command.{Command, compile, step, forward}
 use Rattle.cocoon_cli.specs.declared.files.CommandFile.{CommandFile}
@@ -20,12 +17,11 @@ use Rattle.cocoon_cli.specs.declared.refusal.Refusal.{Refusal}
 use Rattle.cocoon_cli.specs.declared.refusal.Refusal.TheVariants as refusal
 use Rattle.cocoon_cli.specs.FileNames.{bundle_in, most_in, name_in}
 use Rattle.cocoon_cli.specs.Outcomes.{AllGood, none, good, Ends, no_memory}
-use Rattle.cocoon_cli.specs.Reading.{FileNotRead, HasFile, HasLongFile, IsOfFiles, IsRead, IsUnread, LacksFile, NamesBundleFailure, NamesReadFailure, ReadFaultRose, unread_as}
+use Rattle.cocoon_cli.specs.Reading.{FileNotRead, HasFile, HasLongFile, IsOfFiles, IsUnread, LacksFile, NamesBundleFailure, ReadFaultRose, unread_as}
 use Rattle.cocoon_cli.specs.Report.{fault_of}
-use Rattle.cocoon_cli.specs.Run.{InputsAre, count, inputs_of}
-use Rattle.cocoon_cli.specs.Shell.{Called, Given, GivenNet, HasNet, HasWanted, IsReading, LacksNet, LacksWanted, ReadsAll, ReadsNot}
+use Rattle.cocoon_cli.specs.Run.{InputsAre, inputs_of}
+use Rattle.cocoon_cli.specs.Shell.{Given, GivenNet, HasNet, HasWanted, IsReading, LacksNet, LacksWanted, ReadsAll, ReadsNot}
 use Rattle.cocoon_cli.specs.Steps.{Inputs, Step, bundle_reads, bundle_steps, file_steps, is_there, is_within, reads}
-use Rattle.cocoon_cli.proofs.Counted.{bundle_counts, bundle_names, file_counts, file_names}
 use Rattle.cocoon_cli.proofs.Ending.{all_good, ends_after, ends_before, next, refused, stopped}
 
 -- ---- what is read
@@ -260,33 +256,6 @@ all_read c content of g h =
       };
     }
 
--- ---- limits, and names of bundles
-
-below : (n most : ℕ) → Some n ≡ Some most → n < 2 ^ 31 → most < 2 ^ 31
-below n most e h = subst (λ (m : ℕ). m < 2 ^ 31) (same e) h
-  where
-    same : Some n ≡ Some most → n ≡ most
-    same e = cc
-
-pub small_most : (c : Command) (file : CommandFile) (most : ℕ) → most_in c file ≡ Some most → most < 2 ^ 31
-small_most (compile d e o) Design most h = below 1048576 most h (omega arith)
-small_most (compile d e o) Definitions most h = below 4194304 most h (omega arith)
-small_most (compile d e o) file most h = cc
-small_most (step d e l f) Design most h = below 1048576 most h (omega arith)
-small_most (step d e l f) Definitions most h = below 4194304 most h (omega arith)
-small_most (step d e l f) Case most h = below 65536 most h (omega arith)
-small_most (step d e l f) file most h = cc
-small_most (forward o p n) Packets most h = below 16777216 most h (omega arith)
-small_most (forward o p n) file most h = cc
-
-pub bundle_is : (c : Command) (out : List ℕ) → bundle_in c ≡ Some out → (file : BundleFile) → whole_name out file ≡ name_in c (Bundle file)
-bundle_is (compile d e o) out h file = cc
-bundle_is (step d e l f) out h file = cc
-bundle_is (forward o p n) out h file = ap (λ x. whole_name x file) (sym (same h))
-  where
-    same : Some o ≡ Some out → o ≡ out
-    same h = cc
-
 -- ---- the faults of a bundle, told as those of a command
 
 rose_by : (last : Option ℕ) (old new : ℕ) (fault : ReadFault) → counts.ReadFaultRose last old new fault → ReadFaultRose last old new (unread_as fault)
@@ -318,44 +287,3 @@ names_by last o read.NoMemory h = tt
 
 pub names : (last : List ℕ → Type 0) (o : List ℕ) (fault : ReadFault) (r : Refusal) → r ≡ unread_as fault → counts.NamesFailure last o fault → NamesBundleFailure last o r
 names last o fault r e h = subst (NamesBundleFailure last o) (sym e) (names_by last o fault h)
-
--- ---- what the parts of reading answer
-
-pub wanted_read : (content : Option Files) (n k : List ℕ) (o : Option ℕ) (m : ℕ) (answer : Result (Vec ℕ Global) Refusal) → o ≡ Some m → k ≡ n
-    → IfOk answer (λ v. HasFile content k m v.items) → IfOk answer (λ v. length v.items ≤ m) → IfOk answer (λ v. HasWanted content n o v.items)
-wanted_read content n k o m (Ok v) e f h l = subst (λ (p : Option ℕ). HasWanted content n p v.items) (sym e) (subst (λ (x : List ℕ). HasFile content x m v.items) f h, l)
-wanted_read content n k o m (Err r) e f h l = tt
-
-pub wanted_short : (m : ℕ) (answer : Result (Vec ℕ Global) Refusal) → m < 2 ^ 31 → IfOk answer (λ v. length v.items ≤ m) → IfOk answer (λ v. length v.items < 2 ^ 31)
-wanted_short m (Ok v) s l = let a : m < 2 ^ 31 = s in let b : length v.items ≤ m = l in omega arith
-wanted_short m (Err r) s l = tt
-
-pub wanted_lacks : (content : Option Files) (n k : List ℕ) (file : CommandFile) (o : Option ℕ) (m : ℕ) (answer : Result (Vec ℕ Global) Refusal) → o ≡ Some m → k ≡ n
-    → IfErr answer (FileNotRead content k file m) → IfErr answer (LacksWanted content n file o)
-wanted_lacks content n k file o m (Ok v) e f h = tt
-wanted_lacks content n k file o m (Err r) e f h = subst (λ (p : Option ℕ). LacksWanted content n file p r) (sym e) (subst (λ (x : List ℕ). FileNotRead content x file m r) f h)
-
-pub file_called : (last : List ℕ → Type 0) (c : Command) (content : Option Files) (k : List ℕ) (file : CommandFile) (m : ℕ) (last_read : Option ℕ) (r0 r1 : ℕ) (last_write : Option ℕ) (w0 w1 : ℕ) (answer : Result (Vec ℕ Global) Refusal) → k ≡ name_in c file
-    → IfErr answer (FileNotRead content k file m) → IfErr answer (ReadFaultRose last_read r0 r1) → IfOk answer (λ v. r1 ≡ r0) → IfErr answer (NamesReadFailure last k) → w1 ≡ w0
-    → Called last c (count last_read r0 r1) (count last_write w0 w1) answer
-file_called last c content k file m last_read r0 r1 last_write w0 w1 (Ok v) f h rose same n w = record { counts = (same, w); named = tt }
-file_called last c content k file m last_read r0 r1 last_write w0 w1 (Err r) f h rose same n w = record {
-  counts = file_counts content k file m last_read r0 r1 (count last_write w0 w1) r h rose w;
-  named = file_names last c content file m r (subst (λ (x : List ℕ). FileNotRead content x file m r) f h) (subst (λ (x : List ℕ). NamesReadFailure last x r) f n);
-}
-
-pub net_read : (content : Option Files) (o : Option (List ℕ)) (out : List ℕ) (net : Net) → Some out ≡ o → IsRead content out net → HasNet content o (Some net)
-net_read content o out net e h = subst (λ (p : Option (List ℕ)). HasNet content p (Some net)) e h
-
-pub net_lacks : (content : Option Files) (o : Option (List ℕ)) (out : List ℕ) (r : Refusal) → Some out ≡ o → IsUnread content out r → LacksNet content o r
-net_lacks content o out r e h = subst (λ (p : Option (List ℕ)). LacksNet content p r) e h
-
-pub net_none : (content : Option Files) (o : Option (List ℕ)) → None ≡ o → HasNet content o None
-net_none content o e = subst (λ (p : Option (List ℕ)). HasNet content p None) e tt
-
-pub net_called : (last : List ℕ → Type 0) (c : Command) (out : List ℕ) (last_read : Option ℕ) (r0 r1 : ℕ) (last_write : Option ℕ) (w0 w1 : ℕ) (r : Refusal) → Some out ≡ bundle_in c
-    → ReadFaultRose last_read r0 r1 r → NamesBundleFailure last out r → w1 ≡ w0 → Called {A = Option Net} last c (count last_read r0 r1) (count last_write w0 w1) (Err r)
-net_called last c out last_read r0 r1 last_write w0 w1 r e rose n w = record {
-  counts = bundle_counts last out last_read r0 r1 (count last_write w0 w1) r n rose w;
-  named = bundle_names last c out r (bundle_is c out (sym e)) n;
-}
