@@ -1,5 +1,5 @@
 -- Two lists with the same elements, whose choices ascend, are equal.
-use Rattle.std.proofs.Common.{◌≡◌, ◌<◌, inl, inr, ℕ, List, [], ◌∷◌, Contains, map, refl, sym, subst, ap, ◌∙◌, arith}
+use Rattle.std.proofs.Common.{◌≡◌, inl, inr, ℕ, List, [], ◌∷◌, Contains, map, refl, sym, subst, ap, ◌∙◌, arith}
 use Rattle.net_run.specs.Ascending.{Ahead, AheadOfAll, Ascending}
 use Rattle.net_run.proofs.Among.{Among, among, contains}
 

@@ -1,5 +1,5 @@
 -- What becomes of a packet: the deliveries and the copies that travel, among its ends, are those that the network makes.
-use Rattle.std.proofs.Common.{◌≡◌, ◌<◌, inl, inr, ℕ, suc, Bool, true, List, [], ◌∷◌, ◌++◌, Contains, length, map, refl, sym, subst, ap, ◌∙◌, arith}
+use Rattle.std.proofs.Common.{◌≡◌, inl, inr, ℕ, suc, true, List, [], ◌∷◌, ◌++◌, length, map, refl, sym, subst, ap, ◌∙◌, arith}
 use Rattle.std.proofs.Math.Bool.{Bool-set}
 use Rattle.std.proofs.Math.Logic.{∥∥₁_elim}
 use Rattle.std.proofs.lemmas.Bool.{and_from}
@@ -17,7 +17,7 @@ use Rattle.net_run.specs.Deliveries.{count_at, deliver_at, deliveries, delivered
 use Rattle.net_run.specs.Delivering.{delivery_of}
 use Rattle.net_run.specs.Ends.{End, ends}
 use Rattle.net_run.specs.Following.{IsUnderWay}
-use Rattle.net_run.specs.Outcomes.{AreDelivered, AreTravelling, Delivery, StillTravels}
+use Rattle.net_run.specs.Outcomes.{AreDelivered, AreTravelling, Delivery}
 use Rattle.net_run.specs.UnderWay.{stack_ends}
 use Rattle.net_run.specs.declared.following.Walk.{Walk}
 use Rattle.net_run.proofs.Among.{Among, among, contains}

@@ -9,7 +9,7 @@ pub loop-packet-init : goal.loop-packet-init
 loop-packet-init c = record {
   number = refl;
   report = record { outcomes = []; are = tt; lines = c.new-report.ensures.items };
-  known = c.requires;
+  known = c.requires.known;
   within = λ h. h;
   over = λ h. h;
 }
