@@ -1,5 +1,5 @@
 -- What a `forward` over the bundle of a `compile` reports.
-use Rattle.std.proofs.Common.{◌≡◌, ℕ, List, Some, Ok, ap, ◌∙◌, subst}
+use Rattle.std.proofs.Common.{◌≡◌, ℕ, List, Some, Ok, subst}
 use Rattle.std.specs.FinMap.{get}
 use Rattle.cocoon_io.specs.Calls.{appended}
 use Rattle.cocoon_io.specs.Files.{Files}
@@ -7,7 +7,7 @@ use Rattle.command_line.specs.Command.{Command, forward}
 use Rattle.p4_ir.specs.NetTree.{NetData}
 use Rattle.p4_ir.specs.Wiring.{host_numbers}
 use Rattle.packet_file.specs.Packets.{Packet, packets_in}
-use Rattle.packet_runs.specs.Reports.{report_of}
+use Rattle.packet_runs.specs.Reports.{IsReport}
 use Rattle.net_bundle.specs.Network.{Network}
 use Rattle.cocoon_cli.specs.Report.{report_line}
 use Rattle.cocoon_cli.specs.Run.{Call, DoneOf, InputsAre, inputs_of}
@@ -29,7 +29,7 @@ pub record Reported (files : Files) (out packets_name : List ℕ) (hops : ℕ) (
   pub network : Network files out net
   pub text_is : get files packets_name ≡ Some text
   pub say : packets_in (host_numbers net.hosts) text ≡ Ok packets
-  pub report_is : report ≡ report_of net hops packets
+  pub report_is : IsReport net hops packets report
 
 of_inputs : (files : Files) (out packets : List ℕ) (hops : ℕ) (report : Report) → Reports (forward out packets hops) (inputs_of (forward out packets hops) files) report
     → Reported files out packets hops (report_line report)
@@ -67,14 +67,16 @@ same_net : OneNetwork → (x : ForwardsCompiled) (n : NetData) → Network x.fil
 same_net one x n reads = one x.files x.out n x.compiled.net reads (still_network x.files x.after x.out x.compiled.net x.bundle_same x.compiled.network)
 
 pub reported : OneNetwork → (x : ForwardsCompiled)
-    → (text : List ℕ) × (packets : List Packet) × (get x.files x.packets_name ≡ Some text) × (packets_in (host_numbers x.compiled.net.hosts) text ≡ Ok packets)
-    × (x.call.output_after ≡ appended x.call.output_before (report_of x.compiled.net x.hops packets))
+    → (text : List ℕ) × (packets : List Packet) × (report : List ℕ) × (get x.files x.packets_name ≡ Some text) × (packets_in (host_numbers x.compiled.net.hosts) text ≡ Ok packets)
+    × IsReport x.compiled.net x.hops packets report × (x.call.output_after ≡ appended x.call.output_before report)
 reported one x =
     let h = has_reported x.call x.files x.out x.packets_name x.hops x.content (subst (λ c. DoneOf c x.call) x.words (x.done_leaves x.status)) in
     let net = same_net one x h.of.net h.of.network in (
       h.of.text,
       h.of.packets,
+      h.report,
       h.of.text_is,
       subst (λ (n : NetData). packets_in (host_numbers n.hosts) h.of.text ≡ Ok h.of.packets) net h.of.say,
-      h.printed ∙ ap (appended x.call.output_before) (h.of.report_is ∙ ap (λ n. report_of n x.hops h.of.packets) net),
+      subst (λ n. IsReport n x.hops h.of.packets h.report) net h.of.report_is,
+      h.printed,
     )
