@@ -1,13 +1,10 @@
 -- What `compile` answers over its two texts, put together from its parts.
-use Rattle.std.proofs.Common.{◌≡◌, ℕ, List, [], ◌∷◌, ◌++◌, Some, None, Ok, Err, refl, sym, ap, ap₂, subst, ◌∙◌, inl, inr}
-use Rattle.cocoon_num.specs.Reads.{Reads, ReadsDefs}
+use Rattle.std.proofs.Common.{ℕ, List, [], ◌∷◌, ◌++◌, None, Err, refl, ap₂, inl, inr}
 use Rattle.p4_ir.specs.NetTree.{NetData}
 use Rattle.net_bundle.specs.Bundle.{MadeFile, all_switch_files, bundle}
 use Rattle.net_bundle.specs.declared.file.BundleFile.{BundleFile}
-use Rattle.net_bundle.specs.Writing.{FirstOver, most_of}
-use Rattle.cocoon_cli.specs.declared.answer.Report.{Report}
+use Rattle.net_bundle.specs.Writing.{FirstOver}
 use Rattle.cocoon_cli.specs.declared.files.CommandFile.{CommandFile}
-use Rattle.cocoon_cli.specs.declared.files.CommandFile.TheVariants.{Bundle}
 use Rattle.cocoon_cli.specs.declared.refusal.InputFault.TheVariants.{NotYet}
 use Rattle.cocoon_cli.specs.declared.refusal.Refusal.{Refusal}
 use Rattle.cocoon_cli.specs.declared.refusal.Refusal.TheVariants as refusal

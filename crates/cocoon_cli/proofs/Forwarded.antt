@@ -1,5 +1,5 @@
 -- What `forward` answers over its packets and its bundle, put together from its parts.
-use Rattle.std.proofs.Common.{◌≡◌, ℕ, List, [], ◌∷◌, ◌++◌, Some, Err, refl, sym, ap, subst, ◌∙◌, inl, inr}
+use Rattle.std.proofs.Common.{◌≡◌, ℕ, List, ◌++◌, Some, Err, sym, ap, subst, inl, inr}
 use Rattle.p4_ir.specs.NetTree.{NetData}
 use Rattle.packet_file.specs.declared.packet.PacketFault.{PacketFault}
 use Rattle.packet_file.specs.declared.packet.PacketFault.TheVariants as packets
@@ -54,4 +54,4 @@ asks_good o p n i x net lines k is h =
 pub reports : (o p : List ℕ) (n : ℕ) (i : Inputs) (x : List ℕ) (net : NetData) (lines : List ℕ) (report : Report) → i.file Packets ≡ Some x → BundleIs i o net → RunsPackets net n x lines
     → report ≡ outcomes.success lines → Reports (forward o p n) i report
 reports o p n i x net lines report k is h said =
-    (net, h.packets, is, record { text = x; are = k; say = h.say }, said ∙ ap outcomes.success h.told)
+    (net, h.packets, lines, is, record { text = x; are = k; say = h.say }, h.told, said)

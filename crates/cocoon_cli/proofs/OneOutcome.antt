@@ -27,11 +27,11 @@ use Rattle.cocoon_io.specs.declared.folder.FolderFault.TheVariants.{Failed, TooL
 use Rattle.net_run.specs.RunCounts.{most_runs, runs}
 use Rattle.packet_file.specs.Packets.{Packet, packets_in}
 use Rattle.packet_file.specs.declared.packet.PacketFault.{PacketFault}
-use Rattle.packet_runs.specs.Reports.{report_of}
+use Rattle.packet_runs.specs.Reports.{IsReport}
 use Rattle.packet_runs.specs.Stopping.{AllWithin, SomeOver}
 use Rattle.cocoon_cli.specs.Reading.{IsOfFiles, unread_as}
 use Rattle.cocoon_cli.specs.FileNames.{bundle_in}
-use Rattle.cocoon_cli.specs.Outcomes.{AllGood, none, good, FirstWith, here, later, EndsAt, Agree, Alike, equal, HasOutcome, IsGivenUp, Reports, ReportsOutcome, is_any_searched, success}
+use Rattle.cocoon_cli.specs.Outcomes.{AllGood, good, FirstWith, here, later, EndsAt, Agree, Alike, equal, HasOutcome, IsGivenUp, Reports, ReportsOutcome, is_any_searched, success}
 use Rattle.cocoon_cli.specs.ReportLines.{sent_text, totals_line, totals_of}
 use Rattle.cocoon_cli.specs.Run.{IsKnown, IsOnly}
 use Rattle.net_bundle.specs.Bundle.{MadeFile, bundle}
@@ -74,6 +74,7 @@ pub record Laws : Type 0 where
   pub one_over : (d : tree.Design) (e : tree.DefsText) (x y : LimitName) (m n : ℕ) → IsOver d e x m → IsOver d e y n → (x ≡ y) × (m ≡ n)
   pub one_step : (level : ℕ) (d : tree.Design) (defs : tables.Defs) (case : Case) (told other : Option Sent) → Steps level d defs case told → Steps level d defs case other → other ≡ told
   pub one_reading : (files : Files) (out : List ℕ) → OneReading files out
+  pub same_report : (net : NetData) (hops : ℕ) (ps : List Packet) (lines other : List ℕ) → IsReport net hops ps lines → IsReport net hops ps other → lines ≡ other
   pub no_over : (d : tree.Design) (e : tree.DefsText) (x : LimitName) (n : ℕ) → IsWithin d e → IsOver d e x n → ⊥
 
 -- ---- what is read
@@ -364,9 +365,10 @@ one_report laws (step d e l f) i r q b h k =
     (subst (λ (x : tree.Design). Steps l x (defs_of x h.1) h.2 h.3) design h.5))) k.5 in
     h.6 ∙ ap (λ (s : Option Sent). success (sent_text s)) (sym sent) ∙ sym k.6
 one_report laws (forward o p n) i r q b h k =
-    let net = same_network i o h.0 k.0 (b.0, b.1, laws.one_reading b.0 o) h.2 k.2 in
-    let packets = same_packets i h.0 k.0 h.1 k.1 net h.3 k.3 in
-    h.4 ∙ ap₂ (λ m ps. success (report_of m n ps)) net packets ∙ sym k.4
+    let net = same_network i o h.0 k.0 (b.0, b.1, laws.one_reading b.0 o) h.3 k.3 in
+    let packets = same_packets i h.0 k.0 h.1 k.1 net h.4 k.4 in
+    let is : IsReport k.0 n k.1 h.2 = subst (λ (ps : List Packet). IsReport k.0 n ps h.2) packets (subst (λ (m : NetData). IsReport m n h.1 h.2) net h.5) in
+    h.6 ∙ ap success (laws.same_report k.0 n k.1 h.2 k.2 is k.5) ∙ sym k.6
 
 two_reports : Laws → (c : Command) (i : Inputs) (x y : Result Report Refusal) → IsKnown (bundle_in c) i → ReportsOutcome c i x → ReportsOutcome c i y → x ≡ y
 two_reports laws c i (Ok r) (Ok q) b h k = ap Ok (one_report laws c i r q b h k)

@@ -1,35 +1,27 @@
 -- What a command does to a folder, put together from what is read, answered and written.
-use Rattle.std.proofs.Common.{◌≡◌, ◌⊎◌, ℕ, List, [], ◌∷◌, ◌++◌, Option, Some, None, Result, Ok, Err, IsTrue, refl, sym, ap, subst, ◌∙◌, inl, inr}
+use Rattle.std.proofs.Common.{◌≡◌, ℕ, List, ◌++◌, Option, Some, None, Ok, Err, refl, sym, ap, subst, ◌∙◌, inl, inr}
 use Rattle.cocoon_io.specs.Files.{Files}
-use Rattle.cocoon_types.specs.Tables.{defs_of}
 use Rattle.net_bundle.specs.Bundle as bundle_of
-use Rattle.net_bundle.specs.Bundle.{MadeFile, whole_name}
-use Rattle.net_bundle.specs.Writing.{AllFit, ContentHolds, Holds, NotWritten, SomeWritten, StopsAt}
+use Rattle.net_bundle.specs.Writing.{ContentHolds, Holds, NotWritten}
 use Rattle.net_bundle.specs.declared.fault.BundleFault.{BundleFault}
 use Rattle.net_bundle.specs.declared.fault.BundleFault.TheVariants as fault
-use Rattle.net_bundle.specs.declared.file.BundleFile.{BundleFile}
-use Rattle.p4_ir.specs.NetFits.{net_fits}
 use Rattle.p4_ir.specs.NetOf.{net_of}
 use Rattle.p4_ir.specs.NetTree.{NetData}
 use Rattle.command_line.specs.Command.{Command, compile, step, forward}
 use Rattle.cocoon_cli.specs.declared.answer.Answer.{Answer}
-use Rattle.cocoon_cli.specs.declared.answer.Report.{Report}
 use Rattle.cocoon_cli.specs.declared.answer.Writing.{Writing as Written}
 use Rattle.cocoon_cli.specs.declared.answer.Writing.TheVariants as written
-use Rattle.cocoon_cli.specs.declared.files.CommandFile.{CommandFile}
-use Rattle.cocoon_cli.specs.declared.files.CommandFile.TheVariants.{Bundle, Definitions, Design}
 use Rattle.cocoon_cli.specs.declared.reading.Read.{Read}
 use Rattle.cocoon_cli.specs.declared.refusal.Refusal.{Refusal}
-use Rattle.cocoon_cli.specs.declared.refusal.Refusal.TheVariants as refusal
 use Rattle.cocoon_cli.specs.Compiling.{LowersTexts}
 use Rattle.cocoon_cli.specs.Headline.{Compiled, CompiledOf, none_besides}
-use Rattle.cocoon_cli.specs.Leaves.{Writing, nothing, bundle, own, Leaves, LeavesFault, MayWriteFiles, Writes, with_writing}
-use Rattle.cocoon_cli.specs.Outcomes.{AllGood, none, good, Answers, Ends, no_memory, Reports}
+use Rattle.cocoon_cli.specs.Leaves.{bundle, LeavesFault, Writes, with_writing}
+use Rattle.cocoon_cli.specs.Outcomes.{AllGood, none, good, Ends, no_memory}
 use Rattle.cocoon_cli.specs.Reading.{bundle_refusal}
 use Rattle.cocoon_cli.specs.Report.{Fault, by_read, by_write, by_memory, no_fault, fault_of}
-use Rattle.cocoon_cli.specs.Run.{InputsAre, Performs, inputs_of}
-use Rattle.cocoon_cli.specs.Shell.{AllWritten, Asked, CanWrite, Fits, HoldsNet, IsGiven, IsNoFault, IsQuiet, IsReading, NotAllWritten, Plans, ReadsAll, ReadsNot, writing_of}
-use Rattle.cocoon_cli.specs.Steps.{Inputs, Step, MakesFiles, asks, bundle_within, bundle_written, reads, steps, writes}
+use Rattle.cocoon_cli.specs.Run.{Performs, inputs_of}
+use Rattle.cocoon_cli.specs.Shell.{AllWritten, Asked, Fits, HoldsNet, IsGiven, IsNoFault, IsQuiet, IsReading, NotAllWritten, Plans, ReadsAll, ReadsNot, writing_of}
+use Rattle.cocoon_cli.specs.Steps.{Inputs, MakesFiles, asks, bundle_within, bundle_written, reads, writes}
 use Rattle.cocoon_cli.proofs.Compiling.{makes}
 use Rattle.cocoon_cli.proofs.Ending.{all_good, ends_after, ends_before, next, refused, stopped}
 use Rattle.cocoon_cli.proofs.TextSteps.{Texts}
@@ -89,8 +81,7 @@ writes_good (forward o p n) i read w g h fit = none
 -- and it is what the command writes
 may_write : (c : Command) (i : Inputs) (read : Read) (w : Written) → AllGood i (reads c) → AllGood i (asks c) → IsGiven c i read → Plans c read w → Fits (writing_of c read w) → Writes c i (writing_of c read w)
 may_write (compile d e o) i read (written.Bundle name net) r a g p fit =
-    let c = compile d e o in
-    (
+    let c = compile d e o in (
       bundle_of.bundle read.design.items (net_of net) None,
       record {
         good = all_good i (reads c) (asks c ++ writes c) r (all_good i (asks c) (writes c) a (writes_good c i read (written.Bundle name net) g p fit));

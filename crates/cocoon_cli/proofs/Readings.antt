@@ -1,5 +1,5 @@
 -- What is read for a command, file after file.
-use Rattle.std.proofs.Common.{◌≡◌, ◌≤◌, ◌<◌, ◌^◌, ℕ, zero, suc, List, [], ◌∷◌, ◌++◌, length, replicate, Option, Some, None, Result, Ok, Err, refl, sym, ap, ap₂, subst, ◌∙◌, ◌⊎◌, inl, inr, arith}
+use Rattle.std.proofs.Common.{◌≡◌, ◌<◌, ℕ, zero, suc, List, [], ◌∷◌, ◌++◌, length, replicate, Option, Some, None, Err, refl, sym, ap, ap₂, subst, ◌∙◌, ◌⊎◌, inl, inr, arith}
 use Rattle.cocoon_io.specs.Files.{Files}
 use Rattle.cocoon_io.specs.declared.folder.FolderFault.TheVariants.{Failed, TooLong as Long, NoMemory as Wanting}
 use Rattle.bundle_reader.specs.FolderCounts as counts
@@ -9,7 +9,7 @@ use Rattle.bundle_reader.specs.declared.fault.ReadFault.TheVariants as read
 use Rattle.loaded_net.specs.Nets.{net_in}
 use Rattle.loaded_net.specs.declared.net.Net.{Net}
 use Rattle.net_bundle.specs.declared.file.BundleFile.{BundleFile}
-use Rattle.command_line.specs.Command.{Command, compile, step, forward}
+use Rattle.command_line.specs.Command.{Command}
 use Rattle.cocoon_cli.specs.declared.files.CommandFile.{CommandFile}
 use Rattle.cocoon_cli.specs.declared.files.CommandFile.TheVariants.{Design, Definitions, Bundle, Case, Packets}
 use Rattle.cocoon_cli.specs.declared.reading.Read.{Read}

@@ -10,21 +10,21 @@ use Rattle.cocoon_cli.specs.declared.answer.Report.{Report}
 use Rattle.cocoon_cli.specs.declared.answer.Verdict.{Verdict}
 use Rattle.cocoon_cli.specs.declared.answer.Verdict.TheVariants as verdict
 use Rattle.cocoon_cli.specs.declared.files.CommandFile.{CommandFile}
-use Rattle.cocoon_cli.specs.declared.files.CommandFile.TheVariants.{Design, Definitions, Bundle as BundleOf, Case as CaseFile, Packets as PacketsFile}
+use Rattle.cocoon_cli.specs.declared.files.CommandFile.TheVariants.{Bundle as BundleOf}
 use Rattle.cocoon_cli.specs.declared.refusal.Refusal.{Refusal}
 use Rattle.cocoon_cli.specs.declared.refusal.Refusal.TheVariants as refusal
 use Rattle.cocoon_cli.specs.declared.status.Status.{Status}
-use Rattle.cocoon_cli.specs.declared.status.Status.TheVariants.{Done, Refuted, Usage, Language, Broken, HopBound, Budget, Bundle, ReadFault, WriteFault, Limit, Lines, NoMemory, NoFile}
+use Rattle.cocoon_cli.specs.declared.status.Status.TheVariants.{Done, Refuted, Usage, HopBound, Budget, ReadFault, WriteFault, NoMemory}
 use Rattle.command_line.specs.Command.{Command, compile, step, forward}
 use Rattle.command_line.specs.Words.{command}
 use Rattle.cocoon_cli.specs.Headline.{CompiledOf}
 use Rattle.cocoon_cli.specs.FileNames.{name_in}
-use Rattle.cocoon_cli.specs.Leaves.{Writing, nothing as nothing_written, bundle, own, Leaves, LeavesAll, LeavesSome, LeavesFault, SomeOf, StopsIn, Writes, with_writing}
-use Rattle.cocoon_cli.specs.Outcomes.{Ends, EndsAt, no_memory as out_of_memory, at_step, at_fault, AllGood, FirstWith, here, later, StopsAt as StopsAtStep, Answers, HasOutcome, Reports, ReportsOutcome}
-use Rattle.cocoon_cli.specs.Report.{Ending, Fault, by_read, by_write, by_memory, no_fault, Puts, all, a_prefix, nothing, Prints, ending_of, fault_in, fault_of, line_with, no_memory, refusal_line, refusal_status, status_of, usage, verdict_status}
-use Rattle.cocoon_cli.specs.Run.{Call, Counted, CountsFault, Uncounted, MayCount, of_read as counts_read, of_write as counts_write, of_memory as counts_memory, Count, inputs_of, InputsAre, Performs, IsOnly, Cause, CauseOf, LineNames, NamesFault, EndsWith, Yields, to_read_fault, to_write_fault, to_no_memory, TheOutcome, OutcomeOf, DoneOf, LeavesOf, MayWrite, done, failed, UsageOf, Keeps, KeepsMore}
+use Rattle.cocoon_cli.specs.Leaves.{Writing, nothing as nothing_written, bundle, own, Leaves, LeavesAll, LeavesSome, LeavesFault, SomeOf, StopsIn, with_writing}
+use Rattle.cocoon_cli.specs.Outcomes.{EndsAt, no_memory as out_of_memory, at_step, at_fault, FirstWith, here, later, StopsAt as StopsAtStep, Answers, HasOutcome, Reports}
+use Rattle.cocoon_cli.specs.Report.{Ending, Fault, by_read, by_write, by_memory, no_fault, Puts, all, a_prefix, nothing, Prints, ending_of, fault_in, fault_of, line_with, no_memory, refusal_line, refusal_status, usage, verdict_status}
+use Rattle.cocoon_cli.specs.Run.{Call, Counted, CountsFault, Uncounted, MayCount, of_read as counts_read, of_write as counts_write, of_memory as counts_memory, Count, inputs_of, InputsAre, Performs, IsOnly, CauseOf, LineNames, NamesFault, EndsWith, Yields, to_read_fault, to_write_fault, to_no_memory, TheOutcome, OutcomeOf, DoneOf, LeavesOf, MayWrite, done, failed, UsageOf, Keeps, KeepsMore}
 use Rattle.cocoon_cli.specs.Run as run
-use Rattle.cocoon_cli.specs.Steps.{Inputs, Step, is_there, is_within, design_reads, design_well_formed, design_within, definitions_read, definitions_fit, definitions_within, design_accepted, lowering_within, level_there, lines_formed, bundle_reads, packets_judged, copies_within, bundle_within, bundle_written, Stops, steps}
+use Rattle.cocoon_cli.specs.Steps.{Inputs, Step, is_there, bundle_reads, bundle_written, Stops, steps}
 
 -- ---- what is printed
 

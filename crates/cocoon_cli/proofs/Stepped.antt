@@ -13,7 +13,7 @@ use Rattle.cocoon_cli.specs.Outcomes as outcomes
 use Rattle.cocoon_cli.specs.ReportLines.{sent_text}
 use Rattle.cocoon_cli.specs.Shell.{IsQuiet}
 use Rattle.cocoon_cli.specs.Stepping.{NotCase, NotStepped, StepsTexts}
-use Rattle.cocoon_cli.specs.Steps.{Inputs, Step, asks, level_there, lines_formed, text_steps, writes, CaseIs, DesignIs}
+use Rattle.cocoon_cli.specs.Steps.{Inputs, Step, asks, level_there, lines_formed, writes, CaseIs, DesignIs}
 use Rattle.cocoon_cli.proofs.Ending.{next, refused}
 use Rattle.cocoon_cli.proofs.TextSteps.{Texts, after_texts, are_defs, is_design, not_matched, texts_good}
 

@@ -1,21 +1,18 @@
 -- The steps on the texts of a design and its definitions, by what the functions on these texts answer.
-use Rattle.std.proofs.Common.{◌≡◌, ◌≤◌, ◌<◌, ℕ, List, [], ◌∷◌, ◌++◌, Some, Result, Err, refl, ap, ap₂, subst, inl, inr}
+use Rattle.std.proofs.Common.{◌≡◌, ◌<◌, ℕ, List, [], ◌∷◌, ◌++◌, Some, Result, Err, refl, ap, ap₂, subst, inl, inr}
 use Rattle.cocoon_num.specs.Reads.{Reads, ReadsDefs}
 use Rattle.cocoon_num.specs.Tree as tree
 use Rattle.cocoon_num.specs.declared.limit_name.LimitName.{LimitName}
-use Rattle.cocoon_num.specs.declared.limit_name.LimitName.TheVariants.{Rows}
-use Rattle.cocoon_text.specs.Positions.{token_position}
 use Rattle.cocoon_text.specs.declared.position.Position.{Position}
 use Rattle.runtime_defs.specs.Bound.{most_rows, row_count}
 use Rattle.runtime_defs.specs.Places.{Places}
 use Rattle.cocoon_cli.specs.declared.answer.Report.{Report}
 use Rattle.cocoon_cli.specs.declared.files.CommandFile.TheVariants.{Design, Definitions}
 use Rattle.cocoon_cli.specs.declared.refusal.InputFault.TheVariants.{NoTree, Rule}
-use Rattle.cocoon_cli.specs.declared.refusal.DefinitionsFault.{DefinitionsFault}
 use Rattle.cocoon_cli.specs.declared.refusal.DefinitionsFault.TheVariants as definitions
 use Rattle.cocoon_cli.specs.declared.refusal.Refusal.{Refusal}
 use Rattle.cocoon_cli.specs.declared.refusal.Refusal.TheVariants as refusal
-use Rattle.cocoon_cli.specs.DesignTexts.{Binds, BindsTables, NotBound, NotChecked, NotMatched, NotRead, NotReadAfter, ReadsChecked, told}
+use Rattle.cocoon_cli.specs.DesignTexts.{Binds, BindsTables, NotBound, NotChecked, NotMatched, NotRead, ReadsChecked}
 use Rattle.cocoon_cli.specs.Outcomes.{AllGood, none, good, Ends, no_memory}
 use Rattle.cocoon_cli.specs.Steps.{Inputs, Step, design_reads, design_well_formed, design_within, definitions_read, definitions_fit, definitions_within, text_steps, DesignIs, DefinitionsAre}
 use Rattle.cocoon_cli.proofs.Ending.{all_good, ends_after, next, refused}

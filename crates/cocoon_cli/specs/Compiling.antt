@@ -2,7 +2,6 @@
 -- there is none.
 use Rattle.std.specs.Prelude.{◌≡◌, ◌⊎◌, ℕ, List}
 use Rattle.cocoon_num.specs.Tree.{Design}
-use Rattle.cocoon_num.specs.declared.limit_name.LimitName.{LimitName}
 use Rattle.p4_ir.specs.NetOf.{net_of}
 use Rattle.p4_ir.specs.NetTree.{NetData}
 use Rattle.runtime_defs.specs.Places.{Places}

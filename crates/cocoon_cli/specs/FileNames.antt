@@ -1,4 +1,4 @@
--- Cited by `CommandFile::name`, `most_bytes` and `bundle_name` of files.rt, by the lines of report.rt,
+-- Cited by `CommandFile::name`, `wanted` and `bundle_of` of files.rt, by the lines of report.rt,
 -- and through Run.antt by `keeps` of `run`. The files of a command: their names, and how long they
 -- may be. It follows the section "Commands" of README.md and "Bundle files" in docs/FORMATS.md.
 use Rattle.std.specs.Prelude.{ℕ, List, [], Option, Some, None}

@@ -9,7 +9,7 @@ use Rattle.case_runs.specs.Stepping.{Steps}
 use Rattle.case_runs.specs.declared.sent.Sent.{Sent}
 use Rattle.p4_ir.specs.NetTree.{NetData}
 use Rattle.packet_file.specs.Packets.{Packet}
-use Rattle.packet_runs.specs.Reports.{report_of}
+use Rattle.packet_runs.specs.Reports.{IsReport}
 use Rattle.command_line.specs.Command.{Command, compile, step, forward}
 use Rattle.cocoon_cli.specs.declared.refusal.Refusal.{Refusal}
 use Rattle.cocoon_cli.specs.declared.refusal.Refusal.TheVariants as refusal
@@ -53,8 +53,8 @@ Reports (step design defs level file) inputs report =
     × StepIs inputs level d entries case × Steps level d (defs_of d entries) case sent
     × (report ≡ success (sent_text sent))
 Reports (forward out file hops) inputs report =
-    (net : NetData) × (packets : List Packet) × BundleIs inputs out net
-    × PacketsAre inputs net packets × (report ≡ success (report_of net hops packets))
+    (net : NetData) × (packets : List Packet) × (lines : List ℕ) × BundleIs inputs out net
+    × PacketsAre inputs net packets × IsReport net hops packets lines × (report ≡ success lines)
 
 -- the same of an outcome
 abbrev pub ReportsOutcome : Command → Inputs → Result Report Refusal → Type 0

@@ -15,6 +15,7 @@ use cocoon_text::laws::{one_fault, trees_have_no_fault};
 use cocoon_types::first_faults::{first_or_well_formed, one_first_fault};
 use cocoon_types::limits::{one_first_over, within_is_not_over};
 use lower_p4::laws::one_lowering;
+use packet_runs::laws::one_report;
 use plain_parser::text_laws::{one_definitions_tree, one_tree};
 
 /// By what is read of its files, a command has one outcome at most: the first step that refuses,
@@ -36,11 +37,11 @@ pub fn one_outcome()
     one_lowering();
     one_step();
     one_reading();
+    one_report();
 }
 
 /// What follows from the cause of an answer: when the words are reported as no command, which statuses
 /// speak of a fault that was counted, and which leave the folder as it was.
 pub fn calls_keep_more()
     ensures { (call : Call) → CauseOf (command call.words) call → KeepsMore call }
-{
-}
+{}

@@ -11,12 +11,13 @@ use crate::refusal::{BundleCause, DefinitionsFault, InputFault, Refusal};
 use crate::status::Status;
 use bundle_reader::{LoadFault, P4Fault};
 use cocoon_num::{LimitName, NoMemory};
+use cocoon_resolve::most_of;
 use cocoon_text::Position;
 use command_line::Command;
-use design_limits::most_of;
 use lower_p4::{MOST_HOSTS, MOST_MEMBERS, MOST_SITES, MOST_SWITCHES, MOST_TABLES};
 use net_bundle::BundleFile;
 use packet_file::MOST_BYTES;
+use packet_runs::MOST_RUNS;
 use runtime_defs::MOST_ROWS;
 use std::alloc::Global;
 
@@ -24,9 +25,6 @@ use std::alloc::Global;
 const MOST_LEAVES: u64 = 4096;
 
 const MOST_CLAUSES: u64 = 4_000_000;
-
-/// The most runs of ingress and of egress that the copies of a packet make.
-const MOST_RUNS: u64 = 65_536;
 
 /// A line that ends with the name of a file of the command.
 fn line_with(

@@ -29,9 +29,7 @@ fn ask<'w>(alloc: Global, command: &Command<'w>, read: &Read) -> Result<Answer<'
 {
     match command {
         Command::Compile(names) => compile(alloc, names, &read.design, &read.definitions),
-        Command::Step(asked) => {
-            step(alloc, asked, &read.design, &read.definitions, &read.case)
-        }
+        Command::Step(asked) => { step(alloc, asked, &read.design, &read.definitions, &read.case) }
         Command::Forward(asked) => match &read.net {
             Some(net) => forward(alloc, asked, net, &read.packets),
             None => Err(Refusal::NoMemory),

@@ -1,4 +1,4 @@
-use Rattle.std.proofs.Common.{IfOk, refl, subst, ◌∙◌}
+use Rattle.std.proofs.Common.{◌∙◌}
 use Rattle.command_line.specs.Stands.{stands_for}
 use Rattle.cocoon_cli.specs.Run.{count}
 use Rattle.cocoon_cli.specs.Shell.{Acts}
