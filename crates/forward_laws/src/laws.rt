@@ -9,6 +9,7 @@ ghost use Rattle.p4_ir.specs.Wiring.{host_numbers};
 ghost use Rattle.packet_file.specs.Packets.{Packet, packets_in};
 ghost use Rattle.packet_runs.specs.Reports.{IsReport};
 
+use cocoon_cli::laws::calls_keep_more;
 use net_run::laws::travellers_go_on;
 use uniqueness_laws::networks::one_network;
 
@@ -43,5 +44,6 @@ pub fn forward_tells_the_design()
         → MayMake x.compiled.design (tables x) a bytes d.host d.bytes }
 {
     one_network();
+    calls_keep_more();
     travellers_go_on();
 }

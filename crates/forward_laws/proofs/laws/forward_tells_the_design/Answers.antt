@@ -4,7 +4,7 @@ use Rattle.forward_laws.proofs.Travelling.{within_n}
 use Rattle.forward_laws.proofs.laws.forward_tells_the_design.Goals as goal
 
 pub returns-clause-report : goal.returns-clause-report
-returns-clause-report c = reported c.one_network.ensures
+returns-clause-report c = reported c.one_network.ensures c.calls_keep_more.ensures
 
 pub returns-clause-exact : goal.returns-clause-exact
 returns-clause-exact c = λ x a bytes ds are d.
