@@ -1,5 +1,5 @@
 -- What a `forward` over the bundle of a `compile` reports.
-use Rattle.std.proofs.Common.{◌≡◌, ℕ, List, Some, Ok, subst}
+use Rattle.std.proofs.Common.{◌≡◌, ℕ, List, Some, Ok, ap, subst, sym}
 use Rattle.std.specs.FinMap.{get}
 use Rattle.cocoon_io.specs.Calls.{appended}
 use Rattle.cocoon_io.specs.Files.{Files}
@@ -9,11 +9,9 @@ use Rattle.p4_ir.specs.Wiring.{host_numbers}
 use Rattle.packet_file.specs.Packets.{Packet, packets_in}
 use Rattle.packet_runs.specs.Reports.{IsReport}
 use Rattle.net_bundle.specs.Network.{Network}
-use Rattle.cocoon_cli.specs.Report.{report_line}
+use Rattle.cocoon_cli.specs.Outcomes.{Reports}
 use Rattle.cocoon_cli.specs.Run.{Call, DoneOf, InputsAre, inputs_of}
-use Rattle.cocoon_cli.specs.Steps.{Reports}
-use Rattle.cocoon_cli.specs.declared.report.Report.{Report}
-use Rattle.cocoon_cli.specs.declared.report.Report.TheVariants.{Compiled, Stepped, Forwarded}
+use Rattle.cocoon_cli.specs.declared.answer.Report.{Report}
 use Rattle.forward_laws.specs.ForwardsCompiled.{ForwardsCompiled}
 use Rattle.forward_laws.proofs.SameBundle.{still_network}
 
@@ -32,17 +30,15 @@ pub record Reported (files : Files) (out packets_name : List ℕ) (hops : ℕ) (
   pub report_is : IsReport net hops packets report
 
 of_inputs : (files : Files) (out packets : List ℕ) (hops : ℕ) (report : Report) → Reports (forward out packets hops) (inputs_of (forward out packets hops) files) report
-    → Reported files out packets hops (report_line report)
-of_inputs files out packets hops (Compiled totals) h = absurd h
-of_inputs files out packets hops (Stepped sent) h = absurd h
-of_inputs files out packets hops (Forwarded text) h = record {
-  net = h.0;
-  packets = h.1;
-  text = h.3.text;
-  network = h.2.0;
-  text_is = h.3.are;
-  say = h.3.say;
-  report_is = h.4;
+    → Reported files out packets hops report.lines
+of_inputs files out packets hops report (net, list, lines, reads, says, are, told) = record {
+  net = net;
+  packets = list;
+  text = says.text;
+  network = reads.0;
+  text_is = says.are;
+  say = says.say;
+  report_is = subst (IsReport net hops list) (sym (ap (λ (r : Report). r.lines) told)) are;
 }
 
 -- what a `forward` over known files has done
@@ -57,7 +53,7 @@ has_reported call files out packets hops content (inputs, report, are, reports, 
     let c : Command = forward out packets hops in
     let is : inputs ≡ inputs_of c files = subst (λ content. InputsAre c content inputs) content are in
     record {
-      report = report_line report;
+      report = report.lines;
       of = of_inputs files out packets hops report (subst (λ i. Reports c i report) is reports);
       printed = printed;
     }

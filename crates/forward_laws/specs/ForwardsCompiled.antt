@@ -6,7 +6,7 @@ use Rattle.cocoon_types.specs.Tables.{Defs, defs_of}
 use Rattle.net_bundle.specs.Network.{InBundle}
 use Rattle.command_line.specs.Command.{forward}
 use Rattle.command_line.specs.Words.{command}
-use Rattle.cocoon_cli.specs.Headline.{Compiled}
+use Rattle.cocoon_cli.specs.Headline.{Compiled, none_besides}
 use Rattle.cocoon_cli.specs.Run.{Call, DoneOf}
 use Rattle.cocoon_cli.specs.declared.status.Status.TheVariants.{Done}
 
@@ -17,8 +17,9 @@ pub record ForwardsCompiled : Type 0 where
   pub design_name : List ℕ
   pub defs_name : List ℕ
   pub out : List ℕ
-  pub compiled : Compiled before after design_name defs_name out
-  -- the call of the `forward`, of which the clause `keeps` of `run` says `done_leaves`
+  pub compiled : Compiled before after design_name defs_name out none_besides
+  -- the call of the `forward`, of which the clause `keeps` of `run`, by the law `calls_keep_more`,
+  -- says `done_leaves`
   pub call : Call
   pub packets_name : List ℕ
   pub hops : ℕ
