@@ -1,56 +1,44 @@
--- Which faults of the folder are counted with an outcome.
-use Rattle.std.proofs.Common.{◌≡◌, ℕ, Option, Result, Ok, Err, IsErrAnd, sym, subst}
-use Rattle.cocoon_io.specs.Files.{Files}
-use Rattle.net_bundle.specs.Writing.{WriteFaultRose}
-use Rattle.net_bundle.specs.declared.fault.BundleFault.{BundleFault}
-use Rattle.net_bundle.specs.declared.fault.BundleFault.TheVariants as fault
-use Rattle.cocoon_cli.specs.declared.files.CommandFile.{CommandFile}
+-- Which faults of the folder are counted and named with an answer.
+use Rattle.std.proofs.Common.{◌≡◌, ℕ, List, Option, Result, Ok, Err, IsErrAnd, sym, subst}
+use Rattle.command_line.specs.Command.{Command}
 use Rattle.cocoon_cli.specs.declared.refusal.Refusal.{Refusal}
-use Rattle.cocoon_cli.specs.declared.refusal.Refusal.TheVariants as refusal
-use Rattle.cocoon_cli.specs.declared.report.Report.{Report}
-use Rattle.cocoon_cli.specs.Reading.{FileNotRead, NamesBundleFailure, ReadFaultRose, bundle_refusal}
-use Rattle.cocoon_cli.specs.Run.{Count, CountsNoOther, Uncounted, count}
-use Rattle.std.specs.Prelude.{List}
+use Rattle.cocoon_cli.specs.Report.{Fault, by_read, by_write, by_memory, no_fault, fault_of}
+use Rattle.cocoon_cli.specs.Run.{Count, CountsFault, NamesFault, Uncounted, count}
+use Rattle.cocoon_cli.specs.Shell.{Called, IsNoFault}
 
--- none at all
-pub none : (reads writes : Count) (outcome : Result Report Refusal) → Uncounted reads → Uncounted writes → CountsNoOther reads writes outcome
-none reads writes (Ok report) r w = (r, w)
-none reads writes (Err (refusal.ReadFault f)) r w = w
-none reads writes (Err (refusal.WriteFault f)) r w = r
-none reads writes (Err x) r w = (r, w)
+-- ---- answers that are passed on
 
--- a refusal that speaks of no failed write
-abbrev pub IsNoWrite : Refusal → Type 0
-IsNoWrite (refusal.WriteFault file) = ⊥
-IsNoWrite r = Unit {0}
+pub passed : {B : Type 0} (P : Result B Refusal → Type 0) (answer : Result B Refusal) (r : Refusal) → IsErrAnd answer (λ x. x ≡ r) → P (Err r) → P answer
+passed P (Ok b) r h k = absurd h
+passed P (Err x) r h k = subst (λ (y : Refusal). P (Err y)) (sym h) k
 
-pub file_writes_none : (content : Option Files) (x : List ℕ) (file : CommandFile) (most : ℕ) (r : Refusal) → FileNotRead content x file most r → IsNoWrite r
-file_writes_none content x file most (refusal.WriteFault f) h = h
-file_writes_none content x file most r h = tt
+-- ---- no fault
 
-pub bundle_writes_none : (last : List ℕ → Type 0) (o : List ℕ) (r : Refusal) → NamesBundleFailure last o r → IsNoWrite r
-bundle_writes_none last o (refusal.WriteFault f) h = h
-bundle_writes_none last o r h = tt
+pub uncounted : (reads writes : Count) (f : Fault) → IsNoFault f → Uncounted reads → Uncounted writes → CountsFault reads writes f
+uncounted reads writes (by_read file) q r w = absurd q
+uncounted reads writes (by_write file) q r w = absurd q
+uncounted reads writes by_memory q r w = (r, w)
+uncounted reads writes no_fault q r w = (r, w)
 
--- of a read after others that did not fail
-pub read : (last : Option ℕ) (old mid new : ℕ) (writes : Count) (r : Refusal) → mid ≡ old → ReadFaultRose last mid new r → IsNoWrite r → Uncounted writes → CountsNoOther (count last old new) writes (Err r)
-read last old mid new writes r e h n w = after r (subst (λ k. ReadFaultRose last k new r) e h) n
-  where
-    after : (r : Refusal) → ReadFaultRose last old new r → IsNoWrite r → CountsNoOther (count last old new) writes (Err r)
-    after (refusal.ReadFault f) h n = w
-    after (refusal.WriteFault f) h n = absurd n
-    after r h n = (h, w)
+pub unnamed : (last : List ℕ → Type 0) (c : Command) (f : Fault) → IsNoFault f → NamesFault last c f
+unnamed last c (by_read file) q = absurd q
+unnamed last c (by_write file) q = absurd q
+unnamed last c by_memory q = tt
+unnamed last c no_fault q = tt
 
--- of the writes of a bundle
-pub written : (last : Option ℕ) (old mid new : ℕ) (reads : Count) (f : BundleFault) → mid ≡ old → WriteFaultRose last mid new f → Uncounted reads → CountsNoOther reads (count last old new) (Err (bundle_refusal f))
-written last old mid new reads f e h r = after f (subst (λ k. WriteFaultRose last k new f) e h)
-  where
-    after : (f : BundleFault) → WriteFaultRose last old new f → CountsNoOther reads (count last old new) (Err (bundle_refusal f))
-    after (fault.Folder file cause) h = r
-    after (fault.Limit file) h = (r, h)
-    after fault.NoMemory h = (r, h)
+-- ---- one call after others in which no call of the folder failed
 
--- of a refusal that is passed on
-pub passed : (reads writes : Count) (outcome : Result Report Refusal) (r : Refusal) → IsErrAnd outcome (λ x. x ≡ r) → CountsNoOther reads writes (Err r) → CountsNoOther reads writes outcome
-passed reads writes (Ok report) r h k = absurd h
-passed reads writes (Err x) r h k = subst (λ (y : Refusal). CountsNoOther reads writes (Err y)) (sym h) k
+pub counts_after : (last_read last_write : Option ℕ) (r0 r1 r2 w0 w1 w2 : ℕ) (f : Fault) → r1 ≡ r0 → w1 ≡ w0 → CountsFault (count last_read r1 r2) (count last_write w1 w2) f → CountsFault (count last_read r0 r2) (count last_write w0 w2) f
+counts_after last_read last_write r0 r1 r2 w0 w1 w2 f p q h =
+    subst (λ (w : ℕ). CountsFault (count last_read r0 r2) (count last_write w w2) f) q (subst (λ (r : ℕ). CountsFault (count last_read r r2) (count last_write w1 w2) f) p h)
+
+-- the same of what is said of the calls, of an answer that is passed on
+pub called_after : {A B : Type 0} (last : List ℕ → Type 0) (c : Command) (last_read last_write : Option ℕ) (r0 r1 r2 w0 w1 w2 : ℕ) (r : Refusal) → r1 ≡ r0 → w1 ≡ w0
+    → Called {A = A} last c (count last_read r1 r2) (count last_write w1 w2) (Err r) → Called {A = B} last c (count last_read r0 r2) (count last_write w0 w2) (Err r)
+called_after last c last_read last_write r0 r1 r2 w0 w1 w2 r p q h = record { counts = counts_after last_read last_write r0 r1 r2 w0 w1 w2 (fault_of r) p q h.counts; named = h.named }
+
+pub called_same : {A B : Type 0} (last : List ℕ → Type 0) (c : Command) (reads writes : Count) (r : Refusal) → Called {A = A} last c reads writes (Err r) → Called {A = B} last c reads writes (Err r)
+called_same last c reads writes r h = record { counts = h.counts; named = h.named }
+
+pub called_ok : {A : Type 0} (last : List ℕ → Type 0) (c : Command) (reads writes : Count) (answer : A) → Uncounted reads → Uncounted writes → Called {A = A} last c reads writes (Ok answer)
+called_ok last c reads writes answer r w = record { counts = (r, w); named = tt }

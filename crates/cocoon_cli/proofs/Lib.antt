@@ -1,9 +1,12 @@
 pub mod Lines
+pub mod Ending
+pub mod TextSteps
 pub mod Compiling
 pub mod Stepped
-pub mod Headlines
+pub mod Forwarded
+pub mod Counted
+pub mod Readings
+pub mod Performing
 pub mod RuleValues
 pub mod Running
 pub mod OneOutcome
-pub mod Forwarded
-pub mod Counted

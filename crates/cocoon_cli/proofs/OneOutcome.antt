@@ -1,5 +1,5 @@
--- By what is read of its files, a command has one outcome at most.
-use Rattle.std.proofs.Common.{◌≡◌, ◌≤◌, ◌<◌, ℕ, List, [], ◌∷◌, length, Option, Some, None, Result, Ok, Err, sym, ap, ap₂, subst, ◌∙◌, inl, inr, arith}
+-- By what is read of its files, a command has one outcome at most, or such as agree.
+use Rattle.std.proofs.Common.{◌≡◌, ◌⊎◌, ◌≤◌, ◌<◌, ℕ, Bool, true, false, refl, List, [], ◌∷◌, length, Option, Some, None, Result, Ok, Err, sym, ap, ap₂, subst, ◌∙◌, inl, inr, arith}
 use Rattle.cocoon_num.specs.Lists.{first_of}
 use Rattle.cocoon_num.specs.Tree as tree
 use Rattle.cocoon_num.specs.declared.limit_name.LimitName.{LimitName}
@@ -27,10 +27,13 @@ use Rattle.cocoon_io.specs.declared.folder.FolderFault.TheVariants.{Failed, TooL
 use Rattle.net_run.specs.RunCounts.{most_runs, runs}
 use Rattle.packet_file.specs.Packets.{Packet, packets_in}
 use Rattle.packet_file.specs.declared.packet.PacketFault.{PacketFault}
-use Rattle.packet_runs.specs.Reports.{report_of}
+use Rattle.packet_runs.specs.Reports.{IsReport}
 use Rattle.packet_runs.specs.Stopping.{AllWithin, SomeOver}
 use Rattle.cocoon_cli.specs.Reading.{IsOfFiles, unread_as}
-use Rattle.cocoon_cli.specs.Run.{IsOnly}
+use Rattle.cocoon_cli.specs.FileNames.{bundle_in}
+use Rattle.cocoon_cli.specs.Outcomes.{AllGood, good, FirstWith, here, later, EndsAt, Agree, Alike, equal, HasOutcome, IsGivenUp, Reports, ReportsOutcome, is_any_searched, success}
+use Rattle.cocoon_cli.specs.ReportLines.{sent_text, totals_line, totals_of}
+use Rattle.cocoon_cli.specs.Run.{IsKnown, IsOnly}
 use Rattle.net_bundle.specs.Bundle.{MadeFile, bundle}
 use Rattle.net_bundle.specs.Writing.{AllFit, FirstOver, most_of}
 use Rattle.net_bundle.specs.declared.file.BundleFile.{BundleFile}
@@ -42,18 +45,17 @@ use Rattle.cocoon_cli.specs.declared.refusal.InputFault.TheVariants.{NoTree, Rul
 use Rattle.cocoon_cli.specs.declared.refusal.DefinitionsFault.TheVariants as definitions
 use Rattle.cocoon_cli.specs.declared.refusal.Refusal.{Refusal}
 use Rattle.cocoon_cli.specs.declared.refusal.Refusal.TheVariants as refusal
-use Rattle.cocoon_cli.specs.declared.report.Report.{Report}
-use Rattle.cocoon_cli.specs.declared.report.Report.TheVariants.{Compiled, Stepped, Forwarded}
+use Rattle.cocoon_cli.specs.declared.answer.Report.{Report}
 use Rattle.case_file.specs.Cases.{Case, case_of}
 use Rattle.cocoon_types.specs.Design.{last_level}
 use Rattle.cocoon_types.specs.Tables.{defs_of}
 use Rattle.command_line.specs.Command.{Command, compile, step, forward}
-use Rattle.cocoon_cli.specs.LowerTexts.{told}
+use Rattle.cocoon_cli.specs.DesignTexts.{told}
 use Rattle.case_runs.specs.Stepping.{Steps}
 use Rattle.case_runs.specs.declared.sent.Sent.{Sent}
 use Rattle.cocoon_types.specs.Tables as tables
 use Rattle.cocoon_cli.proofs.RuleValues.{same_rule}
-use Rattle.cocoon_cli.specs.Steps.{Inputs, Step, is_there, is_within, design_reads, design_well_formed, design_within, definitions_read, definitions_fit, definitions_within, design_accepted, lowering_within, level_there, lines_formed, bundle_reads, packets_judged, copies_within, bundle_within, bundle_written, steps, BundleIs, PacketsAre, packets_refusal, CaseIs, DesignIs, DefinitionsAre, Makes, MakesFiles, IsGood, Refuses, totals_of, Reports, HasOutcomeFrom, HasOutcome}
+use Rattle.cocoon_cli.specs.Steps.{Inputs, Step, is_there, is_within, design_reads, design_well_formed, design_within, definitions_read, definitions_fit, definitions_within, design_accepted, lowering_within, level_there, lines_formed, bundle_reads, packets_judged, copies_within, bundle_within, bundle_written, steps, BundleIs, PacketsAre, packets_refusal, CaseIs, DesignIs, DefinitionsAre, Makes, MakesFiles, Decides, IsGood, Refuses}
 
 -- that texts have one tree or one first fault, that a design keeps the rules or breaks one first and so with the limits, that
 -- the compiler makes one network of two trees, or is over one limit first, and that the files of a bundle are read in one way
@@ -72,6 +74,7 @@ pub record Laws : Type 0 where
   pub one_over : (d : tree.Design) (e : tree.DefsText) (x y : LimitName) (m n : ℕ) → IsOver d e x m → IsOver d e y n → (x ≡ y) × (m ≡ n)
   pub one_step : (level : ℕ) (d : tree.Design) (defs : tables.Defs) (case : Case) (told other : Option Sent) → Steps level d defs case told → Steps level d defs case other → other ≡ told
   pub one_reading : (files : Files) (out : List ℕ) → OneReading files out
+  pub same_report : (net : NetData) (hops : ℕ) (ps : List Packet) (lines other : List ℕ) → IsReport net hops ps lines → IsReport net hops ps other → lines ≡ other
   pub no_over : (d : tree.Design) (e : tree.DefsText) (x : LimitName) (n : ℕ) → IsWithin d e → IsOver d e x n → ⊥
 
 -- ---- what is read
@@ -316,57 +319,90 @@ good_or_refused laws i bundle_written r b g h = h
 
 -- ---- all steps
 
+-- each of these steps is decided by the content that is known
+decides_once : Laws → (i : Inputs) (s : Step) (x y : Result Report Refusal) → Decided i s → Decides i s x → Decides i s y → x ≡ y
+decides_once laws i s (Ok r) y b h k = absurd h
+decides_once laws i s (Err r) (Ok q) b h k = absurd k
+decides_once laws i s (Err r) (Err q) b h k = ap Err (refuses_once laws i s r q b h k)
+
+good_or_decides : Laws → (i : Inputs) (s : Step) (x : Result Report Refusal) → Decided i s → IsGood i s → Decides i s x → ⊥
+good_or_decides laws i s (Ok r) b g h = h
+good_or_decides laws i s (Err r) b g h = good_or_refused laws i s r b g h
+
+-- two outcomes of these steps that end at one
+two_ends : Laws → (i : Inputs) (ss : List Step) (x y : Result Report Refusal) → AllDecided i ss → FirstWith i (EndsAt i x) ss → FirstWith i (EndsAt i y) ss → Alike x y ⊎ (IsGivenUp i ss x ⊎ IsGivenUp i ss y)
+two_ends laws i [] x y a h k = elim h [ ]
+two_ends laws i (s ∷ ss) x y a (here (inr h)) k = inr (inl (here h))
+two_ends laws i (s ∷ ss) x y a (here (inl h)) (here (inr k)) = inr (inr (here k))
+two_ends laws i (s ∷ ss) x y a (here (inl h)) (here (inl k)) = inl (equal (decides_once laws i s x y a.0 h k))
+two_ends laws i (s ∷ ss) x y a (here (inl h)) (later g k) = absurd (good_or_decides laws i s x a.0 g h)
+two_ends laws i (s ∷ ss) x y a (later g h) (here (inr k)) = inr (inr (here k))
+two_ends laws i (s ∷ ss) x y a (later g h) (here (inl k)) = absurd (good_or_decides laws i s y a.0 g k)
+two_ends laws i (s ∷ ss) x y a (later g h) (later m k) = elim (two_ends laws i ss x y a.1 h k) [
+  | inl e ↦ inl e
+  | inr (inl u) ↦ inr (inl (later g u))
+  | inr (inr u) ↦ inr (inr (later g u))
+]
+
+-- where all are good, none ends the command but by giving up
+all_good_or_ends : Laws → (i : Inputs) (ss : List Step) (x : Result Report Refusal) → AllDecided i ss → AllGood i ss → FirstWith i (EndsAt i x) ss → IsGivenUp i ss x
+all_good_or_ends laws i [] x a g h = elim h [ ]
+all_good_or_ends laws i (s ∷ ss) x a (good g gs) (here (inl h)) = absurd (good_or_decides laws i s x a.0 g h)
+all_good_or_ends laws i (s ∷ ss) x a (good g gs) (here (inr h)) = here h
+all_good_or_ends laws i (s ∷ ss) x a (good g gs) (later m h) = later m (all_good_or_ends laws i ss x a.1 gs h)
+
 -- what the report of a command rests on
-abbrev IsDecided : Inputs → Command → Type 0
-IsDecided i (forward out packets hops) = HasReading i out
-IsDecided i c = Unit {0}
+one_report : Laws → (c : Command) (i : Inputs) (r q : Report) → IsKnown (bundle_in c) i → Reports c i r → Reports c i q → r ≡ q
+one_report laws (compile d e o) i r q b h k =
+    h.2 ∙ ap (λ (n : NetData). success (totals_line (totals_of n))) (same_net laws i h.0 k.0 h.1 k.1) ∙ sym k.2
+one_report laws (step d e l f) i r q b h k =
+    let design = same_design laws i h.0 k.0 h.4.design_is k.4.design_is in
+    let defs = same_defs laws i h.1 k.1 h.4.defs_are k.4.defs_are in
+    let case = same_case laws i l k.0 h.2 k.2 (subst (λ (x : tree.Design). CaseIs i x l h.2) design h.4.case_is) k.4.case_is in
+    let sent = laws.one_step l k.0 (defs_of k.0 k.1) k.2 h.3 k.3
+    (subst (λ (x : Case). Steps l k.0 (defs_of k.0 k.1) x h.3) case
+    (subst (λ (x : tree.DefsText). Steps l k.0 (defs_of k.0 x) h.2 h.3) defs
+    (subst (λ (x : tree.Design). Steps l x (defs_of x h.1) h.2 h.3) design h.5))) k.5 in
+    h.6 ∙ ap (λ (s : Option Sent). success (sent_text s)) (sym sent) ∙ sym k.6
+one_report laws (forward o p n) i r q b h k =
+    let net = same_network i o h.0 k.0 (b.0, b.1, laws.one_reading b.0 o) h.3 k.3 in
+    let packets = same_packets i h.0 k.0 h.1 k.1 net h.4 k.4 in
+    let is : IsReport k.0 n k.1 h.2 = subst (λ (ps : List Packet). IsReport k.0 n ps h.2) packets (subst (λ (m : NetData). IsReport m n h.1 h.2) net h.5) in
+    h.6 ∙ ap success (laws.same_report k.0 n k.1 h.2 k.2 is k.5) ∙ sym k.6
 
-one_report : Laws → (c : Command) (i : Inputs) (r q : Report) → IsDecided i c → Reports c i r → Reports c i q → q ≡ r
-one_report laws (compile d e o) i (Compiled t) (Compiled u) b h k =
-    ap Compiled (k.2 ∙ ap totals_of (same_net laws i k.0 h.0 k.1 h.1) ∙ sym h.2)
-one_report laws (compile d e o) i (Compiled t) (Stepped u) b h k = absurd k
-one_report laws (compile d e o) i (Compiled t) (Forwarded u) b h k = absurd k
-one_report laws (compile d e o) i (Stepped t) q b h k = absurd h
-one_report laws (compile d e o) i (Forwarded t) q b h k = absurd h
-one_report laws (step d e l f) i (Compiled t) q b h k = absurd h
-one_report laws (step d e l f) i (Forwarded t) q b h k = absurd h
-one_report laws (step d e l f) i (Stepped s) (Compiled t) b h k = absurd k
-one_report laws (step d e l f) i (Stepped s) (Forwarded t) b h k = absurd k
-one_report laws (step d e l f) i (Stepped s) (Stepped t) b h k =
-    let design = same_design laws i h.0 k.0 h.3.design_is k.3.design_is in
-    let defs = same_defs laws i h.1 k.1 h.3.defs_are k.3.defs_are in
-    let case = same_case laws i l k.0 h.2 k.2 (subst (λ (x : tree.Design). CaseIs i x l h.2) design h.3.case_is) k.3.case_is in
-    ap Stepped (laws.one_step l k.0 (defs_of k.0 k.1) k.2 s t
-    (subst (λ (x : Case). Steps l k.0 (defs_of k.0 k.1) x s) case
-    (subst (λ (x : tree.DefsText). Steps l k.0 (defs_of k.0 x) h.2 s) defs
-    (subst (λ (x : tree.Design). Steps l x (defs_of x h.1) h.2 s) design h.4))) k.4)
-one_report laws (forward o p n) i (Compiled t) q b h k = absurd h
-one_report laws (forward o p n) i (Stepped t) q b h k = absurd h
-one_report laws (forward o p n) i (Forwarded t) (Compiled u) b h k = absurd k
-one_report laws (forward o p n) i (Forwarded t) (Stepped u) b h k = absurd k
-one_report laws (forward o p n) i (Forwarded t) (Forwarded u) b h k =
-    let net = same_network i o k.0 h.0 b k.2 h.2 in
-    let packets = same_packets i k.0 h.0 k.1 h.1 net k.3 h.3 in
-    ap Forwarded (k.4 ∙ ap₂ (λ m ps. report_of m n ps) net packets ∙ sym h.4)
+two_reports : Laws → (c : Command) (i : Inputs) (x y : Result Report Refusal) → IsKnown (bundle_in c) i → ReportsOutcome c i x → ReportsOutcome c i y → x ≡ y
+two_reports laws c i (Ok r) (Ok q) b h k = ap Ok (one_report laws c i r q b h k)
+two_reports laws c i (Ok r) (Err q) b h k = absurd k
+two_reports laws c i (Err r) y b h k = absurd h
 
-one_from : Laws → (c : Command) (i : Inputs) (ss : List Step) (outcome other : Result Report Refusal) → IsDecided i c → AllDecided i ss → HasOutcomeFrom c i ss outcome → HasOutcomeFrom c i ss other → other ≡ outcome
-one_from laws c i [] (Ok r) (Ok q) b a h k = ap Ok (one_report laws c i r q b h k)
-one_from laws c i [] (Ok r) (Err q) b a h k = absurd k
-one_from laws c i [] (Err r) other b a h k = absurd h
-one_from laws c i (s ∷ ss) outcome other b a (inl h) (inl k) = k.2 ∙ ap Err (refuses_once laws i s k.0 h.0 a.0 k.1 h.1) ∙ sym h.2
-one_from laws c i (s ∷ ss) outcome other b a (inl h) (inr k) = absurd (good_or_refused laws i s h.0 a.0 k.0 h.1)
-one_from laws c i (s ∷ ss) outcome other b a (inr h) (inl k) = absurd (good_or_refused laws i s k.0 a.0 h.0 k.1)
-one_from laws c i (s ∷ ss) outcome other b a (inr h) (inr k) = one_from laws c i ss outcome other b a.1 h.1 k.1
+-- the steps of a command are decided where the content of a bundle that it reads is known
+steps_decided : Laws → (c : Command) (i : Inputs) → IsKnown (bundle_in c) i → AllDecided i (steps c)
+steps_decided laws (compile d e o) i b = (tt, (tt, (tt, (tt, (tt, (tt, (tt, (tt, (tt, (tt, (tt, (tt, (tt, (tt, tt))))))))))))))
+steps_decided laws (step d e l f) i b = (tt, (tt, (tt, (tt, (tt, (tt, (tt, (tt, (tt, (tt, (tt, (tt, (tt, (tt, tt))))))))))))))
+steps_decided laws (forward o p n) i b =
+    let r : HasReading i o = (b.0, b.1, laws.one_reading b.0 o) in
+    (tt, (tt, (r, (r, (r, tt)))))
 
-compile_decided : (i : Inputs) (d e o : List ℕ) → AllDecided i (steps (compile d e o))
-compile_decided i d e o = (tt, (tt, (tt, (tt, (tt, (tt, (tt, (tt, (tt, (tt, (tt, (tt, (tt, (tt, tt))))))))))))))
+two : Laws → (c : Command) (i : Inputs) (x y : Result Report Refusal) → IsKnown (bundle_in c) i → HasOutcome c i x → HasOutcome c i y → Alike x y ⊎ (IsGivenUp i (steps c) x ⊎ IsGivenUp i (steps c) y)
+two laws c i x y b (inl h) (inl k) = two_ends laws i (steps c) x y (steps_decided laws c i b) h k
+two laws c i x y b (inl h) (inr k) = inr (inl (all_good_or_ends laws i (steps c) x (steps_decided laws c i b) k.0 h))
+two laws c i x y b (inr h) (inl k) = inr (inr (all_good_or_ends laws i (steps c) y (steps_decided laws c i b) h.0 k))
+two laws c i x y b (inr h) (inr k) = inl (equal (two_reports laws c i x y b h.1 k.1))
 
-step_decided : (i : Inputs) (d e : List ℕ) (l : ℕ) (f : List ℕ) → AllDecided i (steps (step d e l f))
-step_decided i d e l f = (tt, (tt, (tt, (tt, (tt, (tt, (tt, (tt, (tt, (tt, (tt, (tt, (tt, (tt, tt))))))))))))))
+-- where no step is decided by a search, none is given up
+none_given_up : (i : Inputs) (ss : List Step) (x : Result Report Refusal) → is_any_searched ss ≡ false → IsGivenUp i ss x → ⊥
+none_given_up i [] x e h = elim h [ ]
+none_given_up i (s ∷ ss) x e (here h) = h
+none_given_up i (s ∷ ss) x e (later g h) = none_given_up i ss x (rest s ss e) h
+  where
+    rest : (s : Step) (ss : List Step) → is_any_searched (s ∷ ss) ≡ false → is_any_searched ss ≡ false
+    rest s ss e = e
+
+agree : (searched : Bool) (i : Inputs) (ss : List Step) (x y : Result Report Refusal) → is_any_searched ss ≡ searched → Alike x y ⊎ (IsGivenUp i ss x ⊎ IsGivenUp i ss y) → Agree searched i ss x y
+agree true i ss x y e h = h
+agree false i ss x y e (inl (equal h)) = h
+agree false i ss x y e (inr (inl h)) = absurd (none_given_up i ss x e h)
+agree false i ss x y e (inr (inr h)) = absurd (none_given_up i ss y e h)
 
 pub one : Laws → (c : Command) (i : Inputs) (outcome : Result Report Refusal) → HasOutcome c i outcome → IsOnly c i outcome
-one laws (compile d e o) i outcome h = λ other k. one_from laws (compile d e o) i (steps (compile d e o)) outcome other tt (compile_decided i d e o) h k
-one laws (step d e l f) i outcome h = λ other k. one_from laws (step d e l f) i (steps (step d e l f)) outcome other tt (step_decided i d e l f) h k
-one laws (forward o p n) i outcome h = λ files known other k.
-    let b : HasReading i o = (files, known, laws.one_reading files o) in
-    one_from laws (forward o p n) i (steps (forward o p n)) outcome other b (tt, (tt, (b, (b, (b, tt))))) h k
+one laws c i outcome h = λ known other k. agree (is_any_searched (steps c)) i (steps c) other outcome refl (two laws c i other outcome known k h)

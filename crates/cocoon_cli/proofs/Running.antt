@@ -6,21 +6,25 @@ use Rattle.cocoon_io.specs.Calls.{appended}
 use Rattle.net_bundle.specs.Bundle.{MadeFile}
 use Rattle.net_bundle.specs.declared.file.BundleFile.{BundleFile}
 use Rattle.net_bundle.specs.Writing.{SomeWritten, StopsAt, with_files}
+use Rattle.cocoon_cli.specs.declared.answer.Report.{Report}
+use Rattle.cocoon_cli.specs.declared.answer.Verdict.{Verdict}
+use Rattle.cocoon_cli.specs.declared.answer.Verdict.TheVariants as verdict
 use Rattle.cocoon_cli.specs.declared.files.CommandFile.{CommandFile}
-use Rattle.cocoon_cli.specs.declared.files.CommandFile.TheVariants.{Design, Definitions, Bundle as BundleOf, Case as CaseFile, Packets as PacketsFile}
+use Rattle.cocoon_cli.specs.declared.files.CommandFile.TheVariants.{Bundle as BundleOf}
 use Rattle.cocoon_cli.specs.declared.refusal.Refusal.{Refusal}
 use Rattle.cocoon_cli.specs.declared.refusal.Refusal.TheVariants as refusal
-use Rattle.cocoon_cli.specs.declared.report.Report.{Report}
 use Rattle.cocoon_cli.specs.declared.status.Status.{Status}
-use Rattle.cocoon_cli.specs.declared.status.Status.TheVariants.{Done, Usage, Language, Broken, Bundle, ReadFault, WriteFault, Limit, Lines, NoMemory, NoFile}
+use Rattle.cocoon_cli.specs.declared.status.Status.TheVariants.{Done, Refuted, Usage, HopBound, Budget, ReadFault, WriteFault, NoMemory}
 use Rattle.command_line.specs.Command.{Command, compile, step, forward}
 use Rattle.command_line.specs.Words.{command}
 use Rattle.cocoon_cli.specs.Headline.{CompiledOf}
-use Rattle.cocoon_cli.specs.Leaves.{Leaves, LeavesSome}
-use Rattle.cocoon_cli.specs.Report.{Ending, Puts, all, a_prefix, nothing, Prints, ending_of, no_memory, usage}
-use Rattle.cocoon_cli.specs.Run.{Call, Counted, CountsNoOther, Uncounted, MayCount, of_read, of_write, of_memory, Count, inputs_of, InputsAre, Performs, HasFault, IsOnly, Cause, CauseOf, LineNames, NamesFailure, EndsWith, Yields, to_read_fault, to_write_fault, to_no_memory, TheOutcome, OutcomeOf, DoneOf, LeavesOf, MayWrite, done, failed, UsageOf, Keeps}
+use Rattle.cocoon_cli.specs.FileNames.{name_in}
+use Rattle.cocoon_cli.specs.Leaves.{Writing, nothing as nothing_written, bundle, own, Leaves, LeavesAll, LeavesSome, LeavesFault, SomeOf, StopsIn, with_writing}
+use Rattle.cocoon_cli.specs.Outcomes.{EndsAt, no_memory as out_of_memory, at_step, at_fault, FirstWith, here, later, StopsAt as StopsAtStep, Answers, HasOutcome, Reports}
+use Rattle.cocoon_cli.specs.Report.{Ending, Fault, by_read, by_write, by_memory, no_fault, Puts, all, a_prefix, nothing, Prints, ending_of, fault_in, fault_of, line_with, no_memory, refusal_line, refusal_status, usage, verdict_status}
+use Rattle.cocoon_cli.specs.Run.{Call, Counted, CountsFault, Uncounted, MayCount, of_read as counts_read, of_write as counts_write, of_memory as counts_memory, Count, inputs_of, InputsAre, Performs, IsOnly, CauseOf, LineNames, NamesFault, EndsWith, Yields, to_read_fault, to_write_fault, to_no_memory, TheOutcome, OutcomeOf, DoneOf, LeavesOf, MayWrite, done, failed, UsageOf, Keeps, KeepsMore}
 use Rattle.cocoon_cli.specs.Run as run
-use Rattle.cocoon_cli.specs.Steps.{Inputs, Step, is_there, is_within, design_reads, design_well_formed, design_within, definitions_read, definitions_fit, definitions_within, design_accepted, lowering_within, level_there, lines_formed, bundle_reads, packets_judged, copies_within, bundle_within, bundle_written, Reports, HasOutcomeFrom, HasOutcome, Stops, AnswersFrom, steps}
+use Rattle.cocoon_cli.specs.Steps.{Inputs, Step, is_there, bundle_reads, bundle_written, Stops, steps}
 
 -- ---- what is printed
 
@@ -36,60 +40,52 @@ printed call f (inr (nothing e n)) = inr (to_no_memory e)
 -- ---- the outcome
 
 -- a fault of the folder
-abbrev IsFault : Result Report Refusal → Type 0
-IsFault outcome = ((file : CommandFile) × (outcome ≡ Err (refusal.ReadFault file))) ⊎ ((file : CommandFile) × (outcome ≡ Err (refusal.WriteFault file)))
+data IsFault (outcome : Result Report Refusal) : Type 0 where
+  a_read : (file : CommandFile) → outcome ≡ Err (refusal.ReadFault file) → IsFault outcome
+  a_write : (file : CommandFile) → outcome ≡ Err (refusal.WriteFault file) → IsFault outcome
 
-stopped : (i : Inputs) (s : Step) (r : Refusal) (outcome : Result Report Refusal) → Stops i s r → outcome ≡ Err r → IsFault outcome
-stopped i (is_there file) r outcome h e = inl (file, e ∙ ap Err h)
-stopped i (is_within file most) r outcome h e = absurd h
-stopped i design_reads r outcome h e = absurd h
-stopped i design_well_formed r outcome h e = absurd h
-stopped i design_within r outcome h e = absurd h
-stopped i definitions_read r outcome h e = absurd h
-stopped i definitions_fit r outcome h e = absurd h
-stopped i definitions_within r outcome h e = absurd h
-stopped i design_accepted r outcome h e = absurd h
-stopped i lowering_within r outcome h e = absurd h
-stopped i (level_there l) r outcome h e = absurd h
-stopped i (lines_formed l) r outcome h e = absurd h
-stopped i (bundle_reads o) r outcome h e = inl (BundleOf h.0, e ∙ ap Err h.1)
-stopped i (packets_judged o) r outcome h e = absurd h
-stopped i (copies_within o n) r outcome h e = absurd h
-stopped i bundle_within r outcome h e = absurd h
-stopped i bundle_written r outcome h e = inr (BundleOf h.0, e ∙ ap Err h.1)
+stopped : (i : Inputs) (s : Step) (r : Refusal) → Stops i s r → IsFault (Err r)
+stopped i (is_there file) r h = a_read file (ap Err h)
+stopped i (bundle_reads o) r h = a_read (BundleOf h.0) (ap Err h.1)
+stopped i bundle_written r h = a_write (BundleOf h.0) (ap Err h.1)
+stopped i s r h = absurd h
 
-outcome_or_stops : (c : Command) (i : Inputs) (ss : List Step) (outcome : Result Report Refusal) → AnswersFrom c i ss outcome → HasOutcomeFrom c i ss outcome ⊎ IsFault outcome
-outcome_or_stops c i [] outcome h = inl h
-outcome_or_stops c i (s ∷ ss) outcome (inl (r, inl h, e)) = inl (inl (r, h, e))
-outcome_or_stops c i (s ∷ ss) outcome (inl (r, inr h, e)) = inr (stopped i s r outcome h e)
-outcome_or_stops c i (s ∷ ss) outcome (inr (g, h)) = elim (outcome_or_stops c i ss outcome h) [
-  | inl f ↦ inl (inr (g, f))
-  | inr f ↦ inr f
-]
+stopped_at : (i : Inputs) (outcome : Result Report Refusal) (s : Step) → StopsAtStep i outcome s → IsFault outcome
+stopped_at i (Ok report) s h = absurd h
+stopped_at i (Err r) s h = stopped i s r h
+
+stopped_among : (i : Inputs) (outcome : Result Report Refusal) (ss : List Step) → FirstWith i (StopsAtStep i outcome) ss → IsFault outcome
+stopped_among i outcome [] h = elim h [ ]
+stopped_among i outcome (s ∷ ss) (here h) = stopped_at i outcome s h
+stopped_among i outcome (s ∷ ss) (later g h) = stopped_among i outcome ss h
 
 -- a fault of the folder is one to which the answer yields
-fault_yields : (c : Command) (call : Call) (outcome : Result Report Refusal) → IsFault outcome → HasFault call.reads call.writes outcome → EndsWith call (ending_of c outcome) → Yields call
-fault_yields c call outcome (inl (file, e)) h f =
-    to_read_fault (f.0 ∙ ap (λ (x : Result Report Refusal). (ending_of c x).status) e) (subst (λ (x : Result Report Refusal). HasFault call.reads call.writes x) e h)
-fault_yields c call outcome (inr (file, e)) h f =
-    to_write_fault (f.0 ∙ ap (λ (x : Result Report Refusal). (ending_of c x).status) e) (inl (subst (λ (x : Result Report Refusal). HasFault call.reads call.writes x) e h))
+fault_yields : (c : Command) (call : Call) (outcome : Result Report Refusal) → IsFault outcome → CountsFault call.reads call.writes (fault_in outcome) → EndsWith call (ending_of c outcome) → Yields call
+fault_yields c call outcome (a_read file e) h f =
+    to_read_fault (f.0 ∙ ap (λ (x : Result Report Refusal). (ending_of c x).status) e) (subst (λ (x : Result Report Refusal). CountsFault call.reads call.writes (fault_in x)) e h).0
+fault_yields c call outcome (a_write file e) h f =
+    to_write_fault (f.0 ∙ ap (λ (x : Result Report Refusal). (ending_of c x).status) e) (inl (subst (λ (x : Result Report Refusal). CountsFault call.reads call.writes (fault_in x)) e h).1)
 
 -- a command has one outcome
 abbrev pub OneOutcome : Type 0
 OneOutcome = (c : Command) (i : Inputs) (outcome : Result Report Refusal) → HasOutcome c i outcome → IsOnly c i outcome
 
-outcome_known : OneOutcome → (c : Command) (files : Files) (call : Call) (outcome : Result Report Refusal) → Performs c (Some files) call.content_after outcome → HasFault call.reads call.writes outcome
+-- what a command answers is its outcome, or it yields
+outcome_or_yields : (c : Command) (i : Inputs) (call : Call) (outcome : Result Report Refusal) → CountsFault call.reads call.writes (fault_in outcome) → EndsWith call (ending_of c outcome) → Answers c i outcome → HasOutcome c i outcome ⊎ Yields call
+outcome_or_yields c i call outcome counts f (inl (out_of_memory e)) = inr (to_no_memory (f.0 ∙ ap (λ (x : Result Report Refusal). (ending_of c x).status) e))
+outcome_or_yields c i call outcome counts f (inl (at_step h)) = inl (inl h)
+outcome_or_yields c i call outcome counts f (inl (at_fault h)) = inr (fault_yields c call outcome (stopped_among i outcome (steps c) h) counts f)
+outcome_or_yields c i call outcome counts f (inr h) = inl (inr h)
+
+outcome_known : OneOutcome → (c : Command) (files : Files) (call : Call) (outcome : Result Report Refusal) → Performs c (Some files) call.content_after outcome → CountsFault call.reads call.writes (fault_in outcome)
     → Prints (Counted call.puts) (ending_of c outcome) call.output_before call.output_after call.status → ((f : TheOutcome c files) × EndsWith call (ending_of c f.outcome)) ⊎ Yields call
-outcome_known one c files call outcome performs faults prints = elim (printed call (ending_of c outcome) prints) [
+outcome_known one c files call outcome performs counts prints = elim (printed call (ending_of c outcome) prints) [
   | inr y ↦ inr y
-  | inl f ↦ elim performs.answers [
-    | inl memory ↦ inr (to_no_memory (f.0 ∙ ap (λ (x : Result Report Refusal). (ending_of c x).status) memory))
-    | inr answers ↦ elim (outcome_or_stops c performs.inputs (steps c) outcome answers) [
-      | inl holds ↦
-          let here : HasOutcome c (inputs_of c files) outcome = subst (λ (i : Inputs). HasOutcome c i outcome) performs.inputs_are holds in
-          inl (record { outcome = outcome; holds = here; one = one c (inputs_of c files) outcome here }, f)
-      | inr fault ↦ inr (fault_yields c call outcome fault faults f)
-    ]
+  | inl f ↦ elim (outcome_or_yields c performs.inputs call outcome counts f performs.answers) [
+    | inr y ↦ inr y
+    | inl holds ↦
+        let at_files : HasOutcome c (inputs_of c files) outcome = subst (λ (i : Inputs). HasOutcome c i outcome) performs.inputs_are holds in
+        inl (record { outcome = outcome; holds = at_files; one = one c (inputs_of c files) outcome at_files }, f)
   ]
 ]
 
@@ -99,7 +95,7 @@ outcome_of one (Some c) call h = content call.content_before h.performs
   where
     content : (before : Option Files) → Performs c before call.content_after h.outcome → OutcomeOf (Some c) before call
     content None performs = tt
-    content (Some files) performs = outcome_known one c files call h.outcome performs h.faults h.prints
+    content (Some files) performs = outcome_known one c files call h.outcome performs h.counts h.prints
 
 -- ---- statuses
 
@@ -115,20 +111,57 @@ ends call f (inr (all e n)) = inr (inr e)
 ends call f (inr (a_prefix e rose n)) = inr (inl e)
 ends call f (inr (nothing e n)) = inr (inr e)
 
+-- neither of words that are no command, nor of a fault, nor of a success
+abbrev IsRefusing : Status → Type 0
+IsRefusing Done = ⊥
+IsRefusing Usage = ⊥
+IsRefusing ReadFault = ⊥
+IsRefusing WriteFault = ⊥
+IsRefusing NoMemory = ⊥
+IsRefusing s = Unit {0}
+
+-- the status of a refusal is that of the fault that it speaks of, or none of these
+abbrev Suits : Fault → Status → Type 0
+Suits (by_read file) s = s ≡ ReadFault
+Suits (by_write file) s = s ≡ WriteFault
+Suits by_memory s = s ≡ NoMemory
+Suits no_fault s = IsRefusing s
+
+refusal_suits : (r : Refusal) → Suits (fault_of r) (refusal_status r)
+refusal_suits (refusal.ReadFault f) = refl
+refusal_suits (refusal.WriteFault f) = refl
+refusal_suits refusal.NoMemory = refl
+refusal_suits r = tt
+
+never_done : (f : Fault) (s : Status) → Suits f s → s ≡ Done → ⊥
+never_done (by_read file) s h e = let no : ◌≡◌ {A = Status} ReadFault Done = sym h ∙ e in cc
+never_done (by_write file) s h e = let no : ◌≡◌ {A = Status} WriteFault Done = sym h ∙ e in cc
+never_done by_memory s h e = let no : ◌≡◌ {A = Status} NoMemory Done = sym h ∙ e in cc
+never_done no_fault s h e = subst IsRefusing e h
+
+never_used : (f : Fault) (s : Status) → Suits f s → s ≡ Usage → ⊥
+never_used (by_read file) s h e = let no : ◌≡◌ {A = Status} ReadFault Usage = sym h ∙ e in cc
+never_used (by_write file) s h e = let no : ◌≡◌ {A = Status} WriteFault Usage = sym h ∙ e in cc
+never_used by_memory s h e = let no : ◌≡◌ {A = Status} NoMemory Usage = sym h ∙ e in cc
+never_used no_fault s h e = subst IsRefusing e h
+
+-- a verdict has none of these statuses
+abbrev IsVerdict : Status → Type 0
+IsVerdict Done = Unit {0}
+IsVerdict Refuted = Unit {0}
+IsVerdict HopBound = Unit {0}
+IsVerdict Budget = Unit {0}
+IsVerdict s = ⊥
+
+is_verdict : (v : Verdict) → IsVerdict (verdict_status v)
+is_verdict verdict.Done = tt
+is_verdict verdict.Refuted = tt
+is_verdict verdict.HopBound = tt
+is_verdict verdict.Budget = tt
+
 never_usage : (c : Command) (outcome : Result Report Refusal) → (ending_of c outcome).status ≡ Usage → ⊥
-never_usage c (Ok report) e = cc
-never_usage c (Err (refusal.Language f)) e = cc
-never_usage c (Err (refusal.Definitions f)) e = cc
-never_usage c (Err (refusal.ReadFault f)) e = cc
-never_usage c (Err (refusal.WriteFault f)) e = cc
-never_usage c (Err (refusal.TooLong f n)) e = cc
-never_usage c (Err (refusal.OverLimit l m)) e = cc
-never_usage c (Err (refusal.NoLevel l m)) e = cc
-never_usage c (Err (refusal.Line f n)) e = cc
-never_usage c (Err (refusal.NoHost f n)) e = cc
-never_usage c (Err (refusal.Unread f n)) e = cc
-never_usage c (Err refusal.NoMemory) e = cc
-never_usage c (Err (refusal.NoFile f)) e = cc
+never_usage c (Ok report) e = subst IsVerdict e (is_verdict report.verdict)
+never_usage c (Err r) e = never_used (fault_of r) (refusal_status r) (refusal_suits r) e
 
 usage_of : (c : Option Command) (call : Call) → CauseOf c call → UsageOf c call.status
 usage_of None call h = ends call usage h.1
@@ -138,36 +171,28 @@ usage_of (Some c) call h = λ u. elim (ends call (ending_of c h.outcome) h.print
   | inr (inr e) ↦ let no : ◌≡◌ {A = Status} NoMemory Usage = sym e ∙ u in cc
 ]
 
--- a command whose ending has the status of a read fault was stopped by one
-is_read_fault : (c : Command) (reads writes : Count) (outcome : Result Report Refusal) → HasFault reads writes outcome → (ending_of c outcome).status ≡ ReadFault → Counted reads
-is_read_fault c reads writes (Ok report) h e = cc
-is_read_fault c reads writes (Err (refusal.Language f)) h e = cc
-is_read_fault c reads writes (Err (refusal.Definitions f)) h e = cc
-is_read_fault c reads writes (Err (refusal.ReadFault f)) h e = h
-is_read_fault c reads writes (Err (refusal.WriteFault f)) h e = cc
-is_read_fault c reads writes (Err (refusal.TooLong f n)) h e = cc
-is_read_fault c reads writes (Err (refusal.OverLimit l m)) h e = cc
-is_read_fault c reads writes (Err (refusal.NoLevel l m)) h e = cc
-is_read_fault c reads writes (Err (refusal.Line f n)) h e = cc
-is_read_fault c reads writes (Err (refusal.NoHost f n)) h e = cc
-is_read_fault c reads writes (Err (refusal.Unread f n)) h e = cc
-is_read_fault c reads writes (Err refusal.NoMemory) h e = cc
-is_read_fault c reads writes (Err (refusal.NoFile f)) h e = cc
+-- a refusal with the status of a read fault speaks of one
+reads_fault : (P : Fault → Type 0) (f : Fault) (s : Status) → Suits f s → s ≡ ReadFault → ((file : CommandFile) → P (by_read file)) → P f
+reads_fault P (by_read file) s h e at_read = at_read file
+reads_fault P (by_write file) s h e at_read = let no : ◌≡◌ {A = Status} WriteFault ReadFault = sym h ∙ e in cc
+reads_fault P by_memory s h e at_read = let no : ◌≡◌ {A = Status} NoMemory ReadFault = sym h ∙ e in cc
+reads_fault P no_fault s h e at_read = absurd (subst IsRefusing e h)
 
-is_write_fault : (c : Command) (reads writes : Count) (outcome : Result Report Refusal) → HasFault reads writes outcome → (ending_of c outcome).status ≡ WriteFault → Counted writes
-is_write_fault c reads writes (Ok report) h e = cc
-is_write_fault c reads writes (Err (refusal.Language f)) h e = cc
-is_write_fault c reads writes (Err (refusal.Definitions f)) h e = cc
-is_write_fault c reads writes (Err (refusal.ReadFault f)) h e = cc
-is_write_fault c reads writes (Err (refusal.WriteFault f)) h e = h
-is_write_fault c reads writes (Err (refusal.TooLong f n)) h e = cc
-is_write_fault c reads writes (Err (refusal.OverLimit l m)) h e = cc
-is_write_fault c reads writes (Err (refusal.NoLevel l m)) h e = cc
-is_write_fault c reads writes (Err (refusal.Line f n)) h e = cc
-is_write_fault c reads writes (Err (refusal.NoHost f n)) h e = cc
-is_write_fault c reads writes (Err (refusal.Unread f n)) h e = cc
-is_write_fault c reads writes (Err refusal.NoMemory) h e = cc
-is_write_fault c reads writes (Err (refusal.NoFile f)) h e = cc
+-- one with that of a write fault
+writes_fault : (P : Fault → Type 0) (f : Fault) (s : Status) → Suits f s → s ≡ WriteFault → ((file : CommandFile) → P (by_write file)) → P f
+writes_fault P (by_read file) s h e at_write = let no : ◌≡◌ {A = Status} ReadFault WriteFault = sym h ∙ e in cc
+writes_fault P (by_write file) s h e at_write = at_write file
+writes_fault P by_memory s h e at_write = let no : ◌≡◌ {A = Status} NoMemory WriteFault = sym h ∙ e in cc
+writes_fault P no_fault s h e at_write = absurd (subst IsRefusing e h)
+
+-- a command whose ending has the status of a read fault was stopped by one
+is_read_fault : (c : Command) (reads writes : Count) (outcome : Result Report Refusal) → CountsFault reads writes (fault_in outcome) → (ending_of c outcome).status ≡ ReadFault → Counted reads
+is_read_fault c reads writes (Ok report) h e = absurd (subst IsVerdict e (is_verdict report.verdict))
+is_read_fault c reads writes (Err r) h e = reads_fault (λ f. CountsFault reads writes f → Counted reads) (fault_of r) (refusal_status r) (refusal_suits r) e (λ file k. k.0) h
+
+is_write_fault : (c : Command) (reads writes : Count) (outcome : Result Report Refusal) → CountsFault reads writes (fault_in outcome) → (ending_of c outcome).status ≡ WriteFault → Counted writes
+is_write_fault c reads writes (Ok report) h e = absurd (subst IsVerdict e (is_verdict report.verdict))
+is_write_fault c reads writes (Err r) h e = writes_fault (λ f. CountsFault reads writes f → Counted writes) (fault_of r) (refusal_status r) (refusal_suits r) e (λ file k. k.1) h
 
 read_fault_of : (c : Option Command) (call : Call) → CauseOf c call → call.status ≡ ReadFault → Counted call.reads
 read_fault_of None call h r = elim (ends call usage h.1) [
@@ -176,7 +201,7 @@ read_fault_of None call h r = elim (ends call usage h.1) [
   | inr (inr e) ↦ let no : ◌≡◌ {A = Status} NoMemory ReadFault = sym e ∙ r in cc
 ]
 read_fault_of (Some c) call h r = elim (ends call (ending_of c h.outcome) h.prints) [
-  | inl e ↦ is_read_fault c call.reads call.writes h.outcome h.faults (sym e ∙ r)
+  | inl e ↦ is_read_fault c call.reads call.writes h.outcome h.counts (sym e ∙ r)
   | inr (inl e) ↦ let no : ◌≡◌ {A = Status} WriteFault ReadFault = sym e ∙ r in cc
   | inr (inr e) ↦ let no : ◌≡◌ {A = Status} NoMemory ReadFault = sym e ∙ r in cc
 ]
@@ -196,37 +221,32 @@ write_fault_of None call h w = elim (sink_fault call usage h.1 w) [
   | inr rose ↦ inr rose
 ]
 write_fault_of (Some c) call h w = elim (sink_fault call (ending_of c h.outcome) h.prints w) [
-  | inl e ↦ inl (is_write_fault c call.reads call.writes h.outcome h.faults e)
+  | inl e ↦ inl (is_write_fault c call.reads call.writes h.outcome h.counts e)
   | inr rose ↦ inr rose
 ]
 
 -- ---- where no fault is counted
 
 -- the ending has the status of a fault of the folder, or none was counted
-none_or_fault : (c : Command) (reads writes : Count) (outcome : Result Report Refusal) → CountsNoOther reads writes outcome → MayCount (ending_of c outcome).status ⊎ (Uncounted reads × Uncounted writes)
+counts_or_none : (reads writes : Count) (f : Fault) (s : Status) → Suits f s → CountsFault reads writes f → MayCount s ⊎ (Uncounted reads × Uncounted writes)
+counts_or_none reads writes (by_read file) s h k = inl (counts_read h)
+counts_or_none reads writes (by_write file) s h k = inl (counts_write h)
+counts_or_none reads writes by_memory s h k = inr k
+counts_or_none reads writes no_fault s h k = inr k
+
+none_or_fault : (c : Command) (reads writes : Count) (outcome : Result Report Refusal) → CountsFault reads writes (fault_in outcome) → MayCount (ending_of c outcome).status ⊎ (Uncounted reads × Uncounted writes)
 none_or_fault c reads writes (Ok report) h = inr h
-none_or_fault c reads writes (Err (refusal.Language f)) h = inr h
-none_or_fault c reads writes (Err (refusal.Definitions f)) h = inr h
-none_or_fault c reads writes (Err (refusal.ReadFault f)) h = inl (of_read refl)
-none_or_fault c reads writes (Err (refusal.WriteFault f)) h = inl (of_write refl)
-none_or_fault c reads writes (Err (refusal.TooLong f n)) h = inr h
-none_or_fault c reads writes (Err (refusal.OverLimit l m)) h = inr h
-none_or_fault c reads writes (Err (refusal.NoLevel l m)) h = inr h
-none_or_fault c reads writes (Err (refusal.Line f n)) h = inr h
-none_or_fault c reads writes (Err (refusal.NoHost f n)) h = inr h
-none_or_fault c reads writes (Err (refusal.Unread f n)) h = inr h
-none_or_fault c reads writes (Err refusal.NoMemory) h = inr h
-none_or_fault c reads writes (Err (refusal.NoFile f)) h = inr h
+none_or_fault c reads writes (Err r) h = counts_or_none reads writes (fault_of r) (refusal_status r) (refusal_suits r) h
 
 ending_counts : (s : Status) → IsEnding s → MayCount s
-ending_counts s (inl e) = of_write e
-ending_counts s (inr e) = of_memory e
+ending_counts s (inl e) = counts_write e
+ending_counts s (inr e) = counts_memory e
 
 none_failed_of : (c : Option Command) (call : Call) → CauseOf c call → MayCount call.status ⊎ (Uncounted call.reads × Uncounted call.writes)
 none_failed_of None call h = inr (h.0.1, h.0.2)
 none_failed_of (Some c) call h = elim (ends call (ending_of c h.outcome) h.prints) [
   | inr e ↦ inl (ending_counts call.status e)
-  | inl e ↦ elim (none_or_fault c call.reads call.writes h.outcome h.no_other) [
+  | inl e ↦ elim (none_or_fault c call.reads call.writes h.outcome h.counts) [
     | inl m ↦ inl (subst MayCount (sym e) m)
     | inr n ↦ inr n
   ]
@@ -237,7 +257,7 @@ none_failed_of (Some c) call h = elim (ends call (ending_of c h.outcome) h.print
 -- what a command that has the cause of a call says of the folder's last call that failed
 abbrev pub NamedOf : (List ℕ → Type 0) → (c : Option Command) → (call : Call) → CauseOf c call → Type 0
 NamedOf last None call h = Unit {0}
-NamedOf last (Some c) call h = NamesFailure last c h.outcome
+NamedOf last (Some c) call h = NamesFault last c (fault_in h.outcome)
 
 -- with the status of a read fault the whole ending is printed
 read_fault_printed : (call : Call) (f : Ending) → Prints (Counted call.puts) f call.output_before call.output_after call.status → call.status ≡ ReadFault → (f.status ≡ ReadFault) × (call.output_after ≡ appended call.output_before f.report)
@@ -257,35 +277,28 @@ write_fault_printed call f (inr (all e n)) d = let no : ◌≡◌ {A = Status} N
 write_fault_printed call f (inr (a_prefix e rose n)) d = inr rose
 write_fault_printed call f (inr (nothing e n)) d = let no : ◌≡◌ {A = Status} NoMemory WriteFault = sym e ∙ d in cc
 
-read_line : (last : List ℕ → Type 0) (c : Command) (call : Call) (outcome : Result Report Refusal) → NamesFailure last c outcome → (ending_of c outcome).status ≡ ReadFault → call.output_after ≡ appended call.output_before (ending_of c outcome).report → LineNames last (codes "read fault ") (Some c) call
-read_line last c call (Ok report) h e n = cc
-read_line last c call (Err (refusal.Language f)) h e n = cc
-read_line last c call (Err (refusal.Definitions f)) h e n = cc
-read_line last c call (Err (refusal.ReadFault f)) h e n = (f, h, n)
-read_line last c call (Err (refusal.WriteFault f)) h e n = cc
-read_line last c call (Err (refusal.TooLong f m)) h e n = cc
-read_line last c call (Err (refusal.OverLimit l m)) h e n = cc
-read_line last c call (Err (refusal.NoLevel l m)) h e n = cc
-read_line last c call (Err (refusal.Line f m)) h e n = cc
-read_line last c call (Err (refusal.NoHost f m)) h e n = cc
-read_line last c call (Err (refusal.Unread f m)) h e n = cc
-read_line last c call (Err refusal.NoMemory) h e n = cc
-read_line last c call (Err (refusal.NoFile f)) h e n = cc
+-- the line of a refusal that speaks of a fault of the folder
+abbrev Says : Command → Fault → List ℕ → Type 0
+Says c (by_read file) line = line ≡ line_with (codes "read fault ") (name_in c file)
+Says c (by_write file) line = line ≡ line_with (codes "write fault ") (name_in c file)
+Says c f line = Unit {0}
 
-write_line : (last : List ℕ → Type 0) (c : Command) (call : Call) (outcome : Result Report Refusal) → NamesFailure last c outcome → (ending_of c outcome).status ≡ WriteFault → call.output_after ≡ appended call.output_before (ending_of c outcome).report → LineNames last (codes "write fault ") (Some c) call
-write_line last c call (Ok report) h e n = cc
-write_line last c call (Err (refusal.Language f)) h e n = cc
-write_line last c call (Err (refusal.Definitions f)) h e n = cc
-write_line last c call (Err (refusal.ReadFault f)) h e n = cc
-write_line last c call (Err (refusal.WriteFault f)) h e n = (f, h, n)
-write_line last c call (Err (refusal.TooLong f m)) h e n = cc
-write_line last c call (Err (refusal.OverLimit l m)) h e n = cc
-write_line last c call (Err (refusal.NoLevel l m)) h e n = cc
-write_line last c call (Err (refusal.Line f m)) h e n = cc
-write_line last c call (Err (refusal.NoHost f m)) h e n = cc
-write_line last c call (Err (refusal.Unread f m)) h e n = cc
-write_line last c call (Err refusal.NoMemory) h e n = cc
-write_line last c call (Err (refusal.NoFile f)) h e n = cc
+refusal_says : (c : Command) (r : Refusal) → Says c (fault_of r) (refusal_line c r)
+refusal_says c (refusal.ReadFault f) = refl
+refusal_says c (refusal.WriteFault f) = refl
+refusal_says c r = tt
+
+read_line : (last : List ℕ → Type 0) (c : Command) (call : Call) (outcome : Result Report Refusal) → NamesFault last c (fault_in outcome) → (ending_of c outcome).status ≡ ReadFault → call.output_after ≡ appended call.output_before (ending_of c outcome).report → LineNames last (codes "read fault ") (Some c) call
+read_line last c call (Ok report) h e n = absurd (subst IsVerdict e (is_verdict report.verdict))
+read_line last c call (Err r) h e n =
+    reads_fault (λ f. NamesFault last c f → Says c f (refusal_line c r) → LineNames last (codes "read fault ") (Some c) call) (fault_of r) (refusal_status r) (refusal_suits r) e
+    (λ file k says. (file, k, n ∙ ap (appended call.output_before) says)) h (refusal_says c r)
+
+write_line : (last : List ℕ → Type 0) (c : Command) (call : Call) (outcome : Result Report Refusal) → NamesFault last c (fault_in outcome) → (ending_of c outcome).status ≡ WriteFault → call.output_after ≡ appended call.output_before (ending_of c outcome).report → LineNames last (codes "write fault ") (Some c) call
+write_line last c call (Ok report) h e n = absurd (subst IsVerdict e (is_verdict report.verdict))
+write_line last c call (Err r) h e n =
+    writes_fault (λ f. NamesFault last c f → Says c f (refusal_line c r) → LineNames last (codes "write fault ") (Some c) call) (fault_of r) (refusal_status r) (refusal_suits r) e
+    (λ file k says. (file, k, n ∙ ap (appended call.output_before) says)) h (refusal_says c r)
 
 read_line_of : (last : List ℕ → Type 0) (c : Option Command) (call : Call) (h : CauseOf c call) → NamedOf last c call h → call.status ≡ ReadFault → LineNames last (codes "read fault ") c call
 read_line_of last None call h k r = let no : ◌≡◌ {A = Status} Usage ReadFault = (read_fault_printed call usage h.1 r).0 in cc
@@ -305,28 +318,27 @@ write_line_of last (Some c) call h k w = elim (write_fault_printed call (ending_
 
 -- ---- what is left
 
-reports_from : (c : Command) (i : Inputs) (ss : List Step) (report : Report) → AnswersFrom c i ss (Ok report) → Reports c i report
-reports_from c i [] report h = h
-reports_from c i (s ∷ ss) report (inl (r, h, e)) = cc
-reports_from c i (s ∷ ss) report (inr (g, h)) = reports_from c i ss report h
+-- a step of today gives no verdict
+no_verdict : (i : Inputs) (report : Report) (ss : List Step) → FirstWith i (EndsAt i (Ok report)) ss → ⊥
+no_verdict i report [] h = elim h [ ]
+no_verdict i report (s ∷ ss) (here (inl h)) = h
+no_verdict i report (s ∷ ss) (here (inr h)) = h
+no_verdict i report (s ∷ ss) (later g h) = no_verdict i report ss h
+
+no_fault_reports : (i : Inputs) (report : Report) (ss : List Step) → FirstWith i (StopsAtStep i (Ok report)) ss → ⊥
+no_fault_reports i report [] h = elim h [ ]
+no_fault_reports i report (s ∷ ss) (here h) = h
+no_fault_reports i report (s ∷ ss) (later g h) = no_fault_reports i report ss h
+
+reports_of : (c : Command) (i : Inputs) (report : Report) → Answers c i (Ok report) → Reports c i report
+reports_of c i report (inl (out_of_memory e)) = cc
+reports_of c i report (inl (at_step h)) = absurd (no_verdict i report (steps c) h)
+reports_of c i report (inl (at_fault h)) = absurd (no_fault_reports i report (steps c) h)
+reports_of c i report (inr h) = h.1
 
 done_ok : (c : Command) (call : Call) (outcome : Result Report Refusal) → Performs c call.content_before call.content_after outcome → (ending_of c outcome).status ≡ Done → call.output_after ≡ appended call.output_before (ending_of c outcome).report → DoneOf (Some c) call
-done_ok c call (Ok report) performs d n = elim performs.answers [
-  | inl memory ↦ cc
-  | inr answers ↦ (performs.inputs, report, performs.inputs_are, reports_from c performs.inputs (steps c) report answers, performs.leaves, n)
-]
-done_ok c call (Err (refusal.Language f)) performs d n = cc
-done_ok c call (Err (refusal.Definitions f)) performs d n = cc
-done_ok c call (Err (refusal.ReadFault f)) performs d n = cc
-done_ok c call (Err (refusal.WriteFault f)) performs d n = cc
-done_ok c call (Err (refusal.TooLong f m)) performs d n = cc
-done_ok c call (Err (refusal.OverLimit l m)) performs d n = cc
-done_ok c call (Err (refusal.NoLevel l m)) performs d n = cc
-done_ok c call (Err (refusal.Line f m)) performs d n = cc
-done_ok c call (Err (refusal.NoHost f m)) performs d n = cc
-done_ok c call (Err (refusal.Unread f m)) performs d n = cc
-done_ok c call (Err refusal.NoMemory) performs d n = cc
-done_ok c call (Err (refusal.NoFile f)) performs d n = cc
+done_ok c call (Ok report) performs d n = (performs.inputs, report, performs.inputs_are, reports_of c performs.inputs report performs.answers, performs.leaves, n)
+done_ok c call (Err r) performs d n = absurd (never_done (fault_of r) (refusal_status r) (refusal_suits r) d)
 
 -- with status 0 the whole report is printed
 done_printed : (call : Call) (f : Ending) → Prints (Counted call.puts) f call.output_before call.output_after call.status → call.status ≡ Done → (f.status ≡ Done) × (call.output_after ≡ appended call.output_before f.report)
@@ -343,78 +355,7 @@ writes_of (Some c) call h d =
     let s = done_printed call (ending_of c h.outcome) h.prints d in
     done_ok c call h.outcome h.performs s.0 s.1
 
--- `step` leaves the folder as it was
-step_same : (d e : List ℕ) (l : ℕ) (f : List ℕ) (i : Inputs) (before after : Option Files) (outcome : Result Report Refusal) → Leaves (step d e l f) i before after outcome → after ≡ before
-step_same d e l f i before after (Ok report) h = h
-step_same d e l f i before after (Err (refusal.Language x)) h = h
-step_same d e l f i before after (Err (refusal.Definitions x)) h = h
-step_same d e l f i before after (Err (refusal.ReadFault x)) h = h
-step_same d e l f i before after (Err (refusal.WriteFault Design)) h = h
-step_same d e l f i before after (Err (refusal.WriteFault Definitions)) h = h
-step_same d e l f i before after (Err (refusal.WriteFault (BundleOf file))) h = h
-step_same d e l f i before after (Err (refusal.WriteFault CaseFile)) h = h
-step_same d e l f i before after (Err (refusal.WriteFault PacketsFile)) h = h
-step_same d e l f i before after (Err (refusal.TooLong x n)) h = h
-step_same d e l f i before after (Err (refusal.OverLimit x n)) h = h
-step_same d e l f i before after (Err (refusal.NoLevel x n)) h = h
-step_same d e l f i before after (Err (refusal.Line x n)) h = h
-step_same d e l f i before after (Err (refusal.NoHost x n)) h = h
-step_same d e l f i before after (Err (refusal.Unread x n)) h = h
-step_same d e l f i before after (Err refusal.NoMemory) h = h
-step_same d e l f i before after (Err (refusal.NoFile x)) h = h
-
--- `forward` leaves the folder as it was
-forward_same : (o p : List ℕ) (n : ℕ) (i : Inputs) (before after : Option Files) (outcome : Result Report Refusal) → Leaves (forward o p n) i before after outcome → after ≡ before
-forward_same o p n i before after (Ok report) h = h
-forward_same o p n i before after (Err (refusal.Language x)) h = h
-forward_same o p n i before after (Err (refusal.Definitions x)) h = h
-forward_same o p n i before after (Err (refusal.ReadFault x)) h = h
-forward_same o p n i before after (Err (refusal.WriteFault Design)) h = h
-forward_same o p n i before after (Err (refusal.WriteFault Definitions)) h = h
-forward_same o p n i before after (Err (refusal.WriteFault (BundleOf file))) h = h
-forward_same o p n i before after (Err (refusal.WriteFault CaseFile)) h = h
-forward_same o p n i before after (Err (refusal.WriteFault PacketsFile)) h = h
-forward_same o p n i before after (Err (refusal.TooLong x m)) h = h
-forward_same o p n i before after (Err (refusal.OverLimit x m)) h = h
-forward_same o p n i before after (Err (refusal.NoLevel x m)) h = h
-forward_same o p n i before after (Err (refusal.Line x m)) h = h
-forward_same o p n i before after (Err (refusal.NoHost x m)) h = h
-forward_same o p n i before after (Err (refusal.Unread x m)) h = h
-forward_same o p n i before after (Err refusal.NoMemory) h = h
-forward_same o p n i before after (Err (refusal.NoFile x)) h = h
-
--- a refusal that wrote nothing, or a status that may have
-same_or_writes : (c : Command) (i : Inputs) (before after : Option Files) (outcome : Result Report Refusal) → Leaves c i before after outcome → MayWrite (ending_of c outcome).status ⊎ (after ≡ before)
-same_or_writes (compile d e o) i before after (Ok report) h = inl (done refl)
-same_or_writes (compile d e o) i before after (Err (refusal.Language f)) h = inr h
-same_or_writes (compile d e o) i before after (Err (refusal.Definitions f)) h = inr h
-same_or_writes (compile d e o) i before after (Err (refusal.ReadFault f)) h = inr h
-same_or_writes (compile d e o) i before after (Err (refusal.WriteFault f)) h = inl (failed refl)
-same_or_writes (compile d e o) i before after (Err (refusal.TooLong f n)) h = inr h
-same_or_writes (compile d e o) i before after (Err (refusal.OverLimit l m)) h = inr h
-same_or_writes (compile d e o) i before after (Err (refusal.NoLevel l m)) h = inr h
-same_or_writes (compile d e o) i before after (Err (refusal.Line f n)) h = inr h
-same_or_writes (compile d e o) i before after (Err (refusal.NoHost f n)) h = inr h
-same_or_writes (compile d e o) i before after (Err (refusal.Unread f n)) h = inr h
-same_or_writes (compile d e o) i before after (Err refusal.NoMemory) h = inl (run.no_memory refl)
-same_or_writes (compile d e o) i before after (Err (refusal.NoFile f)) h = inr h
-same_or_writes (step d e l f) i before after outcome h = inr (step_same d e l f i before after outcome h)
-same_or_writes (forward o p n) i before after outcome h = inr (forward_same o p n i before after outcome h)
-
-ending_writes : (s : Status) → IsEnding s → MayWrite s
-ending_writes s (inl e) = failed e
-ending_writes s (inr e) = run.no_memory e
-
-same_of : (c : Option Command) (call : Call) → CauseOf c call → MayWrite call.status ⊎ (call.content_after ≡ call.content_before)
-same_of None call h = inr h.0.0
-same_of (Some c) call h = elim (ends call (ending_of c h.outcome) h.prints) [
-  | inr e ↦ inl (ending_writes call.status e)
-  | inl e ↦ elim (same_or_writes c h.performs.inputs call.content_before call.content_after h.outcome h.performs.leaves) [
-    | inl m ↦ inl (subst MayWrite (sym e) m)
-    | inr s ↦ inr s
-  ]
-]
-
+-- what stands where all is written, or stops within it, is a part of it
 take_all : (fs : List MadeFile) → take (length fs) fs ≡ fs
 take_all [] = refl
 take_all (f ∷ fs) = ap (λ gs. f ∷ gs) (take_all fs)
@@ -425,26 +366,57 @@ stopped_some o fs file before after h = elim h.left [
   | inr e ↦ (h.index + 1, e)
 ]
 
+all_some : (w : Writing) (before after : Option Files) → after ≡ with_writing w before → SomeOf w before after
+all_some nothing_written before after e = e
+all_some (bundle o fs) before after e = (length fs, e ∙ ap (λ gs. with_files o gs before) (sym (take_all fs)))
+all_some (own file name bytes) before after e = inr e
+
+stops_some : (w : Writing) (file : CommandFile) (before after : Option Files) → StopsIn w file before after → SomeOf w before after
+stops_some nothing_written file before after h = absurd h
+stops_some (bundle o fs) (BundleOf file) before after h = stopped_some o fs file before after h
+stops_some (bundle o fs) file before after h = absurd h
+stops_some (own f name bytes) file before after h = h.1
+
+leaves_fault : (c : Command) (i : Inputs) (before after : Option Files) (f : Fault) → LeavesFault c i before after f → LeavesSome c i before after
+leaves_fault c i before after (by_read file) h = inl h
+leaves_fault c i before after (by_write file) (w, may, h) = inr (w, may, stops_some w file before after h)
+leaves_fault c i before after by_memory h = h
+leaves_fault c i before after no_fault h = inl h
+
 leaves_some : (c : Command) (i : Inputs) (before after : Option Files) (outcome : Result Report Refusal) → Leaves c i before after outcome → LeavesSome c i before after
-leaves_some (compile d e o) i before after (Ok report) (fs, m, w) = inr (fs, m, (length fs, w ∙ ap (λ gs. with_files o gs before) (sym (take_all fs))))
-leaves_some (compile d e o) i before after (Err (refusal.Language f)) h = inl h
-leaves_some (compile d e o) i before after (Err (refusal.Definitions f)) h = inl h
-leaves_some (compile d e o) i before after (Err (refusal.ReadFault f)) h = inl h
-leaves_some (compile d e o) i before after (Err (refusal.WriteFault Design)) h = inl h
-leaves_some (compile d e o) i before after (Err (refusal.WriteFault Definitions)) h = inl h
-leaves_some (compile d e o) i before after (Err (refusal.WriteFault CaseFile)) h = inl h
-leaves_some (compile d e o) i before after (Err (refusal.WriteFault PacketsFile)) h = inl h
-leaves_some (compile d e o) i before after (Err (refusal.WriteFault (BundleOf file))) (fs, m, s) = inr (fs, m, stopped_some o fs file before after s)
-leaves_some (compile d e o) i before after (Err (refusal.TooLong f n)) h = inl h
-leaves_some (compile d e o) i before after (Err (refusal.OverLimit l m)) h = inl h
-leaves_some (compile d e o) i before after (Err (refusal.NoLevel l m)) h = inl h
-leaves_some (compile d e o) i before after (Err (refusal.Line f n)) h = inl h
-leaves_some (compile d e o) i before after (Err (refusal.NoHost f n)) h = inl h
-leaves_some (compile d e o) i before after (Err (refusal.Unread f n)) h = inl h
-leaves_some (compile d e o) i before after (Err refusal.NoMemory) h = h
-leaves_some (compile d e o) i before after (Err (refusal.NoFile f)) h = inl h
-leaves_some (step d e l f) i before after outcome h = step_same d e l f i before after outcome h
-leaves_some (forward o p n) i before after outcome h = forward_same o p n i before after outcome h
+leaves_some c i before after (Ok report) (w, may, h) = inr (w, may, all_some w before after h)
+leaves_some c i before after (Err r) h = leaves_fault c i before after (fault_of r) h
+
+-- a fault that wrote nothing, or a status that may have
+fault_writes : (c : Command) (i : Inputs) (before after : Option Files) (f : Fault) (s : Status) → Suits f s → LeavesFault c i before after f → MayWrite s ⊎ (after ≡ before)
+fault_writes c i before after (by_read file) s e h = inr h
+fault_writes c i before after (by_write file) s e h = inl (failed e)
+fault_writes c i before after by_memory s e h = inl (run.no_memory e)
+fault_writes c i before after no_fault s e h = inr h
+
+-- what a command that reports this writes, and the status of its report
+report_writes : (c : Command) (i : Inputs) (before after : Option Files) (report : Report) → Reports c i report → LeavesAll c i before after → MayWrite (verdict_status report.verdict) ⊎ (after ≡ before)
+report_writes (compile d e o) i before after report k h = inl (done (ap (λ (r : Report). verdict_status r.verdict) k.2))
+report_writes (step d e l f) i before after report k (w, is, h) = inr (h ∙ ap (λ x. with_writing x before) is)
+report_writes (forward o p n) i before after report k (w, is, h) = inr (h ∙ ap (λ x. with_writing x before) is)
+
+same_or_writes : (c : Command) (before after : Option Files) (outcome : Result Report Refusal) → Performs c before after outcome → MayWrite (ending_of c outcome).status ⊎ (after ≡ before)
+same_or_writes c before after (Ok report) p = report_writes c p.inputs before after report (reports_of c p.inputs report p.answers) p.leaves
+same_or_writes c before after (Err r) p = fault_writes c p.inputs before after (fault_of r) (refusal_status r) (refusal_suits r) p.leaves
+
+ending_writes : (s : Status) → IsEnding s → MayWrite s
+ending_writes s (inl e) = failed e
+ending_writes s (inr e) = run.no_memory e
+
+same_of : (c : Option Command) (call : Call) → CauseOf c call → MayWrite call.status ⊎ (call.content_after ≡ call.content_before)
+same_of None call h = inr h.0.0
+same_of (Some c) call h = elim (ends call (ending_of c h.outcome) h.prints) [
+  | inr e ↦ inl (ending_writes call.status e)
+  | inl e ↦ elim (same_or_writes c call.content_before call.content_after h.outcome h.performs) [
+    | inl m ↦ inl (subst MayWrite (sym e) m)
+    | inr s ↦ inr s
+  ]
+]
 
 leaves_of : (c : Option Command) (call : Call) → CauseOf c call → LeavesOf c call
 leaves_of None call h = h.0.0
@@ -460,11 +432,6 @@ any_are : (c : Command) (content : Option Files) → InputsAre c content (any_in
 any_are c None = tt
 any_are c (Some files) = refl
 
-leaves_same : (c : Command) (i : Inputs) (before after : Option Files) → after ≡ before → Leaves c i before after (Err refusal.NoMemory)
-leaves_same (compile d e o) i before after same = inl same
-leaves_same (step d e l f) i before after same = same
-leaves_same (forward o p n) i before after same = same
-
 memory_cause : (last : List ℕ → Type 0) (c : Option Command) (call : Call) → call.content_after ≡ call.content_before → Uncounted call.reads → Uncounted call.writes → Puts (Counted call.puts) no_memory call.output_before call.output_after call.status → (h : CauseOf c call) × NamedOf last c call h
 memory_cause last None call same r w p = (((same, r, w), inr p), tt)
 memory_cause last (Some c) call same r w p = (
@@ -473,11 +440,10 @@ memory_cause last (Some c) call same r w p = (
     performs = record {
       inputs = any_inputs c call.content_before;
       inputs_are = any_are c call.content_before;
-      answers = inl refl;
-      leaves = leaves_same c (any_inputs c call.content_before) call.content_before call.content_after same;
+      answers = inl (out_of_memory refl);
+      leaves = inl same;
     };
-    faults = tt;
-    no_other = (r, w);
+    counts = (r, w);
     prints = inr p;
   },
   tt,
@@ -488,34 +454,28 @@ memory_cause last (Some c) call same r w p = (
 -- status 0 comes only of a command that reported
 pub headline_of : (c : Command) (call : Call) (outcome : Result Report Refusal) → Prints (Counted call.puts) (ending_of c outcome) call.output_before call.output_after call.status → IfOk outcome (λ r. CompiledOf (Some c) call.content_before call.content_after) → call.status ≡ Done → CompiledOf (Some c) call.content_before call.content_after
 headline_of c call (Ok report) prints h d = h
-headline_of c call (Err (refusal.Language f)) prints h d = let e : ◌≡◌ {A = Status} Language Done = (done_printed call _ prints d).0 in cc
-headline_of c call (Err (refusal.Definitions f)) prints h d = let e : ◌≡◌ {A = Status} Broken Done = (done_printed call _ prints d).0 in cc
-headline_of c call (Err (refusal.ReadFault f)) prints h d = let e : ◌≡◌ {A = Status} ReadFault Done = (done_printed call _ prints d).0 in cc
-headline_of c call (Err (refusal.WriteFault f)) prints h d = let e : ◌≡◌ {A = Status} WriteFault Done = (done_printed call _ prints d).0 in cc
-headline_of c call (Err (refusal.TooLong f n)) prints h d = let e : ◌≡◌ {A = Status} Limit Done = (done_printed call _ prints d).0 in cc
-headline_of c call (Err (refusal.OverLimit l m)) prints h d = let e : ◌≡◌ {A = Status} Limit Done = (done_printed call _ prints d).0 in cc
-headline_of c call (Err (refusal.NoLevel l m)) prints h d = let e : ◌≡◌ {A = Status} Limit Done = (done_printed call _ prints d).0 in cc
-headline_of c call (Err (refusal.Line f n)) prints h d = let e : ◌≡◌ {A = Status} Lines Done = (done_printed call _ prints d).0 in cc
-headline_of c call (Err (refusal.NoHost f n)) prints h d = let e : ◌≡◌ {A = Status} Lines Done = (done_printed call _ prints d).0 in cc
-headline_of c call (Err (refusal.Unread f n)) prints h d = let e : ◌≡◌ {A = Status} Bundle Done = (done_printed call _ prints d).0 in cc
-headline_of c call (Err refusal.NoMemory) prints h d = let e : ◌≡◌ {A = Status} NoMemory Done = (done_printed call _ prints d).0 in cc
-headline_of c call (Err (refusal.NoFile f)) prints h d = let e : ◌≡◌ {A = Status} NoFile Done = (done_printed call _ prints d).0 in cc
+headline_of c call (Err r) prints h d = absurd (never_done (fault_of r) (refusal_status r) (refusal_suits r) (done_printed call _ prints d).0)
 
 -- ---- all of it
 
 keeps : OneOutcome → (last : List ℕ → Type 0) (call : Call) (h : CauseOf (command call.words) call) → NamedOf last (command call.words) call h → Keeps last call
 keeps one last call h k = record {
   cause = h;
-  usage = usage_of (command call.words) call h;
   outcome = outcome_of one (command call.words) call h;
+  leaves = leaves_of (command call.words) call h;
+  read_fault_line = read_line_of last (command call.words) call h k;
+  write_fault_line = write_line_of last (command call.words) call h k;
+}
+
+-- what follows from the cause
+pub keeps_more : (call : Call) → CauseOf (command call.words) call → KeepsMore call
+keeps_more call h = record {
+  usage = usage_of (command call.words) call h;
   read_fault = read_fault_of (command call.words) call h;
   write_fault = write_fault_of (command call.words) call h;
   none_failed = none_failed_of (command call.words) call h;
-  read_fault_line = read_line_of last (command call.words) call h k;
-  write_fault_line = write_line_of last (command call.words) call h k;
   done_leaves = writes_of (command call.words) call h;
   unchanged = same_of (command call.words) call h;
-  leaves = leaves_of (command call.words) call h;
 }
 
 -- the same of the command that was read of the words

@@ -7,20 +7,18 @@ use Rattle.p4_ir.specs.NetTree.{NetData}
 use Rattle.p4_ir.specs.Wiring.{host_numbers}
 use Rattle.packet_file.specs.Packets.{Packet, packets_in}
 use Rattle.packet_file.specs.declared.packet.PacketFault.{PacketFault}
-use Rattle.packet_runs.specs.Reports.{report_of}
+use Rattle.packet_runs.specs.Reports.{IsReport}
 use Rattle.packet_runs.specs.Stopping.{AllWithin, SomeOver}
 use Rattle.cocoon_cli.specs.declared.refusal.Refusal.{Refusal}
 use Rattle.cocoon_cli.specs.declared.refusal.Refusal.TheVariants.{OverLimit, NoMemory}
-use Rattle.cocoon_cli.specs.declared.report.Report.{Report}
-use Rattle.cocoon_cli.specs.declared.report.Report.TheVariants.{Forwarded}
 use Rattle.cocoon_cli.specs.Steps.{packets_refusal}
 
 -- the text is a file of packets for the network, and this is what becomes of them
-pub record RunsPackets (net : NetData) (hops : ℕ) (text : List ℕ) (report : Report) : Type 0 where
+pub record RunsPackets (net : NetData) (hops : ℕ) (text report : List ℕ) : Type 0 where
   pub packets : List Packet
   pub say : packets_in (host_numbers net.hosts) text ≡ Ok packets
   pub within : AllWithin net hops packets
-  pub told : report ≡ Forwarded (report_of net hops packets)
+  pub told : IsReport net hops packets report
 
 -- why the text is none
 pub record NotJudged (net : NetData) (text : List ℕ) (r : Refusal) : Type 0 where

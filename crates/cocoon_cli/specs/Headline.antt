@@ -19,9 +19,10 @@ use Rattle.lowered.specs.Delivers.{DeliversExactly, DeliversWithin}
 use Rattle.command_line.specs.Command.{Command, compile, step, forward}
 use Rattle.command_line.specs.Words.{command}
 
--- what the files hold `after` a `compile` of the design and the definitions that stood in the files
--- `before`
-pub record Compiled (before after : Files) (design_name defs_name out : List ℕ) : Type 0 where
+-- What the files hold `after` a `compile` of the design and the definitions that stood in the files
+-- `before`. Which names may change besides those of the bundle is a parameter.
+pub record Compiled (before after : Files) (design_name defs_name out : List ℕ)
+    (besides : List ℕ → Type 0) : Type 0 where
   pub design_text : List ℕ
   pub defs_text : List ℕ
   pub design : Design
@@ -38,10 +39,14 @@ pub record Compiled (before after : Files) (design_name defs_name out : List ℕ
   pub network : Network after out net
   pub digest : network.file.design ≡ digest_of design_text
   pub others_same : (name : List ℕ)
-      → ¬ InBundle out net.switches name → get after name ≡ get before name
+      → ¬ InBundle out net.switches name → ¬ besides name → get after name ≡ get before name
   -- what they do
   pub exact : DeliversExactly net design (defs_of design entries)
   pub within : DeliversWithin net design (defs_of design entries)
+
+-- no name changes besides
+abbrev pub none_besides : List ℕ → Type 0
+none_besides name = ⊥
 
 -- the same of a command; of one that compiles nothing there is nothing to say
 abbrev pub CompiledOf : Option Command → Option Files → Option Files → Type 0
@@ -49,7 +54,7 @@ CompiledOf None before after = ⊥
 CompiledOf (Some (compile design defs out)) None after = Unit {0}
 CompiledOf (Some (compile design defs out)) (Some before) None = ⊥
 CompiledOf (Some (compile design defs out)) (Some before) (Some after) =
-    Compiled before after design defs out
+    Compiled before after design defs out none_besides
 CompiledOf (Some (step design defs level file)) before after = Unit {0}
 CompiledOf (Some (forward out packets hops)) before after = Unit {0}
 

@@ -1,10 +1,14 @@
 pub mod FileNames
 pub mod Report
+pub mod ReportLines
 pub mod Steps
-pub mod LowerTexts
+pub mod Outcomes
+pub mod DesignTexts
+pub mod Compiling
 pub mod Stepping
+pub mod Forwarding
 pub mod Reading
 pub mod Leaves
 pub mod Headline
 pub mod Run
-pub mod Forwarding
+pub mod Shell

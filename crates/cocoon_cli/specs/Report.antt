@@ -21,6 +21,7 @@ use Rattle.p4_run.specs.declared.faults.LoadFault.{LoadFault}
 use Rattle.p4_run.specs.declared.faults.LoadFault.TheVariants as load
 use Rattle.cocoon_cli.specs.declared.refusal.BundleCause.{BundleCause}
 use Rattle.cocoon_cli.specs.declared.refusal.BundleCause.TheVariants as cause
+use Rattle.cocoon_cli.specs.declared.files.CommandFile.{CommandFile}
 use Rattle.cocoon_cli.specs.declared.files.CommandFile.TheVariants.{Design, Definitions, Bundle}
 use Rattle.cocoon_cli.specs.declared.status.Status.{Status}
 use Rattle.cocoon_cli.specs.declared.status.Status.TheVariants as status
@@ -32,10 +33,9 @@ use Rattle.cocoon_cli.specs.declared.refusal.DefinitionsFault.{DefinitionsFault}
 use Rattle.cocoon_cli.specs.declared.refusal.DefinitionsFault.TheVariants as definitions
 use Rattle.cocoon_cli.specs.declared.refusal.Refusal.{Refusal}
 use Rattle.cocoon_cli.specs.declared.refusal.Refusal.TheVariants as refusal
-use Rattle.cocoon_cli.specs.declared.report.Totals.{Totals}
-use Rattle.cocoon_cli.specs.declared.report.Report.{Report}
-use Rattle.cocoon_cli.specs.declared.report.Report.TheVariants.{Compiled, Stepped, Forwarded}
-use Rattle.case_runs.specs.declared.sent.Sent.{Sent}
+use Rattle.cocoon_cli.specs.declared.answer.Report.{Report}
+use Rattle.cocoon_cli.specs.declared.answer.Verdict.{Verdict}
+use Rattle.cocoon_cli.specs.declared.answer.Verdict.TheVariants as verdict
 use Rattle.command_line.specs.Command.{Command}
 use Rattle.cocoon_cli.specs.FileNames.{name_in}
 
@@ -110,6 +110,21 @@ refusal_status (refusal.Unread file cause) = status.Bundle
 refusal_status refusal.NoMemory = status.NoMemory
 refusal_status (refusal.NoFile file) = status.NoFile
 
+-- what of the folder or of memory an outcome speaks of
+pub data Fault : Type 0 where
+  by_read by_write : CommandFile → Fault
+  by_memory no_fault : Fault
+
+abbrev pub fault_of : Refusal → Fault
+fault_of (refusal.ReadFault file) = by_read file
+fault_of (refusal.WriteFault file) = by_write file
+fault_of refusal.NoMemory = by_memory
+fault_of _ = no_fault
+
+abbrev pub fault_in : {A : Type 0} → Result A Refusal → Fault
+fault_in (Ok report) = no_fault
+fault_in (Err r) = fault_of r
+
 abbrev pub no_memory_line : List ℕ
 no_memory_line = codes "no memory\n"
 
@@ -122,23 +137,43 @@ abbrev pub limit_line : List ℕ → ℕ → List ℕ
 limit_line name most =
     codes "limit file " ++ (name ++ (codes " over " ++ (decimal most ++ codes "\n")))
 
--- the most that a count of a limit may be
-abbrev pub most_allowed : LimitName → ℕ
-most_allowed limit.Rows = most_rows
-most_allowed limit.Switches = most_switches
-most_allowed limit.Hosts = most_hosts
-most_allowed limit.Tables = most_tables
-most_allowed limit.Sites = most_sites
-most_allowed limit.Members = most_members
-most_allowed limit.Copies = most_runs
-most_allowed limit.Packet = most_bytes
-most_allowed name = most name
+-- The most that a count of a limit may be. That of a file is another for each kind of file, and that of
+-- a level is the last level of its design; lines of their own have them.
+abbrev pub most_allowed : LimitName → Option ℕ
+most_allowed limit.File = None
+most_allowed limit.Refines = Some (most limit.Refines)
+most_allowed limit.Within = Some (most limit.Within)
+most_allowed limit.Ports = Some (most limit.Ports)
+most_allowed limit.Roles = Some (most limit.Roles)
+most_allowed limit.Functions = Some (most limit.Functions)
+most_allowed limit.Assumptions = Some (most limit.Assumptions)
+most_allowed limit.Params = Some (most limit.Params)
+most_allowed limit.Headers = Some (most limit.Headers)
+most_allowed limit.Fields = Some (most limit.Fields)
+most_allowed limit.Paths = Some (most limit.Paths)
+most_allowed limit.Expanded = Some (most limit.Expanded)
+most_allowed limit.Leaves = Some 4096
+most_allowed limit.Clauses = Some 4000000
+most_allowed limit.Rows = Some most_rows
+most_allowed limit.Switches = Some most_switches
+most_allowed limit.Hosts = Some most_hosts
+most_allowed limit.Tables = Some most_tables
+most_allowed limit.Sites = Some most_sites
+most_allowed limit.Members = Some most_members
+most_allowed limit.Level = None
+most_allowed limit.Copies = Some most_runs
+most_allowed limit.Packet = Some most_bytes
+
+-- what a count is over; nothing for a limit without a number of its own
+abbrev pub over_text : Option ℕ → List ℕ
+over_text None = []
+over_text (Some most) = codes " over " ++ decimal most
 
 -- that of a count that is over its limit
 abbrev pub over_line : LimitName → ℕ → List ℕ
 over_line limit count =
-    codes "limit " ++ (limit_text limit ++ (codes " " ++ (decimal count ++ (codes " over "
-    ++ (decimal (most_allowed limit) ++ codes "\n")))))
+    codes "limit " ++ (limit_text limit ++ (codes " " ++ (decimal count
+    ++ (over_text (most_allowed limit) ++ codes "\n"))))
 
 -- that of a level that is over the last one
 abbrev pub level_line : (level last : ℕ) → List ℕ
@@ -208,33 +243,6 @@ refusal_line c (refusal.Unread file cause) = bundle_line (name_in c (Bundle file
 refusal_line c refusal.NoMemory = no_memory_line
 refusal_line c (refusal.NoFile file) = line_with (codes "no file ") (name_in c file)
 
--- ---- reports
-
-abbrev pub totals_line : Totals → List ℕ
-totals_line t =
-    codes "compiled switches " ++ (decimal t.switches ++ (codes " hosts " ++ (decimal t.hosts
-    ++ (codes " links " ++ (decimal t.links ++ codes " obligations 0\n")))))
-
--- some numbers, each behind a space
-abbrev pub spaced : List ℕ → List ℕ
-spaced [] = []
-spaced (n ∷ ns) = 32 ∷ (decimal n ++ spaced ns)
-
--- a list of numbers behind a space; `-` where it is empty
-abbrev pub list_text : List ℕ → List ℕ
-list_text [] = codes " -"
-list_text (n ∷ ns) = spaced (n ∷ ns)
-
--- ROLE VALUES : FIELDS
-abbrev pub sent_line : Sent → List ℕ
-sent_line s = s.role ++ (list_text s.values ++ (codes " :" ++ (list_text s.fields ++ codes "\n")))
-
-abbrev pub report_line : Report → List ℕ
-report_line (Compiled totals) = totals_line totals
-report_line (Stepped None) = codes "nothing\n"
-report_line (Stepped (Some sent)) = sent_line sent
-report_line (Forwarded text) = text
-
 -- the second has the bytes of the first, where both were made; it is made only of one that was
 abbrev pub HasBytes : Result (String Global) NoMemory → Result (Vec ℕ Global) NoMemory → Type 0
 HasBytes line (Err e) = Unit {0}
@@ -243,12 +251,18 @@ HasBytes (Err e) (Ok bytes) = ⊥
 
 -- ---- endings
 
+abbrev pub verdict_status : Verdict → Status
+verdict_status verdict.Done = status.Done
+verdict_status verdict.Refuted = status.Refuted
+verdict_status verdict.HopBound = status.HopBound
+verdict_status verdict.Budget = status.Budget
+
 abbrev pub status_of : Result Report Refusal → Status
-status_of (Ok report) = status.Done
+status_of (Ok report) = verdict_status report.verdict
 status_of (Err r) = refusal_status r
 
 abbrev pub line_of : Command → Result Report Refusal → List ℕ
-line_of c (Ok report) = report_line report
+line_of c (Ok report) = report.lines
 line_of c (Err r) = refusal_line c r
 
 abbrev pub ending_of : Command → Result Report Refusal → Ending

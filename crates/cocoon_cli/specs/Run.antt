@@ -1,21 +1,21 @@
--- Cited by `keeps` of `run`, and by `performs` and `faults` of each command. What the top call
--- promises. It follows "Statuses" and "Reports" in docs/FORMATS.md.
-use Rattle.std.specs.Prelude.{◌≡◌, ◌⊎◌, ℕ, List, Option, Some, None, Result, Err, codes}
+-- Cited by `keeps` of `run` and by the clauses of shell.rt. What the top call promises. It follows
+-- "Statuses" and "Reports" in docs/FORMATS.md.
+use Rattle.std.specs.Prelude.{◌≡◌, ◌⊎◌, ℕ, List, Option, Some, None, Result, codes}
 use Rattle.std.specs.FinMap.{get}
 use Rattle.cocoon_io.specs.Files.{Files}
 use Rattle.cocoon_io.specs.Calls.{Rose, appended}
 use Rattle.cocoon_cli.specs.declared.files.CommandFile.{CommandFile}
 use Rattle.cocoon_cli.specs.declared.refusal.Refusal.{Refusal}
-use Rattle.cocoon_cli.specs.declared.refusal.Refusal.TheVariants as refusal
-use Rattle.cocoon_cli.specs.declared.report.Report.{Report}
+use Rattle.cocoon_cli.specs.declared.answer.Report.{Report}
 use Rattle.cocoon_cli.specs.declared.status.Status.{Status}
 use Rattle.cocoon_cli.specs.declared.status.Status.TheVariants.{Done, Refuted, Usage, Language, Broken, HopBound, Budget, Bundle, ReadFault, WriteFault, Limit, Lines, NoMemory, NoFile}
-use Rattle.command_line.specs.Command.{Command, compile, step, forward}
+use Rattle.command_line.specs.Command.{Command}
 use Rattle.command_line.specs.Words.{command}
-use Rattle.cocoon_cli.specs.FileNames.{name_in}
-use Rattle.cocoon_cli.specs.Leaves.{Leaves, LeavesBundle, LeavesSome}
-use Rattle.cocoon_cli.specs.Report.{Ending, Prints, ending_of, line_with, report_line, usage}
-use Rattle.cocoon_cli.specs.Steps.{Inputs, Answers, HasOutcome, Reports}
+use Rattle.cocoon_cli.specs.FileNames.{bundle_in, name_in}
+use Rattle.cocoon_cli.specs.Leaves.{Leaves, LeavesAll, LeavesSome}
+use Rattle.cocoon_cli.specs.Outcomes.{Agree, Answers, HasOutcome, Reports, is_any_searched}
+use Rattle.cocoon_cli.specs.Report.{Ending, Fault, by_read, by_write, by_memory, no_fault, Prints, ending_of, fault_in, line_with, usage}
+use Rattle.cocoon_cli.specs.Steps.{Inputs, steps}
 
 -- the number of a status
 abbrev pub status_number : Status → ℕ
@@ -85,30 +85,24 @@ pub record Performs (c : Command) (before after : Option Files) (outcome : Resul
   pub answers : Answers c inputs outcome
   pub leaves : Leaves c inputs before after outcome
 
--- a refusal that speaks of a fault of the folder comes only where that fault was counted
-abbrev pub HasFault : (reads writes : Count) → Result Report Refusal → Type 0
-HasFault reads writes (Err (refusal.ReadFault file)) = Counted reads
-HasFault reads writes (Err (refusal.WriteFault file)) = Counted writes
-HasFault reads writes outcome = Unit {0}
+-- The fault of the folder that an outcome speaks of was counted, and no other was.
+abbrev pub CountsFault : (reads writes : Count) → Fault → Type 0
+CountsFault reads writes (by_read file) = Counted reads × Uncounted writes
+CountsFault reads writes (by_write file) = Uncounted reads × Counted writes
+CountsFault reads writes by_memory = Uncounted reads × Uncounted writes
+CountsFault reads writes no_fault = Uncounted reads × Uncounted writes
 
--- no other fault of the folder is counted than the one that a refusal speaks of
-abbrev pub CountsNoOther : (reads writes : Count) → Result Report Refusal → Type 0
-CountsNoOther reads writes (Err (refusal.ReadFault file)) = Uncounted writes
-CountsNoOther reads writes (Err (refusal.WriteFault file)) = Uncounted reads
-CountsNoOther reads writes outcome = Uncounted reads × Uncounted writes
-
--- a refusal that speaks of a fault of the folder is about the file of its last call that failed
-abbrev pub NamesFailure : (List ℕ → Type 0) → Command → Result Report Refusal → Type 0
-NamesFailure last_failure c (Err (refusal.ReadFault file)) = last_failure (name_in c file)
-NamesFailure last_failure c (Err (refusal.WriteFault file)) = last_failure (name_in c file)
-NamesFailure last_failure c outcome = Unit {0}
+-- a fault of the folder is about the file of its last call that failed
+abbrev pub NamesFault : (List ℕ → Type 0) → Command → Fault → Type 0
+NamesFault last_failure c (by_read file) = last_failure (name_in c file)
+NamesFault last_failure c (by_write file) = last_failure (name_in c file)
+NamesFault last_failure c fault = Unit {0}
 
 -- a command has an outcome, and its ending is printed
 pub record Cause (c : Command) (call : Call) : Type 0 where
   pub outcome : Result Report Refusal
   pub performs : Performs c call.content_before call.content_after outcome
-  pub faults : HasFault call.reads call.writes outcome
-  pub no_other : CountsNoOther call.reads call.writes outcome
+  pub counts : CountsFault call.reads call.writes (fault_in outcome)
   pub prints : Prints (Counted call.puts) (ending_of c outcome)
       call.output_before call.output_after call.status
 
@@ -139,18 +133,16 @@ pub data Yields (call : Call) : Type 0 where
   to_write_fault : call.status ≡ WriteFault → Counted call.writes ⊎ Counted call.puts → Yields call
   to_no_memory : call.status ≡ NoMemory → Yields call
 
--- A command has no other outcome. Of `forward` it is said where the content of the folder is known.
+-- The content of the folder is known, if the command reads a bundle from it.
+abbrev pub IsKnown : Option (List ℕ) → Inputs → Type 0
+IsKnown None inputs = Unit {0}
+IsKnown (Some out) inputs = (files : Files) × (inputs.content ≡ Some files)
+
+-- A command has no other outcome, where it is decided without a search; else any other agrees with it.
 abbrev pub IsOnly : Command → Inputs → Result Report Refusal → Type 0
-IsOnly (compile design defs out) inputs outcome =
-    (other : Result Report Refusal) → HasOutcome (compile design defs out) inputs other
-    → other ≡ outcome
-IsOnly (step design defs level file) inputs outcome =
-    (other : Result Report Refusal) → HasOutcome (step design defs level file) inputs other
-    → other ≡ outcome
-IsOnly (forward out packets hops) inputs outcome =
-    (files : Files) → inputs.content ≡ Some files
-    → (other : Result Report Refusal) → HasOutcome (forward out packets hops) inputs other
-    → other ≡ outcome
+IsOnly c inputs outcome =
+    IsKnown (bundle_in c) inputs → (other : Result Report Refusal) → HasOutcome c inputs other
+    → Agree (is_any_searched (steps c)) inputs (steps c) other outcome
 
 -- the outcome of a command over known files
 pub record TheOutcome (c : Command) (files : Files) : Type 0 where
@@ -166,15 +158,15 @@ OutcomeOf (Some c) (Some files) call =
 
 -- ---- what is left
 
--- what the command leaves stands, nothing else was touched, and the whole line was printed
+-- all that the command writes stands, nothing else was touched, and the whole report was printed
 abbrev pub DoneOf : Option Command → Call → Type 0
 DoneOf None call = ⊥
 DoneOf (Some c) call =
     (inputs : Inputs) × (report : Report) × InputsAre c call.content_before inputs
-    × Reports c inputs report × LeavesBundle c inputs call.content_before call.content_after
-    × (call.output_after ≡ appended call.output_before (report_line report))
+    × Reports c inputs report × LeavesAll c inputs call.content_before call.content_after
+    × (call.output_after ≡ appended call.output_before report.lines)
 
--- the folder is as it was, or holds the first files of the bundle that is written, or all
+-- the folder is as it was, or holds a part of what is written, or all
 abbrev pub LeavesOf : Option Command → Call → Type 0
 LeavesOf None call = call.content_after ≡ call.content_before
 LeavesOf (Some c) call =
@@ -200,28 +192,32 @@ UsageOf None status = (status ≡ Usage) ⊎ ((status ≡ WriteFault) ⊎ (statu
 UsageOf (Some c) status = (status ≡ Usage) → ⊥
 
 -- What a call keeps, one fact a field. Which name the folder's last call that failed may have had
--- is a parameter.
+-- is a parameter. What follows from these is the law `calls_keep_more`.
 pub record Keeps (last_failure : List ℕ → Type 0) (call : Call) : Type 0 where
   -- every answer has its cause, and the report is that of the cause
   pub cause : CauseOf (command call.words) call
-  -- `Usage` comes exactly where the words are no command; it yields to the sink, and to out of
-  -- memory
-  pub usage : UsageOf (command call.words) call.status
   -- over known files the status and the line are those of the one outcome of the words, or the
   -- answer yields
   pub outcome : OutcomeOf (command call.words) call.content_before call
-  -- the status of a fault comes only where a fault was counted
-  pub read_fault : call.status ≡ ReadFault → Counted call.reads
-  pub write_fault : call.status ≡ WriteFault → Counted call.writes ⊎ Counted call.puts
-  -- where none of these statuses comes, no read and no write failed
-  pub none_failed : MayCount call.status ⊎ (Uncounted call.reads × Uncounted call.writes)
-  -- and its line names the very file, unless the sink failed
+  -- what is left in the folder
+  pub leaves : LeavesOf (command call.words) call
+  -- the line of a fault of the folder names the very file, unless the sink failed
   pub read_fault_line : call.status ≡ ReadFault
       → LineNames last_failure (codes "read fault ") (command call.words) call
   pub write_fault_line : call.status ≡ WriteFault
       → LineNames last_failure (codes "write fault ") (command call.words) call
       ⊎ Counted call.puts
+
+-- what follows from them
+pub record KeepsMore (call : Call) : Type 0 where
+  -- `Usage` comes exactly where the words are no command; it yields to the sink, and to out of
+  -- memory
+  pub usage : UsageOf (command call.words) call.status
+  -- the status of a fault comes only where a fault was counted
+  pub read_fault : call.status ≡ ReadFault → Counted call.reads
+  pub write_fault : call.status ≡ WriteFault → Counted call.writes ⊎ Counted call.puts
+  -- where none of these statuses comes, no read and no write failed
+  pub none_failed : MayCount call.status ⊎ (Uncounted call.reads × Uncounted call.writes)
   -- what is left in the folder and in the sink
   pub done_leaves : call.status ≡ Done → DoneOf (command call.words) call
   pub unchanged : MayWrite call.status ⊎ (call.content_after ≡ call.content_before)
-  pub leaves : LeavesOf (command call.words) call

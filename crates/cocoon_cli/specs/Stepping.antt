@@ -9,11 +9,9 @@ use Rattle.runtime_defs.specs.Places.{Places}
 use Rattle.cocoon_cli.specs.declared.files.CommandFile.TheVariants.{Case as CaseFile}
 use Rattle.cocoon_cli.specs.declared.refusal.Refusal.{Refusal}
 use Rattle.cocoon_cli.specs.declared.refusal.Refusal.TheVariants.{NoLevel, Line, NoMemory}
-use Rattle.cocoon_cli.specs.declared.report.Report.{Report}
-use Rattle.cocoon_cli.specs.declared.report.Report.TheVariants.{Stepped}
 use Rattle.case_runs.specs.Stepping.{Steps}
 use Rattle.case_runs.specs.declared.sent.Sent.{Sent}
-use Rattle.cocoon_cli.specs.LowerTexts.{BindsTables, NotMatched}
+use Rattle.cocoon_cli.specs.DesignTexts.{BindsTables, NotMatched}
 
 -- why a text is no case of a design, at a level
 abbrev pub NotCase : (level : ℕ) → Design → (text : List ℕ) → Refusal → Type 0
@@ -25,15 +23,13 @@ NotCase level d text r = ⊥
 
 -- the texts are a design with definitions that fit it, and a case at a level; and this is what the
 -- body does
-pub record StepsTexts (level : ℕ) (design defs text : List ℕ) (report : Report) : Type 0 where
+pub record StepsTexts (level : ℕ) (design defs text : List ℕ) (sent : Option Sent) : Type 0 where
   pub tree : Design
   pub tables : Places
   pub binds : BindsTables design defs tree tables
   pub there : level ≤ last_level tree
   pub case : Case
   pub says : case_of level tree text ≡ Ok case
-  pub sent : Option Sent
-  pub told : report ≡ Stepped sent
   pub steps : Steps level tree (defs_of tree binds.entries) case sent
 
 -- why there is no step; the design is judged first, then the definitions

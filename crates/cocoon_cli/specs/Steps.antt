@@ -1,8 +1,8 @@
--- Cited by `one_outcome`, and through Run.antt by `keeps` of `run`. The outcome of a command: the
--- first of its steps that refuses, or else its report. A step looks at what is read of the
+-- Cited by `one_outcome` and by the clauses of the commands, and through Run.antt by `keeps` of
+-- `run`. The steps of a command, and how each may end it. A step looks at what is read of the
 -- command's files; each is a case of its own. A new command adds cases; a new rule or limit of
 -- designs adds none. It follows "Statuses" in docs/FORMATS.md.
-use Rattle.std.specs.Prelude.{◌≡◌, ◌⊎◌, ◌≤◌, ◌<◌, ℕ, suc, List, [], ◌∷◌, length, Option, Some, None, Result, Ok, Err}
+use Rattle.std.specs.Prelude.{◌≡◌, ◌≤◌, ◌<◌, ℕ, suc, Bool, false, List, [], ◌∷◌, ◌++◌, length, Option, Some, None, Result, Ok, Err}
 use Rattle.cocoon_num.specs.Lists.{first_of}
 use Rattle.cocoon_num.specs.Tree as tree
 use Rattle.cocoon_num.specs.declared.limit_name.LimitName.{LimitName}
@@ -28,7 +28,6 @@ use Rattle.net_run.specs.RunCounts.{most_runs}
 use Rattle.packet_file.specs.Packets.{Packet, packets_in}
 use Rattle.packet_file.specs.declared.packet.PacketFault.{PacketFault}
 use Rattle.packet_file.specs.declared.packet.PacketFault.TheVariants as packets
-use Rattle.packet_runs.specs.Reports.{report_of}
 use Rattle.packet_runs.specs.Stopping.{AllWithin, SomeOver}
 use Rattle.net_bundle.specs.Bundle.{MadeFile, bundle}
 use Rattle.net_bundle.specs.Writing.{AllFit, FirstOver, most_of}
@@ -42,17 +41,14 @@ use Rattle.cocoon_cli.specs.declared.refusal.InputFault.TheVariants.{NoTree, Rul
 use Rattle.cocoon_cli.specs.declared.refusal.DefinitionsFault.TheVariants as definitions
 use Rattle.cocoon_cli.specs.declared.refusal.Refusal.{Refusal}
 use Rattle.cocoon_cli.specs.declared.refusal.Refusal.TheVariants as refusal
-use Rattle.cocoon_cli.specs.declared.report.Totals.{Totals}
-use Rattle.cocoon_cli.specs.declared.report.Report.{Report}
-use Rattle.cocoon_cli.specs.declared.report.Report.TheVariants.{Compiled, Stepped, Forwarded}
+use Rattle.cocoon_cli.specs.declared.answer.Report.{Report}
 use Rattle.case_file.specs.Cases as cases
 use Rattle.case_file.specs.Cases.{case_of}
 use Rattle.cocoon_types.specs.Design.{last_level}
-use Rattle.cocoon_types.specs.Tables.{defs_of}
 use Rattle.command_line.specs.Command.{Command, compile, step, forward}
-use Rattle.cocoon_cli.specs.LowerTexts.{told}
+use Rattle.cocoon_cli.specs.FileNames.{bundle_in, most_in}
+use Rattle.cocoon_cli.specs.DesignTexts.{told}
 use Rattle.cocoon_cli.specs.Reading.{IsOfFiles, unread_as}
-use Rattle.case_runs.specs.Stepping.{Steps}
 
 -- What is read of each file of a command, nothing where it is not there; and the content in which the files of a bundle
 -- that is read stand, where it is known.
@@ -86,36 +82,47 @@ pub data Step : Type 0 where
   -- the files of the bundle are written
   bundle_written : Step
 
-abbrev pub design_most : ℕ
-design_most = 1048576
+-- ---- the steps of a command
 
-abbrev pub definitions_most : ℕ
-definitions_most = 4194304
+-- those on a file that it reads by a name of its own: none if it reads no such file
+abbrev pub file_steps : CommandFile → Option ℕ → List Step
+file_steps file None = []
+file_steps file (Some most) = is_there file ∷ is_within file most ∷ []
 
-abbrev pub case_most : ℕ
-case_most = 65536
+-- those on a bundle that it reads
+abbrev pub bundle_steps : Option (List ℕ) → List Step
+bundle_steps None = []
+bundle_steps (Some out) = bundle_reads out ∷ []
 
-abbrev pub packets_most : ℕ
-packets_most = 16777216
+-- What it reads: the files in this order, then a bundle.
+abbrev pub reads : Command → List Step
+reads c =
+    file_steps Design (most_in c Design) ++ (file_steps Definitions (most_in c Definitions)
+    ++ (file_steps Case (most_in c Case) ++ (file_steps Packets (most_in c Packets)
+    ++ bundle_steps (bundle_in c))))
 
--- the steps of a command, in their order
+-- a design, whether the compiler takes it if that is asked, and definitions that fit it
+abbrev pub text_steps : (taken : List Step) → List Step → List Step
+text_steps taken rest =
+    design_reads ∷ design_well_formed ∷ design_within ∷ (taken
+    ++ (definitions_read ∷ definitions_fit ∷ definitions_within ∷ rest))
+
+-- what it asks of what was read
+abbrev pub asks : Command → List Step
+asks (compile design defs out) =
+    text_steps (design_accepted ∷ []) (lowering_within ∷ [])
+asks (step design defs level file) = text_steps [] (level_there level ∷ lines_formed level ∷ [])
+asks (forward out packets hops) = packets_judged out ∷ copies_within out hops ∷ []
+
+-- what it writes
+abbrev pub writes : Command → List Step
+writes (compile design defs out) = bundle_within ∷ bundle_written ∷ []
+writes (step design defs level file) = []
+writes (forward out packets hops) = []
+
+-- all steps of a command, in their order
 abbrev pub steps : Command → List Step
-steps (compile design defs out) =
-    is_there Design ∷ is_within Design design_most
-    ∷ is_there Definitions ∷ is_within Definitions definitions_most
-    ∷ design_reads ∷ design_well_formed ∷ design_within ∷ design_accepted
-    ∷ definitions_read ∷ definitions_fit ∷ definitions_within
-    ∷ lowering_within ∷ bundle_within ∷ bundle_written ∷ []
-steps (step design defs level file) =
-    is_there Design ∷ is_within Design design_most
-    ∷ is_there Definitions ∷ is_within Definitions definitions_most
-    ∷ is_there Case ∷ is_within Case case_most
-    ∷ design_reads ∷ design_well_formed ∷ design_within
-    ∷ definitions_read ∷ definitions_fit ∷ definitions_within
-    ∷ level_there level ∷ lines_formed level ∷ []
-steps (forward out packets hops) =
-    is_there Packets ∷ is_within Packets packets_most
-    ∷ bundle_reads out ∷ packets_judged out ∷ copies_within out hops ∷ []
+steps c = reads c ++ (asks c ++ writes c)
 
 -- ---- what the files say
 
@@ -261,73 +268,30 @@ Refuses inputs bundle_within r =
     × (r ≡ refusal.TooLong (Bundle file) (most_of file))
 Refuses inputs bundle_written r = ⊥
 
--- ---- all steps
+-- ---- how a step may end a command
 
--- how many switches, hosts and links a network has
-abbrev pub totals_of : NetData → Totals
-totals_of net = record {
-  switches = length net.switches;
-  hosts = length net.hosts;
-  links = length net.links;
-}
+-- A verdict of the step: the command reports it and goes on no further. It is no success, and no
+-- refusal. No step of today gives one.
+abbrev pub Judges : Inputs → Step → Report → Type 0
+Judges inputs s report = ⊥
 
--- what a step is of: a design, definitions, and a case at a level of the design
-pub record StepIs (inputs : Inputs) (level : ℕ) (design : tree.Design) (defs : tree.DefsText)
-    (case : cases.Case) : Type 0 where
-  pub design_is : DesignIs inputs design
-  pub defs_are : DefinitionsAre inputs defs
-  pub case_is : CaseIs inputs design level case
+-- the step decides the outcome: it refuses, or gives a verdict
+abbrev pub Decides : Inputs → Step → Result Report Refusal → Type 0
+Decides inputs s (Ok report) = Judges inputs s report
+Decides inputs s (Err r) = Refuses inputs s r
 
--- the report of a command that nothing stopped
-abbrev pub Reports : Command → Inputs → Report → Type 0
-Reports (compile design defs out) inputs (Compiled totals) =
-    (net : NetData) × Makes inputs net × (totals ≡ totals_of net)
-Reports (compile design defs out) inputs (Stepped sent) = ⊥
-Reports (compile design defs out) inputs (Forwarded text) = ⊥
-Reports (step design defs level file) inputs (Stepped sent) =
-    (d : tree.Design) × (entries : tree.DefsText) × (case : cases.Case)
-    × StepIs inputs level d entries case × Steps level d (defs_of d entries) case sent
-Reports (step design defs level file) inputs (Compiled totals) = ⊥
-Reports (step design defs level file) inputs (Forwarded text) = ⊥
-Reports (forward out file hops) inputs (Forwarded text) =
-    (net : NetData) × (packets : List Packet) × BundleIs inputs out net
-    × PacketsAre inputs net packets × (text ≡ report_of net hops packets)
-Reports (forward out file hops) inputs (Compiled totals) = ⊥
-Reports (forward out file hops) inputs (Stepped sent) = ⊥
+-- Whether the step is decided by a search. Such a step may be good, end the command in several ways
+-- that are alike, or be given up. No step of today is one.
+abbrev pub is_searched : Step → Bool
+is_searched s = false
 
-abbrev pub AllGood : Inputs → List Step → Type 0
-AllGood inputs [] = Unit {0}
-AllGood inputs (s ∷ ss) = IsGood inputs s × AllGood inputs ss
+-- a search is given up, with what it found until then
+abbrev pub GivesUp : Inputs → Step → Result Report Refusal → Type 0
+GivesUp inputs s outcome = ⊥
 
--- the first of these steps that refuses, or the report
-abbrev pub HasOutcomeFrom : Command → Inputs → List Step → Result Report Refusal → Type 0
-HasOutcomeFrom c inputs [] (Ok report) = Reports c inputs report
-HasOutcomeFrom c inputs [] (Err r) = ⊥
-HasOutcomeFrom c inputs (s ∷ ss) outcome =
-    ((r : Refusal) × Refuses inputs s r × (outcome ≡ Err r))
-    ⊎ (IsGood inputs s × HasOutcomeFrom c inputs ss outcome)
-
--- the outcome of a command
-abbrev pub HasOutcome : Command → Inputs → Result Report Refusal → Type 0
-HasOutcome c inputs outcome = HasOutcomeFrom c inputs (steps c) outcome
-
--- ---- faults of the folder
-
--- a fault of the folder stops this step
+-- a fault of the folder stops the step
 abbrev pub Stops : Inputs → Step → Refusal → Type 0
 Stops inputs (is_there file) r = r ≡ refusal.ReadFault file
 Stops inputs (bundle_reads out) r = (file : BundleFile) × (r ≡ refusal.ReadFault (Bundle file))
 Stops inputs bundle_written r = (file : BundleFile) × (r ≡ refusal.WriteFault (Bundle file))
 Stops inputs s r = ⊥
-
--- what a command answers from these steps on: its outcome, or the fault of the folder that stopped
--- a step before which all are good
-abbrev pub AnswersFrom : Command → Inputs → List Step → Result Report Refusal → Type 0
-AnswersFrom c inputs [] outcome = HasOutcomeFrom c inputs [] outcome
-AnswersFrom c inputs (s ∷ ss) outcome =
-    ((r : Refusal) × (Refuses inputs s r ⊎ Stops inputs s r) × (outcome ≡ Err r))
-    ⊎ (IsGood inputs s × AnswersFrom c inputs ss outcome)
-
--- What a command answers. It may be out of memory anywhere.
-abbrev pub Answers : Command → Inputs → Result Report Refusal → Type 0
-Answers c inputs outcome = (outcome ≡ Err refusal.NoMemory) ⊎ AnswersFrom c inputs (steps c) outcome

@@ -1,25 +1,101 @@
-//! `compile`: a design and its definitions are read, a network is made of them, and its bundle is
-//! written.
-ghost use Rattle.std.specs.Prelude.{◌≡◌, IfOk, Some};
-ghost use Rattle.p4_ir.specs.NetOf.{net_of};
+//! `compile`: a network is made of a design and its definitions, and its bundle is written.
+ghost use Rattle.std.specs.Prelude.{◌≡◌, ◌<◌, ◌^◌, ℕ, IfErr, IfOk, IsTrue, List, Some, length, string_bytes};
+ghost use Rattle.cocoon_num.specs.Spelled.{is_spelled};
+ghost use Rattle.cocoon_syntax.specs.TreeOf.{design_of};
 ghost use Rattle.command_line.specs.Command as spec;
-ghost use Rattle.cocoon_cli.specs.Headline.{CompiledOf};
-ghost use Rattle.cocoon_cli.specs.Run.{CountsNoOther, HasFault, NamesFailure, Performs, count};
-ghost use Rattle.cocoon_cli.specs.Steps.{totals_of};
+ghost use Rattle.lower_p4.specs.Accepts.{Accepts};
+ghost use Rattle.lower_p4.specs.Grounds.{WasRead};
+ghost use Rattle.p4_ir.specs.NetOf.{net_of};
+ghost use Rattle.runtime_defs.specs.Fitting.{FitsDesign};
+ghost use Rattle.cocoon_cli.specs.Compiling.{Compiles, LowersTexts, NotAccepted, NotLowered, NotMade};
+ghost use Rattle.cocoon_cli.specs.DesignTexts.{BindsTables, ReadsChecked};
+ghost use Rattle.cocoon_cli.specs.ReportLines.{totals_line, totals_of};
+ghost use Rattle.cocoon_cli.specs.Shell.{Asked, IsQuiet};
+ghost use Rattle.cocoon_cli.specs.Steps.{Inputs};
+ghost use Rattle.cocoon_cli.specs.declared.files.CommandFile.TheVariants.{Definitions, Design};
 
-use crate::files::CommandFile;
-use crate::lower_texts::network;
-use crate::reading::{DEFINITIONS_MOST, DESIGN_MOST, read_file};
-use crate::refusal::Refusal;
-use crate::report::{Report, Totals};
-use cocoon_io::Folder;
+use crate::answer::{Answer, Report, Writing};
+use crate::design_texts::{Bound, bind_text, read_checked};
+use crate::refusal::{InputFault, Refusal};
+use cocoon_num::NoMemory;
+use cocoon_resolve::Checked;
 use command_line::Compile;
-use net_bundle::write_bundle;
+use lower_p4::laws::one_lowering;
+use lower_p4::{LowerFault, is_accepted, lower};
+use net_bundle::laws::rows_are_long;
+use net_bundle::{BundleFault, BundleFile};
 use p4_ir::NetData;
 use std::alloc::Global;
 
+/// The design of a text, where the compiler takes it, too.
+fn read_accepted(alloc: Global, text: &[u8]) -> Result<Checked, Refusal>
+    requires { length text.now < 2 ^ 31 }
+    ensures reads { IfOk result (λ c. ReadsChecked text.now (design_of c)) }
+    ensures words { IfOk result (λ c. IsTrue (is_spelled (design_of c))) }
+    ensures accepts { IfOk result (λ c. Accepts (design_of c)) }
+    ensures refused { IfErr result (NotAccepted text.now) }
+{
+    let checked = read_checked(alloc, text)?;
+    if is_accepted(&checked) {
+        Ok(checked)
+    } else {
+        Err(Refusal::Language(InputFault::NotYet))
+    }
+}
+
+/// The network of a design that the compiler takes, and its definitions.
+fn lower_bound(alloc: Global, bound: &Bound) -> Result<NetData, Refusal>
+    requires words { IsTrue (is_spelled (design_of bound.now.checked)) }
+    requires read { WasRead (design_of bound.now.checked) }
+    requires fit { FitsDesign (design_of bound.now.checked) bound.now.defs }
+    requires accepted { Accepts (design_of bound.now.checked) }
+    ensures lowers { IfOk result (λ net. (design defs : List ℕ)
+        → BindsTables design defs (design_of bound.now.checked) bound.now.defs
+        → LowersTexts design defs (net_of net)) }
+    ensures refused { IfErr result (λ refusal. (design defs : List ℕ)
+        → BindsTables design defs (design_of bound.now.checked) bound.now.defs
+        → NotLowered design defs refusal) }
+{
+    one_lowering();
+    rows_are_long();
+    match lower(alloc, &bound.checked, &bound.defs) {
+        Ok(net) => Ok(net),
+        Err(LowerFault::Limit(limit, count)) => Err(Refusal::OverLimit(limit, count)),
+        Err(LowerFault::LongProgram(switch)) => {
+            let file = BundleFile::Program(switch);
+            Err(Refusal::from(BundleFault::Limit(file)))
+        }
+        Err(LowerFault::ManyRows(switch)) => {
+            let file = BundleFile::Rows(switch);
+            Err(Refusal::from(BundleFault::Limit(file)))
+        }
+        Err(LowerFault::NoMemory) => Err(Refusal::NoMemory),
+    }
+}
+
+/// The network of the two texts, or why there is none. The design is judged first, and whether the
+/// compiler takes it; then the definitions, and then the limits of the network.
+fn network(alloc: Global, design: &[u8], defs: &[u8]) -> Result<NetData, Refusal>
+    requires small { length design.now < 2 ^ 31 }
+    requires small_too { length defs.now < 2 ^ 31 }
+    ensures lowers { IfOk result (λ net. LowersTexts design.now defs.now (net_of net)) }
+    ensures refused { IfErr result (NotMade design.now defs.now) }
+{
+    let checked = read_accepted(alloc, design)?;
+    let defs = bind_text(alloc, &checked, defs)?;
+    lower_bound(alloc, &Bound { checked, defs })
+}
+
+/// How many of each thing a network has. Hosts at no port count, too.
+#[derive(Clone, Copy, Debug, Drop)]
+pub struct Totals {
+    pub switches: u64,
+    pub hosts: u64,
+    pub links: u64,
+}
+
 /// How many of each thing a network has.
-fn totals(net: &NetData) -> Totals
+fn count_parts(net: &NetData) -> Totals
     ensures { result ≡ totals_of (net_of net.now) }
 {
     Totals {
@@ -29,42 +105,40 @@ fn totals(net: &NetData) -> Totals
     }
 }
 
-/// Compiles the design and the definitions of these names into the bundle `out`.
-pub fn compile<F: Folder>(
-    alloc: Global,
-    names: &Compile<'_>,
-    folder: &mut F,
-) -> Result<Report, Refusal>
-    // its outcome, by its steps, and what it leaves
-    ensures performs { Performs
-        (spec.compile names.now.design.now names.now.defs.now names.now.out.now)
-        (F.content folder.old) (F.content folder.new) result }
-
-    // the network that the files give is what the design asks for
-    ensures headline { IfOk result (λ report. CompiledOf
-        (Some (spec.compile names.now.design.now names.now.defs.now names.now.out.now))
-        (F.content folder.old) (F.content folder.new)) }
-    ensures faults { HasFault
-        (count F.last_read_fault (F.read_faults folder.old) (F.read_faults folder.new))
-        (count F.last_write_fault (F.write_faults folder.old) (F.write_faults folder.new))
-        result }
-    ensures no_other { CountsNoOther
-        (count F.last_read_fault (F.read_faults folder.old) (F.read_faults folder.new))
-        (count F.last_write_fault (F.write_faults folder.old) (F.write_faults folder.new))
-        result }
-    ensures named { NamesFailure (F.last_failure folder.new)
-        (spec.compile names.now.design.now names.now.defs.now names.now.out.now) result }
+/// The line of a network that was compiled.
+fn totals_line(alloc: Global, totals: Totals) -> Result<String, NoMemory>
+    ensures { IfOk result (λ line. string_bytes line ≡ totals_line totals) }
 {
-    let design = read_file(
-        alloc,
-        folder,
-        names.design,
-        CommandFile::Design,
-        DESIGN_MOST,
-    )?;
-    let file = CommandFile::Definitions;
-    let defs = read_file(alloc, folder, names.defs, file, DEFINITIONS_MOST)?;
-    let net = network(alloc, &design, &defs)?;
-    write_bundle(alloc, folder, names.out, &net, &design, None)?;
-    Ok(Report::Compiled(totals(&net)))
+    let Totals {
+        switches,
+        hosts,
+        links,
+    } = totals;
+    Ok(format!(in alloc;
+        "compiled switches {switches} hosts {hosts} links {links} obligations 0\n"
+    )?)
+}
+
+/// Compiles the texts of a design and its definitions into the bundle of the command.
+pub fn compile<'w>(
+    alloc: Global,
+    names: &Compile<'w>,
+    design: &[u8],
+    defs: &[u8],
+) -> Result<Answer<'w>, Refusal>
+    requires small { length design.now < 2 ^ 31 }
+    requires small_too { length defs.now < 2 ^ 31 }
+    ensures asked { (inputs : Inputs) → inputs.file Design ≡ Some design.now
+        → inputs.file Definitions ≡ Some defs.now
+        → Asked (spec.compile names.now.design.now names.now.defs.now names.now.out.now)
+        inputs result }
+    ensures plans { IfOk result (λ a. Compiles names.now.out.now design.now defs.now a.writing) }
+    ensures quiet { IfErr result IsQuiet }
+{
+    let net = network(alloc, design, defs)?;
+    let line = totals_line(alloc, count_parts(&net))?;
+    Ok(Answer {
+        report: Report::success(line.into_bytes()),
+        writing: Writing::Bundle(names.out, net),
+    })
 }

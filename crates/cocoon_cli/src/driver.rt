@@ -1,19 +1,17 @@
-//! The top call: the words are read, the command is performed, and one report is printed. Each
-//! command is a module of its own; this one only puts them together.
-ghost use Rattle.std.specs.Prelude.{◌≡◌, IfOk, Some, map, string_bytes};
-ghost use Rattle.cocoon_cli.specs.Headline.{CompiledOf, Headline};
+//! The top call: the words are read, the command is performed, and one report is printed.
+ghost use Rattle.std.specs.Prelude.{◌≡◌, map, string_bytes};
+ghost use Rattle.cocoon_cli.specs.Headline.{Headline};
 ghost use Rattle.cocoon_cli.specs.Report.{Prints, Puts, ending_of, no_memory};
-ghost use Rattle.cocoon_cli.specs.Run.{CountsNoOther, HasFault, Keeps, NamesFailure, Performs, count};
+ghost use Rattle.cocoon_cli.specs.Run.{Keeps, count};
 ghost use Rattle.command_line.specs.Stands.{stands_for};
 ghost use Rattle.cocoon_io.specs.Calls.{Rose};
 
-use crate::compile::compile;
-use crate::forward::forward;
+use crate::answer::Report;
 use crate::laws::one_outcome;
 use crate::refusal::Refusal;
-use crate::report::{Report, status, whole_report};
+use crate::report::{refusal_line, status};
+use crate::shell::perform;
 use crate::status::Status;
-use crate::step::step;
 use cocoon_io::{Folder, Sink, SinkFault};
 use cocoon_num::NoMemory;
 use command_line::{Command, parse_command};
@@ -54,36 +52,12 @@ fn print<S: Sink>(
         (ending_of (stands_for command.now) outcome.now)
         (S.output out.old) (S.output out.new) result }
 {
-    match whole_report(alloc, command, outcome) {
-        Ok(line) => put(alloc, out, &line, status(outcome)),
-        Err(NoMemory) => tell_no_memory(alloc, out),
-    }
-}
-
-/// Performs a command.
-fn perform<F: Folder>(
-    alloc: Global,
-    command: &Command<'_>,
-    folder: &mut F,
-) -> Result<Report, Refusal>
-    ensures performs { Performs (stands_for command.now)
-        (F.content folder.old) (F.content folder.new) result }
-    ensures headline { IfOk result (λ report.
-        CompiledOf (Some (stands_for command.now)) (F.content folder.old) (F.content folder.new)) }
-    ensures faults { HasFault
-        (count F.last_read_fault (F.read_faults folder.old) (F.read_faults folder.new))
-        (count F.last_write_fault (F.write_faults folder.old) (F.write_faults folder.new))
-        result }
-    ensures no_other { CountsNoOther
-        (count F.last_read_fault (F.read_faults folder.old) (F.read_faults folder.new))
-        (count F.last_write_fault (F.write_faults folder.old) (F.write_faults folder.new))
-        result }
-    ensures named { NamesFailure (F.last_failure folder.new) (stands_for command.now) result }
-{
-    match command {
-        Command::Compile(names) => compile(alloc, names, folder),
-        Command::Step(asked) => step(alloc, asked, folder),
-        Command::Forward(asked) => forward(alloc, asked, folder),
+    match outcome {
+        Ok(report) => put(alloc, out, report.lines.items(), status(outcome)),
+        Err(refusal) => match refusal_line(alloc, command, refusal) {
+            Ok(line) => put(alloc, out, &line, status(outcome)),
+            Err(NoMemory) => tell_no_memory(alloc, out),
+        },
     }
 }
 

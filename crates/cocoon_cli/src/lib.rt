@@ -1,19 +1,23 @@
-//! The commands of `cocoon`: the outcome of each, what it leaves, and what is printed. Each command
-//! is a module with its own promise, and `run` puts them together. docs/CHANGING.md says how to add
-//! one.
+//! The commands of `cocoon`: the outcome of each, what it leaves, and what is printed. A command is
+//! an answer over what is read of its files, in a module of its own. One shell reads the files, asks
+//! the command, writes what it answers, and prints its report. docs/CHANGING.md says how to add a
+//! command.
 #![tactic(auto)]
 
+pub mod answer;
 pub mod compile;
+pub mod design_texts;
 pub mod driver;
 pub mod files;
 pub mod forward;
 pub mod laws;
-pub mod lower_texts;
 pub mod reading;
 pub mod refusal;
 pub mod report;
+pub mod shell;
 pub mod status;
 pub mod step;
+pub mod writing;
 
 pub use driver::{run, tell_no_memory};
 pub use status::Status;

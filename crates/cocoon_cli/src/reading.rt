@@ -1,23 +1,27 @@
-//! The files that a command reads, each within its limit.
-ghost use Rattle.std.specs.Prelude.{◌≡◌, ◌≤◌, ◌<◌, IfErr, IfOk, length};
+//! What a command reads: its files, each within its limit, and a bundle.
+ghost use Rattle.std.specs.Prelude.{◌≡◌, ◌≤◌, ◌<◌, ◌^◌, IfErr, IfOk, length};
+ghost use Rattle.command_line.specs.Stands.{stands_for};
+ghost use Rattle.cocoon_cli.specs.FileNames.{bundle_in, most_in, name_in};
 ghost use Rattle.cocoon_cli.specs.Reading.{FileNotRead, HasFile, IsRead, IsUnread, NamesBundleFailure, NamesReadFailure, ReadFaultRose};
+ghost use Rattle.cocoon_cli.specs.Run.{count};
+ghost use Rattle.cocoon_cli.specs.Shell.{Called, HasNet, HasWanted, IsShort, LacksNet, LacksWanted, ReadsAll, ReadsNot};
 
-use crate::files::CommandFile;
+use crate::files::{CommandFile, Wanted, bundle_of};
 use crate::refusal::{Refusal, unread};
-use bundle_reader::read_bundle;
+use bundle_reader::{Net, read_bundle};
 use cocoon_io::{Folder, FolderFault};
-use loaded_net::Net;
+use command_line::Command;
 use std::alloc::Global;
 
-/// The numbers of bytes that a design, definitions and a case may have.
-pub const DESIGN_MOST: u64 = 1_048_576;
-
-pub const DEFINITIONS_MOST: u64 = 4_194_304;
-
-pub const CASE_MOST: u64 = 65_536;
-
-/// The number of bytes that a file of packets may have.
-pub const PACKETS_MOST: u64 = 16_777_216;
+/// What a command has read: the bytes of each file that it reads, and the network of its bundle.
+#[derive(Drop)]
+pub struct Read {
+    pub design: Vec<u8>,
+    pub definitions: Vec<u8>,
+    pub case: Vec<u8>,
+    pub packets: Vec<u8>,
+    pub net: Option<Net>,
+}
 
 /// The bytes of a file that was read, if they are not too many. A folder whose content is not known
 /// may give more than it was asked for.
@@ -34,7 +38,7 @@ fn within_limit(bytes: Vec<u8>, file: CommandFile, most: u64) -> Result<Vec<u8>,
 }
 
 /// The bytes of a file that has to be there, with at most so many bytes. `file` says what it is to the command.
-pub fn read_file<F: Folder>(
+fn read_file<F: Folder>(
     alloc: Global,
     folder: &mut F,
     name: &str,
@@ -62,7 +66,7 @@ pub fn read_file<F: Folder>(
 }
 
 /// The network of the bundle `out`.
-pub fn read_network<F: Folder>(alloc: Global, folder: &mut F, out: &str) -> Result<Net, Refusal>
+fn read_network<F: Folder>(alloc: Global, folder: &mut F, out: &str) -> Result<Net, Refusal>
     ensures ok { IfOk result (IsRead (F.content folder.old) out.now) }
     ensures err { IfErr result (IsUnread (F.content folder.old) out.now) }
     ensures failed { IfErr result (ReadFaultRose F.last_read_fault
@@ -77,4 +81,79 @@ pub fn read_network<F: Folder>(alloc: Global, folder: &mut F, out: &str) -> Resu
         Ok(net) => Ok(net),
         Err(fault) => Err(unread(fault)),
     }
+}
+
+/// The bytes of a file, if the command reads one of this kind; else none.
+fn read_text<F: Folder>(
+    alloc: Global,
+    folder: &mut F,
+    command: &Command<'_>,
+    file: CommandFile,
+) -> Result<Vec<u8>, Refusal>
+    ensures read { IfOk result (λ v. HasWanted (F.content folder.old)
+        (name_in (stands_for command.now) file) (most_in (stands_for command.now) file) v.items) }
+    ensures short { IfOk result (λ v. length v.items < 2 ^ 31) }
+    ensures refused { IfErr result (LacksWanted (F.content folder.old)
+        (name_in (stands_for command.now) file) file (most_in (stands_for command.now) file)) }
+    ensures same { F.content folder.new ≡ F.content folder.old }
+    ensures called { Called (F.last_failure folder.new) (stands_for command.now)
+        (count F.last_read_fault (F.read_faults folder.old) (F.read_faults folder.new))
+        (count F.last_write_fault (F.write_faults folder.old) (F.write_faults folder.new))
+        result }
+{
+    match file.wanted(command) {
+        Some(Wanted { name, most }) => read_file(alloc, folder, name, file, most),
+        None => Ok(Vec::new(alloc)),
+    }
+}
+
+/// The network of a bundle, if the command reads one.
+fn read_net<F: Folder>(
+    alloc: Global,
+    folder: &mut F,
+    command: &Command<'_>,
+) -> Result<Option<Net>, Refusal>
+    ensures read { IfOk result
+        (HasNet (F.content folder.old) (bundle_in (stands_for command.now))) }
+    ensures refused { IfErr result
+        (LacksNet (F.content folder.old) (bundle_in (stands_for command.now))) }
+    ensures same { F.content folder.new ≡ F.content folder.old }
+    ensures called { Called (F.last_failure folder.new) (stands_for command.now)
+        (count F.last_read_fault (F.read_faults folder.old) (F.read_faults folder.new))
+        (count F.last_write_fault (F.write_faults folder.old) (F.write_faults folder.new))
+        result }
+{
+    match bundle_of(command) {
+        Some(out) => Ok(Some(read_network(alloc, folder, out)?)),
+        None => Ok(None),
+    }
+}
+
+/// All that a command reads, in the order of the fields.
+pub fn read_all<F: Folder>(
+    alloc: Global,
+    folder: &mut F,
+    command: &Command<'_>,
+) -> Result<Read, Refusal>
+    ensures all { IfOk result (ReadsAll (stands_for command.now) (F.content folder.old)) }
+    ensures short { IfOk result IsShort }
+    ensures refused { IfErr result (ReadsNot (stands_for command.now) (F.content folder.old)) }
+    ensures same { F.content folder.new ≡ F.content folder.old }
+    ensures called { Called (F.last_failure folder.new) (stands_for command.now)
+        (count F.last_read_fault (F.read_faults folder.old) (F.read_faults folder.new))
+        (count F.last_write_fault (F.write_faults folder.old) (F.write_faults folder.new))
+        result }
+{
+    let design = read_text(alloc, folder, command, CommandFile::Design)?;
+    let definitions = read_text(alloc, folder, command, CommandFile::Definitions)?;
+    let case = read_text(alloc, folder, command, CommandFile::Case)?;
+    let packets = read_text(alloc, folder, command, CommandFile::Packets)?;
+    let net = read_net(alloc, folder, command)?;
+    Ok(Read {
+        design,
+        definitions,
+        case,
+        packets,
+        net,
+    })
 }

@@ -6,15 +6,13 @@ ghost use Rattle.cocoon_cli.specs.Report.{column_number, entry_rule_name, fault_
 
 use crate::files::CommandFile;
 use crate::status::Status;
-use bundle_reader::ReadFault;
+use bundle_reader::{LoadFault, P4Fault, ReadFault};
 use cocoon_io::FolderFault;
 use cocoon_num::{LimitName, NoMemory, Text};
 use cocoon_resolve::rule_name;
 use cocoon_text::{Position, TextFault};
 use cocoon_types::TypeRule;
 use net_bundle::{BundleFault, BundleFile};
-use p4_read::P4Fault;
-use p4_run::LoadFault;
 use std::alloc::AllocError;
 
 /// What is wrong with a design.

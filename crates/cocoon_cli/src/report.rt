@@ -1,50 +1,30 @@
-//! What a command reports, and the lines that are printed.
-ghost use Rattle.std.specs.Prelude.{◌≡◌, ◌++◌, codes, IfOk, OnOk, string_bytes};
+//! How an outcome ends the program: its status, and the line of a refusal.
+ghost use Rattle.std.specs.Prelude.{◌≡◌, ◌++◌, codes, IfOk, string_bytes};
 ghost use Rattle.cocoon_cli.specs.FileNames.{name_in};
 ghost use Rattle.cocoon_cli.specs.declared.files.CommandFile.TheVariants.{Bundle};
-ghost use Rattle.cocoon_cli.specs.Report.{HasBytes, bundle_line, cause_text, definitions_line, fault_line, form_line, host_line, language_line, level_line, limit_line, line_of, line_with, list_text, load_text, most_allowed, no_default_line, over_line, p4_text, pointer_text, refusal_line, report_line, sent_line, spaced, stale_text, status_of, totals_line};
+ghost use Rattle.cocoon_cli.specs.Report.{HasBytes, bundle_line, cause_text, definitions_line, fault_line, form_line, host_line, language_line, level_line, limit_line, line_with, load_text, most_allowed, no_default_line, over_line, p4_text, pointer_text, refusal_line, stale_text, status_of};
 ghost use Rattle.command_line.specs.Stands.{stands_for};
 
+use crate::answer::Report;
 use crate::files::CommandFile;
 use crate::refusal::{BundleCause, DefinitionsFault, InputFault, Refusal};
 use crate::status::Status;
-use case_runs::Sent;
-use cocoon_num::{LimitName, List, NoMemory};
+use bundle_reader::{LoadFault, P4Fault};
+use cocoon_num::{LimitName, NoMemory};
+use cocoon_resolve::most_of;
 use cocoon_text::Position;
 use command_line::Command;
-use design_limits::most_of;
-use lower_net::limits::{MOST_HOSTS, MOST_MEMBERS, MOST_SITES, MOST_SWITCHES, MOST_TABLES};
+use lower_p4::{MOST_HOSTS, MOST_MEMBERS, MOST_SITES, MOST_SWITCHES, MOST_TABLES};
 use net_bundle::BundleFile;
-use p4_read::P4Fault;
-use p4_run::LoadFault;
+use packet_file::MOST_BYTES;
+use packet_runs::MOST_RUNS;
+use runtime_defs::MOST_ROWS;
 use std::alloc::Global;
 
-/// The most `define` rows of a definitions text.
-const MOST_ROWS: u64 = 8192;
+/// The most leaves of one tree, and the most clauses of one query.
+const MOST_LEAVES: u64 = 4096;
 
-/// The most runs of ingress and of egress that the copies of a packet make.
-const MOST_RUNS: u64 = 65_536;
-
-/// The most bytes of a packet.
-const MOST_PACKET_BYTES: u64 = 65_535;
-
-/// How many of each thing a compiled network has. Hosts at no port count, too.
-#[derive(Clone, Copy, Debug, Drop)]
-pub struct Totals {
-    pub switches: u64,
-    pub hosts: u64,
-    pub links: u64,
-}
-
-/// What a command reports that was not stopped.
-#[derive(Drop)]
-pub enum Report {
-    Compiled(Totals),
-    /// What a body does with a packet: it sends it, or nothing is sent.
-    Stepped(Option<Sent>),
-    /// The lines of what becomes of some packets.
-    Forwarded(List<u8>),
-}
+const MOST_CLAUSES: u64 = 4_000_000;
 
 /// A line that ends with the name of a file of the command.
 fn line_with(
@@ -74,20 +54,34 @@ fn limit_line(
     Ok(format!(in alloc; "limit file {name} over {most}\n")?)
 }
 
-/// The most that a count of a limit may be.
-fn most_allowed(limit: LimitName) -> u64
+/// The most that a count of a limit may be. That of a file and that of a level are others for each
+/// kind of file and each design.
+fn most_allowed(limit: LimitName) -> Option<u64>
     ensures { result ≡ most_allowed limit }
 {
     match limit {
-        LimitName::Rows => MOST_ROWS,
-        LimitName::Switches => MOST_SWITCHES,
-        LimitName::Hosts => MOST_HOSTS,
-        LimitName::Tables => MOST_TABLES,
-        LimitName::Sites => MOST_SITES,
-        LimitName::Members => MOST_MEMBERS,
-        LimitName::Copies => MOST_RUNS,
-        LimitName::Packet => MOST_PACKET_BYTES,
-        _ => most_of(limit),
+        LimitName::File | LimitName::Level => None,
+        LimitName::Refines
+        | LimitName::Within
+        | LimitName::Ports
+        | LimitName::Roles
+        | LimitName::Functions
+        | LimitName::Assumptions
+        | LimitName::Params
+        | LimitName::Headers
+        | LimitName::Fields
+        | LimitName::Paths
+        | LimitName::Expanded => Some(most_of(limit)),
+        LimitName::Leaves => Some(MOST_LEAVES),
+        LimitName::Clauses => Some(MOST_CLAUSES),
+        LimitName::Rows => Some(MOST_ROWS),
+        LimitName::Switches => Some(MOST_SWITCHES),
+        LimitName::Hosts => Some(MOST_HOSTS),
+        LimitName::Tables => Some(MOST_TABLES),
+        LimitName::Sites => Some(MOST_SITES),
+        LimitName::Members => Some(MOST_MEMBERS),
+        LimitName::Copies => Some(MOST_RUNS),
+        LimitName::Packet => Some(MOST_BYTES),
     }
 }
 
@@ -96,8 +90,10 @@ fn over_line(alloc: Global, limit: LimitName, count: u64) -> Result<String, NoMe
     ensures { IfOk result (λ line. string_bytes line ≡ over_line limit count) }
 {
     let name = limit.text();
-    let most = most_allowed(limit);
-    Ok(format!(in alloc; "limit {name} {count} over {most}\n")?)
+    match most_allowed(limit) {
+        Some(most) => Ok(format!(in alloc; "limit {name} {count} over {most}\n")?),
+        None => Ok(format!(in alloc; "limit {name} {count}\n")?),
+    }
 }
 
 /// The line of a fault that stands in a design.
@@ -297,7 +293,7 @@ fn bytes_of(line: Result<String, NoMemory>) -> Result<Vec<u8>, NoMemory>
 }
 
 /// The line of a command that stopped.
-fn refusal_line(
+pub fn refusal_line(
     alloc: Global,
     command: &Command<'_>,
     refusal: &Refusal,
@@ -321,84 +317,12 @@ fn refusal_line(
     }
 }
 
-fn totals_line(alloc: Global, totals: &Totals) -> Result<String, NoMemory>
-    ensures { IfOk result (λ line. string_bytes line ≡ totals_line totals.now) }
-{
-    let Totals {
-        switches,
-        hosts,
-        links,
-    } = *totals;
-    Ok(format!(in alloc;
-        "compiled switches {switches} hosts {hosts} links {links} obligations 0\n"
-    )?)
-}
-
-/// Some numbers, each behind a space.
-fn push_numbers(alloc: Global, line: &mut Vec<u8>, numbers: &[u64]) -> Result<(), NoMemory>
-    ensures { OnOk result (line.new.items ≡ line.old.items ++ spaced numbers.now) }
-{
-    for number in numbers {
-        line.push(b' ')?;
-        line.extend_from_slice(number.to_string(alloc)?.as_bytes())?;
-    }
-    Ok(())
-}
-
-/// A list of numbers behind a space.
-fn push_list(alloc: Global, line: &mut Vec<u8>, numbers: &[u64]) -> Result<(), NoMemory>
-    ensures { OnOk result (line.new.items ≡ line.old.items ++ list_text numbers.now) }
-{
-    if numbers.is_empty() {
-        line.extend_from_slice(b" -")?;
-        return Ok(());
-    }
-    push_numbers(alloc, line, numbers)
-}
-
-/// The line of what a body sends, and where.
-fn sent_line(alloc: Global, sent: &Sent) -> Result<Vec<u8>, NoMemory>
-    ensures { IfOk result (λ line. line.items ≡ sent_line sent.now) }
-{
-    let mut line = sent.role.bytes().to_vec(alloc)?;
-    push_list(alloc, &mut line, sent.values.items())?;
-    line.extend_from_slice(b" :")?;
-    push_list(alloc, &mut line, sent.fields.items())?;
-    line.push(b'\n')?;
-    Ok(line)
-}
-
-fn report_line(alloc: Global, report: &Report) -> Result<Vec<u8>, NoMemory>
-    ensures { IfOk result (λ line. line.items ≡ report_line report.now) }
-{
-    match report {
-        Report::Compiled(totals) => bytes_of(totals_line(alloc, totals)),
-        Report::Stepped(None) => Ok(b"nothing\n".to_vec(alloc)?),
-        Report::Stepped(Some(sent)) => sent_line(alloc, sent),
-        Report::Forwarded(text) => Ok(text.items().to_vec(alloc)?),
-    }
-}
-
-/// The whole report of an outcome.
-pub fn whole_report(
-    alloc: Global,
-    command: &Command<'_>,
-    outcome: &Result<Report, Refusal>,
-) -> Result<Vec<u8>, NoMemory>
-    ensures { IfOk result (λ line. line.items ≡ line_of (stands_for command.now) outcome.now) }
-{
-    match outcome {
-        Ok(report) => report_line(alloc, report),
-        Err(refusal) => refusal_line(alloc, command, refusal),
-    }
-}
-
 /// The status with which a command of this outcome ends.
 pub fn status(outcome: &Result<Report, Refusal>) -> Status
     ensures { result ≡ status_of outcome.now }
 {
     match outcome {
-        Ok(_) => Status::Done,
+        Ok(report) => Status::from(report.verdict),
         Err(refusal) => refusal.status(),
     }
 }

@@ -2,6 +2,8 @@
 ghost use Rattle.std.specs.Prelude.{◌≡◌};
 ghost use Rattle.cocoon_cli.specs.Run.{status_number};
 
+use crate::answer::Verdict;
+
 /// How a command ended, as "Statuses" in docs/FORMATS.md lists it. The program ends with its
 /// number.
 #[derive(Clone, Copy, Debug, Drop, PartialEq, Eq)]
@@ -28,5 +30,21 @@ impl Status {
         ensures { result ≡ status_number self.now }
     {
         *self as u8
+    }
+}
+
+impl From<Verdict> for Status {
+    ghost use Rattle.std.specs.Prelude.{◌≡◌};
+    ghost use Rattle.cocoon_cli.specs.Report.{verdict_status};
+
+    ghost from_gives = { λ verdict status. status ≡ verdict_status verdict };
+
+    fn from(verdict: Verdict) -> Status {
+        match verdict {
+            Verdict::Done => Status::Done,
+            Verdict::Refuted => Status::Refuted,
+            Verdict::HopBound => Status::HopBound,
+            Verdict::Budget => Status::Budget,
+        }
     }
 }

@@ -1,20 +1,23 @@
 //! `step`: the body of a role is run on a packet, at a level of a design under its definitions.
-ghost use Rattle.std.specs.Prelude.{◌≡◌, ◌≤◌, ◌<◌, ◌^◌, IfErr, IfOk, length};
+ghost use Rattle.std.specs.Prelude.{◌≡◌, ◌≤◌, ◌<◌, ◌^◌, ◌++◌, IfErr, IfOk, OnOk, Some, length};
 ghost use Rattle.case_file.specs.Agrees.{CanRun, IsCaseOf};
 ghost use Rattle.cocoon_syntax.specs.TreeOf.{design_of};
 ghost use Rattle.cocoon_types.specs.Design.{last_level};
 ghost use Rattle.command_line.specs.Command as spec;
-ghost use Rattle.cocoon_cli.specs.Run.{CountsNoOther, HasFault, NamesFailure, Performs, count};
+ghost use Rattle.cocoon_cli.specs.ReportLines.{list_text, sent_line, sent_text, spaced};
+ghost use Rattle.cocoon_cli.specs.Shell.{Asked, IsQuiet};
 ghost use Rattle.cocoon_cli.specs.Stepping.{NotCase, NotStepped, StepsTexts};
+ghost use Rattle.cocoon_cli.specs.Steps.{Inputs};
+ghost use Rattle.cocoon_cli.specs.declared.answer.Writing.TheVariants.{Nothing};
+ghost use Rattle.cocoon_cli.specs.declared.files.CommandFile.TheVariants.{Case as CaseFile, Definitions, Design};
 
+use crate::answer::{Answer, Report, Writing};
+use crate::design_texts::{Bound, bound_texts};
 use crate::files::CommandFile;
-use crate::lower_texts::{Bound, bound_texts};
-use crate::reading::{CASE_MOST, DEFINITIONS_MOST, DESIGN_MOST, read_file};
 use crate::refusal::Refusal;
-use crate::report::Report;
 use case_file::{Case, CaseFault, read_case};
-use case_runs::run_case;
-use cocoon_io::Folder;
+use case_runs::{Sent, run_case};
+use cocoon_num::NoMemory;
 use cocoon_resolve::Checked;
 use command_line::Step;
 use std::alloc::Global;
@@ -37,14 +40,15 @@ fn case_at(alloc: Global, checked: &Checked, level: u32, text: &[u8]) -> Result<
     }
 }
 
-/// What is reported of these texts of a design, its definitions and a case. The design is judged first, and the case last.
+/// What the role of the case does, by these texts of a design, its definitions and the case. The design is judged first, and
+/// the case last.
 fn step_texts(
     alloc: Global,
     level: u32,
     design: &[u8],
     defs: &[u8],
     text: &[u8],
-) -> Result<Report, Refusal>
+) -> Result<Option<Sent>, Refusal>
     requires small { length design.now < 2 ^ 31 }
     requires small_too { length defs.now < 2 ^ 31 }
     ensures steps { IfOk result (StepsTexts level design.now defs.now text.now) }
@@ -52,38 +56,75 @@ fn step_texts(
 {
     let bound = bound_texts(alloc, design, defs)?;
     let case = case_at(alloc, &bound.checked, level, text)?;
-    let sent = run_case(alloc, &bound.checked, &bound.defs, level, case)?;
-    Ok(Report::Stepped(sent))
+    Ok(run_case(alloc, &bound.checked, &bound.defs, level, case)?)
+}
+
+/// Some numbers, each behind a space.
+fn push_numbers(alloc: Global, line: &mut Vec<u8>, numbers: &[u64]) -> Result<(), NoMemory>
+    ensures { OnOk result (line.new.items ≡ line.old.items ++ spaced numbers.now) }
+{
+    for number in numbers {
+        line.push(b' ')?;
+        line.extend_from_slice(number.to_string(alloc)?.as_bytes())?;
+    }
+    Ok(())
+}
+
+/// A list of numbers behind a space.
+fn push_list(alloc: Global, line: &mut Vec<u8>, numbers: &[u64]) -> Result<(), NoMemory>
+    ensures { OnOk result (line.new.items ≡ line.old.items ++ list_text numbers.now) }
+{
+    if numbers.is_empty() {
+        line.extend_from_slice(b" -")?;
+        return Ok(());
+    }
+    push_numbers(alloc, line, numbers)
+}
+
+/// The line of what a body sends, and where.
+fn sent_line(alloc: Global, sent: &Sent) -> Result<Vec<u8>, NoMemory>
+    ensures { IfOk result (λ line. line.items ≡ sent_line sent.now) }
+{
+    let mut line = sent.role.bytes().to_vec(alloc)?;
+    push_list(alloc, &mut line, sent.values.items())?;
+    line.extend_from_slice(b" :")?;
+    push_list(alloc, &mut line, sent.fields.items())?;
+    line.push(b'\n')?;
+    Ok(line)
+}
+
+/// The line of what a body does with a packet: it sends it, or nothing is sent.
+fn sent_text(alloc: Global, sent: &Option<Sent>) -> Result<Vec<u8>, NoMemory>
+    ensures { IfOk result (λ line. line.items ≡ sent_text sent.now) }
+{
+    match sent {
+        Some(sent) => sent_line(alloc, sent),
+        None => Ok(b"nothing\n".to_vec(alloc)?),
+    }
 }
 
 /// Runs the body of the role that the case names, at the level, and reports where it sends its packet. It decides no
 /// assumption.
-pub fn step<F: Folder>(alloc: Global, asked: &Step<'_>, folder: &mut F) -> Result<Report, Refusal>
-    // its outcome, by its steps, and that the folder is as it was
-    ensures performs { Performs
+pub fn step<'w>(
+    alloc: Global,
+    asked: &Step<'w>,
+    design: &[u8],
+    defs: &[u8],
+    text: &[u8],
+) -> Result<Answer<'w>, Refusal>
+    requires small { length design.now < 2 ^ 31 }
+    requires small_too { length defs.now < 2 ^ 31 }
+    ensures asked { (inputs : Inputs) → inputs.file Design ≡ Some design.now
+        → inputs.file Definitions ≡ Some defs.now → inputs.file CaseFile ≡ Some text.now → Asked
         (spec.step asked.now.design.now asked.now.defs.now asked.now.level asked.now.file.now)
-        (F.content folder.old) (F.content folder.new) result }
-    ensures faults { HasFault
-        (count F.last_read_fault (F.read_faults folder.old) (F.read_faults folder.new))
-        (count F.last_write_fault (F.write_faults folder.old) (F.write_faults folder.new))
-        result }
-    ensures no_other { CountsNoOther
-        (count F.last_read_fault (F.read_faults folder.old) (F.read_faults folder.new))
-        (count F.last_write_fault (F.write_faults folder.old) (F.write_faults folder.new))
-        result }
-    ensures named { NamesFailure (F.last_failure folder.new)
-        (spec.step asked.now.design.now asked.now.defs.now asked.now.level asked.now.file.now)
-        result }
+        inputs result }
+    ensures nothing { IfOk result (λ a. a.writing ≡ Nothing) }
+    ensures quiet { IfErr result IsQuiet }
 {
-    let design = read_file(
-        alloc,
-        folder,
-        asked.design,
-        CommandFile::Design,
-        DESIGN_MOST,
-    )?;
-    let file = CommandFile::Definitions;
-    let defs = read_file(alloc, folder, asked.defs, file, DEFINITIONS_MOST)?;
-    let case = read_file(alloc, folder, asked.file, CommandFile::Case, CASE_MOST)?;
-    step_texts(alloc, asked.level, &design, &defs, &case)
+    let sent = step_texts(alloc, asked.level, design, defs, text)?;
+    let lines = sent_text(alloc, &sent)?;
+    Ok(Answer {
+        report: Report::success(lines),
+        writing: Writing::Nothing,
+    })
 }

@@ -1,15 +1,11 @@
--- A network is that of its bundle's files alone, and the rows of its switches load.
-use Rattle.std.proofs.Common.{◌≡◌, inl, inr, ℕ, suc, List, [], ◌∷◌, Contains, true, refl, ◌∙◌, arith}
-use Rattle.std.proofs.lemmas.Bool.{and_from}
+-- A network is that of its bundle's files alone.
+use Rattle.std.proofs.Common.{◌≡◌, inl, inr, ℕ, suc, List, [], ◌∷◌, Contains, refl, ◌∙◌, arith}
 use Rattle.std.specs.FinMap.{get}
-use Rattle.cocoon_num.specs.Lists.{each}
 use Rattle.cocoon_io.specs.Files.{Files}
-use Rattle.p4_ir.specs.Loading.{rows_load}
 use Rattle.p4_ir.specs.NetTree.{NetData, SwitchFiles}
 use Rattle.net_bundle.specs.BundleNames.{file_name, net_name, program_name, rows_name}
 use Rattle.net_bundle.specs.NetJson.{KeptDigest}
 use Rattle.net_bundle.specs.Network.{InBundle, Network, SwitchesRead, SwitchReads}
-use Rattle.net_run.specs.Ascending.{AllLoad}
 
 -- a folder has what another has, under the names of these switches' files
 abbrev AllSame : (files after : Files) (out : List ℕ) → List SwitchFiles → Type 0
@@ -76,14 +72,3 @@ still_network files after out net same n = record {
   hosts = n.hosts;
   switches = switches_same files after out n.file.files n.file.switches net.switches (all_same files after out net.switches net.switches (λ s h. h) same) n.switches;
 }
-
-switches_load : (files : Files) (out : List ℕ) (kept : List KeptDigest) (ns : List ℕ) (ss : List SwitchFiles) → SwitchesRead files out kept ns ss
-    → each (λ (f : SwitchFiles). rows_load f.program f.rows) ss ≡ true
-switches_load files out kept [] [] r = refl
-switches_load files out kept [] (s ∷ ss) r = absurd r
-switches_load files out kept (n ∷ ns) [] r = refl
-switches_load files out kept (n ∷ ns) (s ∷ ss) (first, rest, number, parts, reads, more) =
-    and_from (rows_load s.program s.rows) _ reads.loads (switches_load files out rest ns ss more)
-
-pub all_load : (files : Files) (out : List ℕ) (net : NetData) → Network files out net → AllLoad net
-all_load files out net n = switches_load files out n.file.files n.file.switches net.switches n.switches

@@ -6,8 +6,8 @@ use Rattle.cocoon_types.specs.Tables.{Defs, defs_of}
 use Rattle.net_bundle.specs.Network.{InBundle}
 use Rattle.command_line.specs.Command.{forward}
 use Rattle.command_line.specs.Words.{command}
-use Rattle.cocoon_cli.specs.Headline.{Compiled}
-use Rattle.cocoon_cli.specs.Run.{Call, DoneOf}
+use Rattle.cocoon_cli.specs.Headline.{Compiled, none_besides}
+use Rattle.cocoon_cli.specs.Run.{Call, CauseOf}
 use Rattle.cocoon_cli.specs.declared.status.Status.TheVariants.{Done}
 
 pub record ForwardsCompiled : Type 0 where
@@ -17,14 +17,14 @@ pub record ForwardsCompiled : Type 0 where
   pub design_name : List ℕ
   pub defs_name : List ℕ
   pub out : List ℕ
-  pub compiled : Compiled before after design_name defs_name out
-  -- the call of the `forward`, of which the clause `keeps` of `run` says `done_leaves`
+  pub compiled : Compiled before after design_name defs_name out none_besides
+  -- the call of the `forward`, of which the clause `keeps` of `run` says `cause`
   pub call : Call
   pub packets_name : List ℕ
   pub hops : ℕ
   pub words : command call.words ≡ Some (forward out packets_name hops)
+  pub cause : CauseOf (command call.words) call
   pub status : call.status ≡ Done
-  pub done_leaves : call.status ≡ Done → DoneOf (command call.words) call
   -- its folder has the files of the bundle as they were written; others may have changed
   pub files : Files
   pub content : call.content_before ≡ Some files

@@ -4,14 +4,13 @@ ghost use Rattle.std.specs.FinMap.{get};
 ghost use Rattle.cocoon_io.specs.Calls.{appended};
 ghost use Rattle.cocoon_types.specs.Runs.{LastGo, MayMake};
 ghost use Rattle.forward_laws.specs.ForwardsCompiled.{ForwardsCompiled, tables};
-ghost use Rattle.net_run.specs.Ascending.{Ascending};
-ghost use Rattle.net_run.specs.Deliveries.{deliveries, travelling};
-ghost use Rattle.net_run.specs.Ends.{ends};
+ghost use Rattle.net_run.specs.Outcomes.{AreDelivered, AreTravelling, Delivery};
 ghost use Rattle.p4_ir.specs.Wiring.{host_numbers};
 ghost use Rattle.packet_file.specs.Packets.{Packet, packets_in};
-ghost use Rattle.packet_runs.specs.Reports.{report_of};
+ghost use Rattle.packet_runs.specs.Reports.{IsReport};
 
-use net_run::laws::{deliveries_are_all, ends_ascend, travellers_are_all, travellers_go_on};
+use cocoon_cli::laws::calls_keep_more;
+use net_run::laws::travellers_go_on;
 use uniqueness_laws::networks::one_network;
 
 /// A `forward` with status 0 over the bundle of a `compile` with status 0 reports, for each packet
@@ -19,40 +18,32 @@ use uniqueness_laws::networks::one_network;
 /// each delivery is one that the topmost specification may make.
 pub fn forward_tells_the_design()
     // what it prints is the report of the network that was compiled, for the packets of its file
-    ensures report { (x : ForwardsCompiled) → (text : List ℕ) × (packets : List Packet)
+    ensures report { (x : ForwardsCompiled)
+        → (text : List ℕ) × (packets : List Packet) × (report : List ℕ)
         × (get x.files x.packets_name ≡ Some text)
         × (packets_in (host_numbers x.compiled.net.hosts) text ≡ Ok packets)
-        × (x.call.output_after
-        ≡ appended x.call.output_before (report_of x.compiled.net x.hops packets)) }
+        × IsReport x.compiled.net x.hops packets report
+        × (x.call.output_after ≡ appended x.call.output_before report) }
 
-    // of any packet this delivers, by any choices, what the last level does, and nothing else
-    ensures exact { (x : ForwardsCompiled) (a : ℕ) (bytes choices : List ℕ) (b : ℕ)
-        (sent : List ℕ)
-        → Contains (deliveries x.compiled.net a bytes x.hops)
-        (record { host = b; choices = choices; bytes = sent })
-        ↔ LastGo x.compiled.design (tables x) a bytes choices x.hops b sent }
-
-    // the choices ascend, so each copy is delivered once
-    ensures once { (x : ForwardsCompiled) (a : ℕ) (bytes : List ℕ)
-        → Ascending (ends x.compiled.net a bytes x.hops) }
+    // what it reports as delivered of a packet is, by any choices, what the last level does, and
+    // nothing else
+    ensures exact { (x : ForwardsCompiled) (a : ℕ) (bytes : List ℕ) (ds : List Delivery)
+        → AreDelivered x.compiled.net a bytes x.hops ds → (d : Delivery) → Contains ds d
+        ↔ LastGo x.compiled.design (tables x) a bytes d.choices x.hops d.host d.bytes }
 
     // where no copy travels, more visits deliver nothing else
     ensures whole { (x : ForwardsCompiled) (a : ℕ) (bytes : List ℕ)
-        → travelling x.compiled.net a bytes x.hops ≡ 0
+        → AreTravelling x.compiled.net a bytes x.hops 0
         → (more : ℕ) (choices : List ℕ) (b : ℕ) (sent : List ℕ)
         → LastGo x.compiled.design (tables x) a bytes choices (x.hops + more) b sent
         → LastGo x.compiled.design (tables x) a bytes choices x.hops b sent }
 
     // and what is delivered is what the topmost specification may make
-    ensures within { (x : ForwardsCompiled) (a : ℕ) (bytes choices : List ℕ) (b : ℕ)
-        (sent : List ℕ)
-        → Contains (deliveries x.compiled.net a bytes x.hops)
-        (record { host = b; choices = choices; bytes = sent })
-        → MayMake x.compiled.design (tables x) a bytes b sent }
+    ensures within { (x : ForwardsCompiled) (a : ℕ) (bytes : List ℕ) (ds : List Delivery)
+        → AreDelivered x.compiled.net a bytes x.hops ds → (d : Delivery) → Contains ds d
+        → MayMake x.compiled.design (tables x) a bytes d.host d.bytes }
 {
     one_network();
-    deliveries_are_all();
-    ends_ascend();
-    travellers_are_all();
+    calls_keep_more();
     travellers_go_on();
 }

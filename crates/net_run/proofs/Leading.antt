@@ -4,9 +4,10 @@ use Rattle.std.proofs.lemmas.List.{append_assoc}
 use Rattle.p4_ir.specs.NetRuns.{attach_at, link_at, NetGo, Onward, switch_at, Visits}
 use Rattle.p4_ir.specs.NetTree.{LinkEnd, to_switch, to_host, SwitchFiles, NetData}
 use Rattle.p4_ir.specs.Switch.{switch_go}
-use Rattle.net_run.specs.Deliveries.{deliver_at, deliveries, delivered, Delivery}
+use Rattle.net_run.specs.Deliveries.{deliver_at, deliveries, delivered}
 use Rattle.net_run.specs.Departures.{Departed, departures_at, ways}
 use Rattle.net_run.specs.Ends.{End, ends, ends_from, followed, from_attached, onward}
+use Rattle.net_run.specs.Outcomes.{Delivery}
 use Rattle.net_run.specs.Travels.{Forth, GoesOn, Travels, TravelsFrom}
 use Rattle.net_run.proofs.Among.{Among, among_flat, among_map, flat_from, mapped_from}
 use Rattle.net_run.proofs.Departing.{departs, gives, is_way}

@@ -6,3 +6,5 @@ mod MemberSteps
 mod Loaded
 mod UnderWay
 mod CopySteps
+mod Outcomes
+mod OneOrder

@@ -12,25 +12,40 @@ use Rattle.p4_ir.specs.Switch.{Departure, members, switch_go}
 use Rattle.p4_run.specs.Visits.{after_ingress, ingress_left}
 use Rattle.p4_run.specs.declared.visits.Next.{Next}
 use Rattle.p4_run.specs.declared.visits.Next.TheVariants.{Drop, Port, Copies}
-use Rattle.net_run.specs.Ascending.{Ahead, AheadOfAll, Ascending, AllLoad}
+use Rattle.net_run.specs.Ascending.{Ahead, AheadOfAll, Ascending}
 use Rattle.net_run.specs.Departures.{Departed, departing, departures_at, put, ways_after}
 use Rattle.net_run.specs.Ends.{behind, End, ends, ends_from, followed, from_attached, onward}
+
+-- the rows of each switch load, and with it the members of groups ascend
+abbrev pub AllLoad : NetData → Type 0
+AllLoad net = each (λ (f : SwitchFiles). rows_load f.program f.rows) net.switches ≡ true
+
+-- ---- ends by their choices
+
+abbrev pub choices_of : List End → List (List ℕ)
+choices_of es = map (λ (e : End). e.choices) es
+
+abbrev AheadOfEnds : List ℕ → List End → Type 0
+AheadOfEnds cs es = AheadOfAll cs (choices_of es)
+
+abbrev pub EndsAscend : List End → Type 0
+EndsAscend es = Ascending (choices_of es)
 
 -- ---- lists put together
 
 abbrev AllAhead : List End → List End → Type 0
 AllAhead [] ys = Unit {0}
-AllAhead (x ∷ xs) ys = AheadOfAll x.choices ys × AllAhead xs ys
+AllAhead (x ∷ xs) ys = AheadOfEnds x.choices ys × AllAhead xs ys
 
-ahead_of_both : (cs : List ℕ) (xs ys : List End) → AheadOfAll cs xs → AheadOfAll cs ys → AheadOfAll cs (xs ++ ys)
+ahead_of_both : (cs : List ℕ) (xs ys : List End) → AheadOfEnds cs xs → AheadOfEnds cs ys → AheadOfEnds cs (xs ++ ys)
 ahead_of_both cs [] ys a b = b
 ahead_of_both cs (x ∷ xs) ys a b = (a.0, ahead_of_both cs xs ys a.1 b)
 
-joined : (xs ys : List End) → Ascending xs → Ascending ys → AllAhead xs ys → Ascending (xs ++ ys)
+joined : (xs ys : List End) → EndsAscend xs → EndsAscend ys → AllAhead xs ys → EndsAscend (xs ++ ys)
 joined [] ys a b c = b
 joined (x ∷ xs) ys a b c = (ahead_of_both x.choices xs ys a.0 c.0, joined xs ys a.1 b c.1)
 
-nothing_behind : (xs : List End) → Ascending xs → Ascending (xs ++ [])
+nothing_behind : (xs : List End) → EndsAscend xs → EndsAscend (xs ++ [])
 nothing_behind [] a = tt
 nothing_behind (x ∷ xs) a = (ahead_of_both x.choices xs [] a.0 tt, nothing_behind xs a.1)
 
@@ -40,11 +55,11 @@ ahead_behind : (way cs ds : List ℕ) → Ahead cs ds → Ahead (way ++ cs) (way
 ahead_behind [] cs ds a = a
 ahead_behind (w ∷ ws) cs ds a = inr (refl, ahead_behind ws cs ds a)
 
-all_behind : (way cs : List ℕ) (es : List End) → AheadOfAll cs es → AheadOfAll (way ++ cs) (behind way es)
+all_behind : (way cs : List ℕ) (es : List End) → AheadOfEnds cs es → AheadOfEnds (way ++ cs) (behind way es)
 all_behind way cs [] a = tt
 all_behind way cs (e ∷ es) a = (ahead_behind way cs e.choices a.0, all_behind way cs es a.1)
 
-behind_ascends : (way : List ℕ) (es : List End) → Ascending es → Ascending (behind way es)
+behind_ascends : (way : List ℕ) (es : List End) → EndsAscend es → EndsAscend (behind way es)
 behind_ascends way [] a = tt
 behind_ascends way (e ∷ es) a = (all_behind way e.choices es a.0, behind_ascends way es a.1)
 
@@ -71,7 +86,7 @@ ahead_begins : (m : ℕ) (cs ds : List ℕ) → BeginsAbove m ds → Ahead (m �
 ahead_begins m cs [] b = absurd b
 ahead_begins m cs (d ∷ ds) b = inl b
 
-ahead_of_above : (m : ℕ) (cs : List ℕ) (ys : List End) → Above m ys → AheadOfAll (m ∷ cs) ys
+ahead_of_above : (m : ℕ) (cs : List ℕ) (ys : List End) → Above m ys → AheadOfEnds (m ∷ cs) ys
 ahead_of_above m cs [] a = tt
 ahead_of_above m cs (y ∷ ys) a = (ahead_begins m cs y.choices a.0, ahead_of_above m cs ys a.1)
 
@@ -85,14 +100,14 @@ abbrev after_put : NetData → (ℕ → ℕ → List ℕ → List End) → ℕ �
 after_put net go s ds = flat_map (followed net go s) ds
 
 abbrev Rises : (ℕ → ℕ → List ℕ → List End) → Type 0
-Rises go = (s p : ℕ) (bytes : List ℕ) → Ascending (go s p bytes)
+Rises go = (s p : ℕ) (bytes : List ℕ) → EndsAscend (go s p bytes)
 
-onward_ascends : (go : ℕ → ℕ → List ℕ → List End) → Rises go → (l : Option LinkEnd) (bytes : List ℕ) → Ascending (onward go l bytes)
+onward_ascends : (go : ℕ → ℕ → List ℕ → List End) → Rises go → (l : Option LinkEnd) (bytes : List ℕ) → EndsAscend (onward go l bytes)
 onward_ascends go r None bytes = tt
 onward_ascends go r (Some (to_host h)) bytes = (tt, tt)
 onward_ascends go r (Some (to_switch s p)) bytes = r s p bytes
 
-followed_ascends : (net : NetData) (go : ℕ → ℕ → List ℕ → List End) → Rises go → (s : ℕ) (d : Departed) → Ascending (followed net go s d)
+followed_ascends : (net : NetData) (go : ℕ → ℕ → List ℕ → List End) → Rises go → (s : ℕ) (d : Departed) → EndsAscend (followed net go s d)
 followed_ascends net go r s d = behind_ascends d.way (onward go (link_at net.links s d.port) d.bytes) (onward_ascends go r (link_at net.links s d.port) d.bytes)
 
 put_above : (net : NetData) (go : ℕ → ℕ → List ℕ → List End) (s m n : ℕ) (o : Departure) (rest : List Departed) → m < n → Above m (after_put net go s rest) → Above m (after_put net go s (put (n ∷ []) o rest))
@@ -107,8 +122,8 @@ later_above net go s m visit (n ∷ ns) e =
     let p = and_parts (nat_lt m n) (each (nat_lt m) ns) e in
     put_above net go s m n (visit (n ∷ [])) (departing visit (map (λ rid. rid ∷ []) ns)) (ltb-true m n p.0) (later_above net go s m visit ns p.1)
 
-put_ascends : (net : NetData) (go : ℕ → ℕ → List ℕ → List End) → Rises go → (s n : ℕ) (o : Departure) (rest : List Departed) → Above n (after_put net go s rest) → Ascending (after_put net go s rest)
-    → Ascending (after_put net go s (put (n ∷ []) o rest))
+put_ascends : (net : NetData) (go : ℕ → ℕ → List ℕ → List End) → Rises go → (s n : ℕ) (o : Departure) (rest : List Departed) → Above n (after_put net go s rest) → EndsAscend (after_put net go s rest)
+    → EndsAscend (after_put net go s (put (n ∷ []) o rest))
 put_ascends net go r s n None rest a b = b
 put_ascends net go r s n (Some d) rest a b =
     joined (behind (n ∷ []) (onward go (link_at net.links s d.0) d.1)) (after_put net go s rest)
@@ -138,13 +153,13 @@ numbers_rise (m ∷ n ∷ ns) e =
     and_from _ _ (and_from _ _ p.0 (higher m n ns p.0 (and_parts _ _ r).0)) r
 
 copies_ascend : (net : NetData) (go : ℕ → ℕ → List ℕ → List End) → Rises go → (s : ℕ) (visit : List ℕ → Departure) (ns : List ℕ) → rises ns ≡ true
-    → Ascending (after_put net go s (departing visit (map (λ rid. rid ∷ []) ns)))
+    → EndsAscend (after_put net go s (departing visit (map (λ rid. rid ∷ []) ns)))
 copies_ascend net go r s visit [] e = tt
 copies_ascend net go r s visit (n ∷ ns) e =
     let p = and_parts (each (nat_lt n) ns) (rises ns) e in
     put_ascends net go r s n (visit (n ∷ [])) (departing visit (map (λ rid. rid ∷ []) ns)) (later_above net go s n visit ns p.0) (copies_ascend net go r s visit ns p.1)
 
-alone_ascends : (net : NetData) (go : ℕ → ℕ → List ℕ → List End) → Rises go → (s : ℕ) (o : Departure) → Ascending (after_put net go s (put [] o []))
+alone_ascends : (net : NetData) (go : ℕ → ℕ → List ℕ → List End) → Rises go → (s : ℕ) (o : Departure) → EndsAscend (after_put net go s (put [] o []))
 alone_ascends net go r s None = tt
 alone_ascends net go r s (Some d) =
     nothing_behind (behind [] (onward go (link_at net.links s d.0) d.1)) (behind_ascends [] (onward go (link_at net.links s d.0) d.1) (onward_ascends go r (link_at net.links s d.0) d.1))
@@ -161,7 +176,7 @@ found_ascends (g ∷ gs) n e =
     chosen false g e o h = h
 
 next_ascends : (net : NetData) (go : ℕ → ℕ → List ℕ → List End) → Rises go → (s : ℕ) (visit : List ℕ → Departure) (rows : RowsFile) → each group_fits rows.groups ≡ true
-    → (next : Next) → Ascending (after_put net go s (departing visit (ways_after rows next)))
+    → (next : Next) → EndsAscend (after_put net go s (departing visit (ways_after rows next)))
 next_ascends net go r s visit rows e Drop = tt
 next_ascends net go r s visit rows e (Port port) = alone_ascends net go r s (visit [])
 next_ascends net go r s visit rows e (Copies group) = copies_ascend net go r s visit (members rows.groups group) (numbers_rise (members rows.groups group) (found_ascends rows.groups group e))
@@ -183,19 +198,19 @@ found_loads (k ∷ ks) s f e h =
     chosen false k f e o g h = g h
 
 switch_ascends : (net : NetData) (go : ℕ → ℕ → List ℕ → List End) → Rises go → (s p : ℕ) (bytes : List ℕ) (o : Option SwitchFiles) → ((f : SwitchFiles) → o ≡ Some f → rows_load f.program f.rows ≡ true)
-    → Ascending (after_put net go s (departures_at o p bytes))
+    → EndsAscend (after_put net go s (departures_at o p bytes))
 switch_ascends net go r s p bytes None e = tt
 switch_ascends net go r s p bytes (Some f) e =
     next_ascends net go r s (switch_go f.program f.rows 0 p bytes) f.rows (and_parts _ (each group_fits f.rows.groups) (e f refl)).1 (after_ingress (ingress_left f.program f.rows p bytes))
 
-pub from_ascends : (net : NetData) → AllLoad net → (n s p : ℕ) (bytes : List ℕ) → Ascending (ends_from net n s p bytes)
+pub from_ascends : (net : NetData) → AllLoad net → (n s p : ℕ) (bytes : List ℕ) → EndsAscend (ends_from net n s p bytes)
 from_ascends net e zero s p bytes = (tt, tt)
 from_ascends net e (suc n) s p bytes =
     switch_ascends net (ends_from net n) (from_ascends net e n) s p bytes (switch_at net.switches s) (λ f h. found_loads net.switches s f e h)
 
-pub ends_ascend : (net : NetData) → AllLoad net → (a : ℕ) (bytes : List ℕ) (n : ℕ) → Ascending (ends net a bytes n)
+pub ends_ascend : (net : NetData) → AllLoad net → (a : ℕ) (bytes : List ℕ) (n : ℕ) → EndsAscend (ends net a bytes n)
 ends_ascend net e a bytes n = attached_ascend (attach_at net.hosts a)
   where
-    attached_ascend : (o : Option (ℕ × ℕ)) → Ascending (from_attached (ends_from net n) o bytes)
+    attached_ascend : (o : Option (ℕ × ℕ)) → EndsAscend (from_attached (ends_from net n) o bytes)
     attached_ascend None = tt
     attached_ascend (Some at) = from_ascends net e n at.0 at.1 bytes

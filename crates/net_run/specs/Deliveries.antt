@@ -1,13 +1,9 @@
--- The deliveries among the ends of a packet, and how many of its copies still travel. The laws of net_run cite it.
+-- Cited by the private clauses of `following`: the deliveries among the ends of a packet, and how many of its copies still
+-- travel.
 use Rattle.std.specs.Prelude.{ℕ, suc, List, [], ◌∷◌}
 use Rattle.p4_ir.specs.NetTree.{LinkEnd, to_switch, to_host, NetData}
 use Rattle.net_run.specs.Ends.{End, ends}
-
--- what is delivered at a host, with the members of copies on its way
-pub record Delivery : Type 0 where
-  pub host : ℕ
-  pub choices : List ℕ
-  pub bytes : List ℕ
+use Rattle.net_run.specs.Outcomes.{Delivery}
 
 -- a delivery before others, where an end is at a host
 abbrev pub deliver_at : LinkEnd → End → List Delivery → List Delivery

@@ -3,7 +3,7 @@ use Rattle.std.specs.Prelude.{◌≡◌, ℕ, suc, ◌<◌, false, List}
 use Rattle.cocoon_num.specs.Lists.{has_number}
 use Rattle.p4_ir.specs.NetTree.{NetData}
 use Rattle.p4_ir.specs.Wiring.{host_numbers}
-use Rattle.net_run.specs.Deliveries as spec
+use Rattle.net_run.specs.Outcomes as spec
 use Rattle.net_run.specs.RunCounts.{most_runs, runs}
 use Rattle.net_run.specs.declared.delivering.Delivery.{Delivery}
 use Rattle.net_run.specs.declared.fault.RunFault.{RunFault}

@@ -1,8 +1,9 @@
 pub mod Departures
 pub mod Ends
-pub mod Deliveries
 pub mod Ascending
 pub mod Travels
+pub mod Outcomes
+pub mod Deliveries
 pub mod DepartedOf
 pub mod RunCounts
 pub mod Delivering

@@ -2,8 +2,8 @@
 ghost use Rattle.std.specs.Prelude.{◌≡◌, ◌≤◌, IfErr, IfOk, map, true};
 ghost use Rattle.cocoon_num.specs.Lists.{has_number};
 ghost use Rattle.loaded_net.specs.Nets.{net_in};
-ghost use Rattle.net_run.specs.Deliveries as spec;
 ghost use Rattle.net_run.specs.Delivering.{delivery_of, RunStops};
+ghost use Rattle.net_run.specs.Outcomes.{AreDelivered, AreTravelling};
 ghost use Rattle.net_run.specs.RunCounts.{most_runs, runs};
 ghost use Rattle.p4_ir.specs.Wiring.{host_numbers};
 
@@ -38,10 +38,10 @@ pub fn deliver(
     bytes: &[u8],
     hops: u32,
 ) -> Result<Outcome, RunFault>
-    ensures delivered { IfOk result (λ o. map delivery_of o.delivered
-        ≡ spec.deliveries (net_in net.now) host bytes.now hops) }
-    ensures travelling { IfOk result (λ o. o.travelling
-        ≡ spec.travelling (net_in net.now) host bytes.now hops) }
+    ensures delivered { IfOk result (λ o.
+        AreDelivered (net_in net.now) host bytes.now hops (map delivery_of o.delivered)) }
+    ensures travelling { IfOk result (λ o.
+        AreTravelling (net_in net.now) host bytes.now hops o.travelling) }
     ensures known { IfOk result (λ o.
         has_number host (host_numbers (net_in net.now).hosts) ≡ true) }
     ensures within { IfOk result (λ o. runs (net_in net.now) host bytes.now hops ≤ most_runs) }

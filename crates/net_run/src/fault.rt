@@ -3,6 +3,9 @@
 use cocoon_num::NoMemory;
 use std::alloc::AllocFailed;
 
+/// How many runs of ingress and of egress all copies of a packet may make.
+pub const MOST_RUNS: u64 = 65_536;
+
 /// Why a packet is not followed to its ends.
 #[derive(Debug, Drop)]
 pub enum RunFault {

@@ -8,16 +8,13 @@ ghost use Rattle.net_run.specs.RunCounts.{runs};
 ghost use Rattle.net_run.specs.UnderWay.{stack_ends, stack_runs};
 
 use crate::delivering::Delivery;
-use crate::fault::RunFault;
+use crate::fault::{MOST_RUNS, RunFault};
 use crate::standing::Standing;
 use crate::stations::Stations;
 use cocoon_num::{List, NoMemory, Text};
 use loaded_net::Net;
 use p4_ir::LinkEnd;
 use std::alloc::Global;
-
-/// How many runs of ingress and of egress may be made for a packet.
-const MOST_RUNS: usize = 65536;
 
 /// How far a packet is followed.
 #[derive(Drop)]
@@ -105,7 +102,7 @@ impl<'n> Walk<'n> {
         ensures followed { OnOk result (IsFollowed net.now copy.now self.old self.new) }
         ensures stops { IfErr result (FollowStops net.now copy.now self.old) }
     {
-        let left = MOST_RUNS - self.runs;
+        let left = MOST_RUNS as usize - self.runs;
         let visited = self
             .stations
             .visit(alloc, net, switch, port, &copy.bytes, left)?;

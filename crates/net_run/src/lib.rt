@@ -12,4 +12,4 @@ pub mod visiting;
 
 pub use delivering::{Delivery, Outcome, deliver};
 pub use departed::{Departed, Visited};
-pub use fault::RunFault;
+pub use fault::{MOST_RUNS, RunFault};

@@ -8,7 +8,7 @@ ghost use Rattle.p4_run.specs.Running.{program_in, rows_in};
 ghost use Rattle.p4_run.specs.Visits.{after_ingress, departs, ingress_left};
 
 use crate::departed::{Departed, Visited};
-use crate::fault::RunFault;
+use crate::fault::{MOST_RUNS, RunFault};
 use cocoon_num::NoMemory;
 use p4_run::{Frame, Loaded, Next};
 use std::alloc::Global;
@@ -89,7 +89,7 @@ pub fn visit(
     push_departed(alloc, &mut all, None, next, frame.headers(), bytes)?;
     let members = members_after(loaded, next);
     if members.len() >= most {
-        return Err(RunFault::Copies(65537));
+        return Err(RunFault::Copies(MOST_RUNS + 1));
     }
     for member in members {
         let next = loaded.egress(frame, *member);

@@ -1,2 +1,3 @@
 pub mod Reports
 pub mod Stopping
+pub mod Growing

@@ -1,10 +1,31 @@
 -- Cited by the clauses of `run_packets`, and by what speaks of its report: what is reported of the packets of a file that are
--- run through a network. It follows the section "Reports" of docs/FORMATS.md.
-use Rattle.std.specs.Prelude.{ℕ, ◌+◌, List, [], ◌∷◌, ◌++◌, length, codes, decimal}
+-- run through a network. It follows the section "Reports" of docs/FORMATS.md. What becomes of a packet is what the network does
+-- with it, and the lines say just that.
+use Rattle.std.specs.Prelude.{◌≡◌, ℕ, ◌+◌, List, [], ◌∷◌, ◌++◌, length, codes, decimal}
 use Rattle.hex.specs.Hex.{encode_lower}
-use Rattle.net_run.specs.Deliveries.{Delivery, deliveries, travelling}
+use Rattle.net_run.specs.Outcomes.{AreDelivered, AreTravelling, Delivery}
 use Rattle.p4_ir.specs.NetTree.{NetData}
 use Rattle.packet_file.specs.Packets.{Packet}
+
+-- ---- what becomes of packets
+
+pub record Outcome : Type 0 where
+  pub delivered : List Delivery
+  pub travelling : ℕ
+
+-- this becomes of a packet that makes at most so many visits
+pub record IsOutcome (net : NetData) (hops : ℕ) (p : Packet) (o : Outcome) : Type 0 where
+  pub delivered : AreDelivered net p.host p.bytes hops o.delivered
+  pub travelling : AreTravelling net p.host p.bytes hops o.travelling
+
+-- one of each packet, in their order
+abbrev pub AreOutcomes : NetData → (hops : ℕ) → List Packet → List Outcome → Type 0
+AreOutcomes net hops [] [] = Unit {0}
+AreOutcomes net hops [] (o ∷ os) = ⊥
+AreOutcomes net hops (p ∷ ps) [] = ⊥
+AreOutcomes net hops (p ∷ ps) (o ∷ os) = IsOutcome net hops p o × AreOutcomes net hops ps os
+
+-- ---- lines
 
 -- NUMBER delivered COUNT travelling COUNT
 abbrev pub outcome_line : (number delivered travelling : ℕ) → List ℕ
@@ -26,21 +47,20 @@ abbrev pub delivery_lines : List Delivery → List ℕ
 delivery_lines [] = []
 delivery_lines (d ∷ ds) = delivery_line d ++ delivery_lines ds
 
--- the lines of the packet of this number, of which this is delivered, and so many copies travel
-abbrev pub outcome_lines : (number : ℕ) → List Delivery → (travelling : ℕ) → List ℕ
-outcome_lines number ds travelling = outcome_line number (length ds) travelling ++ delivery_lines ds
+-- the lines of the packet of this number
+abbrev pub outcome_lines : (number : ℕ) → Outcome → List ℕ
+outcome_lines number o =
+    outcome_line number (length o.delivered) o.travelling ++ delivery_lines o.delivered
 
--- those of a packet that makes at most so many visits
-abbrev pub packet_lines : NetData → (hops number : ℕ) → Packet → List ℕ
-packet_lines net hops number p =
-    outcome_lines number (deliveries net p.host p.bytes hops) (travelling net p.host p.bytes hops)
+-- those of all, which have their numbers from this one on
+abbrev pub lines_from : (number : ℕ) → List Outcome → List ℕ
+lines_from number [] = []
+lines_from number (o ∷ os) = outcome_lines number o ++ lines_from (number + 1) os
 
--- the report of packets, which have their numbers from this one on
-abbrev pub report_from : NetData → (hops number : ℕ) → List Packet → List ℕ
-report_from net hops number [] = []
-report_from net hops number (p ∷ ps) =
-    packet_lines net hops number p ++ report_from net hops (number + 1) ps
+-- ---- the report
 
--- the report of all packets, counted from 1
-abbrev pub report_of : NetData → (hops : ℕ) → List Packet → List ℕ
-report_of net hops packets = report_from net hops 1 packets
+-- the lines of what becomes of these packets, counted from 1
+pub record IsReport (net : NetData) (hops : ℕ) (packets : List Packet) (report : List ℕ) : Type 0 where
+  pub outcomes : List Outcome
+  pub are : AreOutcomes net hops packets outcomes
+  pub lines : report ≡ lines_from 1 outcomes

@@ -1,8 +1,5 @@
--- Cited by the clauses of `run_packets`: what becomes of a packet, and why packets are not run.
-use Rattle.std.specs.Prelude.{◌≡◌, ◌⊎◌, ℕ, suc, ◌≤◌, ◌<◌, List, [], ◌∷◌, map}
-use Rattle.net_run.specs.Deliveries.{deliveries, travelling}
-use Rattle.net_run.specs.Delivering.{delivery_of}
-use Rattle.net_run.specs.declared.delivering.Outcome.{Outcome}
+-- Cited by the clauses of `run_packets`: why packets are not run.
+use Rattle.std.specs.Prelude.{◌≡◌, ◌⊎◌, ℕ, suc, ◌≤◌, ◌<◌, List, [], ◌∷◌}
 use Rattle.net_run.specs.RunCounts.{most_runs, runs}
 use Rattle.p4_ir.specs.NetTree.{NetData}
 use Rattle.packet_file.specs.Packets.{Packet}
@@ -30,8 +27,3 @@ StopsAt net hops p NoMemory = Unit {0}
 abbrev pub Stops : NetData → (hops : ℕ) → List Packet → PacketsFault → Type 0
 Stops net hops ps (Copies count) = (count ≡ suc most_runs) × SomeOver net hops ps
 Stops net hops ps NoMemory = Unit {0}
-
--- what becomes of a packet
-pub record IsOutcome (net : NetData) (hops : ℕ) (p : Packet) (o : Outcome) : Type 0 where
-  pub delivered : map delivery_of o.delivered ≡ deliveries net p.host p.bytes hops
-  pub travelling_are : o.travelling ≡ travelling net p.host p.bytes hops

@@ -1,6 +1,7 @@
 //! The lines of what becomes of a packet.
 ghost use Rattle.std.specs.Prelude.{◌≡◌, ◌++◌, IfOk, map, OnOk, string_bytes};
 ghost use Rattle.net_run.specs.Delivering.{delivery_of};
+ghost use Rattle.packet_runs.specs.Growing.{outcome_of};
 ghost use Rattle.packet_runs.specs.Reports.{bytes_text, delivery_line, delivery_lines, outcome_line, outcome_lines};
 
 use cocoon_num::NoMemory;
@@ -61,8 +62,8 @@ pub(crate) fn push_outcome(
     number: u64,
     outcome: &Outcome,
 ) -> Result<(), NoMemory>
-    ensures { OnOk result (report.new.items ≡ report.old.items
-        ++ outcome_lines number (map delivery_of outcome.now.delivered) outcome.now.travelling) }
+    ensures { OnOk result (report.new.items
+        ≡ report.old.items ++ outcome_lines number (outcome_of outcome.now)) }
 {
     let delivered = outcome.delivered.items();
     let line = outcome_line(alloc, number, delivered.len() as u64, outcome.travelling)?;

@@ -1,13 +1,14 @@
 //! The packets of a file, run one after another.
-ghost use Rattle.std.specs.Prelude.{◌≡◌, ◌++◌, ◌≤◌, IfErr, IfOk, map, OnOk, true};
+ghost use Rattle.std.specs.Prelude.{◌≡◌, ◌≤◌, IfErr, IfOk, map, OnOk, true};
 ghost use Rattle.cocoon_num.specs.Lists.{has_number};
 ghost use Rattle.loaded_net.specs.Nets.{net_in};
 ghost use Rattle.net_run.specs.RunCounts.{most_runs, runs};
 ghost use Rattle.p4_ir.specs.Wiring.{host_numbers};
 ghost use Rattle.packet_file.specs.Judging.{packet_in};
 ghost use Rattle.packet_file.specs.Packets.{AllKnown};
-ghost use Rattle.packet_runs.specs.Reports.{packet_lines, report_of};
-ghost use Rattle.packet_runs.specs.Stopping.{AllWithin, IsOutcome, Stops, StopsAt};
+ghost use Rattle.packet_runs.specs.Growing.{AddsPacket, outcome_of};
+ghost use Rattle.packet_runs.specs.Reports.{IsOutcome, IsReport};
+ghost use Rattle.packet_runs.specs.Stopping.{AllWithin, Stops, StopsAt};
 
 use crate::lines::push_outcome;
 use cocoon_num::NoMemory;
@@ -39,7 +40,8 @@ impl From<NoMemory> for PacketsFault {
 /// What becomes of a packet whose host the network has.
 fn outcome_of(alloc: Global, net: &Net, packet: &Packet, hops: u32) -> Result<Outcome, PacketsFault>
     requires known { has_number packet.now.host (host_numbers (net_in net.now).hosts) ≡ true }
-    ensures outcome { IfOk result (IsOutcome (net_in net.now) hops (packet_in packet.now)) }
+    ensures outcome { IfOk result (λ o.
+        IsOutcome (net_in net.now) hops (packet_in packet.now) (outcome_of o)) }
     ensures within { IfOk result (λ o.
         runs (net_in net.now) packet.now.host packet.now.bytes.items hops ≤ most_runs) }
     ensures stops { IfErr result (StopsAt (net_in net.now) hops (packet_in packet.now)) }
@@ -62,8 +64,8 @@ fn push_packet(
     hops: u32,
 ) -> Result<(), PacketsFault>
     requires known { has_number packet.now.host (host_numbers (net_in net.now).hosts) ≡ true }
-    ensures lines { OnOk result (report.new.items ≡ report.old.items
-        ++ packet_lines (net_in net.now) hops number (packet_in packet.now)) }
+    ensures lines { OnOk result (AddsPacket (net_in net.now) hops number (packet_in packet.now)
+        report.old.items report.new.items) }
     ensures within { IfOk result (λ o.
         runs (net_in net.now) packet.now.host packet.now.bytes.items hops ≤ most_runs) }
     ensures stops { IfErr result (StopsAt (net_in net.now) hops (packet_in packet.now)) }
@@ -83,8 +85,8 @@ pub fn run_packets(
     hops: u32,
 ) -> Result<Vec<u8>, PacketsFault>
     requires known { AllKnown (host_numbers (net_in net.now).hosts) (map packet_in packets.now) }
-    ensures report { IfOk result (λ report. report.items
-        ≡ report_of (net_in net.now) hops (map packet_in packets.now)) }
+    ensures report { IfOk result (λ report.
+        IsReport (net_in net.now) hops (map packet_in packets.now) report.items) }
     ensures within { IfOk result (λ report.
         AllWithin (net_in net.now) hops (map packet_in packets.now)) }
     ensures stops { IfErr result (Stops (net_in net.now) hops (map packet_in packets.now)) }

@@ -7,11 +7,10 @@ pub returns-in-Ok-Some-clause-keeps : goal.returns-in-Ok-Some-clause-keeps
 returns-in-Ok-Some-clause-keeps g c =
     keeps_of c.one_outcome.ensures _ _ _ (ap (option_map stands_for) (sym c.in-Ok-Some.field-0-is) ∙ c.in-Ok-Some.ensures) (record {
       outcome = c.perform-outcome.result;
-      performs = c.perform-outcome.ensures.performs;
-      faults = c.perform-outcome.ensures.faults;
-      no_other = c.perform-outcome.ensures.no_other;
+      performs = c.perform-outcome.ensures.acts.performs;
+      counts = c.perform-outcome.ensures.acts.called.counts;
       prints = c.print.ensures;
-    }) c.perform-outcome.ensures.named
+    }) c.perform-outcome.ensures.acts.called.named
 
 pub returns-in-Ok-Some-clause-headline : goal.returns-in-Ok-Some-clause-headline
 returns-in-Ok-Some-clause-headline g c done =

@@ -1,9 +1,8 @@
-use Rattle.std.proofs.Common.{ap, map, subst, ◌∙◌}
+use Rattle.std.proofs.Common.{map, subst}
 use Rattle.loaded_net.specs.Nets.{net_in}
 use Rattle.packet_file.specs.Judging.{packet_in}
-use Rattle.packet_runs.specs.Reports.{report_of}
+use Rattle.packet_runs.specs.Reports.{IsReport}
 use Rattle.packet_runs.specs.Stopping.{AllWithin}
-use Rattle.cocoon_cli.specs.declared.report.Report.TheVariants.{Forwarded}
 use Rattle.cocoon_cli.proofs.forward.run_text.Goals as goal
 
 pub returns-in-Ok-clause-ran : goal.returns-in-Ok-clause-ran
@@ -13,5 +12,5 @@ returns-in-Ok-clause-ran c =
       packets = map packet_in c.in_ok-packets.packets.items;
       say = c.in_ok-packets.ensures.say;
       within = subst (λ ps. AllWithin net hops (map packet_in ps)) c.deref.ensures.value c.in-Ok.ensures.within;
-      told = ap Forwarded (c.from.ensures ∙ c.in-Ok.ensures.report ∙ ap (λ ps. report_of net hops (map packet_in ps)) c.deref.ensures.value);
+      told = subst (λ ps. IsReport net hops (map packet_in ps) c.in-Ok.report.items) c.deref.ensures.value c.in-Ok.ensures.report;
     }

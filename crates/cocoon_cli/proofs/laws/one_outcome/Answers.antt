@@ -17,5 +17,6 @@ returns c = one (record {
   one_over = c.one_lowering.ensures.one_limit;
   one_step = c.one_step.ensures;
   one_reading = c.one_reading.ensures;
+  same_report = c.one_report.ensures;
   no_over = c.one_lowering.ensures.no_limit;
 })

@@ -1,4 +1,4 @@
-use Rattle.cocoon_cli.proofs.Forwarded.{names, rose}
+use Rattle.cocoon_cli.proofs.Readings.{names, rose}
 use Rattle.cocoon_cli.proofs.reading.read_network.Goals as goal
 
 pub returns-in-Err-clause-failed : goal.returns-in-Err-clause-failed

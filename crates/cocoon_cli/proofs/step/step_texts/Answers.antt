@@ -1,4 +1,3 @@
-use Rattle.std.proofs.Common.{refl}
 use Rattle.cocoon_syntax.specs.TreeOf.{design_of}
 use Rattle.cocoon_cli.proofs.step.step_texts.Goals as goal
 
@@ -12,7 +11,5 @@ returns-clause-steps c =
       there = c.in_ok-case.ensures.there;
       case = read.0;
       says = read.1;
-      sent = c.in_ok-sent.sent;
-      told = refl;
-      steps = c.in_ok-sent.ensures _ binds.are.stand read.0 read.2;
+      steps = c.in_ok-run_case.ensures _ binds.are.stand read.0 read.2;
     }

@@ -1,16 +1,16 @@
-use Rattle.std.proofs.Common.{◌≡◌, ◌++◌, drop, map, ◌+◌}
+use Rattle.std.proofs.Common.{◌≡◌, drop, map, take}
 use Rattle.loaded_net.specs.Nets.{net_in}
 use Rattle.p4_ir.specs.Wiring.{host_numbers}
 use Rattle.packet_file.specs.Judging.{packet_in}
 use Rattle.packet_file.specs.Packets.{AllKnown}
-use Rattle.packet_runs.specs.Reports.{report_from, report_of}
+use Rattle.packet_runs.specs.Reports.{IsReport}
 use Rattle.packet_runs.specs.Stopping.{AllWithin, SomeOver}
 use Rattle.packet_runs.proofs.running.run_packets.Given as goal
 
 abbrev pub invariant-loop-packet : goal.invariant-loop-packet
 invariant-loop-packet l = record {
   number : l.number ≡ l.packet-index;
-  report : l.report.items ++ report_from (net_in l.net) l.hops (l.number + 1) (map packet_in (drop l.packet-index l.packets)) ≡ report_of (net_in l.net) l.hops (map packet_in l.packets);
+  report : IsReport (net_in l.net) l.hops (map packet_in (take l.packet-index l.packets)) l.report.items;
   known : AllKnown (host_numbers (net_in l.net).hosts) (map packet_in (drop l.packet-index l.packets));
   within : AllWithin (net_in l.net) l.hops (map packet_in (drop l.packet-index l.packets)) → AllWithin (net_in l.net) l.hops (map packet_in l.packets);
   over : SomeOver (net_in l.net) l.hops (map packet_in (drop l.packet-index l.packets)) → SomeOver (net_in l.net) l.hops (map packet_in l.packets);

@@ -7,10 +7,10 @@ use Rattle.p4_ir.specs.P4Tree.{RowsFile, TableRows}
 use Rattle.net_bundle.specs.Bundle.{all_switch_files, rows_text}
 use Rattle.net_bundle.specs.Writing.{FirstOver, most_of}
 use Rattle.net_bundle.specs.declared.file.BundleFile.TheVariants.{Program, Rows}
-use Rattle.cocoon_cli.specs.LowerTexts as lowered
-use Rattle.cocoon_cli.specs.LowerTexts.{LongFile}
+use Rattle.cocoon_cli.specs.Compiling as lowered
+use Rattle.cocoon_cli.specs.Compiling.{LongFile}
 use Rattle.cocoon_cli.specs.declared.files.CommandFile.TheVariants.{Bundle}
-use Rattle.cocoon_cli.proofs.lower_texts.lower_bound.Goals as goal
+use Rattle.cocoon_cli.proofs.compile.lower_bound.Goals as goal
 
 pub returns-in-Ok-clause-lowers : goal.returns-in-Ok-clause-lowers
 returns-in-Ok-clause-lowers c = λ design defs binds. record {

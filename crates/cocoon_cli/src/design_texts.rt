@@ -1,5 +1,5 @@
-//! The texts of a design and its definitions: the design with definitions that fit it, and the
-//! network that is made of them.
+//! The texts of a design and its definitions: the design with definitions that fit it. All commands
+//! that read these two texts judge them so.
 ghost use Rattle.std.specs.Prelude.{List, ℕ, Some, ◌≡◌, ◌⊎◌, ◌<◌, ◌^◌, IfErr, IfOk, IsTrue, length, slice_get};
 ghost use Rattle.cocoon_num.specs.Reads.{Reads, ReadsDefs};
 ghost use Rattle.cocoon_num.specs.Spelled.{is_spelled};
@@ -10,25 +10,15 @@ ghost use Rattle.cocoon_text.specs.Positions.{token_position};
 ghost use Rattle.cocoon_types.specs.Design.{functions};
 ghost use Rattle.cocoon_types.specs.FirstFault.{FirstFault};
 ghost use Rattle.cocoon_types.specs.RuleNames.{fault_at};
-ghost use Rattle.lower_p4.specs.Accepts.{Accepts};
-ghost use Rattle.lower_p4.specs.Grounds.{WasRead};
-ghost use Rattle.p4_ir.specs.NetOf.{net_of};
 ghost use Rattle.runtime_defs.specs.Bound as defs;
-ghost use Rattle.runtime_defs.specs.Fitting.{FitsDesign};
-ghost use Rattle.cocoon_cli.specs.LowerTexts.{BindsTables, LowersTexts, NotAccepted, NotBound, NotChecked, NotLowered, NotMade, NotMatched, NotRead, NotReadAfter, ReadsChecked};
+ghost use Rattle.cocoon_cli.specs.DesignTexts.{BindsTables, NotBound, NotChecked, NotMatched, NotRead, NotReadAfter, ReadsChecked};
 
 use crate::refusal::{DefinitionsFault, EntryRule, InputFault, Refusal};
 use cocoon_num::{LimitName, NoMemory, Text};
-use cocoon_resolve::{Checked, TypeFault, resolve};
+use cocoon_resolve::{Checked, FunId, TypeFault, resolve};
 use cocoon_syntax::{DefsText, Design};
 use cocoon_text::{Unread, position_of, read_defs, read_design};
 use cocoon_types::TypeRule;
-use declarations::FunId;
-use lower_p4::laws::one_lowering;
-use lower_p4::{LowerFault, is_accepted, lower};
-use net_bundle::laws::rows_are_long;
-use net_bundle::{BundleFault, BundleFile};
-use p4_ir::NetData;
 use runtime_defs::{Defs, DefsFault, bind};
 use sound_types::laws::code_literals_fit;
 use std::alloc::Global;
@@ -73,7 +63,7 @@ fn unresolved(alloc: Global, text: &[u8], fault: TypeFault) -> Refusal
 }
 
 /// The design of a text, where it keeps the rules and the limits.
-fn read_checked(alloc: Global, text: &[u8]) -> Result<Checked, Refusal>
+pub fn read_checked(alloc: Global, text: &[u8]) -> Result<Checked, Refusal>
     requires { length text.now < 2 ^ 31 }
     ensures reads { IfOk result (λ c. ReadsChecked text.now (design_of c)) }
     ensures words { IfOk result (λ c. IsTrue (is_spelled (design_of c))) }
@@ -83,22 +73,6 @@ fn read_checked(alloc: Global, text: &[u8]) -> Result<Checked, Refusal>
     match resolve(alloc, design) {
         Ok(checked) => Ok(checked),
         Err(fault) => Err(unresolved(alloc, text, fault)),
-    }
-}
-
-/// The design of a text, where the compiler takes it, too.
-fn read_accepted(alloc: Global, text: &[u8]) -> Result<Checked, Refusal>
-    requires { length text.now < 2 ^ 31 }
-    ensures reads { IfOk result (λ c. ReadsChecked text.now (design_of c)) }
-    ensures words { IfOk result (λ c. IsTrue (is_spelled (design_of c))) }
-    ensures accepts { IfOk result (λ c. Accepts (design_of c)) }
-    ensures refused { IfErr result (NotAccepted text.now) }
-{
-    let checked = read_checked(alloc, text)?;
-    if is_accepted(&checked) {
-        Ok(checked)
-    } else {
-        Err(Refusal::Language(InputFault::NotYet))
     }
 }
 
@@ -171,7 +145,7 @@ fn unbound(alloc: Global, text: &[u8], checked: &Checked, fault: DefsFault) -> R
 }
 
 /// The definitions of a text, where they fit this design and are within the limit on rows.
-fn bind_text(alloc: Global, checked: &Checked, text: &[u8]) -> Result<Defs, Refusal>
+pub fn bind_text(alloc: Global, checked: &Checked, text: &[u8]) -> Result<Defs, Refusal>
     requires { length text.now < 2 ^ 31 }
     ensures bound { IfOk result (λ defs. (design : List ℕ)
         → ReadsChecked design (design_of checked.now) → IsTrue (is_spelled (design_of checked.now))
@@ -200,47 +174,4 @@ pub fn bound_texts(alloc: Global, design: &[u8], defs: &[u8]) -> Result<Bound, R
     let checked = read_checked(alloc, design)?;
     let defs = bind_text(alloc, &checked, defs)?;
     Ok(Bound { checked, defs })
-}
-
-/// The network of a design that the compiler takes, and its definitions.
-fn lower_bound(alloc: Global, bound: &Bound) -> Result<NetData, Refusal>
-    requires words { IsTrue (is_spelled (design_of bound.now.checked)) }
-    requires read { WasRead (design_of bound.now.checked) }
-    requires fit { FitsDesign (design_of bound.now.checked) bound.now.defs }
-    requires accepted { Accepts (design_of bound.now.checked) }
-    ensures lowers { IfOk result (λ net. (design defs : List ℕ)
-        → BindsTables design defs (design_of bound.now.checked) bound.now.defs
-        → LowersTexts design defs (net_of net)) }
-    ensures refused { IfErr result (λ refusal. (design defs : List ℕ)
-        → BindsTables design defs (design_of bound.now.checked) bound.now.defs
-        → NotLowered design defs refusal) }
-{
-    one_lowering();
-    rows_are_long();
-    match lower(alloc, &bound.checked, &bound.defs) {
-        Ok(net) => Ok(net),
-        Err(LowerFault::Limit(limit, count)) => Err(Refusal::OverLimit(limit, count)),
-        Err(LowerFault::LongProgram(switch)) => {
-            let file = BundleFile::Program(switch);
-            Err(Refusal::from(BundleFault::Limit(file)))
-        }
-        Err(LowerFault::ManyRows(switch)) => {
-            let file = BundleFile::Rows(switch);
-            Err(Refusal::from(BundleFault::Limit(file)))
-        }
-        Err(LowerFault::NoMemory) => Err(Refusal::NoMemory),
-    }
-}
-
-/// The network of the two texts, or why there is none. The design is judged first, and whether the
-/// compiler takes it; then the definitions, and then the limits of the network.
-pub fn network(alloc: Global, design: &[u8], defs: &[u8]) -> Result<NetData, Refusal>
-    requires small { length design.now < 2 ^ 31 }
-    requires small_too { length defs.now < 2 ^ 31 }
-    ensures lowers { IfOk result (λ net. LowersTexts design.now defs.now (net_of net)) }
-    ensures refused { IfErr result (NotMade design.now defs.now) }
-{
-    let checked = read_accepted(alloc, design)?;
-    let defs = bind_text(alloc, &checked, defs)?;
-    lower_bound(alloc, &Bound { checked, defs })
 }

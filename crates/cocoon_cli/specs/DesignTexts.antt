@@ -1,5 +1,5 @@
--- Cited by the clauses of lower_texts.rt. The two texts of a command: a design with definitions that
--- fit it, and the network that is made of them, or why there is none.
+-- Cited by the clauses of design_texts.rt. The two texts of a command: a design with definitions that
+-- fit it, or why there is none.
 use Rattle.std.specs.Prelude.{◌≡◌, ◌⊎◌, ◌<◌, ℕ, List, Some, IsTrue}
 use Rattle.cocoon_num.specs.Lists.{first_of}
 use Rattle.cocoon_num.specs.Spelled.{is_spelled}
@@ -17,24 +17,16 @@ use Rattle.cocoon_types.specs.FirstFault as rules
 use Rattle.cocoon_types.specs.RuleNames.{fault_at}
 use Rattle.cocoon_types.specs.Rules.{WellFormed}
 use Rattle.design_limits.specs.First.{IsFirstOver}
-use Rattle.p4_ir.specs.NetTree.{NetData}
 use Rattle.runtime_defs.specs.Bound.{most_rows, row_count}
 use Rattle.runtime_defs.specs.Fitting.{FitsDesign}
 use Rattle.runtime_defs.specs.Places.{Places}
-use Rattle.lower_p4.specs.Accepts.{Accepts, Lowers}
-use Rattle.lower_p4.specs.LowerLimits.{IsOver, IsWithin}
-use Rattle.lower_p4.specs.Lowering.{AreOfText, IsLowering, IsSound}
-use Rattle.net_bundle.specs.Bundle.{all_switch_files}
-use Rattle.net_bundle.specs.Writing.{FirstOver, most_of}
-use Rattle.net_bundle.specs.declared.file.BundleFile.{BundleFile}
-use Rattle.cocoon_cli.specs.declared.files.CommandFile.{CommandFile}
-use Rattle.cocoon_cli.specs.declared.files.CommandFile.TheVariants.{Bundle}
-use Rattle.cocoon_cli.specs.declared.refusal.InputFault.TheVariants.{NoTree, Rule, NotYet}
+use Rattle.lower_p4.specs.Lowering.{AreOfText}
+use Rattle.cocoon_cli.specs.declared.refusal.InputFault.TheVariants.{NoTree, Rule}
 use Rattle.cocoon_cli.specs.declared.refusal.EntryRule.TheVariants.{UnknownFunction, WrongRow, TwoDefaults, GuardRows, ForkRows}
 use Rattle.cocoon_cli.specs.declared.refusal.DefinitionsFault.{DefinitionsFault}
 use Rattle.cocoon_cli.specs.declared.refusal.DefinitionsFault.TheVariants as definitions
 use Rattle.cocoon_cli.specs.declared.refusal.Refusal.{Refusal}
-use Rattle.cocoon_cli.specs.declared.refusal.Refusal.TheVariants.{Language, Definitions, OverLimit, TooLong, NoMemory}
+use Rattle.cocoon_cli.specs.declared.refusal.Refusal.TheVariants.{Language, Definitions, OverLimit, NoMemory}
 
 -- ---- what is made of the texts
 
@@ -56,17 +48,6 @@ pub record BindsTables (design defs : List ℕ) (tree : Design) (tables : Places
   pub are : AreOfText tree entries tables
   pub words : IsTrue (is_spelled tree)
   pub fit : FitsDesign tree tables
-
--- the compiler takes the design, and this is the network of both
-pub record LowersTexts (design defs : List ℕ) (net : NetData) : Type 0 where
-  pub tree : Design
-  pub tables : Places
-  pub binds : BindsTables design defs tree tables
-  pub accepts : Accepts tree
-  pub within : IsWithin tree binds.entries
-  pub lowers : Lowers tree binds.entries net
-  pub lowering : IsLowering tree binds.entries net
-  pub sound : IsSound tree binds.entries net
 
 -- ---- faults of definitions
 
@@ -112,15 +93,6 @@ NotChecked design (OverLimit limit count) =
 NotChecked design NoMemory = Unit {0}
 NotChecked design _ = ⊥
 
--- why the compiler does not take a design that is read
-abbrev pub NotTaken : (design : List ℕ) → Refusal → Type 0
-NotTaken design (Language NotYet) = (tree : Design) × ReadsChecked design tree × (¬ Accepts tree)
-NotTaken design _ = ⊥
-
--- why there is no design that the compiler takes
-abbrev pub NotAccepted : (design : List ℕ) → Refusal → Type 0
-NotAccepted design refusal = NotChecked design refusal ⊎ NotTaken design refusal
-
 -- why definitions do not read
 abbrev pub NotRead : (defs : List ℕ) → Refusal → Type 0
 NotRead defs (Definitions (definitions.NoTree f)) = FirstFault BeginsDefs defs f
@@ -134,28 +106,6 @@ NotBound design defs (OverLimit limit count) = ManyRows design defs limit count
 NotBound design defs NoMemory = Unit {0}
 NotBound design defs _ = ⊥
 
--- of the files of the switches of their network, this is the first that is over its limit
-pub record LongFile (design defs : List ℕ) (file : CommandFile) (most : ℕ) : Type 0 where
-  pub tree : Design
-  pub tables : Places
-  pub binds : BindsTables design defs tree tables
-  pub first : BundleFile
-  pub names : file ≡ Bundle first
-  pub limit : most ≡ most_of first
-  pub net : NetData
-  pub lowers : Lowers tree binds.entries net
-  pub within : IsWithin tree binds.entries
-  pub long : FirstOver (all_switch_files net.switches) first
-
--- why no network is made of a design that the compiler takes and definitions that fit it
-abbrev pub NotLowered : (design defs : List ℕ) → Refusal → Type 0
-NotLowered design defs (TooLong file most) = LongFile design defs file most
-NotLowered design defs (OverLimit limit count) =
-    (tree : Design) × (tables : Places) × (binds : BindsTables design defs tree tables)
-    × IsOver tree binds.entries limit count
-NotLowered design defs NoMemory = Unit {0}
-NotLowered design defs _ = ⊥
-
 -- definitions are judged where the design reads
 pub record NotReadAfter (design defs : List ℕ) (refusal : Refusal) : Type 0 where
   pub tree : Design
@@ -166,15 +116,3 @@ pub record NotReadAfter (design defs : List ℕ) (refusal : Refusal) : Type 0 wh
 abbrev pub NotMatched : (design defs : List ℕ) → Refusal → Type 0
 NotMatched design defs refusal =
     NotChecked design refusal ⊎ (NotReadAfter design defs refusal ⊎ NotBound design defs refusal)
-
--- the compiler takes the design of the text
-abbrev pub IsAccepted : (design : List ℕ) → Type 0
-IsAccepted design = (tree : Design) × ReadsChecked design tree × Accepts tree
-
--- why no network is made of two texts: of the definitions and the network only where the compiler
--- takes the design
-abbrev pub NotMade : (design defs : List ℕ) → Refusal → Type 0
-NotMade design defs refusal =
-    NotAccepted design refusal
-    ⊎ (IsAccepted design × (NotReadAfter design defs refusal
-    ⊎ (NotBound design defs refusal ⊎ NotLowered design defs refusal)))

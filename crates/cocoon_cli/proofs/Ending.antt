@@ -1,0 +1,38 @@
+-- Steps one after another: which are good, and which of them ends a command.
+use Rattle.std.proofs.Common.{List, [], ◌∷◌, ◌++◌, Result, Err, inl}
+use Rattle.cocoon_cli.specs.declared.answer.Report.{Report}
+use Rattle.cocoon_cli.specs.declared.refusal.Refusal.{Refusal}
+use Rattle.cocoon_cli.specs.Outcomes.{AllGood, none, good, FirstWith, here, later, Ends, no_memory, at_step, at_fault}
+use Rattle.cocoon_cli.specs.Steps.{Inputs, Step, IsGood, Refuses, Stops}
+
+pub all_good : (i : Inputs) (ss ts : List Step) → AllGood i ss → AllGood i ts → AllGood i (ss ++ ts)
+all_good i [] ts g h = h
+all_good i (s ∷ ss) ts (good a g) h = good a (all_good i ss ts g h)
+
+pub first_before : (i : Inputs) (P : Step → Type 0) (ss ts : List Step) → FirstWith i P ss → FirstWith i P (ss ++ ts)
+first_before i P [] ts h = elim h [ ]
+first_before i P (s ∷ ss) ts (here p) = here p
+first_before i P (s ∷ ss) ts (later g h) = later g (first_before i P ss ts h)
+
+pub first_after : (i : Inputs) (P : Step → Type 0) (ss ts : List Step) → AllGood i ss → FirstWith i P ts → FirstWith i P (ss ++ ts)
+first_after i P [] ts g h = h
+first_after i P (s ∷ ss) ts (good a g) h = later a (first_after i P ss ts g h)
+
+pub ends_before : (i : Inputs) (outcome : Result Report Refusal) (ss ts : List Step) → Ends i outcome ss → Ends i outcome (ss ++ ts)
+ends_before i outcome ss ts (no_memory m) = no_memory m
+ends_before i outcome ss ts (at_step h) = at_step (first_before i _ ss ts h)
+ends_before i outcome ss ts (at_fault h) = at_fault (first_before i _ ss ts h)
+
+pub ends_after : (i : Inputs) (outcome : Result Report Refusal) (ss ts : List Step) → AllGood i ss → Ends i outcome ts → Ends i outcome (ss ++ ts)
+ends_after i outcome ss ts g (no_memory m) = no_memory m
+ends_after i outcome ss ts g (at_step h) = at_step (first_after i _ ss ts g h)
+ends_after i outcome ss ts g (at_fault h) = at_fault (first_after i _ ss ts g h)
+
+pub next : (i : Inputs) (outcome : Result Report Refusal) (s : Step) (ss : List Step) → IsGood i s → Ends i outcome ss → Ends i outcome (s ∷ ss)
+next i outcome s ss g h = ends_after i outcome (s ∷ []) ss (good g none) h
+
+pub refused : (i : Inputs) (r : Refusal) (s : Step) (ss : List Step) → Refuses i s r → Ends i (Err r) (s ∷ ss)
+refused i r s ss h = at_step (here (inl h))
+
+pub stopped : (i : Inputs) (r : Refusal) (s : Step) (ss : List Step) → Stops i s r → Ends i (Err r) (s ∷ ss)
+stopped i r s ss h = at_fault (here h)

@@ -1,0 +1,81 @@
+-- Cited by the clauses of compile.rt. The network that is made of the two texts of a `compile`, or why
+-- there is none.
+use Rattle.std.specs.Prelude.{◌≡◌, ◌⊎◌, ℕ, List}
+use Rattle.cocoon_num.specs.Tree.{Design}
+use Rattle.p4_ir.specs.NetOf.{net_of}
+use Rattle.p4_ir.specs.NetTree.{NetData}
+use Rattle.runtime_defs.specs.Places.{Places}
+use Rattle.lower_p4.specs.Accepts.{Accepts, Lowers}
+use Rattle.lower_p4.specs.LowerLimits.{IsOver, IsWithin}
+use Rattle.lower_p4.specs.Lowering.{IsLowering, IsSound}
+use Rattle.net_bundle.specs.Bundle.{all_switch_files}
+use Rattle.net_bundle.specs.Writing.{FirstOver, most_of}
+use Rattle.net_bundle.specs.declared.file.BundleFile.{BundleFile}
+use Rattle.cocoon_cli.specs.declared.answer.Writing.{Writing}
+use Rattle.cocoon_cli.specs.declared.answer.Writing.TheVariants as written
+use Rattle.cocoon_cli.specs.declared.files.CommandFile.{CommandFile}
+use Rattle.cocoon_cli.specs.declared.files.CommandFile.TheVariants.{Bundle}
+use Rattle.cocoon_cli.specs.declared.refusal.InputFault.TheVariants.{NotYet}
+use Rattle.cocoon_cli.specs.declared.refusal.Refusal.{Refusal}
+use Rattle.cocoon_cli.specs.declared.refusal.Refusal.TheVariants.{Language, OverLimit, TooLong, NoMemory}
+use Rattle.cocoon_cli.specs.DesignTexts.{BindsTables, NotBound, NotChecked, NotReadAfter, ReadsChecked}
+
+-- the compiler takes the design, and this is the network of both
+pub record LowersTexts (design defs : List ℕ) (net : NetData) : Type 0 where
+  pub tree : Design
+  pub tables : Places
+  pub binds : BindsTables design defs tree tables
+  pub accepts : Accepts tree
+  pub within : IsWithin tree binds.entries
+  pub lowers : Lowers tree binds.entries net
+  pub lowering : IsLowering tree binds.entries net
+  pub sound : IsSound tree binds.entries net
+
+-- this is written: the bundle of that network under the given name
+abbrev pub Compiles : (out design defs : List ℕ) → Writing → Type 0
+Compiles out design defs (written.Bundle name net) =
+    (name.now ≡ out) × LowersTexts design defs (net_of net)
+Compiles out design defs w = ⊥
+
+-- why the compiler does not take a design that is read
+abbrev pub NotTaken : (design : List ℕ) → Refusal → Type 0
+NotTaken design (Language NotYet) = (tree : Design) × ReadsChecked design tree × (¬ Accepts tree)
+NotTaken design _ = ⊥
+
+-- why there is no design that the compiler takes
+abbrev pub NotAccepted : (design : List ℕ) → Refusal → Type 0
+NotAccepted design refusal = NotChecked design refusal ⊎ NotTaken design refusal
+
+-- of the files of the switches of their network, this is the first that is over its limit
+pub record LongFile (design defs : List ℕ) (file : CommandFile) (most : ℕ) : Type 0 where
+  pub tree : Design
+  pub tables : Places
+  pub binds : BindsTables design defs tree tables
+  pub first : BundleFile
+  pub names : file ≡ Bundle first
+  pub limit : most ≡ most_of first
+  pub net : NetData
+  pub lowers : Lowers tree binds.entries net
+  pub within : IsWithin tree binds.entries
+  pub long : FirstOver (all_switch_files net.switches) first
+
+-- why no network is made of a design that the compiler takes and definitions that fit it
+abbrev pub NotLowered : (design defs : List ℕ) → Refusal → Type 0
+NotLowered design defs (TooLong file most) = LongFile design defs file most
+NotLowered design defs (OverLimit limit count) =
+    (tree : Design) × (tables : Places) × (binds : BindsTables design defs tree tables)
+    × IsOver tree binds.entries limit count
+NotLowered design defs NoMemory = Unit {0}
+NotLowered design defs _ = ⊥
+
+-- the compiler takes the design of the text
+abbrev pub IsAccepted : (design : List ℕ) → Type 0
+IsAccepted design = (tree : Design) × ReadsChecked design tree × Accepts tree
+
+-- why no network is made of two texts: of the definitions and the network only where the compiler
+-- takes the design
+abbrev pub NotMade : (design defs : List ℕ) → Refusal → Type 0
+NotMade design defs refusal =
+    NotAccepted design refusal
+    ⊎ (IsAccepted design × (NotReadAfter design defs refusal
+    ⊎ (NotBound design defs refusal ⊎ NotLowered design defs refusal)))

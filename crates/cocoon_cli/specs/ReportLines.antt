@@ -1,0 +1,38 @@
+-- Cited by the clauses of compile.rt and step.rt, and through Outcomes.antt by `keeps` of `run`. The
+-- reports of commands that succeed. It follows "Reports" in docs/FORMATS.md.
+use Rattle.std.specs.Prelude.{ℕ, List, [], ◌∷◌, ◌++◌, length, Option, Some, None, codes, decimal}
+use Rattle.p4_ir.specs.NetTree.{NetData}
+use Rattle.case_runs.specs.declared.sent.Sent.{Sent}
+use Rattle.cocoon_cli.specs.declared.compile.Totals.{Totals}
+
+-- how many switches, hosts and links a network has
+abbrev pub totals_of : NetData → Totals
+totals_of net = record {
+  switches = length net.switches;
+  hosts = length net.hosts;
+  links = length net.links;
+}
+
+abbrev pub totals_line : Totals → List ℕ
+totals_line t =
+    codes "compiled switches " ++ (decimal t.switches ++ (codes " hosts " ++ (decimal t.hosts
+    ++ (codes " links " ++ (decimal t.links ++ codes " obligations 0\n")))))
+
+-- some numbers, each behind a space
+abbrev pub spaced : List ℕ → List ℕ
+spaced [] = []
+spaced (n ∷ ns) = 32 ∷ (decimal n ++ spaced ns)
+
+-- a list of numbers behind a space; `-` where it is empty
+abbrev pub list_text : List ℕ → List ℕ
+list_text [] = codes " -"
+list_text (n ∷ ns) = spaced (n ∷ ns)
+
+-- ROLE VALUES : FIELDS
+abbrev pub sent_line : Sent → List ℕ
+sent_line s = s.role ++ (list_text s.values ++ (codes " :" ++ (list_text s.fields ++ codes "\n")))
+
+-- what a body does with a packet: it sends it, or nothing is sent
+abbrev pub sent_text : Option Sent → List ℕ
+sent_text None = codes "nothing\n"
+sent_text (Some sent) = sent_line sent

@@ -1,0 +1,190 @@
+-- Cited by the clauses of shell.rt and of the commands. What one call of the shell does: it reads the
+-- files of a command, asks the command for its answer over what was read, and writes what the answer
+-- says.
+use Rattle.std.specs.Prelude.{◌≡◌, ◌⊎◌, ◌≤◌, ◌<◌, ◌^◌, ℕ, List, ◌++◌, length, Option, Some, None, Result, Ok, Err, IsTrue}
+use Rattle.cocoon_io.specs.Files.{Files}
+use Rattle.cocoon_io.specs.Calls.{with_file}
+use Rattle.loaded_net.specs.Nets.{net_in}
+use Rattle.loaded_net.specs.declared.net.Net.{Net}
+use Rattle.net_bundle.specs.Bundle as bundle_of
+use Rattle.net_bundle.specs.Bundle.{whole_name}
+use Rattle.net_bundle.specs.Writing.{AllFit, ContentHolds, NotWritten}
+use Rattle.net_bundle.specs.declared.file.BundleFile.{BundleFile}
+use Rattle.p4_ir.specs.NetFits.{net_fits}
+use Rattle.net_bundle.specs.declared.fault.BundleFault.{BundleFault}
+use Rattle.p4_ir.specs.NetOf.{net_of}
+use Rattle.command_line.specs.Command.{Command, compile, step, forward}
+use Rattle.cocoon_cli.specs.declared.answer.Answer.{Answer}
+use Rattle.cocoon_cli.specs.declared.answer.Report.{Report}
+use Rattle.cocoon_cli.specs.declared.answer.Writing.{Writing as Written}
+use Rattle.cocoon_cli.specs.declared.answer.Writing.TheVariants as written
+use Rattle.cocoon_cli.specs.declared.files.CommandFile.{CommandFile}
+use Rattle.cocoon_cli.specs.declared.files.CommandFile.TheVariants.{Design, Definitions, Bundle, Case, Packets}
+use Rattle.cocoon_cli.specs.declared.files.Wanted.{Wanted}
+use Rattle.cocoon_cli.specs.declared.reading.Read.{Read}
+use Rattle.cocoon_cli.specs.declared.refusal.Refusal.{Refusal}
+use Rattle.cocoon_cli.specs.declared.refusal.Refusal.TheVariants.{WriteFault, NoMemory}
+use Rattle.cocoon_cli.specs.Compiling.{Compiles}
+use Rattle.cocoon_cli.specs.FileNames.{bundle_in, most_in, name_in}
+use Rattle.cocoon_cli.specs.Leaves.{Writing, nothing, bundle, own, with_writing}
+use Rattle.cocoon_cli.specs.Outcomes.{AllGood, Ends, Reports}
+use Rattle.cocoon_cli.specs.Reading.{FileNotRead, HasFile, IsRead, IsUnread, bundle_refusal}
+use Rattle.cocoon_cli.specs.Report.{Fault, by_read, by_write, fault_in, fault_of}
+use Rattle.cocoon_cli.specs.Run.{Count, CountsFault, InputsAre, NamesFault, Performs}
+use Rattle.cocoon_cli.specs.Steps.{Inputs, BundleIs, asks, reads, writes}
+
+-- ---- files
+
+-- the name and the most bytes of a file that the command reads by a name of its own
+abbrev pub IsWanted : Command → CommandFile → Option Wanted → Type 0
+IsWanted c file None = most_in c file ≡ None
+IsWanted c file (Some w) = (most_in c file ≡ Some w.most) × (w.name.now ≡ name_in c file)
+
+-- the folder gives these bytes, if there is such a file
+abbrev pub HasWanted : Option Files → (name : List ℕ) → Option ℕ → List ℕ → Type 0
+HasWanted content name None bytes = Unit {0}
+HasWanted content name (Some most) bytes = HasFile content name most bytes × (length bytes ≤ most)
+
+-- why it gives none
+abbrev pub LacksWanted : Option Files → (name : List ℕ) → CommandFile → Option ℕ → Refusal → Type 0
+LacksWanted content name file None r = ⊥
+LacksWanted content name file (Some most) r = FileNotRead content name file most r
+
+-- the folder gives this network, if the command reads a bundle
+abbrev pub HasNet : Option Files → Option (List ℕ) → Option Net → Type 0
+HasNet content None net = Unit {0}
+HasNet content (Some out) None = ⊥
+HasNet content (Some out) (Some net) = IsRead content out net
+
+-- why it gives none
+abbrev pub LacksNet : Option Files → Option (List ℕ) → Refusal → Type 0
+LacksNet content None r = ⊥
+LacksNet content (Some out) r = IsUnread content out r
+
+-- ---- calls of the folder
+
+-- it is no failed write
+abbrev pub IsReading : Fault → Type 0
+IsReading (by_write file) = ⊥
+IsReading fault = Unit {0}
+
+-- it is no fault of the folder
+abbrev pub IsNoFault : Fault → Type 0
+IsNoFault (by_read file) = ⊥
+IsNoFault (by_write file) = ⊥
+IsNoFault fault = Unit {0}
+
+-- The fault that the answer speaks of was counted, and no other, and it is about the file of the last
+-- call that failed.
+pub record Called {A : Type 0} (last_failure : List ℕ → Type 0) (c : Command) (reads writes : Count)
+    (answer : Result A Refusal) : Type 0 where
+  pub counts : CountsFault reads writes (fault_in answer)
+  pub named : NamesFault last_failure c (fault_in answer)
+
+-- ---- what was read
+
+-- these bytes were read of a file, if it is read
+abbrev pub Given : Inputs → CommandFile → Option ℕ → List ℕ → Type 0
+Given inputs file None bytes = Unit {0}
+Given inputs file (Some most) bytes = (inputs.file file ≡ Some bytes) × (length bytes ≤ most)
+
+-- this network was read of a bundle, if one is read
+abbrev pub GivenNet : Inputs → Option (List ℕ) → Option Net → Type 0
+GivenNet inputs None net = Unit {0}
+GivenNet inputs (Some out) None = ⊥
+GivenNet inputs (Some out) (Some net) = BundleIs inputs out (net_in net)
+
+-- this was read for a command
+pub record IsGiven (c : Command) (inputs : Inputs) (read : Read) : Type 0 where
+  pub design : Given inputs Design (most_in c Design) read.design.items
+  pub definitions : Given inputs Definitions (most_in c Definitions) read.definitions.items
+  pub case : Given inputs Case (most_in c Case) read.case.items
+  pub packets : Given inputs Packets (most_in c Packets) read.packets.items
+  pub net : GivenNet inputs (bundle_in c) read.net
+
+-- no text is longer than a reader of texts takes
+pub record IsShort (read : Read) : Type 0 where
+  pub design : length read.design.items < 2 ^ 31
+  pub definitions : length read.definitions.items < 2 ^ 31
+
+-- all that a command reads was read
+pub record ReadsAll (c : Command) (content : Option Files) (read : Read) : Type 0 where
+  pub inputs : Inputs
+  pub inputs_are : InputsAre c content inputs
+  pub good : AllGood inputs (reads c)
+  pub given : IsGiven c inputs read
+
+-- why it was not
+pub record ReadsNot (c : Command) (content : Option Files) (r : Refusal) : Type 0 where
+  pub inputs : Inputs
+  pub inputs_are : InputsAre c content inputs
+  pub ends : Ends inputs (Err r) (reads c)
+  pub reading : IsReading (fault_of r)
+
+-- ---- answers
+
+-- A command answers this, whatever its inputs are of which this was read.
+abbrev pub Asked : Command → Inputs → Result Answer Refusal → Type 0
+Asked c inputs (Ok answer) = AllGood inputs (asks c) × Reports c inputs answer.report
+Asked c inputs (Err r) = Ends inputs (Err r) (asks c ++ writes c)
+
+-- a refusal is about no fault of the folder
+abbrev pub IsQuiet : Refusal → Type 0
+IsQuiet r = IsNoFault (fault_of r)
+
+-- what it writes: `compile` the bundle of the network that is made of its two texts, all others
+-- nothing
+abbrev pub Plans : Command → Read → Written → Type 0
+Plans (compile design defs out) read w = Compiles out read.design.items read.definitions.items w
+Plans (step design defs level file) read w = w ≡ written.Nothing
+Plans (forward out packets hops) read w = w ≡ written.Nothing
+
+-- ---- writes
+
+-- what stands in the folder where it is written
+abbrev pub writing_of : Command → Read → Written → Writing
+writing_of c read written.Nothing = nothing
+writing_of c read (written.Bundle name net) =
+    bundle name.now (bundle_of.bundle read.design.items (net_of net) None)
+writing_of c read (written.Own file bytes) = own file (name_in c file) bytes
+
+-- it may be written: a bundle is the one that the command names, and can be read back
+abbrev pub CanWrite : Command → Written → Type 0
+CanWrite c (written.Bundle name net) =
+    ((file : BundleFile) → whole_name name.now file ≡ name_in c (Bundle file))
+    × IsTrue (net_fits (net_of net))
+CanWrite c w = Unit {0}
+
+-- no file of a bundle is longer than it may be
+abbrev pub Fits : Writing → Type 0
+Fits nothing = Unit {0}
+Fits (bundle out files) = AllFit files
+Fits (own file name bytes) = Unit {0}
+
+-- it is all written, and all of it fits
+pub record AllWritten (w : Writing) (before after : Option Files) : Type 0 where
+  pub fits : Fits w
+  pub stands : after ≡ with_writing w before
+
+-- a bundle that was written gives its network
+abbrev pub HoldsNet : Read → Written → (before after : Option Files) → Type 0
+HoldsNet read (written.Bundle name net) before after =
+    ContentHolds before after name.now read.design.items (net_of net) None
+HoldsNet read w before after = Unit {0}
+
+-- why it was not all written
+abbrev pub NotAllWritten : Writing → (before after : Option Files) → Refusal → Type 0
+NotAllWritten nothing before after r = ⊥
+NotAllWritten (bundle out files) before after r =
+    (fault : BundleFault) × NotWritten out files before after fault × (r ≡ bundle_refusal fault)
+NotAllWritten (own file name bytes) before after r =
+    ((r ≡ NoMemory) × (after ≡ before))
+    ⊎ ((r ≡ WriteFault file) × ((after ≡ before) ⊎ (after ≡ with_file before name bytes)))
+
+-- ---- a command
+
+-- what a command does to a folder
+pub record Acts (last_failure : List ℕ → Type 0) (c : Command) (before after : Option Files)
+    (reads writes : Count) (outcome : Result Report Refusal) : Type 0 where
+  pub performs : Performs c before after outcome
+  pub called : Called last_failure c reads writes outcome

@@ -1,0 +1,58 @@
+//! One call of a command: all that it reads is read, the command is asked for its answer over what
+//! was read, and what it answers is written. A command has no folder, so it can read and write nothing
+//! else.
+ghost use Rattle.std.specs.Prelude.{IfErr, IfOk, Some};
+ghost use Rattle.command_line.specs.Stands.{stands_for};
+ghost use Rattle.cocoon_cli.specs.Headline.{CompiledOf};
+ghost use Rattle.cocoon_cli.specs.Run.{count};
+ghost use Rattle.cocoon_cli.specs.Shell.{Acts, Asked, IsGiven, IsQuiet, IsShort, Plans};
+ghost use Rattle.cocoon_cli.specs.Steps.{Inputs};
+
+use crate::answer::{Answer, Report};
+use crate::compile::compile;
+use crate::forward::forward;
+use crate::reading::{Read, read_all};
+use crate::refusal::Refusal;
+use crate::step::step;
+use crate::writing::write_all;
+use cocoon_io::Folder;
+use command_line::Command;
+use std::alloc::Global;
+
+/// What a command answers over what was read.
+fn ask<'w>(alloc: Global, command: &Command<'w>, read: &Read) -> Result<Answer<'w>, Refusal>
+    requires short { IsShort read.now }
+    ensures asked { (inputs : Inputs) → IsGiven (stands_for command.now) inputs read.now
+        → Asked (stands_for command.now) inputs result }
+    ensures plans { IfOk result (λ a. Plans (stands_for command.now) read.now a.writing) }
+    ensures quiet { IfErr result IsQuiet }
+{
+    match command {
+        Command::Compile(names) => compile(alloc, names, &read.design, &read.definitions),
+        Command::Step(asked) => { step(alloc, asked, &read.design, &read.definitions, &read.case) }
+        Command::Forward(asked) => match &read.net {
+            Some(net) => forward(alloc, asked, net, &read.packets),
+            None => Err(Refusal::NoMemory),
+        },
+    }
+}
+
+/// Performs a command.
+pub fn perform<F: Folder>(
+    alloc: Global,
+    command: &Command<'_>,
+    folder: &mut F,
+) -> Result<Report, Refusal>
+    ensures acts { Acts (F.last_failure folder.new) (stands_for command.now)
+        (F.content folder.old) (F.content folder.new)
+        (count F.last_read_fault (F.read_faults folder.old) (F.read_faults folder.new))
+        (count F.last_write_fault (F.write_faults folder.old) (F.write_faults folder.new))
+        result }
+    ensures headline { IfOk result (λ report.
+        CompiledOf (Some (stands_for command.now)) (F.content folder.old) (F.content folder.new)) }
+{
+    let read = read_all(alloc, folder, command)?;
+    let answer = ask(alloc, command, &read)?;
+    write_all(alloc, folder, command, &read, &answer.writing)?;
+    Ok(answer.report)
+}
