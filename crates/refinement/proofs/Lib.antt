@@ -9,3 +9,4 @@ pub mod AllLevels
 pub mod Together
 pub mod Ways
 pub mod Hops
+pub mod Indices

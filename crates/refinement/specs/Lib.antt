@@ -4,3 +4,4 @@ pub mod Owed
 pub mod Ways
 pub mod Delivering
 pub mod Plain
+pub mod Indices

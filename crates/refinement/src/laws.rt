@@ -1,9 +1,11 @@
 //! What the rules of designs give of levels, and what a refinement that keeps what it owes gives of
 //! deliveries. The functions do nothing; their contracts are the laws.
-ghost use Rattle.std.specs.Prelude.{◌++◌, ◌≡◌, ◌≤◌, false, List, ℕ, slice_get, Some, suc};
+ghost use Rattle.std.specs.Prelude.{◌++◌, ◌≡◌, ◌≤◌, false, List, ℕ, slice_get, Some, suc, true};
+ghost use Rattle.cocoon_num.specs.Lists.{no_repeats};
 ghost use Rattle.cocoon_num.specs.PacketForms.{PacketFits};
 ghost use Rattle.cocoon_num.specs.Packets.{Packet};
-ghost use Rattle.cocoon_num.specs.Tree.{Design, Refine, Role};
+ghost use Rattle.cocoon_num.specs.Reads.{Reads};
+ghost use Rattle.cocoon_num.specs.Tree.{Block, Design, Refine, Role};
 ghost use Rattle.cocoon_types.specs.Design.{last_level, layout, role_at};
 ghost use Rattle.cocoon_types.specs.RuleParts.{has_name};
 ghost use Rattle.cocoon_types.specs.Rules.{WellFormed};
@@ -11,6 +13,7 @@ ghost use Rattle.cocoon_types.specs.Runs.{Go, IsSink, LastGo, Loc, MayMake, Walk
 ghost use Rattle.cocoon_types.specs.Tables.{Defs};
 ghost use Rattle.cocoon_types.specs.Taken.{go, guard_at, Used};
 ghost use Rattle.refinement.specs.Delivering.{MayIn};
+ghost use Rattle.refinement.specs.Indices.{block_indices};
 ghost use Rattle.refinement.specs.Plain.{plainly};
 ghost use Rattle.refinement.specs.Assumptions.{AreDefinitions, Meets};
 ghost use Rattle.refinement.specs.Owed.{Contained, Refines, Within};
@@ -65,6 +68,14 @@ pub fn packets_keep_fitting()
     runs_keep_types();
 }
 
+/// In a design that was read no two statements of a body have one token index: so a choice, which is
+/// known by that of its statement, differs from each other choice.
+pub fn statements_differ()
+    ensures { (text : List ℕ) (d : Design) → Reads text d
+        → (level : ℕ) (name : List ℕ) (r : Role) → role_at level d name ≡ Some r
+        → (body : Block) → r.body ≡ Some body → no_repeats (block_indices body) ≡ true }
+{}
+
 /// Definitions that meet the assumptions of a level meet those of the level above.
 pub fn assumptions_of_levels()
     ensures { (d : Design) (above : ℕ) (block : Refine) → slice_get d.refines above ≡ Some block
@@ -117,8 +128,8 @@ pub fn ways_are_runs()
 {}
 
 /// A segment that has left the new roles, or has as many bodies as are allowed, is what a program
-/// computes that notes the branches taken, whatever choices follow. What that computes from a refined
-/// role is such a segment, by the choices that it used.
+/// computes that notes the branches taken, whatever choices follow. What that computes from a
+/// refined role is such a segment, by the choices that it used.
 pub fn segments_are_hops()
     ensures computed { (d : Design) (above : ℕ) (block : Refine) (defs : Defs)
         (from : Loc) (packet : Packet) (choices : List ℕ) (bodies : ℕ) (to : Loc) (sent : Packet)

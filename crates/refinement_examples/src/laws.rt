@@ -11,8 +11,8 @@ ghost use Rattle.refinement.specs.Ways.{hops_by};
 
 use cocoon_types::runs::runs_are_taken;
 
-/// In the design m a packet from the first host to the second goes to the switch by one body, through
-/// it by two and to the host by three. Its sender's body at level 0 sends the same.
+/// In the design m a packet from the first host to the second goes to the switch by one body,
+/// through it by two and to the host by three. Its sender's body at level 0 sends the same.
 pub fn segments_of_m()
     ensures one { Segment 0 m_design m_block m_defs (at_role (codes "HostOut") (167772161 ∷ []))
         packet_m [] 1 (at_role (codes "SwIn") (1 ∷ 0 ∷ [])) packet_m }
@@ -28,8 +28,8 @@ pub fn segments_of_m()
     runs_are_taken();
 }
 
-/// In the design t such a packet goes by the trunk: to the first switch, to the trunk, to the second
-/// switch, to the host's port and to the host, in five bodies, by these branches.
+/// In the design t such a packet goes by the trunk: to the first switch, to the trunk, to the
+/// second switch, to the host's port and to the host, in five bodies, by these branches.
 pub fn segments_of_t()
     ensures one { Segment 0 t_design t_block t_defs (at_role (codes "HostOut") (167772161 ∷ []))
         packet_m [] 1 (at_role (codes "SwIn") (1 ∷ 0 ∷ [])) packet_m }
@@ -52,8 +52,8 @@ pub fn segments_of_t()
     runs_are_taken();
 }
 
-/// If the second host's port is taken for a trunk, five bodies of t, as many as its block allows, end
-/// at a new role. An assumption fails then, so nothing is owed for these definitions.
+/// If the second host's port is taken for a trunk, five bodies of t, as many as its block allows,
+/// end at a new role. An assumption fails then, so nothing is owed for these definitions.
 pub fn segments_that_stay_new()
     ensures segment { Segment 0 t_design t_block t_loop_defs
         (at_role (codes "HostOut") (167772161 ∷ [])) packet_m [] 5
@@ -66,8 +66,8 @@ pub fn segments_that_stay_new()
 }
 
 /// In the design of three levels one body leads to the host at level 1, as level 0 may choose, and
-/// three do at level 2, as level 1 does in one. An assumption of level 1 fails, if packets may go to
-/// what is no host; level 0 has none.
+/// three do at level 2, as level 1 does in one. An assumption of level 1 fails, if packets may go
+/// to what is no host; level 0 has none.
 pub fn segments_of_three()
     ensures one { Segment 0 three_design three_block_1 three_defs (at_role (codes "Out") (1 ∷ []))
         packet_three [] 1 (at_role (codes "In") (2 ∷ [])) packet_three }

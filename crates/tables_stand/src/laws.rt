@@ -1,5 +1,5 @@
-//! What tables stand for that were not read of a text. The function does nothing; its contract is the
-//! law.
+//! What tables stand for that were not read of a text. The function does nothing; its contract is
+//! the law.
 ghost use Rattle.std.specs.Prelude.{All, ◌≡◌, List, Option};
 ghost use Rattle.cocoon_num.specs.Tree.{Design};
 ghost use Rattle.cocoon_num.specs.declared.fun_table.FunTable.{FunTable};
