@@ -16,14 +16,17 @@ use Rattle.cocoon_types.specs.Taken.{RunsAreTaken}
 use Rattle.refinement.specs.Delivering.{MayIn}
 use Rattle.refinement.proofs.Down.{Step, level_down}
 use Rattle.refinement.proofs.Hosts.{has_hosts}
-use Rattle.refinement.proofs.Lists.{all_front, at_place, nil_left, none_at, passes, some_there}
+use Rattle.refinement.proofs.Lists.{all_front}
 use Rattle.refinement.proofs.Moving.{old_by}
-use Rattle.refinement.proofs.Roles.{next_decls, role_in, role_there, roles_grow}
+use Rattle.refinement.proofs.Roles.{next_decls}
 use Rattle.refinement.specs.Assumptions.{AreDefinitions, IsMet, Meets}
 use Rattle.refinement.specs.Owed.{Refines}
 use Rattle.refinement.specs.Segments.{IsOld}
 use Rattle.sound_types.specs.Soundness.{KeepsTypes}
 use Rattle.sound_types.specs.WellTyped.{IsTypedRole}
+use Rattle.sound_types.proofs.Options.{nil_left, passes, some_there}
+use Rattle.sound_types.proofs.Members.{at_place, none_at}
+use Rattle.sound_types.proofs.Levels.{role_in, role_there, roles_grow}
 
 -- ---- blocks
 

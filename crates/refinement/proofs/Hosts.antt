@@ -12,8 +12,9 @@ use Rattle.cocoon_types.specs.Runs.{Loc, IsSink, world}
 use Rattle.cocoon_types.specs.SameTrees.{same_truth}
 use Rattle.cocoon_types.specs.Sites.{DeclSite, sites_of, sites_from, decl_sites}
 use Rattle.cocoon_types.specs.Tables.{Defs}
-use Rattle.refinement.proofs.Lists.{In, at_place, in_either, in_filter, filter_in, in_left, nil_left, nil_right, none_at, passes, same_text, some_there, text_self}
-use Rattle.refinement.proofs.Roles.{block_decls, role_in, role_there, roles_all, roles_grow}
+use Rattle.sound_types.proofs.Options.{nil_left, nil_right, passes, same_text, some_there, text_self}
+use Rattle.sound_types.proofs.Members.{In, at_place, in_either, in_filter, filter_in, in_left, none_at}
+use Rattle.sound_types.proofs.Levels.{block_decls, role_in, role_there, roles_all, roles_grow}
 
 -- ---- where the hosts are declared
 

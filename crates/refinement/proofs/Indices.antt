@@ -8,8 +8,8 @@ use Rattle.cocoon_num.specs.Tokens.{Kind}
 use Rattle.cocoon_num.specs.Tree.{Expr, Exprs, Stmt, Block, Param, Role, Decl, a_function, an_assumption, a_role, a_host, a_switch, Refine, Design}
 use Rattle.cocoon_types.specs.Design.{as_role, decls_to, role_at}
 use Rattle.refinement.specs.Indices.{block_indices, stmt_indices}
-use Rattle.refinement.proofs.Lists.{In, in_either, in_filter}
-use Rattle.refinement.proofs.Roles.{block_decls, role_in}
+use Rattle.sound_types.proofs.Members.{In, in_either, in_filter}
+use Rattle.sound_types.proofs.Levels.{block_decls, role_in}
 
 -- ---- phrases go forward
 

@@ -14,11 +14,11 @@ use Rattle.cocoon_types.specs.Tables.{Defs}
 use Rattle.cocoon_types.specs.Taken.{guard_at}
 use Rattle.cocoon_types.specs.Typing.{Scope, with_var}
 use Rattle.cocoon_types.specs.Val.{Env, bind, bound, context, value}
-use Rattle.refinement.proofs.Lists.{some_there}
 use Rattle.refinement.proofs.Roles.{header_kept, role_stays, unlisted_stays}
 use Rattle.refinement.proofs.SameTrees.{same_bind, same_value}
 use Rattle.refinement.specs.Segments.{IsNew, IsOld, is_old}
 use Rattle.sound_types.specs.WellTyped.{IsTyped, IsTypedRole, IsTypedStmt, scope_at}
+use Rattle.sound_types.proofs.Options.{some_there}
 
 -- ---- where a body sends, the guard is true
 

@@ -1,18 +1,21 @@
 -- The roles of a level and of the next one: those that a block does not declare stay, and each keeps its parameters and guard.
-use Rattle.std.proofs.Common.{◌≡◌, ◌⊎◌, inl, inr, ℕ, zero, suc, ◌+◌, ◌≤◌, ◌&&◌, ◌||◌, List, [], ◌∷◌, ◌++◌, map, length, take, reverse, not, Bool, true, false, cond, Option, Some, None, refl, sym, ap, subst, ◌∙◌, arith}
-use Rattle.std.specs.Prelude.{flat_map, filter_map, filter, slice_get}
+use Rattle.std.proofs.Common.{◌≡◌, ◌⊎◌, inl, inr, ℕ, zero, suc, ◌&&◌, ◌||◌, List, [], ◌∷◌, ◌++◌, map, take, reverse, not, Bool, true, false, cond, Option, Some, None, refl, sym, ap, subst, ◌∙◌, arith}
+use Rattle.std.specs.Prelude.{filter_map, filter, slice_get}
 use Rattle.std.proofs.lemmas.List.{append_assoc, append-nil, reverse-append}
 use Rattle.std.proofs.lemmas.List.Concat.{flat_map-append}
 use Rattle.std.proofs.lemmas.List.Elements.{filter_map-append}
 use Rattle.cocoon_num.specs.Names.{same_name, named}
-use Rattle.cocoon_num.specs.Tree.{Name, Role, Decl, Refine, Design}
-use Rattle.cocoon_types.specs.Design.{all_decls, as_role, decls_to, role_at}
+use Rattle.cocoon_num.specs.Tree.{Name, Role, Refine, Design}
+use Rattle.cocoon_types.specs.Design.{as_role, decls_to, role_at}
 use Rattle.cocoon_types.specs.FormRules.{changed_in}
 use Rattle.cocoon_types.specs.NameRules.{roles_again}
-use Rattle.cocoon_types.specs.RuleParts.{unless_named, has_name, role_names, roles_of, blocks_from}
+use Rattle.cocoon_types.specs.RuleParts.{unless_named, has_name, role_names}
 use Rattle.cocoon_types.specs.Rules.{WellFormed, twice, header_changed}
 use Rattle.cocoon_types.specs.SameTrees.{same_params, same_expr}
-use Rattle.refinement.proofs.Lists.{In, both_true, passes, nil_left, nil_right, in_left, in_right, in_either, in_reverse, reverse_in, in_filter, filter_in, named_there, named_some, named_either, text_self, none_at}
+use Rattle.refinement.proofs.Lists.{named_either}
+use Rattle.sound_types.proofs.Options.{both_true, passes, nil_left, nil_right, text_self}
+use Rattle.sound_types.proofs.Members.{In, in_left, in_reverse, none_at}
+use Rattle.sound_types.proofs.Levels.{block_at, block_decls, role_in, role_name, role_there, roles_to}
 
 -- ---- blocks
 
@@ -22,47 +25,20 @@ next_take [] i b h = absurd (cc)
 next_take (c ∷ bs) zero b h = let e : c ≡ b = cc in ap (λ x. x ∷ []) e
 next_take (c ∷ bs) (suc i) b h = ap (λ xs. c ∷ xs) (next_take bs i b h)
 
--- the declarations of some blocks
-abbrev pub block_decls : List Refine → List Decl
-block_decls bs = flat_map (λ (b : Refine). b.decls) bs
-
 pub next_decls : (d : Design) (i : ℕ) (b : Refine) → slice_get d.refines i ≡ Some b → decls_to (suc i) d ≡ decls_to i d ++ b.decls
 next_decls d i b h =
     ap (λ bs. d.decls ++ block_decls bs) (next_take d.refines i b h)
     ∙ ap (λ xs. d.decls ++ xs) (flat_map-append (λ (c : Refine). c.decls) (take i d.refines) (b ∷ []) ∙ ap (λ xs. block_decls (take i d.refines) ++ xs) (append-nil b.decls))
     ∙ sym (append_assoc d.decls (block_decls (take i d.refines)) b.decls)
 
--- what a rule on blocks gives of each
-pub block_at : (rule : ℕ → Refine → List ℕ) (above : ℕ) (bs : List Refine) → blocks_from rule above bs ≡ [] → (i at : ℕ) (b : Refine) → at ≡ above + i → slice_get bs i ≡ Some b → rule at b ≡ []
-block_at rule above [] h i at b e g = absurd (cc)
-block_at rule above (c ∷ bs) h zero at b e g =
-    let here : at ≡ above = omega (arith, e) in
-    let same : b ≡ c = cc in
-    (λ k. rule (here k) (same k)) ∙ nil_left (rule above c) (blocks_from rule (suc above) bs) h
-block_at rule above (c ∷ bs) h (suc i) at b e g = block_at rule (suc above) bs (nil_right (rule above c) (blocks_from rule (suc above) bs) h) i at b (omega (arith, e)) g
-
 -- ---- roles
-
--- the roles of levels 0 to i
-abbrev pub roles_to : ℕ → Design → List Role
-roles_to i d = filter_map as_role (decls_to i d)
 
 -- those of a block
 abbrev pub roles_in : Refine → List Role
 roles_in b = filter_map as_role b.decls
 
-abbrev pub role_name : Role → Name
-role_name r = r.name
-
 next_roles : (d : Design) (i : ℕ) (b : Refine) → slice_get d.refines i ≡ Some b → roles_to (suc i) d ≡ roles_to i d ++ roles_in b
 next_roles d i b h = ap (filter_map as_role) (next_decls d i b h) ∙ filter_map-append as_role (decls_to i d) b.decls
-
--- a role that is found stands among those of its level, and has the name
-pub role_in : (i : ℕ) (d : Design) (x : List ℕ) (r : Role) → role_at i d x ≡ Some r → In r (roles_to i d) × (x ≡ r.name.text)
-role_in i d x r h = let t = named_there role_name x (reverse (roles_to i d)) r h in (in_reverse r (roles_to i d) t.0, t.1)
-
-pub role_there : (i : ℕ) (d : Design) (x : List ℕ) (r : Role) → In r (roles_to i d) → x ≡ r.name.text → (q : Role) × (role_at i d x ≡ Some q)
-role_there i d x r h e = named_some role_name x (reverse (roles_to i d)) r (reverse_in r (roles_to i d) h) e
 
 -- a role of a level is declared at the next
 pub role_stays : (d : Design) (i : ℕ) (b : Refine) → slice_get d.refines i ≡ Some b → (x : List ℕ) (r : Role) → role_at i d x ≡ Some r → (q : Role) × (role_at (suc i) d x ≡ Some q)
@@ -187,40 +163,3 @@ header_kept d w i b at x r q h k =
 
     some_same : (a c : Role) → ◌≡◌ {A = Option Role} (Some a) (Some c) → a ≡ c
     some_same a c e = cc
-
--- ---- later levels
-
-taken_in : (j i : ℕ) (bs : List Refine) (x : Decl) → j ≤ i → In x (block_decls (take j bs)) → In x (block_decls (take i bs))
-taken_in zero i bs x l h = absurd h
-taken_in (suc j) zero bs x l h = absurd (omega (arith, l))
-taken_in (suc j) (suc i) [] x l h = absurd h
-taken_in (suc j) (suc i) (b ∷ bs) x l h = elim (in_either x b.decls (block_decls (take j bs)) h) [
-  | inl k ↦ in_left x b.decls (block_decls (take i bs)) k
-  | inr k ↦ in_right x b.decls (block_decls (take i bs)) (taken_in j i bs x (omega (arith, l)) k)
-]
-
--- a role of a level is one of each later level
-pub roles_grow : (j i : ℕ) (d : Design) (r : Role) → j ≤ i → In r (roles_to j d) → In r (roles_to i d)
-roles_grow j i d r l h =
-    let t = in_filter as_role (decls_to j d) r h in
-    filter_in as_role (decls_to i d) t.0 r (elim (in_either t.0 d.decls (block_decls (take j d.refines)) t.1) [
-      | inl k ↦ in_left t.0 d.decls (block_decls (take i d.refines)) k
-      | inr k ↦ in_right t.0 d.decls (block_decls (take i d.refines)) (taken_in j i d.refines t.0 l k)
-    ]) t.2
-
-taken_all : (j : ℕ) (bs : List Refine) (x : Decl) → In x (block_decls (take j bs)) → In x (block_decls (take (length bs) bs))
-taken_all zero bs x h = absurd h
-taken_all (suc j) [] x h = absurd h
-taken_all (suc j) (b ∷ bs) x h = elim (in_either x b.decls (block_decls (take j bs)) h) [
-  | inl k ↦ in_left x b.decls (block_decls (take (length bs) bs)) k
-  | inr k ↦ in_right x b.decls (block_decls (take (length bs) bs)) (taken_all j bs x k)
-]
-
--- a role of a level is one of all
-pub roles_all : (j : ℕ) (d : Design) (r : Role) → In r (roles_to j d) → In r (roles_of d)
-roles_all j d r h =
-    let t = in_filter as_role (decls_to j d) r h in
-    filter_in as_role (all_decls d) t.0 r (elim (in_either t.0 d.decls (block_decls (take j d.refines)) t.1) [
-      | inl k ↦ in_left t.0 d.decls (block_decls (take (length d.refines) d.refines)) k
-      | inr k ↦ in_right t.0 d.decls (block_decls (take (length d.refines) d.refines)) (taken_all j d.refines t.0 k)
-    ]) t.2

@@ -9,7 +9,8 @@ use Rattle.cocoon_num.specs.Values.{number, truth, UnaryOp, flip, not_, BinaryOp
 use Rattle.cocoon_types.specs.Design.{read_field}
 use Rattle.cocoon_types.specs.SameTrees.{same_truth, same_unary, same_expr, same_exprs, same_params}
 use Rattle.cocoon_types.specs.Val.{Context, Env, bind, bound, value, numbers, variable}
-use Rattle.refinement.proofs.Lists.{both_true, same_number, same_text}
+use Rattle.refinement.proofs.Lists.{same_number}
+use Rattle.sound_types.proofs.Options.{both_true, same_text}
 
 truths : (b c : Bool) → same_truth b c ≡ true → b ≡ c
 truths true true h = refl

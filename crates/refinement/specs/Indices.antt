@@ -1,4 +1,4 @@
--- Cited by the clause of the law `statements_differ`: the token indices of the statements of a body.
+-- Cited by the clause of the law `statements_differ`: the token indices of a body's statements.
 use Rattle.std.specs.Prelude.{ℕ, List, [], ◌∷◌, ◌++◌}
 use Rattle.cocoon_num.specs.Tree.{Stmt, if_, fork, Block, no_stmts, stmt}
 use Rattle.cocoon_types.specs.RuleParts.{stmt_at}

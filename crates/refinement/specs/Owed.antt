@@ -1,6 +1,6 @@
--- What a refinement owes: what its segments reach, the level above can reach too, and they have
--- left the new roles after as many bodies as the block allows. Both are facts on single runs. They
--- follow the section "Refinement" of docs/LANGUAGE.md.
+-- Cited by the clauses of the laws of levels: what a refinement owes. What its segments reach, the
+-- level above can reach too, and they have left the new roles after as many bodies as the block
+-- allows. Both are facts on single runs. They follow the section "Refinement" of docs/LANGUAGE.md.
 use Rattle.std.specs.Prelude.{◌≡◌, ℕ, suc, ◌≤◌, List, Some, slice_get}
 use Rattle.cocoon_num.specs.PacketForms.{PacketFits}
 use Rattle.cocoon_num.specs.Packets.{Packet}

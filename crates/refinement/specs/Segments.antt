@@ -1,6 +1,7 @@
--- Segments: the runs of a role that a block refines, followed through the roles that are new in
--- the block. The block stands behind the level `above`, so its own level is the next one. It
--- follows the section "Refinement" of docs/LANGUAGE.md.
+-- Cited by the clauses of the laws here and of `refinement_examples`: segments, which are the runs
+-- of a role that a block refines, followed through the roles that are new in the block. The block
+-- stands behind the level `above`, so its own level is the next one. It follows the section
+-- "Refinement" of docs/LANGUAGE.md.
 use Rattle.std.specs.Prelude.{◌≡◌, ℕ, zero, suc, ◌&&◌, Bool, true, not, List, [], ◌++◌, is_some}
 use Rattle.cocoon_num.specs.Packets.{Packet}
 use Rattle.cocoon_num.specs.Tree.{Refine, Design}

@@ -1,6 +1,7 @@
--- Runs with the branches that they take: the program that takes choices from a list, and notes for
--- each `if` which of its branches ran. The branches, in order, are the run's way. It follows the
--- sections "A body's run" and "Refinement" of docs/LANGUAGE.md; every statement has its case.
+-- Cited by the clauses of the laws of ways: runs with the branches that they take. It is the
+-- program that takes choices from a list, and notes for each `if` which of its branches ran. The
+-- branches, in order, are the run's way. It follows the sections "A body's run" and "Refinement" of
+-- docs/LANGUAGE.md; every statement has its case.
 use Rattle.std.specs.Prelude.{ℕ, zero, suc, Bool, true, false, List, [], ◌∷◌, ◌++◌, if◌then◌else◌, Option, Some, None, option_map, option_and_then}
 use Rattle.cocoon_num.specs.Packets.{Packet}
 use Rattle.cocoon_num.specs.Tree.{Stmt, let_, set_field, if_, filter, havoc_var, havoc_field, assume, fork, send, Block, no_stmts, stmt, Role, Design}

@@ -1,4 +1,5 @@
--- A design of two levels, as a tree: one switch. The tree is that of examples/m.ccn.
+-- Cited by the clauses of the law `segments_of_m`: a design of two levels, as a tree, with one
+-- switch. The tree is that of examples/m.ccn.
 use Rattle.std.specs.Prelude.{[], ◌∷◌, codes, Some, None, true, false}
 use Rattle.cocoon_num.specs.Tree.{name, field, lit, call, binary, no_exprs, expr, filter, send, no_stmts, stmt, of_truth, of_width, a_function, an_assumption, a_role, a_host, a_switch, Refine, Design, literal, a_default, a_row, DefsText}
 use Rattle.cocoon_num.specs.Values.{number, truth, less, equal, and_, implies}

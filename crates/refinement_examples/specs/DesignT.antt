@@ -1,4 +1,5 @@
--- A design of two levels, as a tree: two switches with a trunk between them.
+-- Cited by the clauses of the laws `segments_of_t` and `segments_that_stay_new`: a design of two
+-- levels, as a tree, with two switches and a trunk between them.
 use Rattle.std.specs.Prelude.{[], ◌∷◌, codes, Some, None, true, false}
 use Rattle.cocoon_num.specs.Tree.{name, field, lit, call, unary, binary, no_exprs, expr, if_, filter, send, no_stmts, stmt, of_truth, of_width, a_function, an_assumption, a_role, a_host, a_switch, Refine, Design, literal, a_default, a_row, DefsText}
 use Rattle.cocoon_num.specs.Values.{number, truth, less, equal, and_, implies, not_}

@@ -1,4 +1,5 @@
--- A design of three levels, as a tree: anywhere, by destination, through a switch.
+-- Cited by the clauses of the law `segments_of_three`: a design of three levels, as a tree. A
+-- packet may go anywhere; by its destination; and through a switch.
 use Rattle.std.specs.Prelude.{[], ◌∷◌, codes, Some, None, true, false}
 use Rattle.cocoon_num.specs.Tree.{name, field, lit, call, binary, slice, no_exprs, expr, filter, havoc_var, send, no_stmts, stmt, of_truth, a_function, an_assumption, a_role, a_host, a_switch, Refine, Design, literal, a_default, a_row, DefsText}
 use Rattle.cocoon_num.specs.Values.{truth, less, and_, implies, concat}
