@@ -1,7 +1,7 @@
 -- From the last level to the topmost specification, level by level.
 use Rattle.std.proofs.Common.{◌≡◌, ℕ, zero, suc, ◌+◌, ◌*◌, ◌≤◌, ◌==◌, List, [], ◌∷◌, ◌++◌, length, true, not, Option, Some, refl, sym, ap, subst, ◌∙◌, arith}
 use Rattle.std.specs.Prelude.{filter_map, slice_get, All}
-use Rattle.std.proofs.lemmas.List.Elements.{filter_map-append}
+use Rattle.std.proofs.lemmas.List.Elements.{All-nil, filter_map-append}
 use Rattle.cocoon_num.specs.PacketForms.{PacketFits}
 use Rattle.cocoon_num.specs.Packets.{enter, Packet}
 use Rattle.cocoon_num.specs.Tree.{AssumeDecl, HostDecl, Role, Refine, Design}
@@ -52,6 +52,20 @@ pub meets_above : (d : Design) (i : ℕ) (b : Refine) → slice_get d.refines i 
 meets_above d i b at defs m =
     let apart : assumptions_to (suc i) d ≡ assumptions_to i d ++ filter_map as_assumption b.decls = ap (filter_map as_assumption) (next_decls d i b at) ∙ filter_map-append as_assumption (decls_to i d) b.decls in
     all_front (IsMet d defs) (assumptions_to i d) (filter_map as_assumption b.decls) (subst (λ (xs : List AssumeDecl). All (IsMet d defs) xs) apart m)
+
+-- ---- one level
+
+no_place : (bs : List Refine) → length bs ≡ 0 → (i : ℕ) (b : Refine) → slice_get bs i ≡ Some b → ⊥
+no_place [] h i b e = absurd (cc)
+no_place (c ∷ bs) h i b e = absurd (omega (arith, h))
+
+-- a design without blocks refines
+pub no_blocks : (d : Design) → last_level d ≡ 0 → Refines d
+no_blocks d h = record { contained = λ i b at. absurd (no_place d.refines h i b at); bounded = λ i b at. absurd (no_place d.refines h i b at) }
+
+-- definitions meet what there is not
+pub none_to_meet : (d : Design) (level : ℕ) → assumptions_to level d ≡ [] → (defs : Defs) → Meets level d defs
+none_to_meet d level h defs = subst (λ (xs : List AssumeDecl). All (IsMet d defs) xs) (sym h) (All-nil (IsMet d defs))
 
 -- ---- levels
 

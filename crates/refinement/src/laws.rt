@@ -1,11 +1,12 @@
 //! What the rules of designs give of levels, and what a refinement that keeps what it owes gives of
 //! deliveries. The functions do nothing; their contracts are the laws.
-ghost use Rattle.std.specs.Prelude.{◌++◌, ◌≡◌, ◌≤◌, false, List, ℕ, slice_get, Some, suc, true};
+ghost use Rattle.std.specs.Prelude.{[], ◌++◌, ◌≡◌, ◌≤◌, false, List, ℕ, slice_get, Some, suc, true};
 ghost use Rattle.cocoon_num.specs.Lists.{no_repeats};
 ghost use Rattle.cocoon_num.specs.PacketForms.{PacketFits};
 ghost use Rattle.cocoon_num.specs.Packets.{Packet};
 ghost use Rattle.cocoon_num.specs.Reads.{Reads};
 ghost use Rattle.cocoon_num.specs.Tree.{Block, Design, Refine, Role};
+ghost use Rattle.cocoon_resolve.specs.Readers.{assumptions_to};
 ghost use Rattle.cocoon_types.specs.Design.{last_level, layout, role_at};
 ghost use Rattle.cocoon_types.specs.RuleParts.{has_name};
 ghost use Rattle.cocoon_types.specs.Rules.{WellFormed};
@@ -68,8 +69,8 @@ pub fn packets_keep_fitting()
     runs_keep_types();
 }
 
-/// In a design that was read no two statements of a body have one token index: so a choice, which is
-/// known by that of its statement, differs from each other choice.
+/// In a design that was read no two statements of a body have one token index: so a choice, which
+/// is known by that of its statement, differs from each other choice.
 pub fn statements_differ()
     ensures { (text : List ℕ) (d : Design) → Reads text d
         → (level : ℕ) (name : List ℕ) (r : Role) → role_at level d name ≡ Some r
@@ -119,6 +120,13 @@ pub fn levels_compose()
     runs_keep_types();
     starts_fit();
 }
+
+/// A design without blocks owes nothing, and definitions meet a level that has no assumptions.
+pub fn one_level_owes_nothing()
+    ensures refines { (d : Design) → last_level d ≡ 0 → Refines d }
+    ensures meets { (d : Design) (level : ℕ) → assumptions_to level d ≡ []
+        → (defs : Defs) → Meets level d defs }
+{}
 
 /// A body's run with the branches that it takes is its run: it leads where that leads, and leaves
 /// the same choices.
