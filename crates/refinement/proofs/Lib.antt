@@ -1,0 +1,12 @@
+pub mod Lists
+pub mod SameTrees
+pub mod Roles
+pub mod Hosts
+pub mod Moving
+pub mod Fitting
+pub mod Down
+pub mod AllLevels
+pub mod Together
+pub mod Ways
+pub mod Hops
+pub mod Indices

@@ -1,0 +1,6 @@
+//! What a refinement owes, and that levels which owe nothing compose: what each level may do, the
+//! level above may do, if each block is contained and bounded. The definitions of both stand in
+//! `specs/`; how they are decided plays no part here.
+#![tactic(auto)]
+
+pub mod laws;

@@ -1,0 +1,4 @@
+pub mod Computed
+pub mod SegmentsM
+pub mod SegmentsT
+pub mod SegmentsThree

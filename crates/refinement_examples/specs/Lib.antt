@@ -1,0 +1,4 @@
+pub mod DesignM
+pub mod DesignT
+pub mod DesignThree
+pub mod Places

@@ -1,0 +1,3 @@
+pub mod Entries
+pub mod SamePlaces
+pub mod Standing

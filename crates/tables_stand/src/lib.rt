@@ -1,0 +1,4 @@
+//! Tables that fit a design stand for definitions of it: those of their own text.
+#![tactic(auto)]
+
+pub mod laws;
