@@ -26,7 +26,11 @@ def laid_out(folder):
         for part in ("src", "specs", "proofs"):
             if (TOP / "crates" / crate / part).is_dir():
                 shutil.copytree(TOP / "crates" / crate / part, folder / "crates" / crate / part, dirs_exist_ok=True)
-    shutil.copytree(TOP / "bench" / "terms", program, dirs_exist_ok=True)
+    # (a file of Rattle stands in a crate alone: here each has `.txt` after its name)
+    for path in (TOP / "bench" / "terms").rglob("*.txt"):
+        to = program / path.relative_to(TOP / "bench" / "terms").with_suffix("")
+        to.parent.mkdir(parents=True, exist_ok=True)
+        shutil.copyfile(path, to)
     lines = [line for line in (TOP / "crates.txt").read_text().splitlines() if line.split(":")[0] in NEEDED]
     (folder / "crates.txt").write_text("\n".join([*lines, f"terms_time: indexmap {' '.join(NEEDED)}"]) + "\n")
     return program
