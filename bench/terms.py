@@ -7,6 +7,7 @@ It copies the crates that it needs, with the program of bench/terms, into this f
 what is not kept on this machine.
 """
 
+import os
 import pathlib
 import re
 import shutil
@@ -34,7 +35,8 @@ def laid_out(folder):
 def main():
     with tempfile.TemporaryDirectory() as name:
         program = laid_out(pathlib.Path(sys.argv[1] if len(sys.argv) > 1 else name))
-        said = subprocess.run(["rt", "run"], cwd=program, stdout=subprocess.PIPE, stderr=subprocess.STDOUT, text=True).stdout
+        long = {**os.environ, "RT_SECONDS": "600"}
+        said = subprocess.run(["rt", "run"], cwd=program, env=long, stdout=subprocess.PIPE, stderr=subprocess.STDOUT, text=True).stdout
     least = {}
     for kind, count, micros in re.findall(r"^([a-z ]+) (\d+) (\d+)$", said, re.MULTILINE):
         key = (kind, int(count))
