@@ -12,6 +12,6 @@ substitute_from-requires-clause-inputs c =
 pub substitute_from-requires-clause-widths : goal.substitute_from-requires-clause-widths
 substitute_from-requires-clause-widths c = (
   has-width c.args.terms.now c.args.input c.args.by c.input_term-own.result c.count.ensures.arena c.input_term-own.ensures
-  (sym c.width.ensures ∙ c.if-width.false ∙ c.width-else-own-first.ensures),
+      (sym c.width.ensures ∙ c.if-width.false ∙ c.width-else-own-first.ensures),
   tt,
 )
