@@ -126,7 +126,10 @@ pub(crate) fn all_replaced(
         return None;
     }
     let own = terms.input_term(input);
-    if own < first || terms.width(own) != terms.width(by) {
+    if own < first {
+        return None;
+    }
+    if terms.width(own) != terms.width(by) {
         return None;
     }
     terms.substitute_from(alloc, first, &[input], &[by]).ok()
