@@ -1,5 +1,5 @@
 -- Where no copy of a packet travels, all that any number of visits delivers is delivered.
-use Rattle.std.proofs.Common.{◌≡◌, ◌⊎◌, ◌↔◌, inl, inr, ℕ, ◌+◌, List, arith}
+use Rattle.std.proofs.Common.{◌⊎◌, ◌↔◌, inl, inr, ℕ, ◌+◌, List, arith}
 use Rattle.p4_ir.specs.NetRuns.{NetGo, Visits}
 use Rattle.p4_ir.specs.NetTree.{NetData}
 use Rattle.net_run.specs.Outcomes.{AreTravelling, StillTravels}

@@ -1,5 +1,6 @@
--- Lists of choices in ascending order: the first number at which two differ decides, and a list is ahead of those that it
--- begins. Where they ascend, each stands once.
+-- Lists of choices in ascending order: the first number at which two differ decides, and a list is
+-- ahead of those that it begins. If they ascend, each stands once. The clauses of `deliver` cite it
+-- through Outcomes.antt.
 use Rattle.std.specs.Prelude.{◌≡◌, ◌⊎◌, ℕ, ◌<◌, List, [], ◌∷◌}
 
 abbrev pub Ahead : List ℕ → List ℕ → Type 0

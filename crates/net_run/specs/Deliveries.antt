@@ -1,5 +1,5 @@
--- Cited by the private clauses of `following`: the deliveries among the ends of a packet, and how many of its copies still
--- travel.
+-- Cited by the private clauses of `following`: the deliveries among the ends of a packet, and how many
+-- of its copies still travel.
 use Rattle.std.specs.Prelude.{ℕ, suc, List, [], ◌∷◌}
 use Rattle.p4_ir.specs.NetTree.{LinkEnd, to_switch, to_host, NetData}
 use Rattle.net_run.specs.Ends.{End, ends}

@@ -1,5 +1,6 @@
--- Cited by the private clauses of `standing` and `following`: where the copies of a packet are after so many visits, as a
--- list, depth first in the order of the members: at a host, or before a switch. What leaves where no link is has no end.
+-- Cited by the private clauses of `standing` and `following`: where the copies of a packet are after
+-- so many visits, as a list, depth first in the order of the members: at a host, or before a switch.
+-- What leaves at a port without a link has no end.
 use Rattle.std.specs.Prelude.{ℕ, zero, suc, List, [], ◌∷◌, ◌++◌, map, Option, Some, None}
 use Rattle.std.specs.List.{flat_map}
 use Rattle.p4_ir.specs.NetRuns.{attach_at, link_at, switch_at}

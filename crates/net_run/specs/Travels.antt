@@ -1,4 +1,5 @@
--- Packets that travel: after exactly so many visits they stand before a switch. What becomes of a packet is said by it.
+-- Packets that travel: after exactly so many visits they stand before a switch. The law
+-- `travellers_go_on` cites it, and, through Outcomes.antt, the clauses of `deliver`.
 use Rattle.std.specs.Prelude.{◌≡◌, ℕ, zero, suc, List, [], ◌++◌, Option, Some, None}
 use Rattle.p4_ir.specs.NetRuns.{attach_at, link_at, switch_at, Visits}
 use Rattle.p4_ir.specs.NetTree.{LinkEnd, to_switch, to_host, SwitchFiles, NetData}

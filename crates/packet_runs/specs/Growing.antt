@@ -1,5 +1,5 @@
--- Cited by the private clauses of `lines` and `running`: the outcome of the definitions that one of the code stands for, and a
--- report that has the lines of one packet more.
+-- Cited by the private clauses of `lines` and `running`: the outcome of the definitions that one of
+-- the code stands for, and a report that has the lines of one packet more.
 use Rattle.std.specs.Prelude.{◌≡◌, ℕ, List, ◌++◌, map}
 use Rattle.net_run.specs.Delivering.{delivery_of}
 use Rattle.net_run.specs.declared.delivering.Outcome.{Outcome}
@@ -12,7 +12,8 @@ abbrev pub outcome_of : Outcome → spec.Outcome
 outcome_of o = record { delivered = map delivery_of o.delivered; travelling = o.travelling }
 
 -- after this text, the lines of what becomes of the packet of this number
-pub record AddsPacket (net : NetData) (hops number : ℕ) (p : Packet) (before after : List ℕ) : Type 0 where
+pub record AddsPacket (net : NetData) (hops number : ℕ) (p : Packet) (before after : List ℕ)
+    : Type 0 where
   pub outcome : spec.Outcome
   pub is : IsOutcome net hops p outcome
   pub lines : after ≡ before ++ outcome_lines number outcome

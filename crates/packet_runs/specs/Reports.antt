@@ -1,6 +1,7 @@
--- Cited by the clauses of `run_packets`, and by what speaks of its report: what is reported of the packets of a file that are
--- run through a network. It follows the section "Reports" of docs/FORMATS.md. What becomes of a packet is what the network does
--- with it, and the lines say just that.
+-- Cited by the clauses of `run_packets`, and by what speaks of its report: what is reported of the
+-- packets of a file that are run through a network. It follows the section "Reports" of
+-- docs/FORMATS.md. What becomes of a packet is what the network does with it, and the lines say just
+-- that.
 use Rattle.std.specs.Prelude.{◌≡◌, ℕ, ◌+◌, List, [], ◌∷◌, ◌++◌, length, codes, decimal}
 use Rattle.hex.specs.Hex.{encode_lower}
 use Rattle.net_run.specs.Outcomes.{AreDelivered, AreTravelling, Delivery}
@@ -60,7 +61,8 @@ lines_from number (o ∷ os) = outcome_lines number o ++ lines_from (number + 1)
 -- ---- the report
 
 -- the lines of what becomes of these packets, counted from 1
-pub record IsReport (net : NetData) (hops : ℕ) (packets : List Packet) (report : List ℕ) : Type 0 where
+pub record IsReport (net : NetData) (hops : ℕ) (packets : List Packet) (report : List ℕ)
+    : Type 0 where
   pub outcomes : List Outcome
   pub are : AreOutcomes net hops packets outcomes
   pub lines : report ≡ lines_from 1 outcomes
