@@ -18,7 +18,8 @@ EXAMPLES, TOOLS = TOP / "examples", TOP / "tools"
 NETWORKS = sorted(path.parent.name for path in EXAMPLES.glob("*/network.ccn"))
 # Those whose packets are followed, by their folder and the name of their texts; `every` has each statement and expression of the language.
 FOLLOWED = {**{name: EXAMPLES / name / "network" for name in NETWORKS}, "evening": EXAMPLES / "leaf-spine" / "evening", "every": TOP / "bench" / "every" / "network"}
-PACKETS = 5_000
+# Of each network.
+PACKETS = 1_000
 
 sys.path.insert(0, str(TOOLS))
 sys.dont_write_bytecode = True
@@ -61,7 +62,7 @@ class Room:
 def chance_packets(bundle, samples, number):
     """Packets of numbers that rows have, with bits changed by chance, cut off, and with payloads."""
     chance = random.Random(number)
-    for _ in range(PACKETS // len(FOLLOWED)):
+    for _ in range(PACKETS):
         data = bytearray(chance.choice(samples))
         if chance.random() < 0.3:
             data[chance.randrange(len(data))] ^= 1 << chance.randrange(8)
