@@ -72,7 +72,7 @@ mutual
 
 -- ---- functions that are there
 
-in_place : {A : Type 0} (x : A) (xs : List A) → In x xs → (n : ℕ) × (slice_get xs n ≡ Some x)
+pub in_place : {A : Type 0} (x : A) (xs : List A) → In x xs → (n : ℕ) × (slice_get xs n ≡ Some x)
 in_place x [] i = absurd i
 in_place x (y ∷ xs) i = elim i [
   | inl e ↦ (zero, ap Some (sym e))

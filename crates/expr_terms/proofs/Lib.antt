@@ -1,0 +1,6 @@
+pub mod Arguments
+pub mod Lists
+pub mod Found
+pub mod Counts
+pub mod Making
+pub mod Whole

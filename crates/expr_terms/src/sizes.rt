@@ -1,6 +1,6 @@
 //! How many nodes there are to make a term of, without one: functions with bodies can call one another so often that no memory
 //! would hold it.
-ghost use Rattle.std.specs.Prelude.{◌≡◌, ◌+◌, ◌<◌, ◌≤◌, ℕ, IfOk, length, List, map, option_map, slice_get, Some};
+ghost use Rattle.std.specs.Prelude.{◌≡◌, ◌+◌, ◌<◌, ◌≤◌, ℕ, IfOk, IfSome, length, List, map, option_map, slice_get, Some};
 ghost use Rattle.cocoon_syntax.specs.TreeOf.{design_of, expr_of, exprs_of, function_of};
 ghost use Rattle.cocoon_types.specs.Design.{functions};
 ghost use Rattle.expr_terms.specs.Sizes.{AreSizes, IsCount, body_nodes, expr_nodes, exprs_nodes, most_nodes};
@@ -15,7 +15,10 @@ use std::alloc::Global;
 use std::marker::Model;
 
 /// More nodes are out of memory.
-const MOST_NODES: u32 = 1 << 25;
+const MOST_NODES: u64 = 1 << 25;
+
+/// A design has no more functions.
+const MOST_FUNCTIONS: usize = 128;
 
 /// How many nodes the bodies of a design's functions have, each with those of its calls; none where they are too many. It is
 /// made once, and each body is walked once.
@@ -40,6 +43,13 @@ struct Counting<'d> {
 }
 
 /// The sum of two counts, if it is not too large.
+fn within(a: u32, b: u32) -> Option<u32>
+    ensures { IsCount (a + b) result }
+{
+    let sum = u64::from(a) + u64::from(b);
+    if sum <= MOST_NODES { Some(sum as u32) } else { None }
+}
+
 fn plus(a: Option<u32>, b: Option<u32>) -> Option<u32>
     ensures { (m n : ℕ) → IsCount m a → IsCount n b → IsCount (m + n) result }
 {
@@ -52,11 +62,11 @@ fn plus(a: Option<u32>, b: Option<u32>) -> Option<u32>
     }
 }
 
-fn within(a: u32, b: u32) -> Option<u32>
-    ensures { a ≤ most_nodes → b ≤ most_nodes → IsCount (a + b) result }
+/// One node more.
+fn one_more(count: Option<u32>) -> Option<u32>
+    ensures { (n : ℕ) → IsCount n count → IsCount (1 + n) result }
 {
-    let sum = a.checked_add(b)?;
-    if sum <= MOST_NODES { Some(sum) } else { None }
+    plus(Some(1), count)
 }
 
 #[cycle(count)]
@@ -72,20 +82,20 @@ fn count(counting: &Counting<'_>, expr: &Expr) -> Option<u32>
         ExprKind::Call(function, args) => {
             let called = call_count(counting, function.text.bytes());
             let args = count_all(counting, args);
-            plus(Some(1), plus(called, args))
+            one_more(plus(called, args))
         }
-        ExprKind::Unary(_, a) => plus(Some(1), count(counting, a)),
+        ExprKind::Unary(_, a) => one_more(count(counting, a)),
         ExprKind::Binary(_, a, b) => {
             let a = count(counting, a);
             let b = count(counting, b);
-            plus(Some(1), plus(a, b))
+            one_more(plus(a, b))
         }
-        ExprKind::Slice(a, _, _) => plus(Some(1), count(counting, a)),
+        ExprKind::Slice(a, _, _) => one_more(count(counting, a)),
         ExprKind::Pick(condition, a, b) => {
             let condition = count(counting, condition);
             let a = count(counting, a);
             let b = count(counting, b);
-            plus(Some(1), plus(condition, plus(a, b)))
+            one_more(plus(condition, plus(a, b)))
         }
     }
 }
@@ -97,10 +107,8 @@ fn count_all(counting: &Counting<'_>, exprs: &[Expr]) -> Option<u32>
         (exprs_of (map expr_of exprs.now))) result }
 {
     let mut sum = Some(0);
-    let mut at = exprs.len();
-    while at > 0 {
-        at -= 1;
-        sum = plus(count(counting, &exprs[at]), sum);
+    for expr in exprs {
+        sum = plus(sum, count(counting, expr));
     }
     sum
 }
@@ -117,10 +125,9 @@ fn call_count(counting: &Counting<'_>, name: &[u8]) -> Option<u32>
 }
 
 /// The nodes of a body, if there is one.
-fn body_count(counting: &Counting<'_>, body: Option<&Expr>) -> Option<u32>
+fn body_count(counting: &Counting<'_>, body: &Option<Expr>) -> Option<u32>
     requires { KnowsSizes counting.now }
-    ensures { IsCount (body_nodes (calls_known counting.now)
-        (option_map (λ e. expr_of e.now) body)) result }
+    ensures { IsCount (body_nodes (calls_known counting.now) (option_map expr_of body.now)) result }
 {
     match body {
         Some(body) => count(counting, body),
@@ -130,11 +137,15 @@ fn body_count(counting: &Counting<'_>, body: Option<&Expr>) -> Option<u32>
 
 /// The function of a number, if the design has so many.
 fn function_at(checked: &Checked, number: usize) -> Option<&Function>
-    ensures { option_map (λ f. function_of f.now) result
+    ensures is { option_map (λ f. function_of f.now) result
         ≡ slice_get (functions (design_of checked.now)) number }
+    ensures few { IfSome result (λ _. number < 128) }
 {
-    let number = u32::try_from(number).ok()?;
-    checked.names().function(checked.design(), number)
+    let design = checked.design();
+    if number >= MOST_FUNCTIONS {
+        return None;
+    }
+    checked.names().function(design, number as u32)
 }
 
 impl CallSizes {
@@ -143,12 +154,12 @@ impl CallSizes {
         ensures { IfOk result (λ sizes. AreSizes (design_of checked.now) sizes) }
     {
         let mut sizes = Vec::new(alloc);
-        while let Some(function) = function_at(checked, sizes.len()) {
+        'functions: while let Some(function) = function_at(checked, sizes.len()) {
             let counting = Counting {
                 checked,
                 sizes: &sizes,
             };
-            let size = body_count(&counting, function.body.as_ref());
+            let size = body_count(&counting, &function.body);
             sizes.push(size)?;
         }
         Ok(CallSizes { sizes })
