@@ -6,3 +6,8 @@ pub returns-in-Err-TooLong-clause-refused : goal.returns-in-Err-TooLong-clause-r
 returns-in-Err-TooLong-clause-refused g c files e kept turn =
     let long = too_long _ files _ c.args.out.now c.args.file _ _ _ e (c.as_str.ensures.value ∙ c.in_ok-name.ensures) c.most-most.ensures c.in-Err-TooLong.field-0-is c.in-Err-TooLong.ensures.answers in
     (kept, long.bytes, turn, long.there, c.most-most.ensures, subst (λ (n : ℕ). n < length long.bytes) (long.limit ∙ sym c.most-most.ensures) long.over)
+
+pub returns-in-Err-TooLong-clause-cause : goal.returns-in-Err-TooLong-clause-cause
+returns-in-Err-TooLong-clause-cause g c files e =
+    let long = too_long _ files _ c.args.out.now c.args.file _ _ _ e (c.as_str.ensures.value ∙ c.in_ok-name.ensures) c.most-most.ensures c.in-Err-TooLong.field-0-is c.in-Err-TooLong.ensures.answers in
+    (long.bytes, long.there, c.most-most.ensures, subst (λ (n : ℕ). n < length long.bytes) (long.limit ∙ sym c.most-most.ensures) long.over)
