@@ -93,5 +93,5 @@ makes i x y net g h = record {
 
 pub asks_good : (d e o : List ℕ) (i : Inputs) (x y : List ℕ) (net : NetData) → Texts i x y → LowersTexts x y net → AllGood i (asks (compile d e o))
 asks_good d e o i x y net g h =
-    texts_good i x y taken (lowering_within ∷ []) h.tree h.tables g h.binds (taken_good i x y g (h.tree, h.binds.binds.checked, h.accepts))
+    texts_good i x y taken (lowering_within ∷ []) h.tree h.tables g h.binds (taken_good i x y g (h.tree, h.binds.binds.checked, h.built))
     (good (net, makes i x y net g h, h.within) none)

@@ -1,6 +1,7 @@
 pub mod Lines
 pub mod Ending
 pub mod TextSteps
+pub mod Built
 pub mod Compiling
 pub mod Stepped
 pub mod Forwarded

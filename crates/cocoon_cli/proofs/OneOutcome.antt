@@ -38,7 +38,7 @@ use Rattle.net_bundle.specs.Bundle.{MadeFile, bundle}
 use Rattle.net_bundle.specs.Writing.{AllFit, FirstOver, most_of}
 use Rattle.net_bundle.specs.declared.file.BundleFile.{BundleFile}
 use Rattle.runtime_defs.specs.Bound.{most_rows, row_count}
-use Rattle.lower_p4.specs.Accepts.{Accepts, Lowers}
+use Rattle.lower_p4.specs.Lowers.{Lowers}
 use Rattle.lower_p4.specs.LowerLimits.{IsOver, IsWithin}
 use Rattle.cocoon_cli.specs.declared.files.CommandFile.TheVariants.{Design, Definitions, Bundle, Case as CaseFile, Packets as PacketsFile}
 use Rattle.cocoon_cli.specs.declared.refusal.InputFault.TheVariants.{NoTree, Rule}
@@ -55,6 +55,7 @@ use Rattle.case_runs.specs.Stepping.{Steps}
 use Rattle.case_runs.specs.declared.sent.Sent.{Sent}
 use Rattle.cocoon_types.specs.Tables as tables
 use Rattle.cocoon_cli.proofs.RuleValues.{same_rule}
+use Rattle.cocoon_cli.specs.Built.{IsBuilt}
 use Rattle.cocoon_cli.specs.Steps.{Inputs, Step, is_there, is_within, design_reads, design_well_formed, design_within, definitions_read, definitions_fit, definitions_within, design_accepted, lowering_within, level_there, lines_formed, bundle_reads, packets_judged, copies_within, bundle_within, bundle_written, steps, BundleIs, PacketsAre, packets_refusal, CaseIs, DesignIs, DefinitionsAre, Makes, MakesFiles, Decides, IsGood, Refuses}
 
 -- that texts have one tree or one first fault, that a design keeps the rules or breaks one first and so with the limits, that
@@ -293,7 +294,7 @@ good_or_refused laws i definitions_within r b g h =
     let few : row_count h.0 ≤ most_rows = subst (λ (e : tree.DefsText). row_count e ≤ most_rows) (same_defs laws i g.0 h.0 g.1 h.1) g.2 in
     let many : most_rows < row_count h.0 = h.2 in
     omega arith
-good_or_refused laws i design_accepted r b g h = h.2 (subst (λ (d : tree.Design). Accepts d) (same_design laws i g.0 h.0 g.1 h.1) g.2)
+good_or_refused laws i design_accepted r b g h = h.2 (subst (λ (d : tree.Design). IsBuilt d) (same_design laws i g.0 h.0 g.1 h.1) g.2)
 good_or_refused laws i lowering_within r b g h =
     let m = g.1 in
     laws.no_over m.design m.defs h.2 h.3 g.2 (over_same laws i h.0 m.design h.1 m.defs h.2 h.3 h.4 m.design_is h.5 m.defs_are h.6)

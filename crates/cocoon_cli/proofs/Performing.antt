@@ -192,14 +192,14 @@ compiled before after d e o read net g l h = record {
   design_is = g.design.0;
   defs_are = g.definitions.0;
   design_reads = l.binds.binds.checked.reads;
-  well_formed = l.sound.well_formed;
+  well_formed = l.binds.binds.checked.resolves.rules;
   defs_read = l.binds.binds.read;
-  defs_fit = l.sound.defs_fit;
+  defs_fit = l.binds.binds.fits;
   network = h.network;
   digest = h.digest;
   others_same = λ name outside besides. h.others_same name outside (λ e. refl);
   exact = l.lowering.exact;
-  within = l.sound.within;
+  within = l.stays;
 }
 
 net_compiled : (before after : Option Files) (d e o : List ℕ) (read : Read) (net : NetData) → ReadsAll (compile d e o) before read → LowersTexts read.design.items read.definitions.items net

@@ -2,12 +2,14 @@
 -- there is none.
 use Rattle.std.specs.Prelude.{◌≡◌, ◌⊎◌, ℕ, List}
 use Rattle.cocoon_num.specs.Tree.{Design}
+use Rattle.cocoon_types.specs.Tables.{defs_of}
+use Rattle.lowered.specs.Delivers.{DeliversWithin}
 use Rattle.p4_ir.specs.NetOf.{net_of}
 use Rattle.p4_ir.specs.NetTree.{NetData}
 use Rattle.runtime_defs.specs.Places.{Places}
-use Rattle.lower_p4.specs.Accepts.{Accepts, Lowers}
 use Rattle.lower_p4.specs.LowerLimits.{IsOver, IsWithin}
-use Rattle.lower_p4.specs.Lowering.{IsLowering, IsSound}
+use Rattle.lower_p4.specs.Lowering.{IsLowering}
+use Rattle.lower_p4.specs.Lowers.{Lowers}
 use Rattle.net_bundle.specs.Bundle.{all_switch_files}
 use Rattle.net_bundle.specs.Writing.{FirstOver, most_of}
 use Rattle.net_bundle.specs.declared.file.BundleFile.{BundleFile}
@@ -18,18 +20,20 @@ use Rattle.cocoon_cli.specs.declared.files.CommandFile.TheVariants.{Bundle}
 use Rattle.cocoon_cli.specs.declared.refusal.InputFault.TheVariants.{NotYet}
 use Rattle.cocoon_cli.specs.declared.refusal.Refusal.{Refusal}
 use Rattle.cocoon_cli.specs.declared.refusal.Refusal.TheVariants.{Language, OverLimit, TooLong, NoMemory}
+use Rattle.cocoon_cli.specs.Built.{IsBuilt}
 use Rattle.cocoon_cli.specs.DesignTexts.{BindsTables, NotBound, NotChecked, NotReadAfter, ReadsChecked}
 
--- the compiler takes the design, and this is the network of both
+-- `compile` takes the design, this is the network of both, and what it delivers the topmost
+-- specification may make
 pub record LowersTexts (design defs : List ℕ) (net : NetData) : Type 0 where
   pub tree : Design
   pub tables : Places
   pub binds : BindsTables design defs tree tables
-  pub accepts : Accepts tree
+  pub built : IsBuilt tree
   pub within : IsWithin tree binds.entries
   pub lowers : Lowers tree binds.entries net
   pub lowering : IsLowering tree binds.entries net
-  pub sound : IsSound tree binds.entries net
+  pub stays : DeliversWithin net tree (defs_of tree binds.entries)
 
 -- this is written: the bundle of that network under the given name
 abbrev pub Compiles : (out design defs : List ℕ) → Writing → Type 0
@@ -37,12 +41,12 @@ Compiles out design defs (written.Bundle name net) =
     (name.now ≡ out) × LowersTexts design defs (net_of net)
 Compiles out design defs w = ⊥
 
--- why the compiler does not take a design that is read
+-- why `compile` does not take a design that is read
 abbrev pub NotTaken : (design : List ℕ) → Refusal → Type 0
-NotTaken design (Language NotYet) = (tree : Design) × ReadsChecked design tree × (¬ Accepts tree)
+NotTaken design (Language NotYet) = (tree : Design) × ReadsChecked design tree × (¬ IsBuilt tree)
 NotTaken design _ = ⊥
 
--- why there is no design that the compiler takes
+-- why there is no design that `compile` takes
 abbrev pub NotAccepted : (design : List ℕ) → Refusal → Type 0
 NotAccepted design refusal = NotChecked design refusal ⊎ NotTaken design refusal
 
@@ -59,7 +63,7 @@ pub record LongFile (design defs : List ℕ) (file : CommandFile) (most : ℕ) :
   pub within : IsWithin tree binds.entries
   pub long : FirstOver (all_switch_files net.switches) first
 
--- why no network is made of a design that the compiler takes and definitions that fit it
+-- why no network is made of a design that `compile` takes and definitions that fit it
 abbrev pub NotLowered : (design defs : List ℕ) → Refusal → Type 0
 NotLowered design defs (TooLong file most) = LongFile design defs file most
 NotLowered design defs (OverLimit limit count) =
@@ -68,12 +72,12 @@ NotLowered design defs (OverLimit limit count) =
 NotLowered design defs NoMemory = Unit {0}
 NotLowered design defs _ = ⊥
 
--- the compiler takes the design of the text
+-- `compile` takes the design of the text
 abbrev pub IsAccepted : (design : List ℕ) → Type 0
-IsAccepted design = (tree : Design) × ReadsChecked design tree × Accepts tree
+IsAccepted design = (tree : Design) × ReadsChecked design tree × IsBuilt tree
 
--- why no network is made of two texts: of the definitions and the network only where the compiler
--- takes the design
+-- why no network is made of two texts: of the definitions and the network only where `compile` takes
+-- the design
 abbrev pub NotMade : (design defs : List ℕ) → Refusal → Type 0
 NotMade design defs refusal =
     NotAccepted design refusal

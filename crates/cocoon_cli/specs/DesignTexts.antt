@@ -1,8 +1,7 @@
 -- Cited by the clauses of design_texts.rt. The two texts of a command: a design with definitions that
 -- fit it, or why there is none.
-use Rattle.std.specs.Prelude.{◌≡◌, ◌⊎◌, ◌<◌, ℕ, List, Some, IsTrue}
+use Rattle.std.specs.Prelude.{◌≡◌, ◌⊎◌, ◌<◌, ℕ, List, Some}
 use Rattle.cocoon_num.specs.Lists.{first_of}
-use Rattle.cocoon_num.specs.Spelled.{is_spelled}
 use Rattle.cocoon_num.specs.Tree.{Design, DefsText}
 use Rattle.cocoon_num.specs.Reads.{Reads, ReadsDefs}
 use Rattle.cocoon_num.specs.FirstFaults.{BeginsDesign, BeginsDefs}
@@ -46,7 +45,6 @@ pub record BindsTables (design defs : List ℕ) (tree : Design) (tables : Places
   pub entries : DefsText
   pub binds : Binds design defs tree entries
   pub are : AreOfText tree entries tables
-  pub words : IsTrue (is_spelled tree)
   pub fit : FitsDesign tree tables
 
 -- ---- faults of definitions

@@ -1,6 +1,7 @@
 pub mod FileNames
 pub mod Report
 pub mod ReportLines
+pub mod Built
 pub mod Steps
 pub mod Outcomes
 pub mod DesignTexts

@@ -33,7 +33,7 @@ use Rattle.net_bundle.specs.Bundle.{MadeFile, bundle}
 use Rattle.net_bundle.specs.Writing.{AllFit, FirstOver, most_of}
 use Rattle.net_bundle.specs.declared.file.BundleFile.{BundleFile}
 use Rattle.runtime_defs.specs.Bound.{most_rows, row_count}
-use Rattle.lower_p4.specs.Accepts.{Accepts, Lowers}
+use Rattle.lower_p4.specs.Lowers.{Lowers}
 use Rattle.lower_p4.specs.LowerLimits.{IsOver, IsWithin}
 use Rattle.cocoon_cli.specs.declared.files.CommandFile.{CommandFile}
 use Rattle.cocoon_cli.specs.declared.files.CommandFile.TheVariants.{Design, Definitions, Bundle, Case, Packets}
@@ -47,6 +47,7 @@ use Rattle.case_file.specs.Cases.{case_of}
 use Rattle.cocoon_types.specs.Design.{last_level}
 use Rattle.command_line.specs.Command.{Command, compile, step, forward}
 use Rattle.cocoon_cli.specs.FileNames.{bundle_in, most_in}
+use Rattle.cocoon_cli.specs.Built.{IsBuilt}
 use Rattle.cocoon_cli.specs.DesignTexts.{told}
 use Rattle.cocoon_cli.specs.Reading.{IsOfFiles, unread_as}
 
@@ -61,7 +62,7 @@ pub data Step : Type 0 where
   is_there : (file : CommandFile) → Step
   -- it has at most so many bytes
   is_within : (file : CommandFile) (most : ℕ) → Step
-  -- the design reads as a tree, keeps the rules, is within the limits, and the compiler takes it
+  -- the design reads as a tree, keeps the rules, is within the limits, and `compile` takes it
   design_reads design_well_formed design_within design_accepted : Step
   -- the definitions read as a tree, fit the design, and are within the limit on rows
   definitions_read definitions_fit definitions_within : Step
@@ -180,7 +181,7 @@ IsGood inputs design_reads = (design : tree.Design) × DesignIs inputs design
 IsGood inputs design_well_formed =
     (design : tree.Design) × DesignIs inputs design × WellFormed design
 IsGood inputs design_within = (design : tree.Design) × DesignIs inputs design × WithinLimits design
-IsGood inputs design_accepted = (design : tree.Design) × DesignIs inputs design × Accepts design
+IsGood inputs design_accepted = (design : tree.Design) × DesignIs inputs design × IsBuilt design
 IsGood inputs definitions_read = (defs : tree.DefsText) × DefinitionsAre inputs defs
 IsGood inputs definitions_fit =
     (design : tree.Design) × (defs : tree.DefsText) × DesignIs inputs design
@@ -228,7 +229,7 @@ Refuses inputs design_within r =
     (design : tree.Design) × (limit : LimitName) × (count : ℕ) × DesignIs inputs design
     × IsFirstOver design (Some (limit, count)) × (r ≡ refusal.OverLimit limit count)
 Refuses inputs design_accepted r =
-    (design : tree.Design) × DesignIs inputs design × (¬ Accepts design)
+    (design : tree.Design) × DesignIs inputs design × (¬ IsBuilt design)
     × (r ≡ refusal.Language NotYet)
 Refuses inputs definitions_read r =
     (text : List ℕ) × (fault : TextFault) × (inputs.file Definitions ≡ Some text)

@@ -1,12 +1,10 @@
 //! `compile`: a network is made of a design and its definitions, and its bundle is written.
-ghost use Rattle.std.specs.Prelude.{◌≡◌, ◌<◌, ◌^◌, ℕ, IfErr, IfOk, IsTrue, List, Some, length, string_bytes};
-ghost use Rattle.cocoon_num.specs.Spelled.{is_spelled};
+ghost use Rattle.std.specs.Prelude.{◌≡◌, ◌<◌, ◌↔◌, ◌^◌, ℕ, IfErr, IfOk, IsTrue, List, Some, length, string_bytes};
 ghost use Rattle.cocoon_syntax.specs.TreeOf.{design_of};
 ghost use Rattle.command_line.specs.Command as spec;
-ghost use Rattle.lower_p4.specs.Accepts.{Accepts};
-ghost use Rattle.lower_p4.specs.Grounds.{WasRead};
 ghost use Rattle.p4_ir.specs.NetOf.{net_of};
 ghost use Rattle.runtime_defs.specs.Fitting.{FitsDesign};
+ghost use Rattle.cocoon_cli.specs.Built.{IsBuilt};
 ghost use Rattle.cocoon_cli.specs.Compiling.{Compiles, LowersTexts, NotAccepted, NotLowered, NotMade};
 ghost use Rattle.cocoon_cli.specs.DesignTexts.{BindsTables, ReadsChecked};
 ghost use Rattle.cocoon_cli.specs.ReportLines.{totals_line, totals_of};
@@ -16,39 +14,46 @@ ghost use Rattle.cocoon_cli.specs.declared.files.CommandFile.TheVariants.{Defini
 
 use crate::answer::{Answer, Report, Writing};
 use crate::design_texts::{Bound, bind_text, read_checked};
+use crate::laws::deliveries_stay_within;
 use crate::refusal::{InputFault, Refusal};
 use cocoon_num::NoMemory;
 use cocoon_resolve::Checked;
 use command_line::Compile;
-use lower_p4::laws::one_lowering;
-use lower_p4::{LowerFault, is_accepted, lower};
+use lower_p4::{LowerFault, lower};
 use net_bundle::laws::rows_are_long;
 use net_bundle::{BundleFault, BundleFile};
 use p4_ir::NetData;
+use refinement::laws::one_level_owes_nothing;
+use sound_types::laws::code_literals_fit;
 use std::alloc::Global;
 
-/// The design of a text, where the compiler takes it, too.
+/// Whether `compile` takes the design: it has one level and no assumption.
+fn is_built(checked: &Checked) -> bool
+    ensures { IsTrue result ↔ IsBuilt (design_of checked.now) }
+{
+    let last = checked.levels() - 1;
+    last == 0 && checked.assume_count(last) == 0
+}
+
+/// The design of a text, where `compile` takes it, too.
 fn read_accepted(alloc: Global, text: &[u8]) -> Result<Checked, Refusal>
     requires { length text.now < 2 ^ 31 }
     ensures reads { IfOk result (λ c. ReadsChecked text.now (design_of c)) }
-    ensures words { IfOk result (λ c. IsTrue (is_spelled (design_of c))) }
-    ensures accepts { IfOk result (λ c. Accepts (design_of c)) }
+    ensures built { IfOk result (λ c. IsBuilt (design_of c)) }
     ensures refused { IfErr result (NotAccepted text.now) }
 {
     let checked = read_checked(alloc, text)?;
-    if is_accepted(&checked) {
+    if is_built(&checked) {
         Ok(checked)
     } else {
         Err(Refusal::Language(InputFault::NotYet))
     }
 }
 
-/// The network of a design that the compiler takes, and its definitions.
+/// The network of a design that `compile` takes, and its definitions.
 fn lower_bound(alloc: Global, bound: &Bound) -> Result<NetData, Refusal>
-    requires words { IsTrue (is_spelled (design_of bound.now.checked)) }
-    requires read { WasRead (design_of bound.now.checked) }
     requires fit { FitsDesign (design_of bound.now.checked) bound.now.defs }
-    requires accepted { Accepts (design_of bound.now.checked) }
+    requires built { IsBuilt (design_of bound.now.checked) }
     ensures lowers { IfOk result (λ net. (design defs : List ℕ)
         → BindsTables design defs (design_of bound.now.checked) bound.now.defs
         → LowersTexts design defs (net_of net)) }
@@ -56,7 +61,9 @@ fn lower_bound(alloc: Global, bound: &Bound) -> Result<NetData, Refusal>
         → BindsTables design defs (design_of bound.now.checked) bound.now.defs
         → NotLowered design defs refusal) }
 {
-    one_lowering();
+    code_literals_fit();
+    deliveries_stay_within();
+    one_level_owes_nothing();
     rows_are_long();
     match lower(alloc, &bound.checked, &bound.defs) {
         Ok(net) => Ok(net),
@@ -73,8 +80,8 @@ fn lower_bound(alloc: Global, bound: &Bound) -> Result<NetData, Refusal>
     }
 }
 
-/// The network of the two texts, or why there is none. The design is judged first, and whether the
-/// compiler takes it; then the definitions, and then the limits of the network.
+/// The network of the two texts, or why there is none. The design is judged first, and whether
+/// `compile` takes it; then the definitions, and then the limits of the network.
 fn network(alloc: Global, design: &[u8], defs: &[u8]) -> Result<NetData, Refusal>
     requires small { length design.now < 2 ^ 31 }
     requires small_too { length defs.now < 2 ^ 31 }

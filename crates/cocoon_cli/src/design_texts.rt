@@ -1,8 +1,7 @@
 //! The texts of a design and its definitions: the design with definitions that fit it. All commands
 //! that read these two texts judge them so.
-ghost use Rattle.std.specs.Prelude.{List, ℕ, Some, ◌≡◌, ◌⊎◌, ◌<◌, ◌^◌, IfErr, IfOk, IsTrue, length, slice_get};
+ghost use Rattle.std.specs.Prelude.{List, ℕ, Some, ◌≡◌, ◌⊎◌, ◌<◌, ◌^◌, IfErr, IfOk, length, slice_get};
 ghost use Rattle.cocoon_num.specs.Reads.{Reads, ReadsDefs};
-ghost use Rattle.cocoon_num.specs.Spelled.{is_spelled};
 ghost use Rattle.cocoon_num.specs.Tree as tree;
 ghost use Rattle.cocoon_resolve.specs.Resolved.{IsRefused};
 ghost use Rattle.cocoon_syntax.specs.TreeOf.{design_of, entries_of};
@@ -27,7 +26,6 @@ use std::alloc::Global;
 fn read_tree(alloc: Global, text: &[u8]) -> Result<Design, Refusal>
     requires { length text.now < 2 ^ 31 }
     ensures reads { IfOk result (λ d. Reads text.now (design_of d)) }
-    ensures words { IfOk result (λ d. IsTrue (is_spelled (design_of d))) }
     ensures refused { IfErr result (NotChecked text.now) }
 {
     match read_design(alloc, text) {
@@ -66,7 +64,6 @@ fn unresolved(alloc: Global, text: &[u8], fault: TypeFault) -> Refusal
 pub fn read_checked(alloc: Global, text: &[u8]) -> Result<Checked, Refusal>
     requires { length text.now < 2 ^ 31 }
     ensures reads { IfOk result (λ c. ReadsChecked text.now (design_of c)) }
-    ensures words { IfOk result (λ c. IsTrue (is_spelled (design_of c))) }
     ensures refused { IfErr result (NotChecked text.now) }
 {
     let design = read_tree(alloc, text)?;
@@ -148,7 +145,7 @@ fn unbound(alloc: Global, text: &[u8], checked: &Checked, fault: DefsFault) -> R
 pub fn bind_text(alloc: Global, checked: &Checked, text: &[u8]) -> Result<Defs, Refusal>
     requires { length text.now < 2 ^ 31 }
     ensures bound { IfOk result (λ defs. (design : List ℕ)
-        → ReadsChecked design (design_of checked.now) → IsTrue (is_spelled (design_of checked.now))
+        → ReadsChecked design (design_of checked.now)
         → BindsTables design text.now (design_of checked.now) defs) }
     ensures refused { IfErr result (λ refusal. (design : List ℕ)
         → ReadsChecked design (design_of checked.now)

@@ -1,7 +1,17 @@
 //! What follows from the promises of this crate. The functions do nothing; their contracts are the
 //! laws.
 ghost use Rattle.std.specs.Prelude.{Result};
+ghost use Rattle.cocoon_num.specs.Tree.{DefsText, Design};
+ghost use Rattle.cocoon_types.specs.DefsRules.{DefsFit};
+ghost use Rattle.cocoon_types.specs.Design.{last_level};
+ghost use Rattle.cocoon_types.specs.Rules.{WellFormed};
+ghost use Rattle.cocoon_types.specs.Tables.{defs_of};
 ghost use Rattle.command_line.specs.Command as spec;
+ghost use Rattle.lowered.specs.Delivers.{DeliversExactly, DeliversWithin};
+ghost use Rattle.p4_ir.specs.NetTree.{NetData};
+ghost use Rattle.refinement.specs.Assumptions.{Meets};
+ghost use Rattle.refinement.specs.Owed.{Refines};
+ghost use Rattle.sound_types.specs.Literals.{DesignLiteralsFit, EntriesFit};
 ghost use Rattle.cocoon_cli.specs.Outcomes.{HasOutcome};
 ghost use Rattle.command_line.specs.Words.{command};
 ghost use Rattle.cocoon_cli.specs.Run.{Call, CauseOf, IsOnly, KeepsMore};
@@ -17,6 +27,7 @@ use cocoon_types::limits::{one_first_over, within_is_not_over};
 use lower_p4::laws::one_lowering;
 use packet_runs::laws::one_report;
 use plain_parser::text_laws::{one_definitions_tree, one_tree};
+use refinement::laws::levels_compose;
 
 /// By what is read of its files, a command has one outcome at most: the first step that refuses,
 /// with its status and its line, or its report. Of a command that reads a bundle it is said where the
@@ -45,3 +56,14 @@ pub fn one_outcome()
 pub fn calls_keep_more()
     ensures { (call : Call) → CauseOf (command call.words) call → KeepsMore call }
 {}
+
+/// What a network delivers that delivers exactly what the last level does, the topmost specification
+/// may make, if each block of the design is contained and bounded, under definitions that meet all
+/// assumptions.
+pub fn deliveries_stay_within()
+    ensures { (d : Design) (es : DefsText) (net : NetData) → WellFormed d → DesignLiteralsFit d
+        → DefsFit d es → EntriesFit es → Refines d → Meets (last_level d) d (defs_of d es)
+        → DeliversExactly net d (defs_of d es) → DeliversWithin net d (defs_of d es) }
+{
+    levels_compose();
+}

@@ -1,18 +1,20 @@
--- What a `Checked` keeps: a design by all rules and limits, and what its readers look up. Its invariant cites it, and private
+-- What a `Checked` keeps: a design that was read, by all rules and limits, and what its readers look up. Its invariant cites it, and private
 -- clauses.
-use Rattle.std.specs.Prelude.{◌≡◌, ◌/◌, ◌≤◌, ◌+◌, ℕ, Bool, false, List, [], ◌∷◌, Some, None, filter_map, length, map, reverse, slice_get, unwrap_or, Vec}
+use Rattle.std.specs.Prelude.{◌≡◌, ◌/◌, ◌≤◌, ◌+◌, ℕ, All, Bool, false, List, [], ◌∷◌, Some, None, IsTrue, filter_map, length, map, reverse, slice_get, unwrap_or, Vec}
 use Rattle.std.specs.declared.alloc.Global.{Global}
 use Rattle.cocoon_num.specs.Packets.{total}
+use Rattle.cocoon_num.specs.Spelled.{is_spelled}
 use Rattle.cocoon_num.specs.Tree.{AssumeDecl, Decl, Role, Design}
 use Rattle.cocoon_num.specs.Names.{named}
 use Rattle.cocoon_syntax.specs.TreeOf.{assume_of}
-use Rattle.cocoon_types.specs.Design.{as_role, decls_to, last_level}
+use Rattle.cocoon_types.specs.Design.{as_role, decls_to, functions, last_level}
 use Rattle.declarations.specs.declared.tables.Declarations.{Declarations}
 use Rattle.declarations.specs.Declares.{Declares, role_number}
 use Rattle.cocoon_resolve.specs.declared.assumptions.Assumptions.{Assumptions}
 use Rattle.cocoon_resolve.specs.declared.bodies.Bodies.{Bodies}
 use Rattle.cocoon_resolve.specs.Readers.{assumptions_to, field_widths, reads_back}
-use Rattle.cocoon_resolve.specs.Resolved.{Resolves}
+use Rattle.cocoon_resolve.specs.Resolved.{Resolves, WasRead}
+use Rattle.tree_names.specs.Names.{IsNamed}
 
 -- the assumptions of levels 0 to n, and their count up to each of these levels
 pub record HoldsTo (n : ℕ) (d : Design) (held : List AssumeDecl) (counts : List ℕ) : Type 0 where
@@ -50,6 +52,9 @@ HoldsBodies t d = HoldsRows (last_level d) d t.rows.items
 
 pub record IsKept (names : Declarations) (assumptions : Assumptions) (bodies : Bodies) (widths : List ℕ) (bytes : ℕ) (d : Design) : Type 0 where
   pub resolves : Resolves d
+  pub read : WasRead d
+  pub spelled : IsTrue (is_spelled d)
+  pub named : All IsNamed (functions d)
   pub declares : Declares names d
   pub assumes : HoldsAssumptions assumptions d
   pub read_back : HoldsBodies bodies d

@@ -1,6 +1,7 @@
--- Cited by the clauses of `resolve` and by the invariant of `Checked`: which designs keep the rules and the limits, and why
--- one is refused. It follows the sections "Rules of a design" and "Limits" of docs/LANGUAGE.md.
-use Rattle.std.specs.Prelude.{Some}
+-- Cited by the clauses of `resolve` and by the invariant of `Checked`: which designs were read, which keep the rules and the
+-- limits, and why one is refused. It follows the sections "Texts", "Rules of a design" and "Limits" of docs/LANGUAGE.md.
+use Rattle.std.specs.Prelude.{ℕ, List, Some}
+use Rattle.cocoon_num.specs.Reads.{Reads}
 use Rattle.cocoon_num.specs.Tree.{Design}
 use Rattle.cocoon_types.specs.Rules.{WellFormed}
 use Rattle.cocoon_types.specs.Limits.{WithinLimits}
@@ -9,6 +10,10 @@ use Rattle.cocoon_types.specs.RuleNames.{fault_at}
 use Rattle.design_limits.specs.First.{IsFirstOver}
 use Rattle.cocoon_resolve.specs.declared.fault.TypeFault.{TypeFault}
 use Rattle.cocoon_resolve.specs.declared.fault.TypeFault.TheVariants.{Rule, Limit, NoMemory}
+
+-- the design is the tree of a text
+abbrev pub WasRead : Design → Type 0
+WasRead d = (text : List ℕ) × Reads text d
 
 -- the design keeps all rules, and is within all limits
 pub record Resolves (d : Design) : Type 0 where

@@ -1,11 +1,13 @@
 //! A design that keeps the rules and the limits, and its readers.
-ghost use Rattle.std.specs.Prelude.{◌≡◌, ◌+◌, ◌/◌, ◌<◌, ◌≤◌, ℕ, IfOk, List, Some, length, slice_get};
+ghost use Rattle.std.specs.Prelude.{◌≡◌, ◌+◌, ◌/◌, ◌<◌, ◌≤◌, ℕ, All, IfOk, IsTrue, List, Some, length, slice_get};
 ghost use Rattle.cocoon_num.specs.Packets.{total};
+ghost use Rattle.cocoon_num.specs.Spelled.{is_spelled};
 ghost use Rattle.cocoon_syntax.specs.TreeOf.{assume_of, design_of, function_of, role_of};
 ghost use Rattle.cocoon_types.specs.Design.{functions, last_level, role_at};
 ghost use Rattle.declarations.specs.Declares.{Declares, function_number, role_number};
 ghost use Rattle.cocoon_resolve.specs.Readers.{all_assumptions, assumptions_to, field_widths, HasRole, IsRuntime, ReadsBack};
-ghost use Rattle.cocoon_resolve.specs.Resolved.{Resolves};
+ghost use Rattle.cocoon_resolve.specs.Resolved.{Resolves, WasRead};
+ghost use Rattle.tree_names.specs.Names.{IsNamed};
 
 use crate::assumptions::Assumptions;
 use crate::bodies::Bodies;
@@ -15,8 +17,9 @@ use cocoon_syntax::{AssumeDecl, Design, FunctionDecl, Role};
 use declarations::{Declarations, FunId, RoleId};
 use std::alloc::Global;
 use std::marker::Model;
+use tree_names::{functions_are_named, headers_are_spelled};
 
-/// A design that keeps all rules, within all limits. The readers take no memory, and constant or logarithmic time.
+/// A design that was read and keeps all rules, within all limits. The readers take no memory, and constant or logarithmic time.
 #[derive(Drop)]
 pub struct Checked {
     design: Design,
@@ -54,8 +57,11 @@ impl Checked {
     ) -> Result<Checked, NoMemory>
         requires declares { Declares names (design_of design) }
         requires resolves { Resolves (design_of design) }
+        requires read { WasRead (design_of design) }
         ensures { IfOk result (λ checked. checked ≡ design) }
     {
+        functions_are_named();
+        headers_are_spelled();
         let assumptions = Assumptions::new(alloc, &design)?;
         let bodies = Bodies::new(alloc, &names, &design)?;
         let field_widths = widths(alloc, &design.headers)?;
@@ -76,6 +82,15 @@ impl Checked {
         ensures resolves { Resolves (design_of self.now) }
     {
         &self.design
+    }
+
+    /// A text reads as the design, so its names are spelled as in a text. The call does nothing.
+    pub fn know_reading(&self)
+        ensures read { WasRead (design_of self.now) }
+        ensures spelled { IsTrue (is_spelled (design_of self.now)) }
+        ensures named { All IsNamed (functions (design_of self.now)) }
+    {
+        let _kept = self.header_bytes;
     }
 
     /// The tables of its declarations, which find what a name stands for.

@@ -6,7 +6,7 @@ ghost use Rattle.cocoon_types.specs.Limits.{WithinLimits};
 ghost use Rattle.cocoon_types.specs.Noting.{FirstOf};
 ghost use Rattle.cocoon_types.specs.Rules.{WellFormed};
 ghost use Rattle.declarations.specs.Declares.{Declares};
-ghost use Rattle.cocoon_resolve.specs.Resolved.{IsRefused, Resolves};
+ghost use Rattle.cocoon_resolve.specs.Resolved.{IsRefused, Resolves, WasRead};
 
 use crate::checked::Checked;
 use crate::fault::TypeFault;
@@ -22,8 +22,9 @@ use std::alloc::Global;
 use type_rules::note_types;
 
 /// The design, if it keeps all rules and is within all limits; else its first fault, by phases, token indices and the order
-/// of the rules, or the first limit that it is over.
+/// of the rules, or the first limit that it is over. It has to be the tree of a text.
 pub fn resolve(alloc: Global, design: Design) -> Result<Checked, TypeFault>
+    requires { WasRead (design_of design) }
     ensures ok { IfOk result (λ checked. checked ≡ design) }
     ensures resolves { IfOk result (λ checked. Resolves (design_of design)) }
     ensures refused { IfErr result (IsRefused (design_of design)) }

@@ -1,4 +1,3 @@
 pub mod FirstFaults
 pub mod OneFault
-pub mod Spelled
 pub mod Within

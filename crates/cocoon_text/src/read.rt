@@ -1,7 +1,6 @@
 //! The tree of a whole text, or its first fault.
-ghost use Rattle.std.specs.Prelude.{All, ◌≡◌, ◌<◌, ◌≤◌, ◌^◌, ◌⊎◌, IfErr, IfOk, IsTrue, Ok, length, map};
+ghost use Rattle.std.specs.Prelude.{All, ◌≡◌, ◌<◌, ◌≤◌, ◌^◌, ◌⊎◌, IfErr, IfOk, Ok, length, map};
 ghost use Rattle.cocoon_num.specs.Reads.{Reads, ReadsDefs};
-ghost use Rattle.cocoon_num.specs.Spelled.{is_spelled};
 ghost use Rattle.cocoon_num.specs.FirstFaults.{BeginsDefs, BeginsDesign};
 ghost use Rattle.cocoon_num.specs.Tokens.{kinds, language, lex as tokens_of};
 ghost use Rattle.cocoon_lex.specs.Kinds.{HasFault, StandsIn, token_of};
@@ -21,7 +20,6 @@ use std::alloc::Global;
 pub fn read_design(alloc: Global, text: &[u8]) -> Result<Design, Unread>
     requires small { length text.now < 2 ^ 31 }
     ensures reads { IfOk result (λ d. Reads text.now (design_of d)) }
-    ensures spelled { IfOk result (λ d. IsTrue (is_spelled (design_of d))) }
     ensures fault { IfErr result (IsUnread BeginsDesign text.now) }
 {
     match lex(alloc, text) {

@@ -126,7 +126,7 @@ fn wanted_of<'a>(case: Case<'a>, name: &str) -> Option<&'a [u8]> {
 }
 
 /// Reports which files are not in the folder as they are wanted.
-fn compare(case: Case<'_>, folder: &MemFolder, out: &mut Printer) {
+pub fn compare(case: Case<'_>, folder: &MemFolder, out: &mut Printer) {
     for cut in case.lines.split(LINE) {
         let Line { word, name, .. } = line_of(cut);
         if matches!(word, "file" | "text" | "after" | "absent")

@@ -130,6 +130,7 @@ fn is_line(word: &str, count: usize) -> bool {
         "status" | "absent" | "failing-call" | "failing-put" => count == 2,
         "cut" | "table" | "same-behind" | "others" => count == 2,
         "replace" => count == 3,
+        "lowers" => count == 4,
         "calls" | "output" => count == 2,
         "call" => count == 5,
         _ => false,

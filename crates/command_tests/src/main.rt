@@ -7,6 +7,7 @@ mod attempt;
 mod calls;
 mod fields;
 mod lines;
+mod lowering;
 mod sweep;
 
 use attempt::{Case, Wanted, try_once};
@@ -16,6 +17,7 @@ use cocoon_io::HonestFolder;
 use cocoon_num::NoMemory;
 use fields::{last_line, put_lines, words_of};
 use lines::{CaseFiles, Data, follow_all, read};
+use lowering::try_lowering;
 use std::process::ExitCode;
 use std::{env, str};
 use sweep::{Sweep, try_each};
@@ -94,10 +96,20 @@ fn try_lines(data: Data<'_>, lines: &str, out: &mut Printer) -> usize {
     };
     follow_all(data, &mut files, lines, out);
     let kind = last_line(lines, "calls").name;
-    if kind.is_empty() {
+    let lowered = last_line(lines, "lowers");
+    if !kind.is_empty() {
+        try_calls(data, lines, kind, &mut files, out);
+        return 0;
+    }
+    if lowered.word.is_empty() {
         return try_files(data, lines, &mut files, out);
     }
-    try_calls(data, lines, kind, &mut files, out);
+    let case = Case {
+        lines,
+        files: &files,
+        words: &[],
+    };
+    try_lowering(data.rt.alloc(), case, lowered, out);
     0
 }
 

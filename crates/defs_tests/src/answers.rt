@@ -1,9 +1,7 @@
 //! What is asked of definitions.
-ghost use Rattle.std.specs.Prelude.{◌≡◌, All, IfSome, IsTrue, length, option_map};
+ghost use Rattle.std.specs.Prelude.{◌≡◌, IfSome, IsTrue, length, option_map};
 ghost use Rattle.cocoon_num.specs.Reads.{Reads};
 ghost use Rattle.cocoon_syntax.specs.TreeOf.{design_of};
-ghost use Rattle.cocoon_types.specs.Design.{functions};
-ghost use Rattle.defs_text.specs.Fitting.{IsNamed};
 ghost use Rattle.runtime_defs.specs.Fitting.{FitsDesign};
 ghost use Rattle.runtime_defs.specs.Places.{table_at, TakesArgs};
 
@@ -15,7 +13,6 @@ use cocoon_resolve::{Checked, resolve};
 use cocoon_syntax::Design;
 use cocoon_text::{read_defs, read_design};
 use declarations::FunId;
-use defs_text::laws::functions_are_named;
 use runtime_defs::{Defs, bind};
 use std::alloc::Global;
 
@@ -23,9 +20,7 @@ use std::alloc::Global;
 const TOO_LONG: usize = 0x8000_0000;
 
 /// The design of a text that has one, by all rules.
-pub fn checked_design(alloc: Global, text: &[u8]) -> Option<Checked>
-    ensures { IfSome result (λ checked. All IsNamed (functions (design_of checked))) }
-{
+pub fn checked_design(alloc: Global, text: &[u8]) -> Option<Checked> {
     if text.len() >= TOO_LONG {
         return None;
     }
@@ -38,9 +33,7 @@ pub fn checked_design(alloc: Global, text: &[u8]) -> Option<Checked>
 /// The design of a text, if it keeps all rules.
 fn resolved(alloc: Global, text: &[u8], design: Design) -> Option<Checked>
     requires { Reads text.now (design_of design) }
-    ensures { IfSome result (λ checked. All IsNamed (functions (design_of checked))) }
 {
-    functions_are_named();
     match resolve(alloc, design) {
         Ok(checked) => Some(checked),
         Err(_) => None,
@@ -84,8 +77,7 @@ fn put_lines(text: &Text, given: &mut Printer) {
 
 /// Puts the text of definitions, and whether it reads back as others.
 fn put_printed(alloc: Global, checked: &Checked, defs: &Defs, given: &mut Printer)
-    requires named { All IsNamed (functions (design_of checked.now)) }
-    requires fits { FitsDesign (design_of checked.now) defs.now }
+    requires { FitsDesign (design_of checked.now) defs.now }
 {
     match defs.text(alloc, checked) {
         Ok(text) => {
@@ -170,8 +162,7 @@ fn put_look(alloc: Global, checked: &Checked, defs: &Defs, asked: &str, given: &
 
 /// Puts what is asked of definitions.
 fn put_asked(alloc: Global, checked: &Checked, defs: &Defs, question: &str, given: &mut Printer)
-    requires named { All IsNamed (functions (design_of checked.now)) }
-    requires fits { FitsDesign (design_of checked.now) defs.now }
+    requires { FitsDesign (design_of checked.now) defs.now }
 {
     let (word, rest) = first_word(question);
     match word {

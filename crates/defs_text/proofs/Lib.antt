@@ -6,6 +6,5 @@ pub mod Fits
 pub mod Distinct
 pub mod Tables
 pub mod Faultless
-pub mod Named
 pub mod Widths
 pub mod Example

@@ -1,9 +1,8 @@
--- Cited by the conditions of `print_defs` and of the laws: of which functions and tables there are definitions. It follows the
+-- Cited by the conditions of `print_defs` and of the laws: of which tables there are definitions. It follows the
 -- sections "Texts" and "Definitions" of docs/LANGUAGE.md.
-use Rattle.std.specs.Prelude.{◌≡◌, ℕ, ◌-◌, ◌^◌, ◌≤◌, ◌&&◌, Bool, true, false, not, List, [], ◌∷◌, ◌++◌, All, length, map, bit_and, is_some, slice_get, Option, Some, None, option_and_then}
+use Rattle.std.specs.Prelude.{◌≡◌, ℕ, ◌-◌, ◌^◌, ◌&&◌, Bool, true, false, List, [], ◌∷◌, ◌++◌, All, map, bit_and, is_some, slice_get, Option, Some, None, option_and_then}
 use Rattle.std.specs.List.{AllZip}
-use Rattle.cocoon_num.specs.Lists.{each, is_one_of}
-use Rattle.cocoon_num.specs.Tokens.{is_letter, is_run_byte, language}
+use Rattle.cocoon_num.specs.Lists.{is_one_of}
 use Rattle.cocoon_num.specs.Tree.{FunctionDecl, ResultKind, of_width, of_truth, Design}
 use Rattle.cocoon_num.specs.Values.{fits_width, truth}
 use Rattle.cocoon_num.specs.declared.fun_table.FunRow.{FunRow}
@@ -11,19 +10,6 @@ use Rattle.cocoon_num.specs.declared.fun_table.FunTable.{FunTable}
 use Rattle.cocoon_types.specs.DefsRules.{fork_calls, guard_calls}
 use Rattle.cocoon_types.specs.Design.{functions, widths_of}
 use Rattle.defs_text.specs.Places.{result_value}
-
--- ---- functions
-
--- a letter or `_`, and then letters, digits and `_`; neither `_` alone nor a reserved word
-abbrev pub is_name : List ℕ → Bool
-is_name [] = false
-is_name (b ∷ bs) =
-    is_letter b && each is_run_byte bs && not (is_one_of language.marks (b ∷ bs)) && not (is_one_of language.reserved (b ∷ bs))
-
--- a function that was read: its name is one of the language, and it has one or more parameters
-pub record IsNamed (f : FunctionDecl) : Type 0 where
-  pub name : is_name f.name.text ≡ true
-  pub params : 1 ≤ length f.params
 
 -- ---- tables
 

@@ -1,13 +1,12 @@
 //! What the text of definitions stands for. The functions do nothing; their contracts are the laws.
-ghost use Rattle.std.specs.Prelude.{All, List, Option, ℕ};
+ghost use Rattle.std.specs.Prelude.{All, List, Option};
 ghost use Rattle.std.specs.List.{AllZip};
-ghost use Rattle.cocoon_num.specs.Reads.{Reads};
 ghost use Rattle.cocoon_num.specs.Tree.{Design};
 ghost use Rattle.cocoon_num.specs.declared.fun_table.FunTable.{FunTable};
 ghost use Rattle.cocoon_types.specs.DefsRules.{DefsFit};
 ghost use Rattle.cocoon_types.specs.Design.{functions};
 ghost use Rattle.cocoon_types.specs.Rules.{WellFormed};
-ghost use Rattle.defs_text.specs.Fitting.{FitsDesign, FitsPlace, IsMasked, IsNamed};
+ghost use Rattle.defs_text.specs.Fitting.{FitsDesign, FitsPlace, IsMasked};
 ghost use Rattle.defs_text.specs.Places.{entries_of_places};
 ghost use Rattle.defs_text.specs.Tabled.{IsPlace};
 
@@ -22,10 +21,4 @@ pub fn tables_come_back()
 pub fn definitions_fit()
     ensures { (design : Design) (places : List (Option FunTable)) → WellFormed design
         → FitsDesign design places → DefsFit design (entries_of_places design places) }
-{}
-
-/// The functions of a design that was read have names of the language, and parameters.
-pub fn functions_are_named()
-    ensures { (text : List ℕ) (design : Design) → Reads text design
-        → All IsNamed (functions design) }
 {}

@@ -9,9 +9,10 @@ ghost use Rattle.cocoon_syntax.specs.TreeOf.{design_of, function_of, result_of};
 ghost use Rattle.cocoon_types.specs.Design.{functions};
 ghost use Rattle.text_printer.specs.Printing.{each_text, Prints};
 ghost use Rattle.defs_text.specs.EntryTexts.{const_text, entry_text, more_patterns_text, pattern_text, patterns_text, truth_text};
-ghost use Rattle.defs_text.specs.Fitting.{FitsPlace, IsNamed};
+ghost use Rattle.defs_text.specs.Fitting.{FitsPlace};
 ghost use Rattle.defs_text.specs.Keys.{HasAllKeys, HasPlaceKeys};
 ghost use Rattle.defs_text.specs.Places.{default_entry, defs_text, entries_of_places, key_pattern, key_patterns, place_entries, result_value, row_entry};
+ghost use Rattle.tree_names.specs.Names.{IsNamed};
 
 use cocoon_num::{Bits, FunRow, FunTable, NoMemory, Text};
 use cocoon_resolve::Checked;
@@ -166,8 +167,7 @@ pub fn print_defs(
     checked: &Checked,
     places: &[Option<FunTable>],
 ) -> Result<Text, NoMemory>
-    requires named { All IsNamed (functions (design_of checked.now)) }
-    requires places { AllZip FitsPlace (functions (design_of checked.now)) places.now }
+    requires { AllZip FitsPlace (functions (design_of checked.now)) places.now }
     ensures text { IfOk result (λ text. text ≡ defs_text (design_of checked.now) places.now) }
     ensures reads { IfOk result (λ text.
         ReadsDefs text (entries_of_places (design_of checked.now) places.now)) }
@@ -176,9 +176,11 @@ pub fn print_defs(
     text_of(alloc, checked, places)
 }
 
-/// The design keeps the rules.
+/// The design keeps the rules, and its functions have names.
 fn keeps_rules(checked: &Checked)
-    ensures { Resolves (design_of checked.now) }
+    ensures resolves { Resolves (design_of checked.now) }
+    ensures named { All IsNamed (functions (design_of checked.now)) }
 {
     checked.design();
+    checked.know_reading();
 }

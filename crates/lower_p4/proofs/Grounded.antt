@@ -8,8 +8,6 @@ use Rattle.cocoon_num.specs.Tokens.{is_shallow}
 use Rattle.cocoon_num.specs.Tree.{Design, DefsText}
 use Rattle.cocoon_num.specs.Values.{fits_width}
 use Rattle.cocoon_num.specs.declared.limit_name.LimitName.TheVariants as limit
-use Rattle.cocoon_resolve.specs.Readers.{all_assumptions, assumptions_to}
-use Rattle.cocoon_types.specs.Design.{last_level}
 use Rattle.p4_ir.specs.NetOf.{switch_of}
 use Rattle.p4_ir.specs.NetTree.{NetData}
 use Rattle.p4_ir.specs.declared.network.SwitchFiles.{SwitchFiles as Files}
@@ -30,9 +28,9 @@ use Rattle.lowered.specs.Roles.{NetParts, net_parts}
 use Rattle.lowered.specs.SwitchProgram.{fields_in, switch_made, switch_program}
 use Rattle.lower_net.specs.Limits.{many_rows}
 use Rattle.lower_net.specs.Refused.{FirstManyRows}
-use Rattle.lower_p4.specs.Accepts.{Accepts, RunsProgram}
 use Rattle.lower_p4.specs.Grounds.{Grounds, HoldsFields}
 use Rattle.lower_p4.specs.Lowering.{RunPrograms}
+use Rattle.lower_p4.specs.Lowers.{RunsProgram}
 use Rattle.lower_p4.proofs.OneNetwork.{one_list, one_parts}
 
 pub has_tables : (d : Design) (es : DefsText) (places : Places) → Grounds d es places → HasTables d places
@@ -175,33 +173,7 @@ program_of_role d s p parts h (q, k, e) = e ∙ ap (λ (x : NetParts). switch_pr
 pub well_kinded : (p : Program) → kinds_fit p ≡ true → is_shallow p4_bounds (program_tokens p) ≡ true → is_well_kinded p ≡ true
 well_kinded p h k = ap₂ (λ a b. a && b) h k
 
--- ---- what is taken
-
-empty_list : {A : Type 0} (xs : List A) → length xs ≡ 0 → xs ≡ []
-empty_list [] h = refl
-empty_list (x ∷ xs) h = absurd cc
-
-zero_true : (n : ℕ) → n ≡ 0 → (n == 0) ≡ true
-zero_true n h = grind (arith, nat_tests, h)
-
-true_zero : (n : ℕ) → (n == 0) ≡ true → n ≡ 0
-true_zero n h = grind (arith, nat_tests, h)
-
--- a design of one level is taken where it has no assumption
-pub taken_by : (d : Design) (last n : ℕ) → last ≡ last_level d → last ≡ 0 → n ≡ length (assumptions_to last d)
-    → ((n == 0) ≡ true → Accepts d) × (Accepts d → (n == 0) ≡ true)
-unfolding Accepts
-taken_by d last n is zero count = (
-  λ h. (sym is ∙ zero, empty_list (all_assumptions d) (ap (λ k. length (assumptions_to k d)) (sym is) ∙ sym count ∙ true_zero n h)),
-  λ a. zero_true n (count ∙ ap (λ k. length (assumptions_to k d)) is ∙ ap length a.1),
-)
-
-pub not_taken_by : (d : Design) (last : ℕ) → last ≡ last_level d → (last == 0) ≡ false
-    → ((last == 0) ≡ true → Accepts d) × (Accepts d → (last == 0) ≡ true)
-unfolding Accepts
-not_taken_by d last is more = (λ h. absurd (let none : true ≡ false = sym h ∙ more in cc), λ a. zero_true last (is ∙ a.0))
-
--- the fields of all programs
+-- ---- the fields of all programs
 
 pub all_held : (xs : List Files) → All (λ s. HoldsFields (switch_of s)) xs → All HoldsFields (map switch_of xs)
 all_held [] a = All-nil HoldsFields

@@ -19,7 +19,7 @@ use Rattle.lowered_rows.specs.SwitchRows.{switch_rows}
 use Rattle.lower_net.specs.Limits.{long_program, many_rows, most_file_rows}
 use Rattle.lower_net.specs.Refused.{FirstLongProgram, FirstManyRows}
 use Rattle.lower_rows.specs.AllRows.{all_rows}
-use Rattle.lower_p4.specs.Accepts.{RunsProgram}
+use Rattle.lower_p4.specs.Lowers.{RunsProgram}
 use Rattle.lower_p4.specs.Lowering.{StartsFull, StartsLong}
 
 -- the first switch, where a test is true

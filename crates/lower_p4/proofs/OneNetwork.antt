@@ -12,7 +12,7 @@ use Rattle.lowered_net.specs.Counts.{FirstOver, counts, first_over}
 use Rattle.lowered_net.specs.Network.{IsNetwork, network}
 use Rattle.lowered.specs.Roles.{NetParts, net_parts}
 use Rattle.lowered.specs.SwitchProgram.{switch_program}
-use Rattle.lower_p4.specs.Accepts.{Accepts, Lowers, RunsProgram}
+use Rattle.lower_p4.specs.Lowers.{Lowers, RunsProgram}
 use Rattle.lower_p4.specs.LowerLimits.{IsOver, IsWithin}
 use Rattle.lower_p4.specs.OfText.{AreOfText}
 use Rattle.lower_p4.proofs.Ascending.{one_order}
@@ -36,12 +36,8 @@ one_network_by d places m n p q =
 
 pub one_network : (d : Design) (es : DefsText) (m n : NetData) → Lowers d es m → Lowers d es n → m ≡ n
 unfolding Lowers
-one_network d es m n (a, x, p, h) (b, y, q, k) =
+one_network d es m n (x, p, h) (y, q, k) =
     one_network_by d y m n (subst (λ z. IsNetwork d z m) (one_tables d es x y p q) h) k
-
-pub design_accepted : (d : Design) (es : DefsText) (n : NetData) → Lowers d es n → Accepts d
-unfolding Lowers
-design_accepted d es n (a, x, p, h) = a
 
 pub one_program : (d : Design) (s : ℕ) (p q : Program) → RunsProgram d s p → RunsProgram d s q → p ≡ q
 unfolding RunsProgram

@@ -1,5 +1,5 @@
 pub mod OfText
-pub mod Accepts
+pub mod Lowers
 pub mod LowerLimits
 pub mod Lowering
 pub mod Grounds

@@ -4,9 +4,7 @@
 use Rattle.std.specs.Prelude.{◌≡◌, ◌<◌, ◌≤◌, ℕ, List, [], ◌∷◌, IsTrue, length, Some, None}
 use Rattle.cocoon_num.specs.Tree.{Design, DefsText}
 use Rattle.cocoon_types.specs.Tables.{defs_of}
-use Rattle.cocoon_types.specs.Rules.{WellFormed}
-use Rattle.cocoon_types.specs.DefsRules.{DefsFit}
-use Rattle.lowered.specs.Delivers.{DeliversExactly, DeliversWithin}
+use Rattle.lowered.specs.Delivers.{DeliversExactly}
 use Rattle.p4_ir.specs.FileSizes.{most_file_bytes}
 use Rattle.p4_ir.specs.P4Tree.{Program}
 use Rattle.p4_ir.specs.NetTree.{SwitchFiles, NetData}
@@ -17,7 +15,7 @@ use Rattle.lowered_net.specs.Counts.{FirstOver}
 use Rattle.lowered_net.specs.Network.{IsNetwork}
 use Rattle.lower_rows.specs.AllRows.{all_rows}
 use Rattle.lower_net.specs.Limits.{most_file_rows}
-use Rattle.lower_p4.specs.Accepts.{Lowers, RunsProgram}
+use Rattle.lower_p4.specs.Lowers.{Lowers, RunsProgram}
 use Rattle.lower_p4.specs.LowerLimits.{IsOver, IsWithin}
 pub use Rattle.lower_p4.specs.OfText.{AreOfText}
 use Rattle.lower_net.specs.declared.lowering.LowerFault.{LowerFault}
@@ -35,13 +33,6 @@ pub record IsLowering (design : Design) (defs : DefsText) (net : NetData) : Type
   -- there is one program for each number, by the law `one_lowering`
   pub programs : RunPrograms (RunsProgram design) net.switches
   pub writable : IsTrue (net_fits net)
-
--- What is known of two trees of which a lowering was made: both keep all rules, and what the network delivers the topmost
--- specification may make.
-pub record IsSound (design : Design) (defs : DefsText) (net : NetData) : Type 0 where
-  pub well_formed : WellFormed design
-  pub defs_fit : DefsFit design defs
-  pub within : DeliversWithin net design (defs_of design defs)
 
 -- ---- why there is none
 

@@ -3,15 +3,16 @@ ghost use Rattle.std.specs.Prelude.{◌<◌, ◌≡◌, ◌^◌, All, false, IsT
 ghost use Rattle.cocoon_num.specs.Spelled.{is_spelled};
 ghost use Rattle.cocoon_num.specs.Tree.{DefsText, Design};
 ghost use Rattle.cocoon_num.specs.declared.limit_name.LimitName.{LimitName};
+ghost use Rattle.cocoon_resolve.specs.Resolved.{WasRead};
 ghost use Rattle.cocoon_types.specs.Rules.{WellFormed};
 ghost use Rattle.cocoon_types.specs.Tables.{defs_of};
-ghost use Rattle.lower_p4.specs.Accepts.{Accepts, Lowers, RunsProgram};
-ghost use Rattle.lower_p4.specs.Grounds.{Grounds, HoldsFields, WasRead};
+ghost use Rattle.lower_p4.specs.Grounds.{Grounds, HoldsFields};
 ghost use Rattle.lower_p4.specs.LowerLimits.{IsOver, IsWithin};
 ghost use Rattle.lower_p4.specs.Lowering.{IsLowering, RunPrograms, StartsFull, StartsLong};
+ghost use Rattle.lower_p4.specs.Lowers.{Lowers, RunsProgram};
 ghost use Rattle.lower_net.specs.Refused.{FirstLongProgram, FirstManyRows};
 ghost use Rattle.lowered_net.specs.Counts.{FirstOver};
-ghost use Rattle.lowered.specs.Delivers.{DeliversExactly, DeliversWithin};
+ghost use Rattle.lowered.specs.Delivers.{DeliversExactly};
 ghost use Rattle.lowered_net.specs.Network.{IsNetwork};
 ghost use Rattle.p4_emit.specs.Printed.{printed};
 ghost use Rattle.p4_ir.specs.FileSizes.{most_file_bytes};
@@ -25,23 +26,17 @@ ghost use Rattle.sound_types.specs.Literals.{DesignLiteralsFit};
 use lower_switch::laws::programs_count_alike;
 use lowered_depth::programs_are_shallow;
 use lowered_kinds::laws::{programs_are_kinded, readings_are_plain};
-use lowered_net::laws::deliveries_stay_within;
 use lowered_rows::{groups_are_few, rows_are_few};
 use lowered_size::programs_are_long;
 use lowered_whole::laws::{networks_are_exact, networks_fit};
 use tree_depth::readings_are_shallow;
 
-/// The network of a design under definitions delivers exactly what the last level delivers, and, where that is the only
-/// level, nothing that the topmost specification may not make.
+/// The network of a design under definitions delivers exactly what the last level delivers, however many levels there are.
 pub fn networks_deliver()
-    ensures exactly { (d : Design) (es : DefsText) (places : Places) (net : NetData)
+    ensures { (d : Design) (es : DefsText) (places : Places) (net : NetData)
         → Grounds d es places → IsNetwork d places net → DeliversExactly net d (defs_of d es) }
-    ensures within { (d : Design) (es : DefsText) (places : Places) (net : NetData)
-        → Grounds d es places → IsNetwork d places net → Accepts d
-        → DeliversWithin net d (defs_of d es) }
 {
     networks_are_exact();
-    deliveries_stay_within();
 }
 
 /// Each switch of a network runs the program of its number.
@@ -98,13 +93,11 @@ pub fn first_programs_are_kinded()
     programs_are_shallow();
 }
 
-/// The compiler makes one network of a design and definitions. It makes it only of a design that it takes, and the program
-/// of a switch depends on the design and the number of the switch alone. Definitions exceed one limit first, or none.
+/// The compiler makes one network of a design and definitions, and the program of a switch depends on the design and the number of
+/// the switch alone. Definitions exceed one limit first, or none.
 pub fn one_lowering()
     ensures one { (design : Design) (defs : DefsText) (m n : NetData)
         → Lowers design defs m → Lowers design defs n → m ≡ n }
-    ensures accepted { (design : Design) (defs : DefsText) (n : NetData)
-        → Lowers design defs n → Accepts design }
     ensures programs { (design : Design) (switch : ℕ) (p q : tree.Program)
         → RunsProgram design switch p → RunsProgram design switch q → p ≡ q }
     ensures one_limit { (design : Design) (defs : DefsText) (x y : LimitName) (m n : ℕ)

@@ -7,4 +7,4 @@ pub mod lowering;
 
 pub use lower_net::LowerFault;
 pub use lower_net::limits::{MOST_HOSTS, MOST_MEMBERS, MOST_SITES, MOST_SWITCHES, MOST_TABLES};
-pub use lowering::{is_accepted, lower};
+pub use lowering::lower;

@@ -1,16 +1,15 @@
-//! What the compiler takes, and the network that it makes of it.
-ghost use Rattle.std.specs.Prelude.{◌≡◌, ◌<◌, ◌↔◌, ◌^◌, All, IfErr, IfOk, IsTrue, length, nat_lt, Some};
-ghost use Rattle.cocoon_num.specs.Spelled.{is_spelled};
+//! The network that the compiler makes of a design.
+ghost use Rattle.std.specs.Prelude.{◌≡◌, ◌<◌, ◌^◌, All, IfErr, IfOk, length, nat_lt, Some};
 ghost use Rattle.cocoon_num.specs.Tree.{DefsText};
 ghost use Rattle.cocoon_syntax.specs.TreeOf.{design_of};
 ghost use Rattle.p4_ir.specs.NetOf.{net_of, switch_of};
 ghost use Rattle.runtime_defs.specs.Fitting.{FitsDesign};
 ghost use Rattle.lowered_net.specs.Network.{IsNetwork};
 ghost use Rattle.lower_net.specs.Refused.{FirstManyRows, IsRefused};
-ghost use Rattle.lower_p4.specs.Accepts.{Accepts, Lowers, RunsProgram};
-ghost use Rattle.lower_p4.specs.Grounds.{HoldsFields, WasRead};
+ghost use Rattle.lower_p4.specs.Grounds.{HoldsFields};
 ghost use Rattle.lower_p4.specs.LowerLimits.{IsWithin};
-ghost use Rattle.lower_p4.specs.Lowering.{AreOfText, HasNoNetwork, IsLowering, IsSound, NotLowered};
+ghost use Rattle.lower_p4.specs.Lowering.{AreOfText, HasNoNetwork, IsLowering, NotLowered};
+ghost use Rattle.lower_p4.specs.Lowers.{Lowers, RunsProgram};
 ghost use Rattle.p4_emit.specs.Printed.{printed};
 ghost use Rattle.p4_ir.specs.FileSizes.{most_file_bytes};
 ghost use Rattle.p4_ir.specs.P4Tree as tree;
@@ -28,14 +27,6 @@ use p4_ir::{MOST_FILE_BYTES, NetData, Program, SwitchFiles};
 use runtime_defs::Defs;
 use sound_types::laws::code_literals_fit;
 use std::alloc::Global;
-
-/// Whether the compiler takes the design: it has one level and no assumption.
-pub fn is_accepted(checked: &Checked) -> bool
-    ensures { IsTrue result ↔ Accepts (design_of checked.now) }
-{
-    let last = checked.levels() - 1;
-    last == 0 && checked.assume_count(last) == 0
-}
 
 /// Ports are numbers of 16 bits.
 fn know_ports(net: &NetData)
@@ -73,8 +64,6 @@ fn has_long_text(
     defs: &Defs,
     switch: u16,
 ) -> Result<bool, NoMemory>
-    requires words { IsTrue (is_spelled (design_of checked.now)) }
-    requires read { WasRead (design_of checked.now) }
     requires fits { FitsDesign (design_of checked.now) defs.now }
     requires many { FirstManyRows (design_of checked.now) defs.now (Some switch) }
     ensures { (p : tree.Program) → RunsProgram (design_of checked.now) switch p
@@ -83,6 +72,7 @@ fn has_long_text(
     first_programs_are_kinded();
     code_literals_fit();
     checked.design();
+    checked.know_reading();
     let program = program(alloc, checked, defs, switch)?;
     know_meta(&program);
     let text = emit(alloc, &program)?;
@@ -92,8 +82,6 @@ fn has_long_text(
 /// Why there is no network, where this switch, which is the first, has too many rows: the file of its program comes before that of
 /// its rows.
 fn first_too_long(alloc: Global, checked: &Checked, defs: &Defs, switch: u16) -> LowerFault
-    requires words { IsTrue (is_spelled (design_of checked.now)) }
-    requires read { WasRead (design_of checked.now) }
     requires fits { FitsDesign (design_of checked.now) defs.now }
     requires many { FirstManyRows (design_of checked.now) defs.now (Some switch) }
     ensures { HasNoNetwork (design_of checked.now) defs.now result }
@@ -108,8 +96,6 @@ fn first_too_long(alloc: Global, checked: &Checked, defs: &Defs, switch: u16) ->
 
 /// Why there is no network, where `lower_net` makes none for this fault.
 fn told(alloc: Global, checked: &Checked, defs: &Defs, fault: LowerFault) -> LowerFault
-    requires words { IsTrue (is_spelled (design_of checked.now)) }
-    requires read { WasRead (design_of checked.now) }
     requires fits { FitsDesign (design_of checked.now) defs.now }
     requires refused { IsRefused (design_of checked.now) defs.now fault }
     ensures { HasNoNetwork (design_of checked.now) defs.now result }
@@ -121,21 +107,15 @@ fn told(alloc: Global, checked: &Checked, defs: &Defs, fault: LowerFault) -> Low
     }
 }
 
-/// The network of a design that the compiler takes, under its definitions, if they are within the limits. The names of its
-/// headers and fields have to be words, as those of every design are that was read from a text.
+/// The network of a design under its definitions, if they are within the limits: at its last level, whatever levels and
+/// assumptions it has.
 pub fn lower(alloc: Global, checked: &Checked, defs: &Defs) -> Result<NetData, LowerFault>
-    requires words { IsTrue (is_spelled (design_of checked.now)) }
-    requires read { WasRead (design_of checked.now) }
-    requires fits { FitsDesign (design_of checked.now) defs.now }
-    requires accepted { Accepts (design_of checked.now) }
+    requires { FitsDesign (design_of checked.now) defs.now }
 
     // what the network is to the design
     ensures lowering { IfOk result (λ net. (text : DefsText)
         → AreOfText (design_of checked.now) text defs.now
         → IsLowering (design_of checked.now) text (net_of net)) }
-    ensures sound { IfOk result (λ net. (text : DefsText)
-        → AreOfText (design_of checked.now) text defs.now
-        → IsSound (design_of checked.now) text (net_of net)) }
 
     // and which one it is
     ensures lowers { IfOk result (λ net. (text : DefsText)
@@ -157,6 +137,7 @@ pub fn lower(alloc: Global, checked: &Checked, defs: &Defs) -> Result<NetData, L
     networks_are_writable();
     code_literals_fit();
     checked.design();
+    checked.know_reading();
     let net = match lower_net::lower(alloc, checked, defs) {
         Ok(net) => net,
         Err(fault) => return Err(told(alloc, checked, defs, fault)),

@@ -2,10 +2,10 @@
 ghost use Rattle.std.specs.Prelude.{◌<◌, ◌≡◌, ◌^◌, List, reverse, Some, true, ℕ};
 ghost use Rattle.cocoon_num.specs.Names.{named};
 ghost use Rattle.cocoon_num.specs.Tree.{Design, FunctionDecl, HostDecl, SwitchDecl};
-ghost use Rattle.cocoon_types.specs.Design.{functions, host_decl, last_level, switch_decl};
+ghost use Rattle.cocoon_types.specs.Design.{functions, host_decl, switch_decl};
 ghost use Rattle.cocoon_types.specs.Rules.{WellFormed};
 ghost use Rattle.cocoon_types.specs.Tables.{Defs};
-ghost use Rattle.lowered.specs.Delivers.{DeliversExactly, DeliversWithin};
+ghost use Rattle.lowered.specs.Delivers.{DeliversExactly};
 ghost use Rattle.lowered_net.specs.Network.{IsNetwork};
 ghost use Rattle.lowered.specs.Roles.{NetParts, net_parts};
 ghost use Rattle.lowered_net.specs.Followed.{AreFollowed};
@@ -19,7 +19,7 @@ ghost use Rattle.runtime_defs.specs.Stands.{Stands};
 ghost use Rattle.sound_types.specs.Defined.{HasTables};
 
 use cocoon_num::packets::enter_undoes_leave;
-use cocoon_types::runs::{one_level, runs_are_taken};
+use cocoon_types::runs::runs_are_taken;
 use sound_types::laws::{runs_by_tables, starts_fit};
 
 /// The body of a wire reads no packet and makes no choice.
@@ -52,15 +52,6 @@ pub fn networks_deliver()
     runs_are_taken();
     runs_by_tables();
     starts_fit();
-}
-
-/// A network of a design of one level that delivers what the last level delivers, delivers only what the topmost
-/// specification may make.
-pub fn deliveries_stay_within()
-    ensures { (d : Design) (defs : Defs) (net : NetData) → last_level d ≡ 0
-        → DeliversExactly net d defs → DeliversWithin net d defs }
-{
-    one_level();
 }
 
 /// The wires of the network of a design fit: its lists ascend, and what they name is there.

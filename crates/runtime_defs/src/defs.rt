@@ -10,7 +10,7 @@ ghost use Rattle.cocoon_types.specs.DefsRules.{DefsFit};
 ghost use Rattle.cocoon_types.specs.Design.{functions};
 ghost use Rattle.cocoon_types.specs.Tables.{defs_of};
 ghost use Rattle.runtime_defs.specs.Bound.{IsBound, IsRefused};
-ghost use Rattle.runtime_defs.specs.Fitting.{FitsDesign, IsMasked, IsNamed};
+ghost use Rattle.runtime_defs.specs.Fitting.{FitsDesign, IsMasked};
 ghost use Rattle.defs_text.specs.Places.{defs_text, entries_of_places};
 ghost use Rattle.defs_text.specs.Tabled.{IsPlace};
 ghost use Rattle.runtime_defs.specs.Guards.{host_table, ListsTrue, switch_table};
@@ -100,8 +100,7 @@ impl Defs {
     /// The text of the definitions, an entry a line: functions in the order of declaration, of each the default and then
     /// its rows. It reads as definitions of the design with the same tables, however many rows they have.
     pub fn text(&self, alloc: Global, checked: &Checked) -> Result<Text, NoMemory>
-        requires named { All IsNamed (functions (design_of checked.now)) }
-        requires tables { FitsDesign (design_of checked.now) self.now }
+        requires { FitsDesign (design_of checked.now) self.now }
         ensures text { IfOk result (λ text. text ≡ defs_text (design_of checked.now) self.now) }
         ensures reads { IfOk result (λ text.
             ReadsDefs text (entries_of_places (design_of checked.now) self.now)) }

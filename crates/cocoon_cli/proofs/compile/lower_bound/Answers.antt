@@ -1,5 +1,6 @@
 use Rattle.std.proofs.Common.{◌≤◌, ◌*◌, ℕ, List, [], ◌∷◌, length, flat_map, inl, inr, ap, arith, refl, subst, sym}
 use Rattle.cocoon_syntax.specs.TreeOf.{design_of}
+use Rattle.cocoon_types.specs.Design.{last_level}
 use Rattle.lower_p4.specs.Lowering.{NotLowered, StartsFull, StartsLong}
 use Rattle.lower_net.specs.declared.lowering.LowerFault.TheVariants.{Limit, LongProgram, ManyRows}
 use Rattle.p4_ir.specs.NetTree.{SwitchFiles}
@@ -7,22 +8,29 @@ use Rattle.p4_ir.specs.P4Tree.{RowsFile, TableRows}
 use Rattle.net_bundle.specs.Bundle.{all_switch_files, rows_text}
 use Rattle.net_bundle.specs.Writing.{FirstOver, most_of}
 use Rattle.net_bundle.specs.declared.file.BundleFile.TheVariants.{Program, Rows}
+use Rattle.cocoon_cli.specs.Built.{IsBuilt}
 use Rattle.cocoon_cli.specs.Compiling as lowered
 use Rattle.cocoon_cli.specs.Compiling.{LongFile}
 use Rattle.cocoon_cli.specs.declared.files.CommandFile.TheVariants.{Bundle}
 use Rattle.cocoon_cli.proofs.compile.lower_bound.Goals as goal
 
 pub returns-in-Ok-clause-lowers : goal.returns-in-Ok-clause-lowers
-returns-in-Ok-clause-lowers c = λ design defs binds. record {
-  tree = _;
-  tables = _;
-  binds = binds;
-  accepts = c.one_lowering.ensures.accepted _ _ _ (c.in-Ok.ensures.lowers binds.entries binds.are);
-  within = c.in-Ok.ensures.within binds.entries binds.are;
-  lowers = c.in-Ok.ensures.lowers binds.entries binds.are;
-  lowering = c.in-Ok.ensures.lowering binds.entries binds.are;
-  sound = c.in-Ok.ensures.sound binds.entries binds.are;
-}
+unfolding IsBuilt
+returns-in-Ok-clause-lowers c = λ design defs binds.
+    let checked = c.args.bound.now.checked in
+    let d = design_of checked in
+    let lowering = c.in-Ok.ensures.lowering binds.entries binds.are in
+    record {
+      tree = _;
+      tables = _;
+      binds = binds;
+      built = c.requires.built;
+      within = c.in-Ok.ensures.within binds.entries binds.are;
+      lowers = c.in-Ok.ensures.lowers binds.entries binds.are;
+      lowering = lowering;
+      stays = c.deliveries_stay_within.ensures d binds.entries _ binds.binds.checked.resolves.rules (c.code_literals_fit.ensures.designs checked) binds.binds.fits binds.are.fit
+          (c.one_level_owes_nothing.ensures.refines d c.requires.built.0) (c.one_level_owes_nothing.ensures.meets d (last_level d) c.requires.built.1 _) lowering.exact;
+    }
 
 pub returns-in-Err-Limit-clause-refused : goal.returns-in-Err-Limit-clause-refused
 returns-in-Err-Limit-clause-refused c = λ design defs binds.

@@ -3,12 +3,7 @@ use Rattle.cocoon_num.specs.FirstFaults.{BeginsDesign}
 use Rattle.cocoon_num.specs.Tokens.{kinds}
 use Rattle.cocoon_lex.specs.Kinds.{token_of}
 use Rattle.cocoon_text.proofs.FirstFaults.{parse_fault}
-use Rattle.cocoon_syntax.specs.TreeOf.{design_of}
-use Rattle.cocoon_text.proofs.Spelled.{design_is_spelled}
 use Rattle.cocoon_text.proofs.read.read_design.Goals as goal
-
-pub returns-in-Ok-parse_design-clause-spelled : goal.returns-in-Ok-parse_design-clause-spelled
-returns-in-Ok-parse_design-clause-spelled c = design_is_spelled c.args.text.now c.in-Ok.tokens.items (design_of c.in-Ok-parse_design.design) c.in-Ok.ensures.ok c.in-Ok.ensures.names c.in-Ok-parse_design.ensures.reads
 
 pub returns-in-Ok-clause-fault : goal.returns-in-Ok-clause-fault
 returns-in-Ok-clause-fault c =

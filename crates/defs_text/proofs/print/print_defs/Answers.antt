@@ -12,14 +12,14 @@ use Rattle.defs_text.proofs.Widths.{functions_declared}
 use Rattle.defs_text.proofs.print.print_defs.Goals as goal
 
 pub text_of-requires-clause-keys : goal.text_of-requires-clause-keys
-text_of-requires-clause-keys c = all_keys (functions (design_of c.args.checked.now)) c.args.places.now c.requires.places
+text_of-requires-clause-keys c = all_keys (functions (design_of c.args.checked.now)) c.args.places.now c.requires
 
 pub text_of-requires-clause-count : goal.text_of-requires-clause-count
-text_of-requires-clause-count c = AllZip-long FitsPlace (functions (design_of c.args.checked.now)) c.args.places.now c.requires.places
+text_of-requires-clause-count c = AllZip-long FitsPlace (functions (design_of c.args.checked.now)) c.args.places.now c.requires
 
 pub returns-clause-reads : goal.returns-clause-reads
 returns-clause-reads c =
     let d = design_of c.args.checked.now in
     let ps = c.args.places.now in
     IfOk-weaker c.text_of.result _ _ (λ v h. subst (λ (t : List ℕ). ReadsDefs t (entries_of_places d ps)) (sym h)
-    (entries_text_reads (all_entries (functions d) ps) (entries_fit (functions d) ps (functions_declared d c.requires.named c.keeps_rules.ensures.rules) c.requires.places))) c.text_of.ensures
+    (entries_text_reads (all_entries (functions d) ps) (entries_fit (functions d) ps (functions_declared d c.keeps_rules.ensures.named c.keeps_rules.ensures.resolves.rules) c.requires))) c.text_of.ensures

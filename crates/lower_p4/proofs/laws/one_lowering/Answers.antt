@@ -1,11 +1,8 @@
-use Rattle.lower_p4.proofs.OneNetwork.{design_accepted, no_limit, one_limit, one_network, one_program}
+use Rattle.lower_p4.proofs.OneNetwork.{no_limit, one_limit, one_network, one_program}
 use Rattle.lower_p4.proofs.laws.one_lowering.Goals as goal
 
 pub returns-clause-one : goal.returns-clause-one
 returns-clause-one c = one_network
-
-pub returns-clause-accepted : goal.returns-clause-accepted
-returns-clause-accepted c = design_accepted
 
 pub returns-clause-programs : goal.returns-clause-programs
 returns-clause-programs c = one_program

@@ -3,7 +3,7 @@ use Rattle.cocoon_syntax.specs.TreeOf.{design_of}
 use Rattle.p4_emit.specs.Printed.{printed}
 use Rattle.p4_ir.specs.FileSizes.{most_file_bytes}
 use Rattle.p4_ir.specs.Program.{program_of}
-use Rattle.lower_p4.specs.Accepts.{RunsProgram}
+use Rattle.lower_p4.specs.Lowers.{RunsProgram}
 use Rattle.lower_p4.proofs.OneNetwork.{one_program}
 use Rattle.lower_p4.proofs.lowering.has_long_text.Goals as goal
 
@@ -13,7 +13,7 @@ emit-requires c =
     let d = design_of c.args.checked.now in
     let w = c.requires.many.within in
     record {
-      well_kinded = c.first_programs_are_kinded.ensures d c.args.defs.now c.args.switch c.requires.read c.requires.words c.design.ensures.resolves.rules
+      well_kinded = c.first_programs_are_kinded.ensures d c.args.defs.now c.args.switch c.know_reading.ensures.read c.know_reading.ensures.spelled c.design.ensures.resolves.rules
           (c.code_literals_fit.ensures.designs c.args.checked.now) c.requires.many (program_of c.in_ok-program.program)
           (w.parts, w.parts_are, c.in_ok-program.ensures w.parts w.parts_are) c.know_meta.ensures;
     }

@@ -1,0 +1,3 @@
+pub mod NamedTokens
+pub mod Functions
+pub mod Headers
