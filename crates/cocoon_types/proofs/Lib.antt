@@ -1,5 +1,4 @@
 pub mod Taking
-pub mod OneLevel
 pub mod FaultOrder
 pub mod NotesLaws
 pub mod FirstFaults
