@@ -1,6 +1,8 @@
 use Rattle.std.proofs.Common.{◌≤◌, ◌*◌, ℕ, List, [], ◌∷◌, length, flat_map, inl, inr, ap, arith, refl, subst, sym}
 use Rattle.cocoon_syntax.specs.TreeOf.{design_of}
 use Rattle.cocoon_types.specs.Design.{last_level}
+use Rattle.cocoon_types.specs.Tables.{defs_of}
+use Rattle.p4_ir.specs.NetOf.{net_of}
 use Rattle.lower_p4.specs.Lowering.{NotLowered, StartsFull, StartsLong}
 use Rattle.lower_net.specs.declared.lowering.LowerFault.TheVariants.{Limit, LongProgram, ManyRows}
 use Rattle.p4_ir.specs.NetTree.{SwitchFiles}
@@ -28,8 +30,8 @@ returns-in-Ok-clause-lowers c = λ design defs binds.
       within = c.in-Ok.ensures.within binds.entries binds.are;
       lowers = c.in-Ok.ensures.lowers binds.entries binds.are;
       lowering = lowering;
-      stays = c.deliveries_stay_within.ensures d binds.entries _ binds.binds.checked.resolves.rules (c.code_literals_fit.ensures.designs checked) binds.binds.fits binds.are.fit
-          (c.one_level_owes_nothing.ensures.refines d c.requires.built.0) (c.one_level_owes_nothing.ensures.meets d (last_level d) c.requires.built.1 _) lowering.exact;
+      stays = c.deliveries_stay_within.ensures d binds.entries (net_of c.in-Ok.net) binds.binds.checked.resolves.rules (c.code_literals_fit.ensures.designs checked) binds.binds.fits binds.are.fit
+          (c.one_level_owes_nothing.ensures.refines d c.requires.built.0) (c.one_level_owes_nothing.ensures.meets d (last_level d) c.requires.built.1 (defs_of d binds.entries)) lowering.exact;
     }
 
 pub returns-in-Err-Limit-clause-refused : goal.returns-in-Err-Limit-clause-refused
