@@ -1,5 +1,5 @@
 -- Arenas with one more node.
-use Rattle.std.proofs.Common.{◌≡◌, ℕ, ◌<◌, ◌≤◌, ◌+◌, ◌^◌, ◌⊎◌, inl, inr, List, [], ◌∷◌, ◌++◌, length, take, refl, ap, sym, ◌∙◌, subst, arith, suc, zero, length-append, add-zero, Option, Some, None, slice_get, Vec, Global}
+use Rattle.std.proofs.Common.{◌≡◌, ℕ, ◌<◌, ◌≤◌, ◌+◌, ◌^◌, inl, inr, List, [], ◌∷◌, ◌++◌, length, take, refl, ap, sym, ◌∙◌, subst, arith, suc, zero, length-append, add-zero, Option, Some, None, slice_get, Vec, Global}
 use Rattle.std.specs.BTreeMap.{UpdatesBy}
 use Rattle.std.specs.List.{All, fold}
 use Rattle.std.specs.Result.{IfOk, OnOk, OnErr}

@@ -1,13 +1,11 @@
 -- What evaluation finds ready at a term whose parts have their values.
-use Rattle.std.proofs.Common.{◌≡◌, ◌≢◌, ℕ, ◌<◌, ◌≤◌, Bool, true, List, [], ◌∷◌, length, map, Option, Some, None, slice_get, refl, ap, sym, ◌∙◌, subst, arith, get_or, zero, suc, inl, inr, ◌++◌, length-append}
+use Rattle.std.proofs.Common.{◌≡◌, ◌≢◌, ℕ, ◌<◌, ◌≤◌, List, [], ◌∷◌, length, map, Option, Some, None, slice_get, refl, ap, sym, ◌∙◌, subst, arith, inl, inr}
 use Rattle.std.specs.List.{All, AllByRecursion}
 use Rattle.std.specs.Option.{option_map, unwrap_or}
 use Rattle.std.proofs.lemmas.List.Elements.{recursion_from_All, All-from_recursion}
-use Rattle.std.proofs.lemmas.Option.{slice_get_within, slice_get-get_or, slice_get_read}
-use Rattle.std.proofs.lemmas.Bool.{cases_eq, cond-false, ne_eqb, false≢true}
+use Rattle.std.proofs.lemmas.Option.{slice_get_within}
+use Rattle.std.proofs.lemmas.Bool.{cases_eq, false≢true}
 use Rattle.std.specs.Option.{IsSome}
-use Rattle.std.specs.Ordering.{nat_cmp}
-use Rattle.std.specs.BTreeMap.{BTreeMap, get, is_at, UpdatesBy}
 use Rattle.cocoon_num.specs.Values.{number, apply_unary, apply_slice, flip}
 use Rattle.cocoon_num.specs.BitsOf.{value_of}
 use Rattle.cocoon_num.specs.declared.bits.Bits.{Bits}
@@ -18,8 +16,9 @@ use Rattle.bv_terms.specs.TermTrees.{Term, width, arg_widths, IsTerm, AreArgs, O
 use Rattle.bv_terms.specs.TermValues.{number_in, term_number, operated, term_value, arg_numbers}
 use Rattle.bv_terms.specs.Arenas.{parts, args_of, made_of, term_at, width_at, WidthsFit, IsArena}
 use Rattle.bv_terms.specs.Environments.{Covers, CoversArgs, HasTable, functions_of, inputs_of}
+use Rattle.bv_terms.specs.TermMaps.{value_at, IsSet}
 use Rattle.bv_terms.specs.Evaluated.{Known, value_in, width_in, numbers_in, node_value, HasNode, IsReady}
-use Rattle.bv_terms.proofs.Members.{at-number, both, each}
+use Rattle.bv_terms.proofs.Members.{both, each}
 use Rattle.bv_terms.proofs.ValueFacts.{value-width}
 
 -- ---- a term that an environment covers
@@ -103,8 +102,8 @@ has-same env u w (Pick c a b) e h = tt
 width-of-value : (b : Bits) (w n : ℕ) → value_of b ≡ number w n → b.width ≡ w
 width-of-value b w n e = cc
 
-width-by-value : (values : Known) (k w n : ℕ) → IsSome (get nat_cmp values k) → value_in values k ≡ number w n → width_in values k ≡ w
-width-by-value values k w n some e = by (get nat_cmp values k) some e
+width-by-value : (values : Known) (k w n : ℕ) → IsSome (value_at values k) → value_in values k ≡ number w n → width_in values k ≡ w
+width-by-value values k w n some e = by (value_at values k) some e
   where
     by : (o : Option Bits) → IsSome o → unwrap_or (option_map value_of o) (number 0 0) ≡ number w n → unwrap_or (option_map (λ (b : Bits). b.width) o) 0 ≡ w
     by None s q = absurd (false≢true s)
@@ -133,13 +132,13 @@ made-value env values f (Pick c a b) e = rw (e.0, e.1.0, e.1.1.0) refl
 -- ---- what is ready
 
 -- the parts of a node that is known have values
-pub parts-there : (values : Known) (node other : Node) → node ≡ other → All (λ p. IsSome (get nat_cmp values p)) (parts node) → AllByRecursion (λ p. IsSome (get nat_cmp values p)) (parts other)
+pub parts-there : (values : Known) (node other : Node) → node ≡ other → All (λ p. IsSome (value_at values p)) (parts node) → AllByRecursion (λ p. IsSome (value_at values p)) (parts other)
 parts-there values node other e h =
-    subst (λ (x : Node). AllByRecursion (λ p. IsSome (get nat_cmp values p)) (parts x)) e (recursion_from_All (λ p. IsSome (get nat_cmp values p)) (parts node) h)
+    subst (λ (x : Node). AllByRecursion (λ p. IsSome (value_at values p)) (parts x)) e (recursion_from_All (λ p. IsSome (value_at values p)) (parts node) h)
 
 -- the term has its value
 pub record HasValue (nodes : List Node) (env : Env) (values : Known) (k : ℕ) : Type 0 where
-  pub some : IsSome (get nat_cmp values k)
+  pub some : IsSome (value_at values k)
   pub is : value_in values k ≡ term_value (functions_of env) (inputs_of env) (term_at nodes k)
 
 pub record Ready (nodes : List Node) (env : Env) (values : Known) (k : ℕ) (n : Node) : Type 0 where
@@ -161,7 +160,7 @@ is-ready nodes env values k n a e covers have =
     let made : term_at nodes k ≡ made_of (term_at nodes) n = a.made k n e in
     record {
       ready = record {
-        there = All-from_recursion (λ p. IsSome (get nat_cmp values p)) (parts n) (each (λ p (h : HasValue nodes env values p). h.some) (parts n) have);
+        there = All-from_recursion (λ p. IsSome (value_at values p)) (parts n) (each (λ p (h : HasValue nodes env values p). h.some) (parts n) have);
         fit = fit-same (width_in values) (width_at nodes) n widths (fit-of (term_at nodes) n (subst IsTerm made (a.terms k here)));
         has = has-same env (width_in values) (width_at nodes) n widths (has-of env (term_at nodes) n (subst (Covers env) made covers));
       };
@@ -170,10 +169,10 @@ is-ready nodes env values k n a e covers have =
 
 -- ---- one value more
 
-value-old : (values : Known) (new : Known) (at k : ℕ) (v : Bits) → UpdatesBy nat_cmp (nat_cmp at) values new (Some v) → at ≢ k → get nat_cmp new k ≡ get nat_cmp values k
-value-old values new at k v up n = up.0 k ∙ cond-false (is_at (nat_cmp at) k) (Some v) (get nat_cmp values k) (at-number at k ∙ ne_eqb at k n)
+value-old : (values : Known) (new : Known) (at k : ℕ) (v : Bits) → IsSet values new at v → at ≢ k → value_at new k ≡ value_at values k
+value-old values new at k v up n = up.others k n
 
-has-old : (nodes : List Node) (env : Env) (values new : Known) (at k : ℕ) (v : Bits) → UpdatesBy nat_cmp (nat_cmp at) values new (Some v) → at ≢ k
+has-old : (nodes : List Node) (env : Env) (values new : Known) (at k : ℕ) (v : Bits) → IsSet values new at v → at ≢ k
     → HasValue nodes env values k → HasValue nodes env new k
 has-old nodes env values new at k v up n h =
     let e = value-old values new at k v up n in
@@ -182,14 +181,14 @@ has-old nodes env values new at k v up n h =
       is = ap (λ o. unwrap_or (option_map value_of o) (number 0 0)) e ∙ h.is;
     }
 
-has-new : (nodes : List Node) (env : Env) (values new : Known) (at : ℕ) (v : Bits) → UpdatesBy nat_cmp (nat_cmp at) values new (Some v)
+has-new : (nodes : List Node) (env : Env) (values new : Known) (at : ℕ) (v : Bits) → IsSet values new at v
     → value_of v ≡ term_value (functions_of env) (inputs_of env) (term_at nodes at) → HasValue nodes env new at
 has-new nodes env values new at v up e = record {
-  some = subst (λ (o : Option Bits). IsSome o) (sym up.1) refl;
-  is = ap (λ o. unwrap_or (option_map value_of o) (number 0 0)) up.1 ∙ e;
+  some = subst (λ (o : Option Bits). IsSome o) (sym up.itself) refl;
+  is = ap (λ o. unwrap_or (option_map value_of o) (number 0 0)) up.itself ∙ e;
 }
 
-pub has-more : (nodes : List Node) (env : Env) (values new : Known) (at k : ℕ) (v : Bits) → UpdatesBy nat_cmp (nat_cmp at) values new (Some v)
+pub has-more : (nodes : List Node) (env : Env) (values new : Known) (at k : ℕ) (v : Bits) → IsSet values new at v
     → value_of v ≡ term_value (functions_of env) (inputs_of env) (term_at nodes at) → ((at ≢ k) → HasValue nodes env values k) → HasValue nodes env new k
 has-more nodes env values new at k v up e h = elim (cases_eq at k) [
   | inl s ↦ subst (HasValue nodes env new) s (has-new nodes env values new at v up e)

@@ -1,8 +1,6 @@
 -- The loop of an evaluation.
-use Rattle.std.proofs.Common.{◌≡◌, ℕ, ◌-◌, ◌<◌, ◌≤◌, List, length, Some, slice_get, slice_index, get_or, refl, ap, sym, ◌∙◌, subst, arith, inl, inr}
+use Rattle.std.proofs.Common.{◌≡◌, ℕ, ◌-◌, ◌<◌, ◌≤◌, List, length, Some, slice_get, slice_index, get_or, ap, sym, ◌∙◌, arith, inl, inr}
 use Rattle.std.specs.List.{AllByRecursion}
-use Rattle.std.specs.Ordering.{nat_cmp}
-use Rattle.std.specs.BTreeMap.{UpdatesBy}
 use Rattle.std.proofs.lemmas.List.Elements.{recursion_from_All}
 use Rattle.std.proofs.lemmas.Option.{slice_get-get_or}
 use Rattle.std.proofs.lemmas.Bool.{cases_eq}
@@ -14,7 +12,8 @@ use Rattle.bv_terms.specs.TermValues.{term_value}
 use Rattle.bv_terms.specs.Arenas.{parts, term_at}
 use Rattle.bv_terms.specs.Environments.{Covers, functions_of, inputs_of}
 use Rattle.bv_terms.specs.Needed.{AreNeeded, IsAmong}
-use Rattle.bv_terms.specs.Evaluated.{Known, node_value, IsReady}
+use Rattle.bv_terms.specs.TermMaps.{IsSet}
+use Rattle.bv_terms.specs.Evaluated.{Known, node_value}
 use Rattle.bv_terms.proofs.Members.{both, read-index}
 use Rattle.bv_terms.proofs.EvalFacts.{HasValue, Ready, is-ready, has-more}
 use Rattle.bv_terms.proofs.NeededFacts.{covered, needed-later}
@@ -42,7 +41,7 @@ next-ready nodes env id ids at values node h p e =
 
 pub next-evaluated : (nodes : List Node) (env : Env) (id : ℕ) (ids : List ℕ) (at : ℕ) (values new : Known) (node : Node) (v : Bits) → Evaluating nodes env id ids at values → 0 < at
     → slice_get nodes (slice_index ids (at - 1)) ≡ Some node → value_of v ≡ node_value env values node
-    → UpdatesBy nat_cmp (nat_cmp (slice_index ids (at - 1))) values new (Some v) → Evaluating nodes env id ids (at - 1) new
+    → IsSet values new (slice_index ids (at - 1)) v → Evaluating nodes env id ids (at - 1) new
 next-evaluated nodes env id ids at values new node v h p e is up =
     let k = slice_index ids (at - 1) in
     let here : slice_get ids (at - 1) ≡ Some k = next-at ids at p h.within in

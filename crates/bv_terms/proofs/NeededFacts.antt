@@ -1,18 +1,16 @@
 -- The terms that a term is made of, from the largest number down.
-use Rattle.std.proofs.Common.{◌≡◌, ◌≢◌, ℕ, ◌+◌, ◌-◌, ◌++◌, ◌==◌, ◌||◌, take, ◌<◌, ◌≤◌, Bool, true, false, cond, List, [], ◌∷◌, length, length-append, Some, slice_get, refl, ap, sym, ◌∙◌, subst, arith, get_or, zero, suc, inl, inr, ◌⊎◌}
-use Rattle.std.specs.List.{All, AllByRecursion, list_any}
-use Rattle.std.specs.Ordering.{nat_cmp, is_eq, is_lt}
+use Rattle.std.proofs.Common.{◌≡◌, ◌≢◌, ℕ, ◌+◌, ◌-◌, ◌++◌, ◌==◌, ◌||◌, ◌<◌, ◌≤◌, true, false, List, [], ◌∷◌, length, length-append, Some, slice_get, refl, ap, sym, ◌∙◌, subst, arith, get_or, zero, suc, inl, inr, ◌⊎◌}
+use Rattle.std.specs.List.{AllByRecursion, list_any}
+use Rattle.std.specs.Ordering.{nat_cmp}
 use Rattle.std.specs.BTreeMap.{is_at}
 use Rattle.std.specs.BTreeSet.{BTreeSet, contains, UpdatesBy, IsUpperBound}
 use Rattle.std.proofs.lemmas.Map.Keys.{ge_from_not_lt}
 use Rattle.std.proofs.lemmas.List.Elements.{recursion_from_All}
-use Rattle.std.proofs.lemmas.List.Folds.{list_any-append}
-use Rattle.std.proofs.lemmas.Bool.{cases_eq, cases_lt, cases_Bool, cond-true, cond-false, eqb-true, eq-eqb, ne_eqb, or_cases, or_left, or_right, false≢true}
-use Rattle.std.proofs.lemmas.Bool.Decides.{nat_tests}
+use Rattle.std.proofs.lemmas.Bool.{cases_eq, cases_lt, cases_Bool, cond-true, cond-false, eqb-true, eq-eqb, or_cases, or_left, or_right, false≢true}
 use Rattle.std.proofs.lemmas.Option.{slice_get_within, slice_get-get_or}
 use Rattle.bv_terms.specs.declared.node.Node.{Node}
 use Rattle.bv_terms.specs.declared.eval.Env.{Env}
-use Rattle.bv_terms.specs.Arenas.{parts, made_of, term_at, IsArena}
+use Rattle.bv_terms.specs.Arenas.{parts, term_at, IsArena}
 use Rattle.bv_terms.specs.Environments.{Covers}
 use Rattle.bv_terms.specs.Needed.{AreNeeded, AreFalling, IsAmong, IsMadeOf, is_in, part_of, whole}
 use Rattle.bv_terms.proofs.Members.{at-number, in-all, all-in, each}

@@ -1,24 +1,25 @@
 -- Terms that are rebuilt over others.
-use Rattle.std.proofs.Common.{◌≡◌, ℕ, ◌-◌, ◌+◌, ◌<◌, ◌≤◌, Bool, List, [], ◌∷◌, ◌++◌, length, map, Option, Some, None, slice_get, slice_index, refl, ap, sym, ◌∙◌, subst, arith, get_or, zero, suc, length-append, append_assoc, take, ◌==◌, true, inl, inr, ◌⊎◌, ◌≢◌, slice_set, drop, replicate, if◌then◌else◌, cond}
+use Rattle.std.proofs.Common.{◌≡◌, ℕ, ◌-◌, ◌+◌, ◌<◌, ◌≤◌, List, [], ◌∷◌, ◌++◌, length, map, Option, Some, None, slice_get, slice_index, refl, ap, sym, ◌∙◌, subst, arith, zero, suc, length-append, append_assoc, ◌==◌, inl, inr, ◌≢◌, drop, if◌then◌else◌, cond}
 use Rattle.std.specs.Ordering.{nat_cmp}
 use Rattle.std.specs.Map.{lookup}
 use Rattle.std.specs.BTreeMap.{get, is_at, UpdatesBy}
-use Rattle.std.specs.List.{All, AllByRecursion, AllZip, fold}
-use Rattle.std.specs.Option.{option_map, unwrap_or, option_and_then}
+use Rattle.std.specs.List.{AllByRecursion, AllZip}
+use Rattle.std.specs.Option.{option_map, unwrap_or}
 use Rattle.std.proofs.lemmas.List.Elements.{recursion_from_All, All-from_recursion}
-use Rattle.std.proofs.lemmas.List.{get_or_append_left, append-nil, length-replicate}
-use Rattle.std.proofs.Math.Seq.{get_or-append_seam, drop-cons, drop-length}
-use Rattle.std.proofs.lemmas.Bool.{cases_eq, cases_lt, cases_Bool, cond-true, cond-false, eqb-true, eq-eqb, ne_eqb}
-use Rattle.std.proofs.lemmas.Option.{slice_get_within, slice_get-get_or}
+use Rattle.std.proofs.lemmas.List.{append-nil}
+use Rattle.std.proofs.Math.Seq.{drop-cons, drop-length}
+use Rattle.std.proofs.lemmas.Bool.{cases_eq, cases_Bool, cond-true, cond-false, eqb-true}
+use Rattle.std.proofs.lemmas.Option.{slice_get_within}
 use Rattle.bv_terms.specs.declared.node.Node.{Node}
 use Rattle.bv_terms.specs.declared.node.Node.TheVariants.{Constant, Input, Apply, Not, Binary, Slice, Pick}
 use Rattle.bv_terms.specs.TermTrees.{Term, input, apply, not_, slice, width, joined_width, OperandsFit, IsTerm}
-use Rattle.bv_terms.specs.Arenas.{parts, args_of, made_of, term_at, width_at, node_width, inputs_in, WidthsFit, IsArena, IsPut, KeepsTerms, CanFollow, count_input, GrowsBy}
+use Rattle.bv_terms.specs.Arenas.{parts, args_of, made_of, term_at, width_at, node_width, WidthsFit, IsArena, IsPut, KeepsTerms, CanFollow, count_input, GrowsBy}
 use Rattle.bv_terms.specs.Replacements.{Replacing, replaced, replaced_args, beside, HasWidthOf}
-use Rattle.bv_terms.specs.Rebuilt.{Names, name_in, with_parts, in_place_of, IsRebuilt, CanRebuild, IsTable, IsReplaced}
+use Rattle.bv_terms.specs.TermMaps.{value_at, IsSet}
+use Rattle.bv_terms.specs.Rebuilt.{InputTerms, Names, name_in, with_parts, in_place_of, IsRebuilt, CanRebuild, IsTable, IsReplaced}
 use Rattle.bv_terms.proofs.EvalFacts.{fit-of}
 use Rattle.bv_terms.proofs.Members.{at-number, each}
-use Rattle.bv_terms.proofs.NodeFacts.{made-same, node-width}
+use Rattle.bv_terms.proofs.NodeFacts.{node-width}
 
 -- ---- nodes with other parts
 
@@ -215,7 +216,7 @@ other-replaced orig now new r name k node next a e z done put =
       term = put.term ∙ made-with (term_at orig) (term_at now) r name node z terms ∙ ap (replaced r) (sym made);
     }
 
-input-replaced : (orig now new : List Node) (table : Names) (from to : List ℕ) (k i w next : ℕ) → IsArena orig → KeepsTerms orig now → IsTable from to table
+input-replaced : (orig now new : List Node) (table : InputTerms) (from to : List ℕ) (k i w next : ℕ) → IsArena orig → KeepsTerms orig now → IsTable from to table
     → AllByRecursion (λ t. t < length orig) to → AllZip (HasWidthOf orig) from to
     → slice_get orig k ≡ Some (Input i w) → new ≡ now → next ≡ in_place_of table i k → (o : Option ℕ) → beside from to i ≡ o
     → IsReplaced orig new (beside from (map (term_at orig) to)) k next
@@ -246,12 +247,12 @@ input-replaced orig now new table from to k i w next a keeps t inside widths e s
     }
 
 -- what is the same in every step
-pub record Given (orig : List Node) (table : Names) (from to : List ℕ) : Type 0 where
+pub record Given (orig : List Node) (table : InputTerms) (from to : List ℕ) : Type 0 where
   pub table_ : IsTable from to table
   pub inside : AllByRecursion (λ t. t < length orig) to
   pub widths : AllZip (HasWidthOf orig) from to
 
-pub next-replaced : (orig now new : List Node) (table : Names) (from to : List ℕ) (name : ℕ → ℕ) (k : ℕ) (node : Node) (next : ℕ) → IsArena orig → KeepsTerms orig now → Given orig table from to
+pub next-replaced : (orig now new : List Node) (table : InputTerms) (from to : List ℕ) (name : ℕ → ℕ) (k : ℕ) (node : Node) (next : ℕ) → IsArena orig → KeepsTerms orig now → Given orig table from to
     → slice_get orig k ≡ Some node → AllByRecursion (Became orig now (beside from (map (term_at orig) to)) name) (parts node) → IsRebuilt now new table name k node next
     → IsReplaced orig new (beside from (map (term_at orig) to)) k next
 next-replaced orig now new table from to name k (Input i w) next a keeps g e done b = input-replaced orig now new table from to k i w next a keeps g.table_ g.inside g.widths e b.0 b.1 (beside from to i) refl
@@ -264,16 +265,16 @@ next-replaced orig now new table from to name k (Pick c x y) next a keeps g e do
 
 -- ---- one name more
 
-pub name-new : (ids new : Names) (k id : ℕ) → UpdatesBy nat_cmp (nat_cmp k) ids new (Some id) → name_in new k ≡ id
-name-new ids new k id up = ap (λ o. unwrap_or o k) up.1
+pub name-new : (ids new : Names) (k id : ℕ) → IsSet ids new k id → name_in new k ≡ id
+name-new ids new k id up = ap (λ o. unwrap_or o k) up.itself
 
-pub name-old : (ids new : Names) (k id p : ℕ) → UpdatesBy nat_cmp (nat_cmp k) ids new (Some id) → k ≢ p → name_in new p ≡ name_in ids p
+pub name-old : (ids new : Names) (k id p : ℕ) → IsSet ids new k id → k ≢ p → name_in new p ≡ name_in ids p
 name-old ids new k id p up n =
-    ap (λ o. unwrap_or o p) (up.0 p ∙ cond-false (is_at (nat_cmp k) p) (Some id) (get nat_cmp ids p) (at-number k p ∙ ne_eqb k p n))
+    ap (λ o. unwrap_or o p) (up.others p n)
 
 -- the term under k has become another one too
 pub replaced-more : (orig now new : List Node) (r : Replacing) (Old New : ℕ → Type 0) (ids more : Names) (k id : ℕ) → Rebuilding orig now r Old (name_in ids) → KeepsTerms now new
-    → UpdatesBy nat_cmp (nat_cmp k) ids more (Some id) → IsReplaced orig new r k id → ((p : ℕ) → New p → (k ≢ p) → Old p) → Rebuilding orig new r New (name_in more)
+    → IsSet ids more k id → IsReplaced orig new r k id → ((p : ℕ) → New p → (k ≢ p) → Old p) → Rebuilding orig new r New (name_in more)
 replaced-more orig now new r Old New ids more k id h kept up is cases = record {
   arena = h.arena;
   keeps = keeps-both orig now new h.keeps kept;
@@ -285,7 +286,7 @@ replaced-more orig now new r Old New ids more k id h kept up is cases = record {
 
 -- ---- the table
 
-pub table-step : (from to : List ℕ) (old new : Names) (at : ℕ) → length from ≡ length to → 0 < at → at ≤ length from
+pub table-step : (from to : List ℕ) (old new : InputTerms) (at : ℕ) → length from ≡ length to → 0 < at → at ≤ length from
     → IsTable (drop at from) (drop at to) old → UpdatesBy nat_cmp (nat_cmp (slice_index from (at - 1))) old new (Some (slice_index to (at - 1)))
     → IsTable (drop (at - 1) from) (drop (at - 1) to) new
 table-step from to old new at e p l h up i =
@@ -299,12 +300,12 @@ table-step from to old new at e p l h up i =
     = ap (λ js. beside js (drop (at - 1) to) i) from-is ∙ ap (λ xs. beside (j ∷ drop at from) xs i) to-is in
     up.0 i ∙ ap (λ b. cond b (Some x) (get nat_cmp old i)) (at-number j i) ∙ ap (λ o. cond (j == i) (Some x) o) (h i) ∙ sym whole
 
-pub table-start : (from to : List ℕ) (table : Names) (at : ℕ) → at ≡ length from → table.entries ≡ [] → IsTable (drop at from) (drop at to) table
+pub table-start : (from to : List ℕ) (table : InputTerms) (at : ℕ) → at ≡ length from → table.entries ≡ [] → IsTable (drop at from) (drop at to) table
 table-start from to table at e z i =
     ap (λ es. lookup (is_at (nat_cmp i)) es) z ∙ sym (ap (λ n. beside (drop n from) (drop at to) i) e ∙ ap (λ js. beside js (drop at to) i) (drop-length from))
 
-pub no-name : (names : Names) (p : ℕ) → names.entries ≡ [] → name_in names p ≡ p
-no-name names p z = ap (λ es. unwrap_or (lookup (is_at (nat_cmp p)) es) p) z
+pub no-name : (names : Names) (p : ℕ) → value_at names p ≡ None → name_in names p ≡ p
+no-name names p z = ap (λ o. unwrap_or o p) z
 
 -- ---- what can be put in
 

@@ -1,24 +1,22 @@
 -- The loops of a substitution.
-use Rattle.std.proofs.Common.{◌≡◌, ◌≢◌, ℕ, ◌+◌, ◌-◌, ◌<◌, ◌≤◌, List, [], ◌∷◌, ◌++◌, length, length-append, map, Option, Some, None, slice_get, slice_index, get_or, refl, ap, sym, ◌∙◌, subst, arith, zero, suc, inl, inr, ◌⊎◌, ◌==◌}
-use Rattle.std.specs.List.{All, AllByRecursion, AllZip}
+use Rattle.std.proofs.Common.{◌≡◌, ℕ, ◌+◌, ◌-◌, ◌<◌, ◌≤◌, List, [], ◌∷◌, ◌++◌, length, length-append, map, Some, None, slice_get, slice_index, get_or, refl, ap, sym, ◌∙◌, subst, arith, zero, suc, inl, inr, ◌⊎◌, ◌==◌}
+use Rattle.std.specs.List.{AllByRecursion}
 use Rattle.std.specs.Option.{unwrap_or}
-use Rattle.std.specs.Ordering.{nat_cmp}
-use Rattle.std.specs.Map.{lookup}
-use Rattle.std.specs.BTreeMap.{is_at, UpdatesBy}
 use Rattle.std.proofs.lemmas.List.Elements.{recursion_from_All}
 use Rattle.std.proofs.lemmas.Option.{slice_get_within, slice_get-get_or}
-use Rattle.std.proofs.lemmas.Bool.{cases_eq, cases_Bool, cond-true, cond-false, eqb-true}
+use Rattle.std.proofs.lemmas.Bool.{cases_eq, cases_Bool, cond-false, eqb-true}
 use Rattle.bv_terms.specs.declared.node.Node.{Node}
 use Rattle.bv_terms.specs.declared.node.Node.TheVariants.{Constant, Input, Apply, Not, Binary, Slice, Pick}
-use Rattle.bv_terms.specs.TermTrees.{Term, Args, input, apply, not_, slice}
-use Rattle.bv_terms.specs.Arenas.{parts, args_of, made_of, term_at, count_input, IsArena, KeepsTerms, GrowsBy}
+use Rattle.bv_terms.specs.TermTrees.{Term, input, apply, not_, slice}
+use Rattle.bv_terms.specs.Arenas.{parts, args_of, made_of, term_at, IsArena, KeepsTerms, GrowsBy}
 use Rattle.bv_terms.specs.Needed.{AreNeeded, IsAmong}
-use Rattle.bv_terms.specs.Replacements.{Replacing, replaced, replaced_args, beside, HasWidthOf}
-use Rattle.bv_terms.specs.Rebuilt.{Names, name_in, IsRebuilt, CanRebuild, IsTable, IsReplaced, StandsFrom, AreReplacedFrom}
+use Rattle.bv_terms.specs.Replacements.{Replacing, replaced, replaced_args, beside}
+use Rattle.bv_terms.specs.TermMaps.{value_at, IsSet}
+use Rattle.bv_terms.specs.Rebuilt.{InputTerms, Names, name_in, IsRebuilt, CanRebuild, IsReplaced, StandsFrom, AreReplacedFrom}
 use Rattle.bv_terms.proofs.Members.{both, each, read-index}
 use Rattle.bv_terms.proofs.Seams.{snoc-cases}
 use Rattle.bv_terms.proofs.NeededFacts.{needed-later, needed-few}
-use Rattle.bv_terms.proofs.ReplaceFacts.{Rebuilding, Given, can-rebuild, next-replaced, replaced-more, keeps-none, grown-length, grows-both, node-kept, beside-map, no-name, name-old, name-new}
+use Rattle.bv_terms.proofs.ReplaceFacts.{Rebuilding, Given, can-rebuild, next-replaced, replaced-more, keeps-none, grown-length, grows-both, node-kept, no-name, name-old, name-new}
 
 abbrev Rep : List Node → List ℕ → List ℕ → Replacing
 Rep orig from to = beside from (map (term_at orig) to)
@@ -76,8 +74,8 @@ module _ (orig now : List Node) (from to : List ℕ) (id : ℕ) (ids : List ℕ)
   substitute-can node e =
       can-rebuild orig now (beside from (map (term_at orig) to)) (name_in names) its node h.rebuilding.arena h.rebuilding.keeps (was node e) (parts-done node (was node e))
 
-  pub substitute-step : (new : List Node) (table more : Names) (next : ℕ) → Given orig table from to → KeepsTerms now new → GrowsBy 1 now new
-      → ((node : Node) → slice_get now its ≡ Some node → IsRebuilt now new table (name_in names) its node next) → UpdatesBy nat_cmp (nat_cmp its) names more (Some next)
+  pub substitute-step : (new : List Node) (table : InputTerms) (more : Names) (next : ℕ) → Given orig table from to → KeepsTerms now new → GrowsBy 1 now new
+      → ((node : Node) → slice_get now its ≡ Some node → IsRebuilt now new table (name_in names) its node next) → IsSet names more its next
       → Substituting orig new from to id ids (at - 1) more
   substitute-step new table more next g kept few is up =
       let r = beside from (map (term_at orig) to) in
@@ -107,13 +105,13 @@ module _ (orig now : List Node) (from to : List ℕ) (id : ℕ) (ids : List ℕ)
   pub at-can : (k : ℕ) → k ≡ get_or ids (at - 1) k → (node : Node) → slice_get now k ≡ Some node → CanRebuild now (name_in names) node
   at-can k e node n = substitute-can node (subst (λ j. slice_get now j ≡ Some node) (its-is k e) n)
 
-  pub at-step : (new : List Node) (table more : Names) (next k j : ℕ) → Given orig table from to → KeepsTerms now new → GrowsBy 1 now new → k ≡ get_or ids (at - 1) k → j ≡ get_or ids (at - 1) j
-      → ((node : Node) → slice_get now k ≡ Some node → IsRebuilt now new table (name_in names) k node next) → UpdatesBy nat_cmp (nat_cmp j) names more (Some next)
+  pub at-step : (new : List Node) (table : InputTerms) (more : Names) (next k j : ℕ) → Given orig table from to → KeepsTerms now new → GrowsBy 1 now new → k ≡ get_or ids (at - 1) k → j ≡ get_or ids (at - 1) j
+      → ((node : Node) → slice_get now k ≡ Some node → IsRebuilt now new table (name_in names) k node next) → IsSet names more j next
       → Substituting orig new from to id ids (at - 1) more
   at-step new table more next k j g kept few e f is up =
       substitute-step new table more next g kept few
       (subst (λ i. (node : Node) → slice_get now i ≡ Some node → IsRebuilt now new table (name_in names) i node next) (its-is k e) is)
-      (subst (λ i. UpdatesBy nat_cmp (nat_cmp i) names more (Some next)) (its-is j f) up)
+      (subst (λ i. IsSet names more i next) (its-is j f) up)
 
   pub at-few : (new : List Node) → GrowsBy 1 now new → GrowsBy (id + 1) orig new
   at-few new few = grows-both orig now new (length ids - at) 1 (id + 1) h.grown few (let n = needed-few orig id ids h.needed in let w = h.within in omega arith)
@@ -178,7 +176,7 @@ pub record Ranging (orig now : List Node) (from to : List ℕ) (first own : ℕ)
   pub each_ : (i id : ℕ) → slice_get all i ≡ Some id → id ≡ name_in names (first + i)
   pub grown : GrowsBy (own - first) orig now
 
-pub range-first : (orig : List Node) (from to : List ℕ) (first : ℕ) (names : Names) (all : List ℕ) → IsArena orig → AllByRecursion (StandsFrom orig first) from → names.entries ≡ [] → all ≡ []
+pub range-first : (orig : List Node) (from to : List ℕ) (first : ℕ) (names : Names) (all : List ℕ) → IsArena orig → AllByRecursion (StandsFrom orig first) from → ((k : ℕ) → value_at names k ≡ None) → all ≡ []
     → Ranging orig orig from to first first names all
 range-first orig from to first names all a s z e = record {
   begun = omega arith;
@@ -188,7 +186,7 @@ range-first orig from to first names all a s z e = record {
     keeps = keeps-none orig;
     done = λ k d.
         let t = untouched (suc k) orig first from to a s k (omega arith) d.0 d.1 in
-        subst (IsReplaced orig orig (beside from (map (term_at orig) to)) k) (sym (no-name names k z)) (record { there = d.1; width = refl; term = sym t });
+        subst (IsReplaced orig orig (beside from (map (term_at orig) to)) k) (sym (no-name names k (z k))) (record { there = d.1; width = refl; term = sym t });
   };
   count = ap length e ∙ (let q : 0 ≡ first - first = omega arith in q);
   each_ = λ i id g. absurd (let q : slice_get (let xs : List ℕ = [] in xs) i ≡ Some id = ap (λ xs. slice_get xs i) (sym e) ∙ g in cc);
@@ -210,8 +208,8 @@ module _ (orig now : List Node) (from to : List ℕ) (first own : ℕ) (names : 
   range-can node e =
       can-rebuild orig now (beside from (map (term_at orig) to)) (name_in names) own node h.rebuilding.arena h.rebuilding.keeps (range-was node e) (range-parts node (range-was node e))
 
-  pub range-step : (new : List Node) (table more : Names) (next : ℕ) (longer : List ℕ) → Given orig table from to → KeepsTerms now new → GrowsBy 1 now new
-      → ((node : Node) → slice_get now own ≡ Some node → IsRebuilt now new table (name_in names) own node next) → UpdatesBy nat_cmp (nat_cmp own) names more (Some next)
+  pub range-step : (new : List Node) (table : InputTerms) (more : Names) (next : ℕ) (longer : List ℕ) → Given orig table from to → KeepsTerms now new → GrowsBy 1 now new
+      → ((node : Node) → slice_get now own ≡ Some node → IsRebuilt now new table (name_in names) own node next) → IsSet names more own next
       → longer ≡ all ++ next ∷ [] → Ranging orig new from to first (own + 1) more longer
   range-step new table more next longer g kept few is up le =
       let r = beside from (map (term_at orig) to) in

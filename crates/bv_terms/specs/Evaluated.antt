@@ -1,27 +1,27 @@
 -- Cited by private clauses of `Terms::eval`: the value of a node, given those of its parts.
-use Rattle.std.specs.Prelude.{◌≡◌, ℕ, ◌<◌, ◌==◌, Bool, List, All, length, map, if◌then◌else◌, option_map, unwrap_or, slice_get}
+use Rattle.std.specs.Prelude.{ℕ, ◌==◌, List, All, map, if◌then◌else◌, option_map, unwrap_or}
 use Rattle.std.specs.Option.{IsSome}
-use Rattle.std.specs.Ordering.{nat_cmp}
-use Rattle.std.specs.BTreeMap.{BTreeMap, get}
 use Rattle.cocoon_num.specs.Values.{Value, number, apply_unary, apply_slice, flip}
 use Rattle.cocoon_num.specs.BitsOf.{value_of}
 use Rattle.cocoon_num.specs.declared.bits.Bits.{Bits}
 use Rattle.bv_terms.specs.declared.node.Node.{Node}
 use Rattle.bv_terms.specs.declared.node.Node.TheVariants.{Constant, Input, Apply, Not, Binary, Slice, Pick}
 use Rattle.bv_terms.specs.declared.eval.Env.{Env}
-use Rattle.bv_terms.specs.TermValues.{number_in, term_number, operated, term_value}
-use Rattle.bv_terms.specs.Arenas.{parts, term_at, WidthsFit}
+use Rattle.bv_terms.specs.declared.term_map.TermMap.{TermMap}
+use Rattle.bv_terms.specs.TermValues.{number_in, term_number, operated}
+use Rattle.bv_terms.specs.Arenas.{parts, WidthsFit}
 use Rattle.bv_terms.specs.Environments.{HasInput, HasTable, functions_of, inputs_of}
+use Rattle.bv_terms.specs.TermMaps.{value_at}
 
 -- the values of some terms, by their numbers
 abbrev pub Known : Type 0
-Known = BTreeMap ℕ Bits
+Known = TermMap Bits
 
 abbrev pub value_in : Known → ℕ → Value
-value_in values k = unwrap_or (option_map value_of (get nat_cmp values k)) (number 0 0)
+value_in values k = unwrap_or (option_map value_of (value_at values k)) (number 0 0)
 
 abbrev pub width_in : Known → ℕ → ℕ
-width_in values k = unwrap_or (option_map (λ (b : Bits). b.width) (get nat_cmp values k)) 0
+width_in values k = unwrap_or (option_map (λ (b : Bits). b.width) (value_at values k)) 0
 
 -- the numbers of arguments
 abbrev pub numbers_in : Known → List ℕ → List ℕ
@@ -46,6 +46,6 @@ HasNode env w node = Unit {0}
 
 -- all that the value of a node takes is there
 pub record IsReady (env : Env) (values : Known) (node : Node) : Type 0 where
-  pub there : All (λ p. IsSome (get nat_cmp values p)) (parts node)
+  pub there : All (λ p. IsSome (value_at values p)) (parts node)
   pub fit : WidthsFit (width_in values) node
   pub has : HasNode env (width_in values) node

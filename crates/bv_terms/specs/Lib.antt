@@ -5,6 +5,7 @@ pub mod Arenas
 pub mod Environments
 pub mod Replacements
 pub mod Needed
+pub mod TermMaps
 pub mod Evaluated
 pub mod Rebuilt
 pub mod Walks

@@ -1,19 +1,25 @@
 -- Cited by the clauses of `Terms::substitute_from` and by private clauses: nodes with other parts, and what a node becomes.
-use Rattle.std.specs.Prelude.{◌≡◌, ℕ, ◌+◌, ◌-◌, ◌<◌, ◌≤◌, ◌⊎◌, List, All, length, map, Option, Some, unwrap_or, slice_get}
+use Rattle.std.specs.Prelude.{◌≡◌, ℕ, ◌+◌, ◌-◌, ◌<◌, ◌≤◌, List, length, map, Some, unwrap_or, slice_get}
 use Rattle.std.specs.Ordering.{nat_cmp}
 use Rattle.std.specs.BTreeMap.{BTreeMap, get}
 use Rattle.bv_terms.specs.declared.node.Node.{Node}
+use Rattle.bv_terms.specs.declared.term_map.TermMap.{TermMap}
 use Rattle.bv_terms.specs.declared.node.Node.TheVariants.{Constant, Input, Apply, Not, Binary, Slice, Pick}
-use Rattle.bv_terms.specs.Arenas.{parts, term_at, width_at, node_width, inputs_in, CanFollow, IsPut}
+use Rattle.bv_terms.specs.Arenas.{term_at, width_at, node_width, CanFollow, IsPut}
 use Rattle.bv_terms.specs.Replacements.{Replacing, replaced, beside}
+use Rattle.bv_terms.specs.TermMaps.{value_at}
 
--- numbers under numbers
+-- numbers of other terms, for some terms
 abbrev pub Names : Type 0
-Names = BTreeMap ℕ ℕ
+Names = TermMap ℕ
+
+-- terms under the numbers of inputs
+abbrev pub InputTerms : Type 0
+InputTerms = BTreeMap ℕ ℕ
 
 -- the number that stands for another one: itself, if there is none
 abbrev pub name_in : Names → ℕ → ℕ
-name_in ids p = unwrap_or (get nat_cmp ids p) p
+name_in ids p = unwrap_or (value_at ids p) p
 
 -- the node with other parts, each in the place of an old one
 abbrev pub with_parts : (ℕ → ℕ) → Node → Node
@@ -26,11 +32,11 @@ with_parts name (Slice a high low) = Slice (name a) high low
 with_parts name (Pick c a b) = Pick (name c) (name a) (name b)
 
 -- the term that a table has for an input, else the input's own
-abbrev pub in_place_of : Names → ℕ → ℕ → ℕ
+abbrev pub in_place_of : InputTerms → ℕ → ℕ → ℕ
 in_place_of table i own = unwrap_or (get nat_cmp table i) own
 
 -- what the term under a number becomes
-abbrev pub IsRebuilt : (old new : List Node) → Names → (ℕ → ℕ) → (own : ℕ) → Node → ℕ → Type 0
+abbrev pub IsRebuilt : (old new : List Node) → InputTerms → (ℕ → ℕ) → (own : ℕ) → Node → ℕ → Type 0
 IsRebuilt old new table name own (Input i w) id = (new ≡ old) × (id ≡ in_place_of table i own)
 IsRebuilt old new table name own node id = IsPut old new (with_parts name node) id
 
@@ -42,7 +48,7 @@ CanRebuild nodes name node =
     × (node_width (width_at nodes) node ≡ node_width (width_at nodes) (with_parts name node))
 
 -- for each input the term beside it
-abbrev pub IsTable : List ℕ → List ℕ → Names → Type 0
+abbrev pub IsTable : List ℕ → List ℕ → InputTerms → Type 0
 IsTable from to table = (i : ℕ) → get nat_cmp table i ≡ beside from to i
 
 -- the term with others in place of its inputs, of the same width

@@ -1,8 +1,6 @@
 //! Values of terms.
 ghost use Rattle.std.specs.Prelude.{◌≡◌, ◌<◌, ◌≤◌, ◌==◌, ◌^◌, ℕ, List, IfOk, IsTrue, Some, All, if◌then◌else◌, length, slice_get};
 ghost use Rattle.std.specs.Option.{IsSome};
-ghost use Rattle.std.specs.Ordering.{nat_cmp};
-ghost use Rattle.std.specs.BTreeMap.{get};
 ghost use Rattle.cocoon_num.specs.Values as values;
 ghost use Rattle.cocoon_num.specs.BitsOf.{value_of};
 ghost use Rattle.bv_terms.specs.TermTrees.{OperandsFit};
@@ -10,12 +8,13 @@ ghost use Rattle.bv_terms.specs.TermValues.{term_number, number_in, operated, te
 ghost use Rattle.bv_terms.specs.Arenas.{term_at};
 ghost use Rattle.bv_terms.specs.Environments.{Covers, HasInput, HasTable, functions_of, inputs_of};
 ghost use Rattle.bv_terms.specs.Evaluated.{IsReady, node_value, numbers_in, value_in, width_in};
+ghost use Rattle.bv_terms.specs.TermMaps.{value_at};
 
 use crate::arena::Terms;
 use crate::node::{FunId, InputId, Node, TermId, TermOp};
+use crate::term_map::TermMap;
 use cocoon_num::{Bits, FunTable, List, NoMemory};
 use std::alloc::Global;
-use std::collections::BTreeMap;
 
 /// The numbers of inputs, and tables of functions, each at its own number.
 #[derive(Drop)]
@@ -48,32 +47,28 @@ fn operate(op: TermOp, a: Bits, b: Bits) -> Bits
 }
 
 /// The value of a part.
-fn part(values: &BTreeMap<TermId, Bits>, id: TermId) -> Bits
-    requires { IsSome (get nat_cmp values.now id) }
+fn part(values: &TermMap<Bits>, id: TermId) -> Bits
+    requires { IsSome (value_at values.now id) }
     ensures value { value_of result ≡ value_in values.now id }
     ensures width { result.width ≡ width_in values.now id }
 {
-    match values.get(&id) {
-        Some(value) => *value,
+    match values.get(id) {
+        Some(value) => value,
         None => unreachable!(),
     }
 }
 
 /// The number of an argument.
-fn argument(values: &BTreeMap<TermId, Bits>, id: TermId) -> u64
-    requires there { IsSome (get nat_cmp values.now id) }
+fn argument(values: &TermMap<Bits>, id: TermId) -> u64
+    requires there { IsSome (value_at values.now id) }
     requires narrow { width_in values.now id ≤ 64 }
     ensures { result ≡ number_in (value_in values.now id) }
 {
     part(values, id).value as u64
 }
 
-fn arguments(
-    alloc: Global,
-    values: &BTreeMap<TermId, Bits>,
-    args: &[TermId],
-) -> Result<Vec<u64>, NoMemory>
-    requires there { All (λ a. IsSome (get nat_cmp values.now a)) args.now }
+fn arguments(alloc: Global, values: &TermMap<Bits>, args: &[TermId]) -> Result<Vec<u64>, NoMemory>
+    requires there { All (λ a. IsSome (value_at values.now a)) args.now }
     requires narrow { All (λ a. width_in values.now a ≤ 64) args.now }
     ensures { IfOk result (λ numbers. numbers.items ≡ numbers_in values.now args.now) }
 {
@@ -106,12 +101,7 @@ impl Env {
     }
 
     /// The value of a node whose parts have these values.
-    fn value(
-        &self,
-        alloc: Global,
-        values: &BTreeMap<TermId, Bits>,
-        node: &Node,
-    ) -> Result<Bits, NoMemory>
+    fn value(&self, alloc: Global, values: &TermMap<Bits>, node: &Node) -> Result<Bits, NoMemory>
         requires { IsReady self.now values.now node.now }
         ensures { IfOk result (λ value. value_of value ≡ node_value self.now values.now node.now) }
     {
@@ -145,12 +135,12 @@ impl Terms {
             ≡ term_value (functions_of env.now) (inputs_of env.now) (term_at self.now id)) }
     {
         let ids = self.needed(alloc, id)?;
-        let mut values = BTreeMap::new(alloc);
+        let mut values = TermMap::over(alloc, &ids)?;
         let mut at = ids.len();
         while at > 0 {
             at -= 1;
             let value = env.value(alloc, &values, self.node(ids[at]))?;
-            values.insert(ids[at], value)?;
+            values.set(ids[at], value)?;
         }
         Ok(part(&values, id))
     }

@@ -8,8 +8,10 @@ pub mod laws;
 mod needed;
 pub mod node;
 mod substitute;
+mod term_map;
 
 pub use arena::Terms;
 pub use eval::Env;
 pub use node::{FunId, InputId, Node, TermId, TermOp};
 pub use substitute::with_parts;
+pub use term_map::TermMap;

@@ -8,20 +8,21 @@ ghost use Rattle.bv_terms.specs.Rebuilt.{AreReplacedFrom, CanRebuild, IsRebuilt,
 
 use crate::arena::Terms;
 use crate::node::{InputId, Node, TermId};
+use crate::term_map::TermMap;
 use cocoon_num::{List, NoMemory};
 use std::alloc::Global;
 use std::collections::BTreeMap;
 
 /// The number that stands in the place of a part.
-fn renamed(ids: &BTreeMap<TermId, TermId>, part: TermId) -> TermId
+fn renamed(ids: &TermMap<TermId>, part: TermId) -> TermId
     ensures { result ≡ name_in ids.now part }
 {
-    ids.get(&part).copied().unwrap_or(part)
+    ids.get(part).unwrap_or(part)
 }
 
 fn all_renamed(
     alloc: Global,
-    ids: &BTreeMap<TermId, TermId>,
+    ids: &TermMap<TermId>,
     parts: &[TermId],
 ) -> Result<Vec<TermId>, NoMemory>
     ensures { IfOk result (λ others. others.items ≡ map (name_in ids.now) parts.now) }
@@ -34,11 +35,7 @@ fn all_renamed(
 }
 
 /// The node with other parts, each in the place of an old one. One that has no other stays.
-pub fn with_parts(
-    alloc: Global,
-    ids: &BTreeMap<TermId, TermId>,
-    node: &Node,
-) -> Result<Node, NoMemory>
+pub fn with_parts(alloc: Global, ids: &TermMap<TermId>, node: &Node) -> Result<Node, NoMemory>
     ensures { IfOk result (λ other. other ≡ with_parts (name_in ids.now) node.now) }
 {
     Ok(match node {
@@ -86,7 +83,7 @@ impl Terms {
         &mut self,
         alloc: Global,
         table: &BTreeMap<InputId, TermId>,
-        ids: &BTreeMap<TermId, TermId>,
+        ids: &TermMap<TermId>,
         own: TermId,
     ) -> Result<TermId, NoMemory>
         requires there { own < length self.old }
@@ -125,12 +122,12 @@ impl Terms {
     {
         let needed = self.needed(alloc, id)?;
         let table = replacements(alloc, from, to)?;
-        let mut ids = BTreeMap::new(alloc);
+        let mut ids = TermMap::over(alloc, &needed)?;
         let mut at = needed.len();
         while at > 0 {
             at -= 1;
             let next = self.rebuild(alloc, &table, &ids, needed[at])?;
-            ids.insert(needed[at], next)?;
+            ids.set(needed[at], next)?;
         }
         Ok(renamed(&ids, id))
     }
@@ -154,11 +151,11 @@ impl Terms {
     {
         let last = self.count();
         let table = replacements(alloc, from, to)?;
-        let mut ids = BTreeMap::new(alloc);
+        let mut ids = TermMap::new(alloc, first, last.saturating_sub(first) as usize)?;
         let mut all = Vec::new(alloc);
         for own in first..last {
             let next = self.rebuild(alloc, &table, &ids, own)?;
-            ids.insert(own, next)?;
+            ids.set(own, next)?;
             all.push(next)?;
         }
         Ok(all)

@@ -1,19 +1,18 @@
 -- The loop of a copy.
-use Rattle.std.proofs.Common.{◌≡◌, ℕ, ◌+◌, ◌-◌, ◌<◌, ◌≤◌, List, [], ◌∷◌, ◌++◌, length, length-append, map, drop, take, Option, Some, slice_get, slice_index, get_or, refl, ap, sym, ◌∙◌, subst, arith, inl, inr, append_assoc, suc}
+use Rattle.std.proofs.Common.{◌≡◌, ℕ, ◌+◌, ◌-◌, ◌<◌, ◌≤◌, List, [], ◌∷◌, ◌++◌, length, length-append, map, drop, take, Some, slice_get, slice_index, get_or, refl, ap, sym, ◌∙◌, subst, arith, inl, inr, append_assoc, suc}
 use Rattle.std.specs.List.{AllByRecursion}
-use Rattle.std.specs.Ordering.{nat_cmp}
-use Rattle.std.specs.BTreeMap.{UpdatesBy}
 use Rattle.std.proofs.lemmas.List.Elements.{recursion_from_All, All-from_recursion}
 use Rattle.std.proofs.lemmas.Option.{slice_get_within, slice_get-get_or}
 use Rattle.std.proofs.lemmas.Bool.{cases_eq}
 use Rattle.std.proofs.Math.Seq.{drop-cons, drop-length}
 use Rattle.bv_terms.specs.declared.node.Node.{Node}
 use Rattle.bv_terms.specs.declared.node.Node.TheVariants.{Constant, Input, Apply, Not, Binary, Slice, Pick}
-use Rattle.bv_terms.specs.TermTrees.{Term, Args, constant, input, apply, not_, binary, slice, pick, width, joined_width, IsTerm}
+use Rattle.bv_terms.specs.TermTrees.{Term, constant, input, apply, not_, binary, slice, pick, width, joined_width, IsTerm}
 use Rattle.bv_terms.specs.Arenas.{parts, args_of, made_of, term_at, width_at, node_width, inputs_in, CanFollow, IsArena, IsPut, KeepsTerms}
 use Rattle.bv_terms.specs.Inputs.{renamed, renamed_args}
 use Rattle.bv_terms.specs.Needed.{AreFalling, AreNeeded, IsAmong}
 use Rattle.bv_terms.specs.Rebuilt.{Names, name_in, with_parts}
+use Rattle.bv_terms.specs.TermMaps.{IsSet}
 use Rattle.bv_terms.proofs.EvalFacts.{fit-of}
 use Rattle.bv_terms.proofs.Members.{both, each, read-index}
 use Rattle.bv_terms.proofs.NeededFacts.{needed-few, needed-later}
@@ -151,7 +150,7 @@ module _ (source old now : List Node) (id : ℕ) (ids : List ℕ) (at : ℕ) (na
   copied-step : (new : List Node) (more : Names) (next : ℕ) (longer : List ℕ) (node : Node) → slice_get source its ≡ Some node
       → IsPut now new (copied_node (inputs_in now) (name_in names) node) next → KeepsTerms now new → length new ≤ length now + 1
       → longer ≡ inputs ++ input_of (Some node) → inputs_in new ≡ inputs_in now + length (input_of (Some node))
-      → UpdatesBy nat_cmp (nat_cmp its) names more (Some next) → Copying source old new id ids (at - 1) more longer
+      → IsSet names more its next → Copying source old new id ids (at - 1) more longer
   copied-step new more next longer node e put kept few longer-is count up =
       let f = new_name (inputs_in old) (inputs_among source ids) in
       let terms : AllByRecursion (λ q. term_at now (name_in names q) ≡ renamed f (term_at source q)) (parts node)
@@ -196,10 +195,10 @@ module _ (source old now : List Node) (id : ℕ) (ids : List ℕ) (at : ℕ) (na
   pub own-step : (new : List Node) (more : Names) (next : ℕ) (longer : List ℕ) (node : Node) (k : ℕ) → k ≡ get_or ids (at - 1) k → slice_get source k ≡ Some node
       → IsPut now new (copied_node (inputs_in now) (name_in names) node) next → KeepsTerms now new → length new ≤ length now + 1
       → longer ≡ inputs ++ input_of (Some node) → inputs_in new ≡ inputs_in now + length (input_of (Some node))
-      → UpdatesBy nat_cmp (nat_cmp k) names more (Some next) → Copying source old new id ids (at - 1) more longer
+      → IsSet names more k next → Copying source old new id ids (at - 1) more longer
   own-step new more next longer node k e n put kept few longer-is count up =
       copied-step new more next longer node (subst (λ j. slice_get source j ≡ Some node) (own-is k e) n) put kept few longer-is count
-      (subst (λ j. UpdatesBy nat_cmp (nat_cmp j) names more (Some next)) (own-is k e) up)
+      (subst (λ j. IsSet names more j next) (own-is k e) up)
 
   pub step-few : (new : List Node) → length new ≤ length now + 1 → length new ≤ length old + (id + 1)
   step-few new l = (let n = needed-few source id ids h.needed in let w = h.within in let f = h.few in omega arith)

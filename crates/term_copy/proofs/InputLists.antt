@@ -1,19 +1,18 @@
 -- The inputs among the terms that a term is made of.
-use Rattle.std.proofs.Common.{◌≡◌, ◌≢◌, ℕ, ◌+◌, ◌<◌, ◌≤◌, ◌==◌, ◌⊎◌, inl, inr, true, false, List, [], ◌∷◌, ◌++◌, length, Option, Some, None, slice_get, get_or, refl, ap, sym, ◌∙◌, subst, arith, zero, suc, append_assoc, take, drop}
-use Rattle.std.specs.List.{AllByRecursion}
+use Rattle.std.proofs.Common.{◌≡◌, ℕ, ◌<◌, ◌==◌, ◌⊎◌, inl, inr, true, false, List, [], ◌∷◌, ◌++◌, length, Option, Some, None, slice_get, get_or, refl, ap, sym, ◌∙◌, subst, arith, zero, suc, append_assoc, take, drop}
 use Rattle.std.proofs.lemmas.List.{append-nil}
 use Rattle.std.proofs.lemmas.List.Elements.{recursion_from_All}
 use Rattle.std.proofs.lemmas.Option.{slice_get_within, slice_get-get_or}
-use Rattle.std.proofs.lemmas.Bool.{cases_Bool, cases_lt, cases_eq, cond-true, cond-false, eqb-true, eq-eqb, ne_eqb, false≢true}
+use Rattle.std.proofs.lemmas.Bool.{cases_Bool, cond-true, cond-false, eqb-true, eq-eqb, ne_eqb, false≢true}
 use Rattle.bv_terms.specs.declared.node.Node.{Node}
 use Rattle.bv_terms.specs.declared.node.Node.TheVariants.{Constant, Input, Apply, Not, Binary, Slice, Pick}
 use Rattle.bv_terms.specs.TermTrees.{Term, input}
 use Rattle.bv_terms.specs.Arenas.{parts, made_of, term_at, IsArena}
-use Rattle.bv_terms.specs.Inputs.{AreApart, Mentions}
+use Rattle.bv_terms.specs.Inputs.{AreApart}
 use Rattle.bv_terms.specs.Needed.{AreFalling, AreNeeded, IsAmong, IsMadeOf}
 use Rattle.bv_terms.specs.Walks.{is_among, walk}
 use Rattle.bv_terms.proofs.ArenaFacts.{inputs-rise}
-use Rattle.bv_terms.proofs.Members.{both, each}
+use Rattle.bv_terms.proofs.Members.{both}
 use Rattle.bv_terms.proofs.NeededFacts.{inherits}
 use Rattle.bv_terms.proofs.Seams.{snoc-cases, snoc-last, snoc-old}
 use Rattle.bv_terms.proofs.Subterms.{Each, each-itself, each-made, each-parts, in-walk, walk-has}

@@ -1,7 +1,7 @@
 -- Cited by private clauses: the copy of a node whose parts are copied.
-use Rattle.std.specs.Prelude.{◌≡◌, ℕ, List, [], ◌∷◌, ◌++◌, Option, Some, None, slice_get}
+use Rattle.std.specs.Prelude.{◌≡◌, ℕ, List, [], ◌∷◌, ◌++◌, Option, Some, slice_get}
 use Rattle.bv_terms.specs.declared.node.Node.{Node}
-use Rattle.bv_terms.specs.declared.node.Node.TheVariants.{Constant, Input, Apply, Not, Binary, Slice, Pick}
+use Rattle.bv_terms.specs.declared.node.Node.TheVariants.{Input}
 use Rattle.bv_terms.specs.TermTrees.{IsWidth}
 use Rattle.bv_terms.specs.Arenas.{CanFollow, node_width, width_at}
 use Rattle.bv_terms.specs.Rebuilt.{with_parts}

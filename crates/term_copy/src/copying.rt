@@ -6,10 +6,9 @@ ghost use Rattle.bv_terms.specs.Rebuilt.{name_in};
 ghost use Rattle.term_copy.specs.Copies.{AreInputs, new_name};
 ghost use Rattle.term_copy.specs.Copying.{CanCopy, copied_node, input_of};
 
-use bv_terms::{InputId, Node, TermId, Terms, with_parts};
+use bv_terms::{InputId, Node, TermId, TermMap, Terms, with_parts};
 use cocoon_num::{List, NoMemory};
 use std::alloc::Global;
-use std::collections::BTreeMap;
 
 /// The copy of a term.
 #[derive(Drop)]
@@ -23,7 +22,7 @@ pub struct Copied {
 fn copy_node(
     alloc: Global,
     to: &mut Terms,
-    ids: &BTreeMap<TermId, TermId>,
+    ids: &TermMap<TermId>,
     inputs: &mut Vec<InputId>,
     node: &Node,
     width: u8,
@@ -63,16 +62,16 @@ pub fn copy(alloc: Global, from: &Terms, id: TermId, to: &mut Terms) -> Result<C
 {
     let needed = from.needed(alloc, id)?;
     let mut inputs = Vec::new(alloc);
-    let mut ids = BTreeMap::new(alloc);
+    let mut ids = TermMap::over(alloc, &needed)?;
     let mut at = needed.len();
     while at > 0 {
         at -= 1;
         let own = needed[at];
         let (node, width) = (from.node(own), from.width(own));
         let next = copy_node(alloc, to, &ids, &mut inputs, node, width)?;
-        ids.insert(own, next)?;
+        ids.set(own, next)?;
     }
-    let term = ids.get(&id).copied().unwrap_or(id);
+    let term = ids.get(id).unwrap_or(id);
     Ok(Copied {
         term,
         inputs: List::from(inputs),

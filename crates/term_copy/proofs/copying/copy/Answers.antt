@@ -1,13 +1,13 @@
-use Rattle.std.proofs.Common.{◌≡◌, arith, ap, subst, sym, ◌∙◌}
+use Rattle.std.proofs.Common.{arith, subst, sym}
 use Rattle.bv_terms.specs.Arenas.{inputs_in, term_at}
-use Rattle.term_copy.specs.Copies.{AreInputs, new_name}
-use Rattle.term_copy.proofs.Copies.{copy-few, copy-first, copy-inputs, copy-last, own-can, own-step, own-there, step-few}
+use Rattle.term_copy.specs.Copies.{AreInputs}
+use Rattle.term_copy.proofs.Copies.{copy-few, copy-first, copy-inputs, own-can, own-step, own-there, step-few}
 use Rattle.term_copy.proofs.InputLists.{names-apart}
 use Rattle.term_copy.proofs.copying.copy.Goals as goal
 
 pub loop-at-init : goal.loop-at-init
 loop-at-init c =
-    copy-first c.args.from.now c.args.to.now c.args.id c.in_ok-needed.needed.items c.len-at.result c.new-ids.result c.new-inputs.result.items c.in_ok-needed.ensures c.requires
+    copy-first c.args.from.now c.args.to.now c.args.id c.in_ok-needed.needed.items c.len-at.result c.in_ok-ids.ids c.new-inputs.result.items c.in_ok-needed.ensures c.requires
     (omega (arith, c.len-at.ensures, c.in_ok-needed.needed.ok.0)) c.new-inputs.ensures.items
 
 pub node-node-requires : goal.node-node-requires
@@ -33,11 +33,11 @@ returns-in_err-next-clause-few c =
 pub loop-at-preserved : goal.loop-at-preserved
 loop-at-preserved c =
     own-step c.args.from.now c.args.to.now c.loop-at.to c.args.id c.in_ok-needed.needed.items c.loop-at.at c.loop-at.ids c.loop-at.inputs.items c.loop-at.invariant c.loop-at-test.true
-    c.copy_node.new.to c.insert.new.self c.in_ok-next.next c.copy_node.new.inputs.items c.node-node.result.now c.index-own.result.now c.index-own.ensures c.node-node.ensures.node
-    c.in_ok-next.ensures.put c.copy_node.ensures.kept c.copy_node.ensures.few c.in_ok-next.ensures.listed c.in_ok-next.ensures.more c.in_ok-insert.ensures.updates
+    c.copy_node.new.to c.set.new.self c.in_ok-next.next c.copy_node.new.inputs.items c.node-node.result.now c.index-own.result.now c.index-own.ensures c.node-node.ensures.node
+    c.in_ok-next.ensures.put c.copy_node.ensures.kept c.copy_node.ensures.few c.in_ok-next.ensures.listed c.in_ok-next.ensures.more c.in_ok-set.ensures
 
-pub returns-in_err-insert-clause-few : goal.returns-in_err-insert-clause-few
-returns-in_err-insert-clause-few c =
+pub returns-in_err-set-clause-few : goal.returns-in_err-set-clause-few
+returns-in_err-set-clause-few c =
     step-few c.args.from.now c.args.to.now c.loop-at.to c.args.id c.in_ok-needed.needed.items c.loop-at.at c.loop-at.ids c.loop-at.inputs.items c.loop-at.invariant c.loop-at-test.true
     c.copy_node.new.to c.copy_node.ensures.few
 

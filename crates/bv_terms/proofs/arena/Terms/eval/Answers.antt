@@ -1,6 +1,5 @@
-use Rattle.std.proofs.Common.{◌≡◌, ◌-◌, Some, slice_get, subst, ◌∙◌, arith}
-use Rattle.std.specs.Ordering.{nat_cmp}
-use Rattle.std.specs.BTreeMap.{UpdatesBy}
+use Rattle.std.proofs.Common.{◌≡◌, Some, slice_get, subst, ◌∙◌, arith}
+use Rattle.bv_terms.specs.TermMaps.{IsSet}
 use Rattle.bv_terms.proofs.Evaluating.{at-is, at-there, next-evaluated, next-ready, whole-evaluated}
 use Rattle.bv_terms.proofs.arena.Terms.eval.Goals as goal
 
@@ -18,9 +17,9 @@ pub loop-at-preserved : goal.loop-at-preserved
 loop-at-preserved c =
     let e = at-is c.args.self.now c.args.env.now c.args.id c.in_ok-ids.ids.items c.loop-at.at c.loop-at.values c.index.result.now c.loop-at.invariant c.loop-at-test.true c.index.ensures in
     let f = at-is c.args.self.now c.args.env.now c.args.id c.in_ok-ids.ids.items c.loop-at.at c.loop-at.values c.index-in-loop-at.result.now c.loop-at.invariant c.loop-at-test.true c.index-in-loop-at.ensures in
-    next-evaluated c.args.self.now c.args.env.now c.args.id c.in_ok-ids.ids.items c.loop-at.at c.loop-at.values c.insert.new.self c.node.result.now c.in_ok-value.value c.loop-at.invariant
+    next-evaluated c.args.self.now c.args.env.now c.args.id c.in_ok-ids.ids.items c.loop-at.at c.loop-at.values c.set.new.self c.node.result.now c.in_ok-value.value c.loop-at.invariant
     c.loop-at-test.true (subst (λ k. slice_get c.args.self.now k ≡ Some c.node.result.now) e c.node.ensures.node) c.in_ok-value.ensures
-    (subst (λ k. UpdatesBy nat_cmp (nat_cmp k) c.loop-at.values c.insert.new.self (Some c.in_ok-value.value)) f c.in_ok-insert.ensures.updates)
+    (subst (λ k. IsSet c.loop-at.values c.set.new.self k c.in_ok-value.value) f c.in_ok-set.ensures)
 
 pub returns : goal.returns
 returns c =

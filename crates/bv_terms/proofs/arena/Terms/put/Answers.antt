@@ -1,4 +1,4 @@
-use Rattle.std.proofs.Common.{◌≡◌, Option, Some, None, ap, subst, sym, ◌∙◌}
+use Rattle.std.proofs.Common.{◌≡◌, Some, None, ap, subst, sym, ◌∙◌}
 use Rattle.bv_terms.specs.Arenas.{IsPut}
 use Rattle.bv_terms.specs.Keys.{number_of, node_key}
 use Rattle.bv_terms.proofs.ArenaFacts.{pushed-put, pushed-kept, pushed-whole, stays-nodes, there-put}
