@@ -1,0 +1,5 @@
+pub mod Widths
+pub mod Values
+pub mod Growing
+pub mod Choices
+pub mod Replaced
