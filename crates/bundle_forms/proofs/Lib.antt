@@ -1,5 +1,3 @@
-mod Seen
-mod Exact
 mod RowsExact
 mod NetSeen
 mod Sought

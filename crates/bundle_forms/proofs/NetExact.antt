@@ -10,32 +10,14 @@ use Rattle.serde_json.specs.Find.{as_str}
 use Rattle.cocoon_num.specs.Lists.{each, ascend, has_number}
 use Rattle.p4_ir.specs.NetTree.{LinkEnd, to_switch, to_host, Link, HostPort}
 use Rattle.p4_ir.specs.Wiring as wire
-use Rattle.net_bundle.specs.NetJson.{KeptDigest, NetFile, number_data, array_data, these, host_data, link_data, digest_data, net_data}
+use Rattle.json_forms.specs.Values.{number_data, array_data, these}
+use Rattle.net_bundle.specs.NetJson.{KeptDigest, NetFile, host_data, link_data, digest_data, net_data}
 use Rattle.net_bundle.specs.Network.{is_digest, file_wiring}
-use Rattle.bundle_forms.specs.Forms.{number_form, list_form, has_items, item_form, has_keys, both_of}
+use Rattle.json_forms.specs.Forms.{fitting, number_form, list_form, has_items, item_form, has_keys, both_of}
 use Rattle.bundle_forms.specs.NetForm as form
-use Rattle.bundle_forms.proofs.Exact.{Exact, none_some, some_same, if_parts, both_parts, number_exact, list_exact, array_has, no_more, one_more, two_items, object_has, last_key, next_key}
+use Rattle.json_forms.proofs.Exact.{Exact, none_some, some_same, map_parts, if_parts, fitting_parts, fitting_from, both_parts, text_sound, text_exact, number_exact, list_exact, array_has, no_more, one_more, two_items, object_has, last_key, next_key, err_ok, ok_same, ok_parts}
 
--- ---- options and lists
-
-map_parts : {A B : Type 0} (f : A → B) (o : Option A) (y : B) → option_map f o ≡ Some y → (x : A) × (o ≡ Some x) × (f x ≡ y)
-map_parts f None y h = absurd (none_some y h)
-map_parts f (Some x) y h = (x, refl, some_same (f x) y h)
-
-fitting_if : {A : Type 0} (b : Bool) (a x : A) → (if b then Some a else None) ≡ Some x → (b ≡ true) × (a ≡ x)
-fitting_if true a x h = (refl, some_same a x h)
-fitting_if false a x h = absurd (none_some x h)
-
-fitting_parts : {A : Type 0} (test : A → Bool) (o : Option A) (x : A) → form.fitting test o ≡ Some x → (o ≡ Some x) × (test x ≡ true)
-fitting_parts test None x h = absurd (none_some x h)
-fitting_parts test (Some a) x h = let parts = fitting_if (test a) a x h in (ap Some parts.1, subst (λ y. test y ≡ true) parts.1 parts.0)
-
-if_some : {A : Type 0} (b : Bool) (x : A) → b ≡ true → (if b then Some x else None) ≡ Some x
-if_some true x h = refl
-if_some false x h = absurd cc
-
-fitting_from : {A : Type 0} (test : A → Bool) (o : Option A) (x : A) → o ≡ Some x → test x ≡ true → form.fitting test o ≡ Some x
-fitting_from test o x h t = rw h (if_some (test x) x t)
+-- ---- lists
 
 each_more : {A : Type 0} (f h : A → Bool) → ((x : A) → f x ≡ true → h x ≡ true) → (xs : List A) → each f xs ≡ true → each h xs ≡ true
 each_more f h k [] e = refl
@@ -58,18 +40,7 @@ among f n (x ∷ xs) h e =
       | inr p ↦ among f n xs (sym (ap (λ b. b || has_number n xs) p.0) ∙ h) parts.1
     ]
 
--- ---- texts
-
-text_sound : (d : Data) (t : List ℕ) → as_str d ≡ Some t → (d ≡ string t) × (true ≡ true)
-text_sound null t h = absurd (none_some t h)
-text_sound (boolean b) t h = absurd (none_some t h)
-text_sound (number n) t h = absurd (none_some t h)
-text_sound (string s) t h = (ap string (some_same s t h), refl)
-text_sound (array ds) t h = absurd (none_some t h)
-text_sound (object ms) t h = absurd (none_some t h)
-
-text_exact : Exact as_str string (λ t. true)
-text_exact = record { sound = text_sound; complete = λ t h. refl }
+-- ---- digests
 
 digest_sound : (d : Data) (t : List ℕ) → form.digest_form d ≡ Some t → (d ≡ string t) × (is_digest t ≡ true)
 digest_sound d t h = let parts = fitting_parts is_digest (as_str d) t h in ((text_sound d t parts.0).0, parts.1)
@@ -395,16 +366,6 @@ link_within f i j w l k =
 
 -- ---- the file
 
-err_ok : {A : Type 0} (p : List ℕ) (x : A) → ◌≡◌ {A = Result A (List ℕ)} (Err p) (Ok x) → ⊥
-err_ok p x h = cc
-
-ok_same : {A : Type 0} (x y : A) → ◌≡◌ {A = Result A (List ℕ)} (Ok x) (Ok y) → x ≡ y
-ok_same x y h = cc
-
-ok_parts : {A : Type 0} (b : Bool) (p : List ℕ) (r : Result A (List ℕ)) (x : A) → (if b then r else Err p) ≡ Ok x → (b ≡ true) × (r ≡ Ok x)
-ok_parts true p r x h = (refl, h)
-ok_parts false p r x h = absurd (err_ok p x h)
-
 record AllThere (cocoon : Option ℕ) (design : Option (List ℕ)) (files : Option (List KeptDigest)) (hosts : Option (List HostPort)) (links : Option (List Link)) (ports : Option ℕ) (switches : Option (List ℕ)) (f : NetFile) : Type 0 where
   one : ℕ
   cocoon_is : cocoon ≡ Some one
@@ -456,7 +417,7 @@ seven_members d has =
           (m4.2 ∙ ap (member (codes "hosts") m4.0) (m5.2 ∙ ap (member (codes "links") m5.0) (m6.2 ∙ ap (member (codes "ports") m6.0) (m7.2 ∙ ap (member (codes "switches") m7.0) (last_key m7.1 m7.3)))))))),
     )
 
-one_sound : (d : Data) (n : ℕ) → form.fitting (λ m. m == 1) (number_form (2 ^ 64) d) ≡ Some n → d ≡ number_data 1
+one_sound : (d : Data) (n : ℕ) → fitting (λ m. m == 1) (number_form (2 ^ 64) d) ≡ Some n → d ≡ number_data 1
 one_sound d n h =
     let parts = fitting_parts (λ m. m == 1) (number_form (2 ^ 64) d) n h in
     ((number_exact (2 ^ 64)).sound d n parts.0).0 ∙ ap number_data (eqb-true n 1 parts.1)

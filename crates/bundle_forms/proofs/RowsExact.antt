@@ -7,10 +7,11 @@ use Rattle.serde_json.specs.View.{items_of}
 use Rattle.cocoon_num.specs.Lists.{each}
 use Rattle.p4_ir.specs.P4Tree.{KeyRow, TableRows, Group, RowsFile}
 use Rattle.p4_ir.specs.Loading.{row_numbers_fit, table_numbers_fit, group_numbers_fit, rows_file_fits}
-use Rattle.net_bundle.specs.NetJson.{number_data, array_data, these, key_data, row_data, table_data, group_data, rows_data}
-use Rattle.bundle_forms.specs.Forms.{number_form, list_form, has_items, item_form, has_keys, member_form, both_of}
+use Rattle.json_forms.specs.Values.{number_data, array_data, these}
+use Rattle.net_bundle.specs.NetJson.{key_data, row_data, table_data, group_data, rows_data}
+use Rattle.json_forms.specs.Forms.{number_form, list_form, has_items, item_form, has_keys, member_form, both_of}
 use Rattle.bundle_forms.specs.RowsForm.{group_form, pair_form, row_keys, row_made, row_form, table_keys, table_made, table_form, rows_keys, rows_members, rows_form}
-use Rattle.bundle_forms.proofs.Exact.{Exact, if_parts, both_parts, number_exact, list_exact, two_items, object_has, last_key, next_key}
+use Rattle.json_forms.proofs.Exact.{Exact, if_parts, both_parts, number_exact, list_exact, two_items, two_members, three_members, err_ok, ok_same, ok_parts}
 
 abbrev pub small : ℕ → Bool
 small n = nat_lt n (2 ^ 64)
@@ -149,14 +150,6 @@ row_here a b r h =
       subst (λ x. row_numbers_fit x ≡ true) parts.4 (row_fits_all (row_made parts.0 parts.1) fit.0 fit.1 fit.2 result.1),
     )
 
--- an object of two keys
-two_members : (k l : List ℕ) (d : Data) → has_keys (k ∷ l ∷ []) d ≡ true → (a b : Data) × (d ≡ object (member k a (member l b no_members)))
-two_members k l d h =
-    let all = object_has (k ∷ l ∷ []) d h in
-    let first = next_key k (l ∷ []) all.0 all.2 in
-    let second = next_key l [] first.1 first.3 in
-    (first.0, second.0, all.1 ∙ ap object (first.2 ∙ ap (member k first.0) (second.2 ∙ ap (member l second.0) (last_key second.1 second.3))))
-
 row_sound : (d : Data) (r : KeyRow) → row_form d ≡ Some r → (d ≡ row_data r) × (row_numbers_fit r ≡ true)
 row_sound d r h =
     let has = if_parts (has_keys row_keys d) _ r h in
@@ -214,18 +207,6 @@ table_here a b c t h =
       subst (λ x. table_numbers_fit x ≡ true) made (and_from _ _ (and_from _ _ number.1 default.1) rows.1),
     )
 
-three_members : (k l m : List ℕ) (d : Data) → has_keys (k ∷ l ∷ m ∷ []) d ≡ true → (a b c : Data) × (d ≡ object (member k a (member l b (member m c no_members))))
-three_members k l m d h =
-    let all = object_has (k ∷ l ∷ m ∷ []) d h in
-    let first = next_key k (l ∷ m ∷ []) all.0 all.2 in
-    let second = next_key l (m ∷ []) first.1 first.3 in
-    let third = next_key m [] second.1 second.3 in (
-      first.0,
-      second.0,
-      third.0,
-      all.1 ∙ ap object (first.2 ∙ ap (member k first.0) (second.2 ∙ ap (member l second.0) (third.2 ∙ ap (member m third.0) (last_key third.1 third.3)))),
-    )
-
 table_sound : (d : Data) (t : TableRows) → table_form d ≡ Some t → (d ≡ table_data t) × (table_numbers_fit t ≡ true)
 table_sound d t h =
     let has = if_parts (has_keys table_keys d) _ t h in
@@ -257,21 +238,11 @@ groups_exact = list_exact _ _ _ group_exact
 tables_exact : Exact (list_form table_form) (array_data table_data) (each table_numbers_fit)
 tables_exact = list_exact _ _ _ table_exact
 
-err_ok : {A : Type 0} (p : List ℕ) (x : A) → ◌≡◌ {A = Result A (List ℕ)} (Err p) (Ok x) → ⊥
-err_ok p x h = cc
-
-ok_same : {A : Type 0} (x y : A) → ◌≡◌ {A = Result A (List ℕ)} (Ok x) (Ok y) → x ≡ y
-ok_same x y h = cc
-
 members_parts : (groups : Option (List Group)) (tables : Option (List TableRows)) (file : RowsFile) → rows_members groups tables ≡ Ok file
     → (groups ≡ Some file.groups) × (tables ≡ Some file.tables)
 members_parts None tables file h = absurd (err_ok _ file h)
 members_parts (Some groups) None file h = absurd (err_ok _ file h)
 members_parts (Some groups) (Some tables) file h = let same = ok_same _ file h in (ap (λ (x : RowsFile). Some x.groups) same, ap (λ (x : RowsFile). Some x.tables) same)
-
-ok_parts : {A : Type 0} (b : Bool) (p : List ℕ) (r : Result A (List ℕ)) (x : A) → (if b then r else Err p) ≡ Ok x → (b ≡ true) × (r ≡ Ok x)
-ok_parts true p r x h = (refl, h)
-ok_parts false p r x h = absurd (err_ok p x h)
 
 abbrev rows_object : Data → Data → Data
 rows_object a b = object (member (codes "groups") a (member (codes "tables") b no_members))

@@ -8,8 +8,8 @@ use Rattle.cocoon_num.specs.Lists.{ascend, each, has_number}
 use Rattle.serde_json.specs.Data.{Data}
 use Rattle.p4_ir.specs.NetTree.{HostPort, Link}
 use Rattle.p4_ir.specs.Wiring.{host_numbers}
-use Rattle.bundle_forms.specs.Forms.{list_form, member_form}
-use Rattle.bundle_forms.specs.NetForm.{fitting, where_known, hosts_fit, host_fits, host_form, link_form, links_fit, ports_of, switches_of, hosts_of, links_of}
+use Rattle.json_forms.specs.Forms.{fitting, list_form, member_form}
+use Rattle.bundle_forms.specs.NetForm.{where_known, hosts_fit, host_fits, host_form, link_form, links_fit, ports_of, switches_of, hosts_of, links_of}
 
 there : (xs : List ℕ) (n i : ℕ) → i < length xs → get_or xs i 0 ≡ n → has_number n xs ≡ true
 there [] n i h e = absurd (omega (arith, h))

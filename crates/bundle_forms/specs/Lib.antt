@@ -1,4 +1,2 @@
-pub mod Forms
 pub mod RowsForm
 pub mod NetForm
-pub mod Reading

@@ -11,11 +11,7 @@ use Rattle.p4_ir.specs.Wiring.{pairs_ascend, host_numbers}
 use Rattle.net_bundle.specs.BundleNames.{program_name, rows_name}
 use Rattle.net_bundle.specs.NetJson.{KeptDigest, NetFile}
 use Rattle.net_bundle.specs.Network.{is_digest, net_file_fits}
-use Rattle.bundle_forms.specs.Forms.{number_form, list_form, has_items, item_form, has_keys, member_form, both_of}
-
--- what is there, where it passes the test
-abbrev pub fitting : {A : Type 0} → (A → Bool) → Option A → Option A
-fitting test found = option_and_then (λ a. if test a then Some a else None) found
+use Rattle.json_forms.specs.Forms.{fitting, number_form, list_form, has_items, item_form, has_keys, member_form, both_of}
 
 -- no rule where nothing is there
 abbrev pub where_known : {A : Type 0} → (A → Bool) → Option A → Bool

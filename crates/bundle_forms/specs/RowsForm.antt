@@ -3,7 +3,7 @@
 use Rattle.std.specs.Prelude.{ℕ, ◌^◌, List, [], ◌∷◌, map, Option, Some, None, if◌then◌else◌, Result, Ok, Err, codes}
 use Rattle.serde_json.specs.Data.{Data}
 use Rattle.p4_ir.specs.P4Tree.{KeyRow, TableRows, Group, RowsFile}
-use Rattle.bundle_forms.specs.Forms.{number_form, list_form, has_items, item_form, has_keys, member_form, both_of}
+use Rattle.json_forms.specs.Forms.{number_form, list_form, has_items, item_form, has_keys, member_form, both_of}
 
 -- [NUMBER,[MEMBER]]
 abbrev pub group_form : Data → Option Group

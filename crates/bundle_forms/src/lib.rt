@@ -2,8 +2,7 @@
 //! Bytes that are no file of their form are refused with the first member that is not of its form.
 #![tactic(auto)]
 
-pub mod fault;
-mod from_json;
+mod kind;
 mod known;
 pub mod laws;
 pub mod net_form;
@@ -11,6 +10,6 @@ mod net_items;
 mod net_rules;
 pub mod rows_form;
 
-pub use fault::FormFault;
+pub use json_forms::FormFault;
 pub use net_form::read_net;
 pub use rows_form::read_rows;

@@ -5,16 +5,16 @@ ghost use Rattle.cocoon_num.specs.Lists.{ascend};
 ghost use Rattle.p4_ir.specs.NetOf.{host_port_of, link_of};
 ghost use Rattle.p4_ir.specs.Wiring.{host_numbers};
 ghost use Rattle.net_bundle.specs.NetFileOf.{kept_of, net_file_of};
-ghost use Rattle.bundle_forms.specs.Forms.{has_keys, list_form, member_form};
+ghost use Rattle.json_forms.specs.Forms.{fitting, has_keys, list_form, member_form};
 ghost use Rattle.bundle_forms.specs.NetForm as spec;
-ghost use Rattle.bundle_forms.specs.Reading.{Answered, Refused, Shaped};
+ghost use Rattle.json_forms.specs.Reading.{Answered, Refused, Shaped};
 
-use crate::fault::FormFault;
-use crate::from_json::{has_keys, member};
+use crate::kind::BundleJson;
 use crate::known::ascends;
 use crate::net_items::Digits;
 use crate::net_rules::{all_attached, all_joined, are_names, file_names, links_ascend, numbers_of};
 use cocoon_num::{NoMemory, Text};
+use json_forms::{FormFault, has_keys, member, value_of};
 use net_bundle::net_json::{KeptDigest, NetFile};
 use p4_ir::{HostPort, Link};
 use serde_json::Value;
@@ -35,7 +35,7 @@ struct Members {
 fn cocoon_of(alloc: Global, value: &Value) -> Result<Option<u64>, NoMemory>
     ensures { IfOk result (λ read. read ≡ spec.cocoon_of (view value.now)) }
 {
-    match member::<u64>(alloc, value, "cocoon")? {
+    match member::<BundleJson, u64>(alloc, value, "cocoon")? {
         Some(number) if number == 1 => Ok(Some(number)),
         _ => Ok(None),
     }
@@ -56,7 +56,7 @@ fn switches_of(alloc: Global, value: &Value) -> Result<Option<Vec<u16>>, NoMemor
     ensures { IfOk result (λ read. option_map (λ list. list.items) read
         ≡ spec.switches_of (view value.now)) }
 {
-    let Some(switches) = member::<Vec<u16>>(alloc, value, "switches")? else {
+    let Some(switches) = member::<BundleJson, Vec<u16>>(alloc, value, "switches")? else {
         return Ok(None);
     };
     let numbers = widened(alloc, &switches)?;
@@ -100,10 +100,10 @@ fn files_of(
     switches: &Option<Vec<u16>>,
 ) -> Result<Option<Vec<KeptDigest>>, NoMemory>
     ensures { IfOk result (λ read. option_map (λ list. map kept_of list.items) read
-        ≡ spec.fitting (spec.files_fit (option_map (λ list. list.items) switches.now))
+        ≡ fitting (spec.files_fit (option_map (λ list. list.items) switches.now))
         (member_form (list_form spec.kept_form) (codes "files") (view value.now))) }
 {
-    let Some(files) = member::<Vec<KeptDigest>>(alloc, value, "files")? else {
+    let Some(files) = member::<BundleJson, Vec<KeptDigest>>(alloc, value, "files")? else {
         return Ok(None);
     };
     if !files_fit(alloc, switches, &files)? {
@@ -136,10 +136,10 @@ fn hosts_of(
 ) -> Result<Option<Vec<HostPort>>, NoMemory>
     requires { IsTrue (spec.where_known ascend (option_map (λ list. list.items) switches.now)) }
     ensures { IfOk result (λ read. option_map (λ list. map host_port_of list.items) read
-        ≡ spec.fitting (spec.hosts_fit ports (option_map (λ list. list.items) switches.now))
+        ≡ fitting (spec.hosts_fit ports (option_map (λ list. list.items) switches.now))
         (member_form (list_form spec.host_form) (codes "hosts") (view value.now))) }
 {
-    let Some(hosts) = member::<Vec<HostPort>>(alloc, value, "hosts")? else {
+    let Some(hosts) = member::<BundleJson, Vec<HostPort>>(alloc, value, "hosts")? else {
         return Ok(None);
     };
     if !hosts_fit(alloc, ports, switches, &hosts)? {
@@ -187,11 +187,11 @@ fn links_of(
         (option_map (λ list. list.items) switches.now)) }
     requires hosts { IsTrue (spec.where_known ascend (option_map (λ list. list.items) hosts.now)) }
     ensures { IfOk result (λ read. option_map (λ list. map link_of list.items) read
-        ≡ spec.fitting (spec.links_fit ports (option_map (λ list. list.items) switches.now)
+        ≡ fitting (spec.links_fit ports (option_map (λ list. list.items) switches.now)
         (option_map (λ list. list.items) hosts.now))
         (member_form (list_form spec.link_form) (codes "links") (view value.now))) }
 {
-    let Some(links) = member::<Vec<Link>>(alloc, value, "links")? else {
+    let Some(links) = member::<BundleJson, Vec<Link>>(alloc, value, "links")? else {
         return Ok(None);
     };
     if !links_fit(ports, switches, hosts, &links) {
@@ -216,8 +216,8 @@ fn members_of(alloc: Global, value: &Value) -> Result<Members, NoMemory>
         ≡ spec.switches_of (view value.now)) }
 {
     let cocoon = cocoon_of(alloc, value)?;
-    let design = member::<Digits>(alloc, value, "design")?;
-    let ports = member::<u16>(alloc, value, "ports")?;
+    let design = member::<BundleJson, Digits>(alloc, value, "design")?;
+    let ports = member::<BundleJson, u16>(alloc, value, "ports")?;
     let switches = switches_of(alloc, value)?;
     let files = files_of(alloc, value, &switches)?;
     let numbers = known_switches(alloc, &switches)?;
@@ -317,9 +317,6 @@ pub fn read_net(alloc: Global, bytes: &[u8]) -> Result<NetFile, FormFault>
     ensures file { IfOk result (λ file. Answered spec.net_form bytes.now (Ok (net_file_of file))) }
     ensures fault { IfErr result (λ fault. Refused spec.net_form bytes.now fault) }
 {
-    match Value::from_slice(alloc, bytes) {
-        Ok(value) => net_of_value(alloc, &value),
-        Err(error) if error.is_memory() => Err(FormFault::NoMemory),
-        Err(_) => Err(FormFault::NotJson),
-    }
+    let value = value_of(alloc, bytes)?;
+    net_of_value(alloc, &value)
 }

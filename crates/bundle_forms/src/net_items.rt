@@ -1,6 +1,5 @@
 //! The items of the lists of a network, read.
 ghost use Rattle.std.specs.Prelude.{◌≡◌, ◌&&◌, ◌||◌, ◌<◌, ◌^◌, ℕ, IfOk, List, nat_le, option_map, string_bytes};
-ghost use Rattle.serde_json.specs.Find.{as_str};
 ghost use Rattle.serde_json.specs.View.{view};
 ghost use Rattle.cocoon_num.specs.Lists.{each};
 ghost use Rattle.p4_ir.specs.NetOf.{end_of, host_port_of, link_of};
@@ -10,27 +9,13 @@ ghost use Rattle.net_bundle.specs.NetJson as json;
 ghost use Rattle.net_bundle.specs.Network as network;
 ghost use Rattle.bundle_forms.specs.NetForm as spec;
 
-use crate::from_json::{FromJson, has_items, item};
+use crate::kind::BundleJson;
 use cocoon_num::NoMemory;
+use json_forms::{FromJson, has_items, item};
 use net_bundle::net_json::KeptDigest;
 use p4_ir::{HostPort, Link, LinkEnd};
 use serde_json::Value;
 use std::alloc::Global;
-
-impl FromJson for String {
-    ghost Meaning = { List ℕ };
-
-    ghost meaning = { λ text. string_bytes text };
-
-    ghost form = { as_str };
-
-    fn from_json(alloc: Global, value: &Value) -> Result<Option<String>, NoMemory> {
-        match value.as_str() {
-            Some(text) => Ok(Some(String::from_str(alloc, text)?)),
-            None => Ok(None),
-        }
-    }
-}
 
 /// 64 hexadecimal digits in lower case.
 #[derive(Drop)]
@@ -63,7 +48,7 @@ fn is_digest(text: &str) -> bool
     bytes.len() == 64 && are_digits(bytes)
 }
 
-impl FromJson for Digits {
+impl FromJson<BundleJson> for Digits {
     ghost Meaning = { List ℕ };
 
     ghost meaning = { λ digest. string_bytes digest.text };
@@ -82,7 +67,7 @@ impl FromJson for Digits {
     }
 }
 
-impl FromJson for KeptDigest {
+impl FromJson<BundleJson> for KeptDigest {
     ghost Meaning = { json.KeptDigest };
 
     ghost meaning = { kept_of };
@@ -94,8 +79,8 @@ impl FromJson for KeptDigest {
         if !has_items(value, 2) {
             return Ok(None);
         }
-        let name = item::<String>(alloc, value, 0)?;
-        let digest = item::<Digits>(alloc, value, 1)?;
+        let name = item::<BundleJson, String>(alloc, value, 0)?;
+        let digest = item::<BundleJson, Digits>(alloc, value, 1)?;
         match (name, digest) {
             (Some(name), Some(digest)) => Ok(Some(KeptDigest {
                 name,
@@ -111,15 +96,15 @@ fn location(alloc: Global, value: &Value, index: usize) -> Result<Option<(u16, u
     requires { index < 2 ^ 32 }
     ensures { IfOk result (λ read. read ≡ spec.location_form index (view value.now)) }
 {
-    let switch = item::<u16>(alloc, value, index)?;
-    let port = item::<u16>(alloc, value, index + 1)?;
+    let switch = item::<BundleJson, u16>(alloc, value, index)?;
+    let port = item::<BundleJson, u16>(alloc, value, index + 1)?;
     match (switch, port) {
         (Some(switch), Some(port)) => Ok(Some((switch, port))),
         _ => Ok(None),
     }
 }
 
-impl FromJson for HostPort {
+impl FromJson<BundleJson> for HostPort {
     ghost Meaning = { tree.HostPort };
 
     ghost meaning = { host_port_of };
@@ -128,7 +113,7 @@ impl FromJson for HostPort {
 
     /// `[HOST,SWITCH,PORT]`, or `[HOST]` without an attachment
     fn from_json(alloc: Global, value: &Value) -> Result<Option<HostPort>, NoMemory> {
-        let host = item::<u64>(alloc, value, 0)?;
+        let host = item::<BundleJson, u64>(alloc, value, 0)?;
         if has_items(value, 1) {
             return match host {
                 Some(host) => Ok(Some(HostPort { host, attach: None })),
@@ -166,7 +151,7 @@ fn end(alloc: Global, value: &Value) -> Result<Option<LinkEnd>, NoMemory>
     ensures { IfOk result (λ read. option_map end_of read ≡ spec.end_form (view value.now)) }
 {
     if has_items(value, 4) && has_text(value, 2, "host") {
-        return match item::<u64>(alloc, value, 3)? {
+        return match item::<BundleJson, u64>(alloc, value, 3)? {
             Some(host) => Ok(Some(LinkEnd::Host(host))),
             None => Ok(None),
         };
@@ -180,7 +165,7 @@ fn end(alloc: Global, value: &Value) -> Result<Option<LinkEnd>, NoMemory>
     Ok(None)
 }
 
-impl FromJson for Link {
+impl FromJson<BundleJson> for Link {
     ghost Meaning = { tree.Link };
 
     ghost meaning = { link_of };

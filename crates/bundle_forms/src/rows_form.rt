@@ -5,18 +5,18 @@ ghost use Rattle.p4_ir.specs.NetOf.{group_of, key_row_of, rows_of, table_rows_of
 ghost use Rattle.p4_ir.specs.P4Tree as tree;
 ghost use Rattle.p4_ir.specs.Loading.{rows_file_fits};
 ghost use Rattle.net_bundle.specs.NetJson.{rows_data};
-ghost use Rattle.net_bundle.specs.Network.{IsJson};
-ghost use Rattle.bundle_forms.specs.Reading.{Answered, Refused, Shaped};
+ghost use Rattle.json_forms.specs.Values.{IsJson};
+ghost use Rattle.json_forms.specs.Reading.{Answered, Refused, Shaped};
 ghost use Rattle.bundle_forms.specs.RowsForm as spec;
 
-use crate::fault::FormFault;
-use crate::from_json::{FromJson, has_items, has_keys, item, member};
+use crate::kind::BundleJson;
 use cocoon_num::{List, NoMemory, Text};
+use json_forms::{FormFault, FromJson, has_items, has_keys, item, member, value_of};
 use p4_ir::{Group, KeyRow, RowsFile, TableRows};
 use serde_json::Value;
 use std::alloc::Global;
 
-impl FromJson for Group {
+impl FromJson<BundleJson> for Group {
     ghost Meaning = { tree.Group };
 
     ghost meaning = { group_of };
@@ -28,8 +28,8 @@ impl FromJson for Group {
         if !has_items(value, 2) {
             return Ok(None);
         }
-        let number = item::<u16>(alloc, value, 0)?;
-        let members = item::<Vec<u64>>(alloc, value, 1)?;
+        let number = item::<BundleJson, u16>(alloc, value, 0)?;
+        let members = item::<BundleJson, Vec<u64>>(alloc, value, 1)?;
         match (number, members) {
             (Some(number), Some(members)) => Ok(Some(Group {
                 number,
@@ -47,7 +47,7 @@ struct Masked {
     mask: u64,
 }
 
-impl FromJson for Masked {
+impl FromJson<BundleJson> for Masked {
     ghost Meaning = { ℕ × ℕ };
 
     ghost meaning = { λ pair. (pair.value, pair.mask) };
@@ -59,8 +59,8 @@ impl FromJson for Masked {
         if !has_items(value, 2) {
             return Ok(None);
         }
-        let first = item::<u64>(alloc, value, 0)?;
-        let second = item::<u64>(alloc, value, 1)?;
+        let first = item::<BundleJson, u64>(alloc, value, 0)?;
+        let second = item::<BundleJson, u64>(alloc, value, 1)?;
         match (first, second) {
             (Some(value), Some(mask)) => Ok(Some(Masked { value, mask })),
             _ => Ok(None),
@@ -86,7 +86,7 @@ fn row(alloc: Global, pairs: &[Masked], value: u64) -> Result<KeyRow, NoMemory>
     })
 }
 
-impl FromJson for KeyRow {
+impl FromJson<BundleJson> for KeyRow {
     ghost Meaning = { tree.KeyRow };
 
     ghost meaning = { key_row_of };
@@ -98,8 +98,8 @@ impl FromJson for KeyRow {
         if !has_keys(value, &["key", "value"]) {
             return Ok(None);
         }
-        let pairs = member::<Vec<Masked>>(alloc, value, "key")?;
-        let given = member::<u64>(alloc, value, "value")?;
+        let pairs = member::<BundleJson, Vec<Masked>>(alloc, value, "key")?;
+        let given = member::<BundleJson, u64>(alloc, value, "value")?;
         match (pairs, given) {
             (Some(pairs), Some(given)) => Ok(Some(row(alloc, &pairs, given)?)),
             _ => Ok(None),
@@ -107,7 +107,7 @@ impl FromJson for KeyRow {
     }
 }
 
-impl FromJson for TableRows {
+impl FromJson<BundleJson> for TableRows {
     ghost Meaning = { tree.TableRows };
 
     ghost meaning = { table_rows_of };
@@ -119,9 +119,9 @@ impl FromJson for TableRows {
         if !has_keys(value, &["default", "rows", "table"]) {
             return Ok(None);
         }
-        let default = member::<u64>(alloc, value, "default")?;
-        let rows = member::<Vec<KeyRow>>(alloc, value, "rows")?;
-        let number = member::<u32>(alloc, value, "table")?;
+        let default = member::<BundleJson, u64>(alloc, value, "default")?;
+        let rows = member::<BundleJson, Vec<KeyRow>>(alloc, value, "rows")?;
+        let number = member::<BundleJson, u32>(alloc, value, "table")?;
         match (default, rows, number) {
             (Some(default), Some(rows), Some(number)) => Ok(Some(TableRows {
                 number,
@@ -141,10 +141,10 @@ fn rows_of_value(alloc: Global, value: &Value) -> Result<RowsFile, FormFault>
     if !has_keys(value, &["groups", "tables"]) {
         return Err(FormFault::Shape(Text::from(alloc, b"")?));
     }
-    let Some(groups) = member::<Vec<Group>>(alloc, value, "groups")? else {
+    let Some(groups) = member::<BundleJson, Vec<Group>>(alloc, value, "groups")? else {
         return Err(FormFault::Shape(Text::from(alloc, b"/groups")?));
     };
-    let Some(tables) = member::<Vec<TableRows>>(alloc, value, "tables")? else {
+    let Some(tables) = member::<BundleJson, Vec<TableRows>>(alloc, value, "tables")? else {
         return Err(FormFault::Shape(Text::from(alloc, b"/tables")?));
     };
     Ok(RowsFile {
@@ -158,9 +158,6 @@ pub fn read_rows(alloc: Global, bytes: &[u8]) -> Result<RowsFile, FormFault>
     ensures file { IfOk result (λ file. Answered spec.rows_form bytes.now (Ok (rows_of file))) }
     ensures fault { IfErr result (λ fault. Refused spec.rows_form bytes.now fault) }
 {
-    match Value::from_slice(alloc, bytes) {
-        Ok(value) => rows_of_value(alloc, &value),
-        Err(error) if error.is_memory() => Err(FormFault::NoMemory),
-        Err(_) => Err(FormFault::NotJson),
-    }
+    let value = value_of(alloc, bytes)?;
+    rows_of_value(alloc, &value)
 }

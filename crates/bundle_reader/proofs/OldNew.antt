@@ -9,7 +9,8 @@ use Rattle.cocoon_io.specs.Files.{Files}
 use Rattle.p4_ir.specs.NetTree.{NetData, SwitchFiles}
 use Rattle.net_bundle.specs.Bundle.{MadeFile, all_switch_files, bundle, certificate_files, certificates_name, net_text}
 use Rattle.net_bundle.specs.BundleNames.{digest_of, file_name, net_name, program_name, rows_name}
-use Rattle.net_bundle.specs.NetJson.{KeptDigest, NetFile, array_data, digest_data, net_data, number_data}
+use Rattle.json_forms.specs.Values.{array_data, number_data}
+use Rattle.net_bundle.specs.NetJson.{KeptDigest, NetFile, digest_data, net_data}
 use Rattle.net_bundle.specs.Network.{InBundle, SwitchReads, SwitchesRead}
 use Rattle.net_bundle.specs.Writing.{NotWritten, SomeWritten, with_files}
 use Rattle.net_bundle.specs.declared.fault.BundleFault.{BundleFault}

@@ -12,11 +12,11 @@ use Rattle.p4_read.specs.declared.fault.P4Fault.TheVariants as p4-fault
 use Rattle.p4_read.specs.Answers.{Answer, Answers, a_fault, a_program}
 use Rattle.net_bundle.specs.Bundle.{whole_name}
 use Rattle.net_bundle.specs.BundleNames.{digest_of}
-use Rattle.net_bundle.specs.Network.{IsJson}
+use Rattle.json_forms.specs.Values.{IsJson}
 use Rattle.net_bundle.specs.Writing.{most_of}
 use Rattle.net_bundle.specs.declared.file.BundleFile.{BundleFile}
 use Rattle.net_bundle.specs.declared.file.BundleFile.TheVariants.{Program}
-use Rattle.bundle_forms.specs.Reading.{Answered}
+use Rattle.json_forms.specs.Reading.{Answered}
 use Rattle.bundle_reader.specs.Readings.{Agrees, Held, NoProgram}
 use Rattle.bundle_reader.specs.declared.fault.ReadFault.{ReadFault}
 use Rattle.bundle_reader.specs.declared.fault.ReadFault.TheVariants.{Folder, Missing, NotJson, P4, Shape, Stale}

@@ -18,7 +18,8 @@ use Rattle.loaded_net.specs.Runs.{runs_in, runs_of}
 use Rattle.net_bundle.specs.BundleNames.{digest_of, program_name, rows_name}
 use Rattle.net_bundle.specs.NetFileOf.{kept_of}
 use Rattle.net_bundle.specs.NetJson.{KeptDigest, NetFile, rows_data}
-use Rattle.net_bundle.specs.Network.{IsJson, SwitchReads, SwitchesRead}
+use Rattle.json_forms.specs.Values.{IsJson}
+use Rattle.net_bundle.specs.Network.{SwitchReads, SwitchesRead}
 use Rattle.net_bundle.specs.Writing.{most_of}
 use Rattle.net_bundle.specs.declared.file.BundleFile.{BundleFile}
 use Rattle.net_bundle.specs.declared.file.BundleFile.TheVariants.{Program, Rows}

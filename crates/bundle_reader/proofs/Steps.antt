@@ -22,10 +22,10 @@ use Rattle.net_bundle.specs.Writing.{most_of}
 use Rattle.net_bundle.specs.declared.file.BundleFile.{BundleFile}
 use Rattle.net_bundle.specs.declared.file.BundleFile.TheVariants.{Program, Rows, Network}
 use Rattle.bundle_forms.specs.NetForm.{net_form}
-use Rattle.bundle_forms.specs.Reading.{Refused}
+use Rattle.json_forms.specs.Reading.{Refused}
 use Rattle.bundle_forms.specs.RowsForm.{rows_form}
-use Rattle.bundle_forms.specs.declared.fault.FormFault.{FormFault}
-use Rattle.bundle_forms.specs.declared.fault.FormFault.TheVariants as form
+use Rattle.json_forms.specs.declared.fault.FormFault.{FormFault}
+use Rattle.json_forms.specs.declared.fault.FormFault.TheVariants as form
 use Rattle.bundle_reader.specs.FolderCounts.{ReadFaultRose}
 use Rattle.bundle_reader.specs.Parts.{formed_at, program_at, loaded_at}
 use Rattle.bundle_reader.specs.Readings.{Held, IsFirstFault, ProgramReads, RowsRead, Turn, UpTo}

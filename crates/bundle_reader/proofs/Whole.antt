@@ -6,7 +6,8 @@ use Rattle.cocoon_num.specs.Lists.{each}
 use Rattle.cocoon_io.specs.Files.{Files}
 use Rattle.p4_ir.specs.NetTree.{HostPort, Link, NetData, SwitchFiles}
 use Rattle.net_bundle.specs.NetJson.{NetFile, net_data}
-use Rattle.net_bundle.specs.Network.{IsJson, net_file_fits}
+use Rattle.json_forms.specs.Values.{IsJson}
+use Rattle.net_bundle.specs.Network.{net_file_fits}
 use Rattle.net_bundle.specs.declared.file.BundleFile.TheVariants.{Network}
 use Rattle.bundle_forms.specs.NetForm.{are_names, file_fits, file_names, kept_fits, net_form}
 use Rattle.bundle_reader.specs.Parts.{AllWell, OfFiles}

@@ -5,8 +5,8 @@ use Rattle.cocoon_io.specs.Files.{Files}
 use Rattle.p4_ir.specs.NetTree.{SwitchFiles}
 use Rattle.p4_run.specs.Faults.{load_fault}
 use Rattle.net_bundle.specs.declared.file.BundleFile.{BundleFile}
-use Rattle.bundle_forms.specs.declared.fault.FormFault.{FormFault}
-use Rattle.bundle_forms.specs.declared.fault.FormFault.TheVariants as form
+use Rattle.json_forms.specs.declared.fault.FormFault.{FormFault}
+use Rattle.json_forms.specs.declared.fault.FormFault.TheVariants as form
 use Rattle.p4_read.specs.declared.fault.P4Fault.{P4Fault}
 use Rattle.p4_read.specs.declared.fault.P4Fault.TheVariants.{NoMemory as Wanting-P4}
 use Rattle.loaded_net.specs.declared.loading.NetFault.{NetFault}

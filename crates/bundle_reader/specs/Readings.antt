@@ -24,10 +24,10 @@ use Rattle.net_bundle.specs.Writing.{most_of}
 use Rattle.net_bundle.specs.declared.file.BundleFile.{BundleFile}
 use Rattle.net_bundle.specs.declared.file.BundleFile.TheVariants.{Program, Rows, Certificates, Network}
 use Rattle.bundle_forms.specs.NetForm.{net_form}
-use Rattle.bundle_forms.specs.Reading.{Answered, Refused}
+use Rattle.json_forms.specs.Reading.{Answered, Refused}
 use Rattle.bundle_forms.specs.RowsForm.{rows_form}
-use Rattle.bundle_forms.specs.declared.fault.FormFault.{FormFault}
-use Rattle.bundle_forms.specs.declared.fault.FormFault.TheVariants as form
+use Rattle.json_forms.specs.declared.fault.FormFault.{FormFault}
+use Rattle.json_forms.specs.declared.fault.FormFault.TheVariants as form
 use Rattle.bundle_reader.specs.declared.fault.ReadFault.{ReadFault}
 use Rattle.bundle_reader.specs.declared.fault.ReadFault.TheVariants.{Missing, Folder, Stale, NotJson, P4, Shape, Load, NoMemory}
 

@@ -8,9 +8,9 @@ ghost use Rattle.bundle_reader.specs.Readings.{Held};
 ghost use Rattle.bundle_reader.specs.Told.{IsTold};
 
 use crate::fault::ReadFault;
-use bundle_forms::FormFault;
 use cocoon_io::{Folder, FolderFault};
 use cocoon_num::{NoMemory, Text};
+use json_forms::FormFault;
 use net_bundle::BundleFile;
 use p4_read::P4Fault;
 use sha2::{Digest, Sha256};

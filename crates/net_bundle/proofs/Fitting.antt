@@ -13,7 +13,7 @@ use Rattle.p4_ir.specs.Program.{program_of}
 use Rattle.p4_ir.specs.WellKinded.{is_well_kinded, WellKinded}
 use Rattle.p4_ir.specs.declared.network.SwitchFiles.{SwitchFiles}
 use Rattle.net_bundle.specs.Bundle.{MadeFile, rows_text, switch_files, all_switch_files}
-use Rattle.net_bundle.specs.Network.{IsJson}
+use Rattle.json_forms.specs.Values.{IsJson}
 use Rattle.net_bundle.specs.Readable.{AllReadable}
 use Rattle.net_bundle.specs.NetJson.{rows_data}
 use Rattle.net_bundle.specs.declared.fault.BundleFault.{BundleFault}

@@ -1,7 +1,6 @@
 mod NetValue
 mod RowsValue
 mod RowsLong
-mod JsonObjects
 mod InOrder
 mod InTurn
 mod Fitting

@@ -5,7 +5,9 @@ use Rattle.serde_json.specs.View.{items_of}
 use Rattle.serde_json.specs.Read.{read, max_depth}
 use Rattle.serde_json.specs.Written.{has_float, items_have_float}
 use Rattle.p4_ir.specs.NetTree.{LinkEnd, to_switch, to_host, Link, HostPort}
-use Rattle.net_bundle.specs.NetJson.{KeptDigest, NetFile, number_data, host_data, link_data, digest_data, net_data}
+use Rattle.json_forms.specs.Values.{number_data}
+use Rattle.json_forms.proofs.Plain.{no_float, within, number_plain, number_flat}
+use Rattle.net_bundle.specs.NetJson.{KeptDigest, NetFile, host_data, link_data, digest_data, net_data}
 
 abbrev wired : (a b c d e f g : Data) → Data
 wired a b c d e f g = object (member (codes "cocoon") a (member (codes "design") b (member (codes "files") c (member (codes "hosts") d (member (codes "links") e (member (codes "ports") f (member (codes "switches") g no_members)))))))
@@ -13,14 +15,6 @@ wired a b c d e f g = object (member (codes "cocoon") a (member (codes "design")
 -- seven equal members make equal objects
 pub seven_same : (a b c d e f g a' b' c' d' e' f' g' : Data) → a ≡ a' → b ≡ b' → c ≡ c' → d ≡ d' → e ≡ e' → f ≡ f' → g ≡ g' → wired a b c d e f g ≡ wired a' b' c' d' e' f' g'
 seven_same a b c d e f g a' b' c' d' e' f' g' h1 h2 h3 h4 h5 h6 h7 = cc
-
--- a list whose values have no fraction
-pub no_float : {A : Type 0} (f : A → Data) → ((x : A) → has_float (f x) ≡ false) → (xs : List A) → items_have_float (items_of (map f xs)) ≡ false
-no_float f h [] = refl
-no_float f h (x ∷ xs) = ap₂ (λ a b. a || b) (h x) (no_float f h xs)
-
-pub number_plain : (n : ℕ) → has_float (number_data n) ≡ false
-number_plain n = refl
 
 digest_plain : (k : KeptDigest) → has_float (digest_data k) ≡ false
 digest_plain k = refl
@@ -41,14 +35,6 @@ link_plain l = end_plain l.switch l.port l.to
 
 pub net_plain : (f : NetFile) → has_float (net_data f) ≡ false
 net_plain f = rw (no_float digest_data digest_plain f.files, no_float host_data host_plain f.hosts, no_float link_data link_plain f.links, no_float number_data number_plain f.switches) refl
-
--- a list whose values are so deep at most
-pub within : {A : Type 0} (f : A → Data) (n : ℕ) → ((x : A) → depth (f x) ≤ n) → (xs : List A) → items_depth (items_of (map f xs)) ≤ n
-within f n h [] = omega arith
-within f n h (x ∷ xs) = let a = h x in let b = within f n h xs in grind (arith, a, b)
-
-pub number_flat : (n : ℕ) → depth (number_data n) ≤ 1
-number_flat n = omega arith
 
 digest_flat : (k : KeptDigest) → depth (digest_data k) ≤ 1
 digest_flat k = omega arith

@@ -8,7 +8,8 @@ use Rattle.serde_json.specs.Written.{comma_if, compact_text, items_text}
 use Rattle.serde_json.proofs.OnLiterals.{serde_json_on_literals}
 use Rattle.p4_ir.specs.P4Tree.{KeyRow, TableRows, RowsFile}
 use Rattle.net_bundle.specs.Bundle.{rows_text}
-use Rattle.net_bundle.specs.NetJson.{array_data, key_data, row_data, table_data, group_data}
+use Rattle.json_forms.specs.Values.{array_data}
+use Rattle.net_bundle.specs.NetJson.{key_data, row_data, table_data, group_data}
 
 -- ---- lists
 

@@ -6,8 +6,9 @@ use Rattle.serde_json.specs.View.{items_of}
 use Rattle.serde_json.specs.Read.{read, max_depth}
 use Rattle.serde_json.specs.Written.{has_float, items_have_float}
 use Rattle.p4_ir.specs.P4Tree.{KeyRow, TableRows, Group, RowsFile}
-use Rattle.net_bundle.specs.NetJson.{number_data, these, key_data, row_data, table_data, group_data, rows_data}
-use Rattle.net_bundle.proofs.NetValue.{no_float, within, number_plain, number_flat}
+use Rattle.json_forms.specs.Values.{number_data, these}
+use Rattle.json_forms.proofs.Plain.{no_float, within, number_plain, number_flat}
+use Rattle.net_bundle.specs.NetJson.{key_data, row_data, table_data, group_data, rows_data}
 
 -- ---- pairs
 

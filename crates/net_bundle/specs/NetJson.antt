@@ -1,20 +1,10 @@
 -- The values of the JSON files of a bundle, as the crate serde_json has them. It follows "Bundle files" in
 -- docs/FORMATS.md. The tagged form, versions of rows and certificates are absent.
-use Rattle.std.specs.Prelude.{ℕ, List, [], ◌∷◌, map, Some, None, codes}
-use Rattle.serde_json.specs.Data.{unsigned, Data, Items, no_items, item, number, string, array, object, member, no_members}
-use Rattle.serde_json.specs.View.{items_of}
+use Rattle.std.specs.Prelude.{ℕ, List, [], ◌∷◌, Some, None, codes}
+use Rattle.serde_json.specs.Data.{Data, Items, no_items, item, string, array, object, member, no_members}
+use Rattle.json_forms.specs.Values.{number_data, array_data, these}
 use Rattle.p4_ir.specs.NetTree.{to_switch, to_host, Link, HostPort}
 use Rattle.p4_ir.specs.P4Tree.{KeyRow, TableRows, Group, RowsFile}
-
-abbrev pub number_data : ℕ → Data
-number_data n = number (unsigned n)
-
--- an array of these values
-abbrev pub array_data : {A : Type 0} → (A → Data) → List A → Data
-array_data f xs = array (items_of (map f xs))
-
-abbrev pub these : List Data → Data
-these ds = array (items_of ds)
 
 -- ---- the file of the network
 

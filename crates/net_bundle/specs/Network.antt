@@ -2,22 +2,17 @@
 -- that its content has; programs are read as P4 texts, and digests are SHA-256 (FIPS 180-4) in lower case. Files of which a
 -- name, a shape, a digest or a loading test does not fit give no network; their sizes do not count. It follows "Bundle
 -- files" in docs/FORMATS.md. The tagged form, versions of rows and certificates are absent.
-use Rattle.std.specs.Prelude.{◌≡◌, ◌⊎◌, ℕ, ◌==◌, ◌&&◌, ◌||◌, Bool, nat_le, List, [], ◌∷◌, ◌++◌, length, Some, IsTrue, IsUtf8, Contains}
+use Rattle.std.specs.Prelude.{◌≡◌, ◌⊎◌, ℕ, ◌==◌, ◌&&◌, ◌||◌, Bool, nat_le, List, [], ◌∷◌, ◌++◌, length, Some, IsTrue, Contains}
 use Rattle.std.specs.FinMap.{get}
-use Rattle.serde_json.specs.Data.{Data}
-use Rattle.serde_json.specs.Read.{read}
 use Rattle.cocoon_num.specs.Lists.{each}
 use Rattle.cocoon_io.specs.Files.{Files}
+use Rattle.json_forms.specs.Values.{IsJson}
 use Rattle.p4_ir.specs.P4Reads.{P4Reads}
 use Rattle.p4_ir.specs.Loading.{rows_file_fits, rows_load}
 use Rattle.p4_ir.specs.Wiring.{Wiring, wiring_fits}
 use Rattle.p4_ir.specs.NetTree.{SwitchFiles, NetData}
 use Rattle.net_bundle.specs.NetJson.{KeptDigest, NetFile, net_data, rows_data}
 use Rattle.net_bundle.specs.BundleNames.{digest_of, program_name, rows_name, net_name, file_name}
-
--- the bytes are JSON of this value
-abbrev pub IsJson : List ℕ → Data → Type 0
-IsJson bytes d = IsUtf8 bytes × (read bytes ≡ Some d)
 
 -- ---- the file of the network
 

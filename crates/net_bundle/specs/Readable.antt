@@ -6,7 +6,7 @@ use Rattle.p4_ir.specs.NetTree.{SwitchFiles, NetData}
 use Rattle.p4_emit.specs.Printed.{printed}
 use Rattle.net_bundle.specs.NetJson.{net_data, rows_data}
 use Rattle.net_bundle.specs.Bundle.{rows_text, net_file, net_text}
-use Rattle.net_bundle.specs.Network.{IsJson}
+use Rattle.json_forms.specs.Values.{IsJson}
 
 -- the text of each program reads as the program, and that of its rows as their value
 abbrev pub AllReadable : List SwitchFiles → Type 0

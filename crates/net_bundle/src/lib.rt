@@ -6,7 +6,7 @@
 
 pub mod fault;
 pub mod file;
-mod json;
+mod kind;
 pub mod laws;
 pub mod make;
 pub mod net_json;

@@ -10,7 +10,7 @@ ghost use Rattle.net_bundle.specs.Bundle as spec;
 ghost use Rattle.net_bundle.specs.BundleNames.{digest_of};
 ghost use Rattle.net_bundle.specs.NetFileOf.{kept_of, made_of, net_file_of};
 ghost use Rattle.net_bundle.specs.NetJson.{net_data, rows_data};
-ghost use Rattle.net_bundle.specs.Network.{IsJson};
+ghost use Rattle.json_forms.specs.Values.{IsJson};
 ghost use Rattle.net_bundle.specs.Readable.{AllReadable, Readable};
 ghost use Rattle.net_bundle.specs.Writing.{AllFit, NotMade};
 

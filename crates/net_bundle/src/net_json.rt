@@ -1,15 +1,16 @@
 //! The text of the file of a network.
-ghost use Rattle.std.specs.Prelude.{◌≡◌, ℕ, IfOk};
+ghost use Rattle.std.specs.Prelude.{◌≡◌, IfOk};
 ghost use Rattle.serde_json.specs.View.{view};
 ghost use Rattle.serde_json.specs.Written.{compact_text};
 ghost use Rattle.net_bundle.specs.NetJson as spec;
 ghost use Rattle.p4_ir.specs.NetOf.{host_port_of, link_of};
 ghost use Rattle.p4_ir.specs.NetTree as tree;
 ghost use Rattle.net_bundle.specs.NetFileOf.{kept_of, net_file_of};
-ghost use Rattle.net_bundle.specs.Network.{IsJson};
+ghost use Rattle.json_forms.specs.Values.{IsJson};
 
-use crate::json::{ToJson, array, text, with};
+use crate::kind::BundleJson;
 use cocoon_num::NoMemory;
+use json_forms::{ToJson, array, text, with};
 use p4_ir::{HostPort, Link, LinkEnd};
 use serde_json::{Map, Value};
 use std::alloc::Global;
@@ -21,7 +22,7 @@ pub struct KeptDigest {
     pub digest: String,
 }
 
-impl ToJson for KeptDigest {
+impl ToJson<BundleJson> for KeptDigest {
     ghost Meaning = { spec.KeptDigest };
 
     ghost meaning = { kept_of };
@@ -36,7 +37,7 @@ impl ToJson for KeptDigest {
     }
 }
 
-impl ToJson for HostPort {
+impl ToJson<BundleJson> for HostPort {
     ghost Meaning = { tree.HostPort };
 
     ghost meaning = { host_port_of };
@@ -60,7 +61,7 @@ impl ToJson for HostPort {
     }
 }
 
-impl ToJson for Link {
+impl ToJson<BundleJson> for Link {
     ghost Meaning = { tree.Link };
 
     ghost meaning = { link_of };
@@ -96,18 +97,6 @@ impl ToJson for Link {
     }
 }
 
-impl ToJson for u16 {
-    ghost Meaning = { ℕ };
-
-    ghost meaning = { λ n. n };
-
-    ghost json = { spec.number_data };
-
-    fn to_json(&self, _: Global) -> Result<Value, NoMemory> {
-        Ok(Value::from(*self))
-    }
-}
-
 /// What the file of a network holds.
 #[derive(Drop)]
 pub struct NetFile {
@@ -124,10 +113,10 @@ fn net_value(alloc: Global, file: &NetFile) -> Result<Value, NoMemory>
     ensures { IfOk result (λ v. view v ≡ spec.net_data (net_file_of file.now)) }
 {
     let design = text(alloc, &file.design);
-    let files = array(alloc, &file.files);
-    let hosts = array(alloc, &file.hosts);
-    let links = array(alloc, &file.links);
-    let switches = array(alloc, &file.switches);
+    let files = array::<BundleJson, KeptDigest>(alloc, &file.files);
+    let hosts = array::<BundleJson, HostPort>(alloc, &file.hosts);
+    let links = array::<BundleJson, Link>(alloc, &file.links);
+    let switches = array::<BundleJson, u16>(alloc, &file.switches);
     let object = with(alloc, Ok(Map::new(alloc)), "cocoon", Ok(Value::from(1u16)));
     let object = with(alloc, object, "design", design);
     let object = with(alloc, object, "files", files);

@@ -1,15 +1,17 @@
 //! The text of a file of rows.
-ghost use Rattle.std.specs.Prelude.{◌≡◌, ℕ, IfOk, map};
+ghost use Rattle.std.specs.Prelude.{◌≡◌, IfOk, map};
 ghost use Rattle.serde_json.specs.Data.{array};
 ghost use Rattle.serde_json.specs.View.{view};
 ghost use Rattle.p4_ir.specs.NetOf.{group_of, key_row_of, rows_of, table_rows_of};
 ghost use Rattle.p4_ir.specs.P4Tree as tree;
 ghost use Rattle.net_bundle.specs.Bundle as spec;
-ghost use Rattle.net_bundle.specs.NetJson.{array_data, number_data, group_data, key_data, row_data, rows_data, table_data};
-ghost use Rattle.net_bundle.specs.Network.{IsJson};
+ghost use Rattle.json_forms.specs.Values.{array_data, number_data};
+ghost use Rattle.net_bundle.specs.NetJson.{group_data, key_data, row_data, rows_data, table_data};
+ghost use Rattle.json_forms.specs.Values.{IsJson};
 
-use crate::json::{ToJson, array, with};
+use crate::kind::BundleJson;
 use cocoon_num::NoMemory;
+use json_forms::{ToJson, array, with};
 use p4_ir::{Group, KeyRow, RowsFile, TableRows};
 use serde_json::{Map, Value};
 use std::alloc::Global;
@@ -26,7 +28,7 @@ fn key_value(alloc: Global, values: &[u64], masks: &[u64]) -> Result<Value, NoMe
     Ok(Value::Array(pairs))
 }
 
-impl ToJson for KeyRow {
+impl ToJson<BundleJson> for KeyRow {
     ghost Meaning = { tree.KeyRow };
 
     ghost meaning = { key_row_of };
@@ -42,7 +44,7 @@ impl ToJson for KeyRow {
     }
 }
 
-impl ToJson for TableRows {
+impl ToJson<BundleJson> for TableRows {
     ghost Meaning = { tree.TableRows };
 
     ghost meaning = { table_rows_of };
@@ -51,7 +53,7 @@ impl ToJson for TableRows {
 
     /// `{"default":V,"rows":[ROW],"table":NUMBER}`
     fn to_json(&self, alloc: Global) -> Result<Value, NoMemory> {
-        let rows = array(alloc, self.rows.items());
+        let rows = array::<BundleJson, KeyRow>(alloc, self.rows.items());
         let object = with(
             alloc,
             Ok(Map::new(alloc)),
@@ -64,19 +66,7 @@ impl ToJson for TableRows {
     }
 }
 
-impl ToJson for u64 {
-    ghost Meaning = { ℕ };
-
-    ghost meaning = { λ n. n };
-
-    ghost json = { number_data };
-
-    fn to_json(&self, _: Global) -> Result<Value, NoMemory> {
-        Ok(Value::from(*self))
-    }
-}
-
-impl ToJson for Group {
+impl ToJson<BundleJson> for Group {
     ghost Meaning = { tree.Group };
 
     ghost meaning = { group_of };
@@ -85,7 +75,7 @@ impl ToJson for Group {
 
     /// `[NUMBER,[MEMBER]]`
     fn to_json(&self, alloc: Global) -> Result<Value, NoMemory> {
-        let members = array(alloc, self.members.items())?;
+        let members = array::<BundleJson, u64>(alloc, self.members.items())?;
         Ok(Value::Array(vec![in alloc; Value::from(self.number), members]?))
     }
 }
@@ -94,8 +84,8 @@ impl ToJson for Group {
 fn rows_value(alloc: Global, rows: &RowsFile) -> Result<Value, NoMemory>
     ensures { IfOk result (λ v. view v ≡ rows_data (rows_of rows.now)) }
 {
-    let groups = array(alloc, rows.groups.items());
-    let tables = array(alloc, rows.tables.items());
+    let groups = array::<BundleJson, Group>(alloc, rows.groups.items());
+    let tables = array::<BundleJson, TableRows>(alloc, rows.tables.items());
     let object = with(alloc, Ok(Map::new(alloc)), "groups", groups);
     let object = with(alloc, object, "tables", tables);
     Ok(Value::Object(object?))

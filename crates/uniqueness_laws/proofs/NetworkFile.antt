@@ -4,7 +4,8 @@ use Rattle.std.proofs.Common.{sym, ◌∙◌, ap, ap₂}
 use Rattle.serde_json.specs.Data.{Data, object, Items, item, Members, member}
 use Rattle.serde_json.specs.View.{items_of}
 use Rattle.p4_ir.specs.NetTree.{LinkEnd, to_switch, to_host, Link, HostPort}
-use Rattle.net_bundle.specs.NetJson.{KeptDigest, NetFile, number_data, array_data, host_data, link_data, digest_data, net_data}
+use Rattle.json_forms.specs.Values.{number_data, array_data}
+use Rattle.net_bundle.specs.NetJson.{KeptDigest, NetFile, host_data, link_data, digest_data, net_data}
 
 -- ---- values
 

@@ -6,7 +6,8 @@ use Rattle.serde_json.specs.Data.{Data}
 use Rattle.serde_json.specs.View.{items_of}
 use Rattle.cocoon_num.specs.Lists.{each}
 use Rattle.p4_ir.specs.P4Tree.{KeyRow, TableRows, Group, RowsFile}
-use Rattle.net_bundle.specs.NetJson.{number_data, array_data, key_data, row_data, table_data, group_data, rows_data}
+use Rattle.json_forms.specs.Values.{number_data, array_data}
+use Rattle.net_bundle.specs.NetJson.{key_data, row_data, table_data, group_data, rows_data}
 use Rattle.p4_ir.specs.Loading.{row_numbers_fit, table_numbers_fit, group_numbers_fit, rows_file_fits}
 use Rattle.uniqueness_laws.proofs.NetworkFile.{number_same, object_same, member_same, array_same, numbers_same}
 

@@ -2,10 +2,11 @@ use Rattle.std.proofs.Common.{refl, ap, ◌∙◌, codes, map}
 use Rattle.std.proofs.lemmas.List.{map-id}
 use Rattle.serde_json.specs.Data.{Members, no_members, put, string}
 use Rattle.serde_json.specs.View.{members_view}
-use Rattle.net_bundle.specs.NetJson.{array_data, number_data, digest_data, host_data, link_data}
+use Rattle.json_forms.specs.Values.{array_data, number_data}
+use Rattle.json_forms.proofs.JsonObjects.{object_of}
+use Rattle.net_bundle.specs.NetJson.{digest_data, host_data, link_data}
 use Rattle.p4_ir.specs.NetOf.{host_port_of, link_of}
 use Rattle.net_bundle.specs.NetFileOf.{kept_of}
-use Rattle.net_bundle.proofs.JsonObjects.{object_of}
 use Rattle.net_bundle.proofs.NetValue.{seven_same}
 use Rattle.net_bundle.proofs.net_json.net_value.Goals as goal
 

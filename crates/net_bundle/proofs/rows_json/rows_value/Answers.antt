@@ -2,8 +2,9 @@ use Rattle.std.proofs.Common.{ap, ap₂, ◌∙◌, codes, map}
 use Rattle.serde_json.specs.Data.{object, member, no_members, put}
 use Rattle.serde_json.specs.View.{members_view}
 use Rattle.p4_ir.specs.NetOf.{group_of, table_rows_of}
-use Rattle.net_bundle.specs.NetJson.{array_data, group_data, table_data}
-use Rattle.net_bundle.proofs.JsonObjects.{object_of}
+use Rattle.json_forms.specs.Values.{array_data}
+use Rattle.json_forms.proofs.JsonObjects.{object_of}
+use Rattle.net_bundle.specs.NetJson.{group_data, table_data}
 use Rattle.net_bundle.proofs.rows_json.rows_value.Goals as goal
 
 pub returns : goal.returns

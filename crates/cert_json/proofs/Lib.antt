@@ -1,0 +1,2 @@
+mod CertsExact
+mod CertsValue

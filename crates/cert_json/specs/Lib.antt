@@ -1,0 +1,2 @@
+pub mod CertsJson
+pub mod CertsForm

@@ -1,0 +1,21 @@
+-- The certificates of the definitions that values of the code stand for. Cited by the clauses of what reads and writes
+-- certificates.
+use Rattle.std.specs.Prelude.{List, map}
+use Rattle.cnf_core.specs.Clauses.{literals}
+use Rattle.cnf_core.specs.declared.log.Step.{Step}
+use Rattle.certificates.specs.Certificates as tree
+use Rattle.certificates.specs.declared.Cert.{Cert}
+use Rattle.certificates.specs.declared.Certs.{Certs}
+use Rattle.certificates.specs.declared.Instance.{Instance}
+
+abbrev pub step_of : Step → tree.Step
+step_of s = record { clause = literals s.clause; hints = s.hints }
+
+abbrev pub instance_of : Instance → tree.Instance
+instance_of i = record { number = i.number; values = i.values }
+
+abbrev pub cert_of : Cert → tree.Cert
+cert_of c = record { instances = map instance_of c.instances; log = map step_of c.log.steps }
+
+abbrev pub certs_of : Certs → List tree.Cert
+certs_of c = map cert_of c.certs

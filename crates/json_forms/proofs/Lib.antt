@@ -1,0 +1,4 @@
+mod Seen
+pub mod Exact
+pub mod Plain
+pub mod JsonObjects

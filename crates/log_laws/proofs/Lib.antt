@@ -1,0 +1,2 @@
+mod ClauseNumbers
+mod ShortLogs

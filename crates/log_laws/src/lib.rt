@@ -1,0 +1,4 @@
+//! Laws on logs. The functions do nothing; their contracts are the laws.
+#![tactic(auto)]
+
+pub mod laws;

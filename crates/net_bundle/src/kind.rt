@@ -1,0 +1,4 @@
+//! The kind of the files that are written.
+
+/// The JSON files of a bundle.
+pub(crate) struct BundleJson;
