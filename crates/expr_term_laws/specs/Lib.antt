@@ -1,0 +1,3 @@
+pub mod TermOf
+pub mod TypedExprs
+pub mod Shown
