@@ -1,8 +1,8 @@
 -- Which faults of the folder are counted and named with an answer.
 use Rattle.std.proofs.Common.{◌≡◌, ℕ, List, Option, Result, Ok, Err, IsErrAnd, sym, subst}
 use Rattle.command_line.specs.Command.{Command}
-use Rattle.cocoon_cli.specs.declared.refusal.Refusal.{Refusal}
-use Rattle.cocoon_cli.specs.Report.{Fault, by_read, by_write, by_memory, no_fault, fault_of}
+use Rattle.command_reports.specs.declared.refusal.Refusal.{Refusal}
+use Rattle.command_reports.specs.Report.{Fault, by_read, by_write, by_memory, no_fault, fault_of}
 use Rattle.cocoon_cli.specs.Run.{Count, CountsFault, NamesFault, Uncounted, count}
 use Rattle.cocoon_cli.specs.Shell.{Called, IsNoFault}
 

@@ -1,7 +1,7 @@
 -- Steps one after another: which are good, and which of them ends a command.
 use Rattle.std.proofs.Common.{List, [], ◌∷◌, ◌++◌, Result, Err, inl}
-use Rattle.cocoon_cli.specs.declared.answer.Report.{Report}
-use Rattle.cocoon_cli.specs.declared.refusal.Refusal.{Refusal}
+use Rattle.command_reports.specs.declared.report.Report.{Report}
+use Rattle.command_reports.specs.declared.refusal.Refusal.{Refusal}
 use Rattle.cocoon_cli.specs.Outcomes.{AllGood, none, good, FirstWith, here, later, Ends, no_memory, at_step, at_fault}
 use Rattle.cocoon_cli.specs.Steps.{Inputs, Step, IsGood, Refuses, Stops}
 

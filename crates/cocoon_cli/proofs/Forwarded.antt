@@ -3,10 +3,10 @@ use Rattle.std.proofs.Common.{◌≡◌, ℕ, List, ◌++◌, Some, Err, sym, ap
 use Rattle.p4_ir.specs.NetTree.{NetData}
 use Rattle.packet_file.specs.declared.packet.PacketFault.{PacketFault}
 use Rattle.packet_file.specs.declared.packet.PacketFault.TheVariants as packets
-use Rattle.cocoon_cli.specs.declared.answer.Report.{Report}
-use Rattle.cocoon_cli.specs.declared.files.CommandFile.TheVariants.{Packets}
-use Rattle.cocoon_cli.specs.declared.refusal.Refusal.{Refusal}
-use Rattle.cocoon_cli.specs.declared.refusal.Refusal.TheVariants as refusal
+use Rattle.command_reports.specs.declared.report.Report.{Report}
+use Rattle.command_reports.specs.declared.files.CommandFile.TheVariants.{Packets}
+use Rattle.command_reports.specs.declared.refusal.Refusal.{Refusal}
+use Rattle.command_reports.specs.declared.refusal.Refusal.TheVariants as refusal
 use Rattle.command_line.specs.Command.{forward}
 use Rattle.cocoon_cli.specs.Forwarding.{NotRun, RunsPackets}
 use Rattle.cocoon_cli.specs.Outcomes.{AllGood, none, good, Ends, no_memory, Reports}

@@ -1,4 +1,3 @@
-pub mod Lines
 pub mod Ending
 pub mod TextSteps
 pub mod Built

@@ -29,9 +29,10 @@ use Rattle.packet_file.specs.Packets.{Packet, packets_in}
 use Rattle.packet_file.specs.declared.packet.PacketFault.{PacketFault}
 use Rattle.packet_runs.specs.Reports.{IsReport}
 use Rattle.packet_runs.specs.Stopping.{AllWithin, SomeOver}
-use Rattle.cocoon_cli.specs.Reading.{IsOfFiles, unread_as}
-use Rattle.cocoon_cli.specs.FileNames.{bundle_in}
-use Rattle.cocoon_cli.specs.Outcomes.{AllGood, good, FirstWith, here, later, EndsAt, Agree, Alike, equal, HasOutcome, IsGivenUp, Reports, ReportsOutcome, is_any_searched, success}
+use Rattle.command_reports.specs.Refusals.{IsOfFiles, unread_as}
+use Rattle.command_reports.specs.FileNames.{bundle_in}
+use Rattle.cocoon_cli.specs.Outcomes.{AllGood, good, FirstWith, here, later, EndsAt, Agree, Alike, equal, HasOutcome, IsGivenUp, Reports, ReportsOutcome, is_any_searched}
+use Rattle.command_reports.specs.Report.{success}
 use Rattle.cocoon_cli.specs.ReportLines.{sent_text, totals_line, totals_of}
 use Rattle.cocoon_cli.specs.Run.{IsKnown, IsOnly}
 use Rattle.net_bundle.specs.Bundle.{MadeFile, bundle}
@@ -40,12 +41,12 @@ use Rattle.net_bundle.specs.declared.file.BundleFile.{BundleFile}
 use Rattle.runtime_defs.specs.Bound.{most_rows, row_count}
 use Rattle.lower_p4.specs.Lowers.{Lowers}
 use Rattle.lower_p4.specs.LowerLimits.{IsOver, IsWithin}
-use Rattle.cocoon_cli.specs.declared.files.CommandFile.TheVariants.{Design, Definitions, Bundle, Case as CaseFile, Packets as PacketsFile}
-use Rattle.cocoon_cli.specs.declared.refusal.InputFault.TheVariants.{NoTree, Rule}
-use Rattle.cocoon_cli.specs.declared.refusal.DefinitionsFault.TheVariants as definitions
-use Rattle.cocoon_cli.specs.declared.refusal.Refusal.{Refusal}
-use Rattle.cocoon_cli.specs.declared.refusal.Refusal.TheVariants as refusal
-use Rattle.cocoon_cli.specs.declared.answer.Report.{Report}
+use Rattle.command_reports.specs.declared.files.CommandFile.TheVariants.{Design, Definitions, Bundle, Case as CaseFile, Packets as PacketsFile}
+use Rattle.command_reports.specs.declared.refusal.InputFault.TheVariants.{NoTree, Rule}
+use Rattle.command_reports.specs.declared.refusal.DefinitionsFault.TheVariants as definitions
+use Rattle.command_reports.specs.declared.refusal.Refusal.{Refusal}
+use Rattle.command_reports.specs.declared.refusal.Refusal.TheVariants as refusal
+use Rattle.command_reports.specs.declared.report.Report.{Report}
 use Rattle.case_file.specs.Cases.{Case, case_of}
 use Rattle.cocoon_types.specs.Design.{last_level}
 use Rattle.cocoon_types.specs.Tables.{defs_of}

@@ -12,13 +12,13 @@ use Rattle.cocoon_cli.specs.declared.answer.Answer.{Answer}
 use Rattle.cocoon_cli.specs.declared.answer.Writing.{Writing as Written}
 use Rattle.cocoon_cli.specs.declared.answer.Writing.TheVariants as written
 use Rattle.cocoon_cli.specs.declared.reading.Read.{Read}
-use Rattle.cocoon_cli.specs.declared.refusal.Refusal.{Refusal}
+use Rattle.command_reports.specs.declared.refusal.Refusal.{Refusal}
 use Rattle.cocoon_cli.specs.Compiling.{LowersTexts}
 use Rattle.cocoon_cli.specs.Headline.{Compiled, CompiledOf, none_besides}
 use Rattle.cocoon_cli.specs.Leaves.{bundle, LeavesFault, Writes, with_writing}
 use Rattle.cocoon_cli.specs.Outcomes.{AllGood, none, good, Ends, no_memory}
-use Rattle.cocoon_cli.specs.Reading.{bundle_refusal}
-use Rattle.cocoon_cli.specs.Report.{Fault, by_read, by_write, by_memory, no_fault, fault_of}
+use Rattle.command_reports.specs.Refusals.{bundle_refusal}
+use Rattle.command_reports.specs.Report.{Fault, by_read, by_write, by_memory, no_fault, fault_of}
 use Rattle.cocoon_cli.specs.Run.{Performs, inputs_of}
 use Rattle.cocoon_cli.specs.Shell.{AllWritten, Asked, Fits, HoldsNet, IsGiven, IsNoFault, IsQuiet, IsReading, NotAllWritten, Plans, ReadsAll, ReadsNot, writing_of}
 use Rattle.cocoon_cli.specs.Steps.{Inputs, MakesFiles, asks, bundle_within, bundle_written, reads, writes}

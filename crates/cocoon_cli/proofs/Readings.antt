@@ -10,15 +10,16 @@ use Rattle.loaded_net.specs.Nets.{net_in}
 use Rattle.loaded_net.specs.declared.net.Net.{Net}
 use Rattle.net_bundle.specs.declared.file.BundleFile.{BundleFile}
 use Rattle.command_line.specs.Command.{Command}
-use Rattle.cocoon_cli.specs.declared.files.CommandFile.{CommandFile}
-use Rattle.cocoon_cli.specs.declared.files.CommandFile.TheVariants.{Design, Definitions, Bundle, Case, Packets}
+use Rattle.command_reports.specs.declared.files.CommandFile.{CommandFile}
+use Rattle.command_reports.specs.declared.files.CommandFile.TheVariants.{Design, Definitions, Bundle, Case, Packets}
 use Rattle.cocoon_cli.specs.declared.reading.Read.{Read}
-use Rattle.cocoon_cli.specs.declared.refusal.Refusal.{Refusal}
-use Rattle.cocoon_cli.specs.declared.refusal.Refusal.TheVariants as refusal
-use Rattle.cocoon_cli.specs.FileNames.{bundle_in, most_in, name_in}
+use Rattle.command_reports.specs.declared.refusal.Refusal.{Refusal}
+use Rattle.command_reports.specs.declared.refusal.Refusal.TheVariants as refusal
+use Rattle.command_reports.specs.FileNames.{bundle_in, most_in, name_in}
 use Rattle.cocoon_cli.specs.Outcomes.{AllGood, none, good, Ends, no_memory}
-use Rattle.cocoon_cli.specs.Reading.{FileNotRead, HasFile, HasLongFile, IsOfFiles, IsUnread, LacksFile, NamesBundleFailure, ReadFaultRose, unread_as}
-use Rattle.cocoon_cli.specs.Report.{fault_of}
+use Rattle.cocoon_cli.specs.Reading.{FileNotRead, HasFile, HasLongFile, IsUnread, LacksFile, NamesBundleFailure, ReadFaultRose}
+use Rattle.command_reports.specs.Refusals.{IsOfFiles, unread_as}
+use Rattle.command_reports.specs.Report.{fault_of}
 use Rattle.cocoon_cli.specs.Run.{InputsAre, inputs_of}
 use Rattle.cocoon_cli.specs.Shell.{Given, GivenNet, HasNet, HasWanted, IsReading, LacksNet, LacksWanted, ReadsAll, ReadsNot}
 use Rattle.cocoon_cli.specs.Steps.{Inputs, Step, bundle_reads, bundle_steps, file_steps, is_there, is_within, reads}

@@ -6,22 +6,22 @@ use Rattle.cocoon_io.specs.Calls.{appended}
 use Rattle.net_bundle.specs.Bundle.{MadeFile}
 use Rattle.net_bundle.specs.declared.file.BundleFile.{BundleFile}
 use Rattle.net_bundle.specs.Writing.{SomeWritten, StopsAt, with_files}
-use Rattle.cocoon_cli.specs.declared.answer.Report.{Report}
-use Rattle.cocoon_cli.specs.declared.answer.Verdict.{Verdict}
-use Rattle.cocoon_cli.specs.declared.answer.Verdict.TheVariants as verdict
-use Rattle.cocoon_cli.specs.declared.files.CommandFile.{CommandFile}
-use Rattle.cocoon_cli.specs.declared.files.CommandFile.TheVariants.{Bundle as BundleOf}
-use Rattle.cocoon_cli.specs.declared.refusal.Refusal.{Refusal}
-use Rattle.cocoon_cli.specs.declared.refusal.Refusal.TheVariants as refusal
-use Rattle.cocoon_cli.specs.declared.status.Status.{Status}
-use Rattle.cocoon_cli.specs.declared.status.Status.TheVariants.{Done, Refuted, Usage, HopBound, Budget, ReadFault, WriteFault, NoMemory}
+use Rattle.command_reports.specs.declared.report.Report.{Report}
+use Rattle.command_reports.specs.declared.report.Verdict.{Verdict}
+use Rattle.command_reports.specs.declared.report.Verdict.TheVariants as verdict
+use Rattle.command_reports.specs.declared.files.CommandFile.{CommandFile}
+use Rattle.command_reports.specs.declared.files.CommandFile.TheVariants.{Bundle as BundleOf}
+use Rattle.command_reports.specs.declared.refusal.Refusal.{Refusal}
+use Rattle.command_reports.specs.declared.refusal.Refusal.TheVariants as refusal
+use Rattle.command_reports.specs.declared.status.Status.{Status}
+use Rattle.command_reports.specs.declared.status.Status.TheVariants.{Done, Refuted, Usage, HopBound, Budget, ReadFault, WriteFault, NoMemory}
 use Rattle.command_line.specs.Command.{Command, compile, step, forward}
 use Rattle.command_line.specs.Words.{command}
 use Rattle.cocoon_cli.specs.Headline.{CompiledOf}
-use Rattle.cocoon_cli.specs.FileNames.{name_in}
+use Rattle.command_reports.specs.FileNames.{name_in}
 use Rattle.cocoon_cli.specs.Leaves.{Writing, nothing as nothing_written, bundle, own, Leaves, LeavesAll, LeavesSome, LeavesFault, SomeOf, StopsIn, with_writing}
 use Rattle.cocoon_cli.specs.Outcomes.{EndsAt, no_memory as out_of_memory, at_step, at_fault, FirstWith, here, later, StopsAt as StopsAtStep, Answers, HasOutcome, Reports}
-use Rattle.cocoon_cli.specs.Report.{Ending, Fault, by_read, by_write, by_memory, no_fault, Puts, all, a_prefix, nothing, Prints, ending_of, fault_in, fault_of, line_with, no_memory, refusal_line, refusal_status, usage, verdict_status}
+use Rattle.command_reports.specs.Report.{Ending, Fault, by_read, by_write, by_memory, no_fault, Puts, all, a_prefix, nothing, Prints, ending_of, fault_in, fault_of, line_with, no_memory, refusal_line, refusal_status, usage, verdict_status}
 use Rattle.cocoon_cli.specs.Run.{Call, Counted, CountsFault, Uncounted, MayCount, of_read as counts_read, of_write as counts_write, of_memory as counts_memory, Count, inputs_of, InputsAre, Performs, IsOnly, CauseOf, LineNames, NamesFault, EndsWith, Yields, to_read_fault, to_write_fault, to_no_memory, TheOutcome, OutcomeOf, DoneOf, LeavesOf, MayWrite, done, failed, UsageOf, Keeps, KeepsMore}
 use Rattle.cocoon_cli.specs.Run as run
 use Rattle.cocoon_cli.specs.Steps.{Inputs, Step, is_there, bundle_reads, bundle_written, Stops, steps}

@@ -6,12 +6,12 @@ use Rattle.cocoon_num.specs.declared.limit_name.LimitName.{LimitName}
 use Rattle.cocoon_text.specs.declared.position.Position.{Position}
 use Rattle.runtime_defs.specs.Bound.{most_rows, row_count}
 use Rattle.runtime_defs.specs.Places.{Places}
-use Rattle.cocoon_cli.specs.declared.answer.Report.{Report}
-use Rattle.cocoon_cli.specs.declared.files.CommandFile.TheVariants.{Design, Definitions}
-use Rattle.cocoon_cli.specs.declared.refusal.InputFault.TheVariants.{NoTree, Rule}
-use Rattle.cocoon_cli.specs.declared.refusal.DefinitionsFault.TheVariants as definitions
-use Rattle.cocoon_cli.specs.declared.refusal.Refusal.{Refusal}
-use Rattle.cocoon_cli.specs.declared.refusal.Refusal.TheVariants as refusal
+use Rattle.command_reports.specs.declared.report.Report.{Report}
+use Rattle.command_reports.specs.declared.files.CommandFile.TheVariants.{Design, Definitions}
+use Rattle.command_reports.specs.declared.refusal.InputFault.TheVariants.{NoTree, Rule}
+use Rattle.command_reports.specs.declared.refusal.DefinitionsFault.TheVariants as definitions
+use Rattle.command_reports.specs.declared.refusal.Refusal.{Refusal}
+use Rattle.command_reports.specs.declared.refusal.Refusal.TheVariants as refusal
 use Rattle.cocoon_cli.specs.DesignTexts.{Binds, BindsTables, NotBound, NotChecked, NotMatched, NotRead, ReadsChecked}
 use Rattle.cocoon_cli.specs.Outcomes.{AllGood, none, good, Ends, no_memory}
 use Rattle.cocoon_cli.specs.Steps.{Inputs, Step, design_reads, design_well_formed, design_within, definitions_read, definitions_fit, definitions_within, text_steps, DesignIs, DefinitionsAre}

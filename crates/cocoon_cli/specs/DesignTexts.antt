@@ -20,12 +20,12 @@ use Rattle.runtime_defs.specs.Bound.{most_rows, row_count}
 use Rattle.runtime_defs.specs.Fitting.{FitsDesign}
 use Rattle.runtime_defs.specs.Places.{Places}
 use Rattle.lower_p4.specs.Lowering.{AreOfText}
-use Rattle.cocoon_cli.specs.declared.refusal.InputFault.TheVariants.{NoTree, Rule}
-use Rattle.cocoon_cli.specs.declared.refusal.EntryRule.TheVariants.{UnknownFunction, WrongRow, TwoDefaults, GuardRows, ForkRows}
-use Rattle.cocoon_cli.specs.declared.refusal.DefinitionsFault.{DefinitionsFault}
-use Rattle.cocoon_cli.specs.declared.refusal.DefinitionsFault.TheVariants as definitions
-use Rattle.cocoon_cli.specs.declared.refusal.Refusal.{Refusal}
-use Rattle.cocoon_cli.specs.declared.refusal.Refusal.TheVariants.{Language, Definitions, OverLimit, NoMemory}
+use Rattle.command_reports.specs.declared.refusal.InputFault.TheVariants.{NoTree, Rule}
+use Rattle.command_reports.specs.declared.refusal.EntryRule.TheVariants.{UnknownFunction, WrongRow, TwoDefaults, GuardRows, ForkRows}
+use Rattle.command_reports.specs.declared.refusal.DefinitionsFault.{DefinitionsFault}
+use Rattle.command_reports.specs.declared.refusal.DefinitionsFault.TheVariants as definitions
+use Rattle.command_reports.specs.declared.refusal.Refusal.{Refusal}
+use Rattle.command_reports.specs.declared.refusal.Refusal.TheVariants.{Language, Definitions, OverLimit, NoMemory}
 
 -- ---- what is made of the texts
 

@@ -5,13 +5,13 @@ use Rattle.cocoon_io.specs.Files.{Files}
 use Rattle.cocoon_io.specs.Calls.{with_file}
 use Rattle.net_bundle.specs.Bundle.{MadeFile}
 use Rattle.net_bundle.specs.Writing.{AllFit, SomeWritten, StopsAt, with_files}
-use Rattle.cocoon_cli.specs.declared.answer.Report.{Report}
-use Rattle.cocoon_cli.specs.declared.files.CommandFile.{CommandFile}
-use Rattle.cocoon_cli.specs.declared.files.CommandFile.TheVariants.{Bundle}
-use Rattle.cocoon_cli.specs.declared.refusal.Refusal.{Refusal}
+use Rattle.command_reports.specs.declared.report.Report.{Report}
+use Rattle.command_reports.specs.declared.files.CommandFile.{CommandFile}
+use Rattle.command_reports.specs.declared.files.CommandFile.TheVariants.{Bundle}
+use Rattle.command_reports.specs.declared.refusal.Refusal.{Refusal}
 use Rattle.command_line.specs.Command.{Command, compile, step, forward}
 use Rattle.cocoon_cli.specs.Outcomes.{AllGood}
-use Rattle.cocoon_cli.specs.Report.{Fault, by_read, by_write, by_memory, no_fault, fault_of}
+use Rattle.command_reports.specs.Report.{Fault, by_read, by_write, by_memory, no_fault, fault_of}
 use Rattle.cocoon_cli.specs.Steps.{Inputs, MakesFiles, steps}
 
 -- ---- what is written

@@ -1,5 +1,3 @@
-pub mod FileNames
-pub mod Report
 pub mod ReportLines
 pub mod Built
 pub mod Steps

@@ -11,10 +11,10 @@ use Rattle.p4_ir.specs.NetTree.{NetData}
 use Rattle.packet_file.specs.Packets.{Packet}
 use Rattle.packet_runs.specs.Reports.{IsReport}
 use Rattle.command_line.specs.Command.{Command, compile, step, forward}
-use Rattle.cocoon_cli.specs.declared.refusal.Refusal.{Refusal}
-use Rattle.cocoon_cli.specs.declared.refusal.Refusal.TheVariants as refusal
-use Rattle.cocoon_cli.specs.declared.answer.Report.{Report}
-use Rattle.cocoon_cli.specs.declared.answer.Verdict.TheVariants.{Done}
+use Rattle.command_reports.specs.declared.refusal.Refusal.{Refusal}
+use Rattle.command_reports.specs.declared.refusal.Refusal.TheVariants as refusal
+use Rattle.command_reports.specs.declared.report.Report.{Report}
+use Rattle.command_reports.specs.declared.report.Verdict.TheVariants.{Done}
 use Rattle.cocoon_cli.specs.ReportLines.{sent_text, totals_line, totals_of}
 use Rattle.cocoon_cli.specs.Steps.{Inputs, Step, BundleIs, CaseIs, Decides, DefinitionsAre, DesignIs, GivesUp, IsGood, Makes, PacketsAre, Stops, is_searched, steps}
 
@@ -39,10 +39,6 @@ pub record StepIs (inputs : Inputs) (level : ℕ) (design : tree.Design) (defs :
   pub design_is : DesignIs inputs design
   pub defs_are : DefinitionsAre inputs defs
   pub case_is : CaseIs inputs design level case
-
--- the whole report of a command that succeeds
-abbrev pub success : List ℕ → Report
-success lines = record { verdict = Done; lines = lines }
 
 -- the report of a command of which all steps are good
 abbrev pub Reports : Command → Inputs → Report → Type 0

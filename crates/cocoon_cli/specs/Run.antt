@@ -4,35 +4,18 @@ use Rattle.std.specs.Prelude.{◌≡◌, ◌⊎◌, ℕ, List, Option, Some, Non
 use Rattle.std.specs.FinMap.{get}
 use Rattle.cocoon_io.specs.Files.{Files}
 use Rattle.cocoon_io.specs.Calls.{Rose, appended}
-use Rattle.cocoon_cli.specs.declared.files.CommandFile.{CommandFile}
-use Rattle.cocoon_cli.specs.declared.refusal.Refusal.{Refusal}
-use Rattle.cocoon_cli.specs.declared.answer.Report.{Report}
-use Rattle.cocoon_cli.specs.declared.status.Status.{Status}
-use Rattle.cocoon_cli.specs.declared.status.Status.TheVariants.{Done, Refuted, Usage, Language, Broken, HopBound, Budget, Bundle, ReadFault, WriteFault, Limit, Lines, NoMemory, NoFile}
+use Rattle.command_reports.specs.declared.files.CommandFile.{CommandFile}
+use Rattle.command_reports.specs.declared.refusal.Refusal.{Refusal}
+use Rattle.command_reports.specs.declared.report.Report.{Report}
+use Rattle.command_reports.specs.declared.status.Status.{Status}
+use Rattle.command_reports.specs.declared.status.Status.TheVariants.{Done, Refuted, Usage, Language, Broken, HopBound, Budget, Bundle, ReadFault, WriteFault, Limit, Lines, NoMemory, NoFile}
 use Rattle.command_line.specs.Command.{Command}
 use Rattle.command_line.specs.Words.{command}
-use Rattle.cocoon_cli.specs.FileNames.{bundle_in, name_in}
+use Rattle.command_reports.specs.FileNames.{bundle_in, name_in}
 use Rattle.cocoon_cli.specs.Leaves.{Leaves, LeavesAll, LeavesSome}
 use Rattle.cocoon_cli.specs.Outcomes.{Agree, Answers, HasOutcome, Reports, is_any_searched}
-use Rattle.cocoon_cli.specs.Report.{Ending, Fault, by_read, by_write, by_memory, no_fault, Prints, ending_of, fault_in, line_with, usage}
+use Rattle.command_reports.specs.Report.{Ending, Fault, by_read, by_write, by_memory, no_fault, Prints, ending_of, fault_in, line_with, usage}
 use Rattle.cocoon_cli.specs.Steps.{Inputs, steps}
-
--- the number of a status
-abbrev pub status_number : Status → ℕ
-status_number Done = 0
-status_number Refuted = 1
-status_number Usage = 2
-status_number Language = 3
-status_number Broken = 4
-status_number HopBound = 5
-status_number Budget = 6
-status_number Bundle = 7
-status_number ReadFault = 8
-status_number WriteFault = 9
-status_number Limit = 10
-status_number Lines = 11
-status_number NoMemory = 12
-status_number NoFile = 13
 
 -- ---- one call
 

@@ -15,30 +15,25 @@ use Rattle.net_bundle.specs.declared.fault.BundleFault.{BundleFault}
 use Rattle.p4_ir.specs.NetOf.{net_of}
 use Rattle.command_line.specs.Command.{Command, compile, step, forward}
 use Rattle.cocoon_cli.specs.declared.answer.Answer.{Answer}
-use Rattle.cocoon_cli.specs.declared.answer.Report.{Report}
+use Rattle.command_reports.specs.declared.report.Report.{Report}
 use Rattle.cocoon_cli.specs.declared.answer.Writing.{Writing as Written}
 use Rattle.cocoon_cli.specs.declared.answer.Writing.TheVariants as written
-use Rattle.cocoon_cli.specs.declared.files.CommandFile.{CommandFile}
-use Rattle.cocoon_cli.specs.declared.files.CommandFile.TheVariants.{Design, Definitions, Bundle, Case, Packets}
-use Rattle.cocoon_cli.specs.declared.files.Wanted.{Wanted}
+use Rattle.command_reports.specs.declared.files.CommandFile.{CommandFile}
+use Rattle.command_reports.specs.declared.files.CommandFile.TheVariants.{Design, Definitions, Bundle, Case, Packets}
 use Rattle.cocoon_cli.specs.declared.reading.Read.{Read}
-use Rattle.cocoon_cli.specs.declared.refusal.Refusal.{Refusal}
-use Rattle.cocoon_cli.specs.declared.refusal.Refusal.TheVariants.{WriteFault, NoMemory}
+use Rattle.command_reports.specs.declared.refusal.Refusal.{Refusal}
+use Rattle.command_reports.specs.declared.refusal.Refusal.TheVariants.{WriteFault, NoMemory}
 use Rattle.cocoon_cli.specs.Compiling.{Compiles}
-use Rattle.cocoon_cli.specs.FileNames.{bundle_in, most_in, name_in}
+use Rattle.command_reports.specs.FileNames.{bundle_in, most_in, name_in}
 use Rattle.cocoon_cli.specs.Leaves.{Writing, nothing, bundle, own, with_writing}
 use Rattle.cocoon_cli.specs.Outcomes.{AllGood, Ends, Reports}
-use Rattle.cocoon_cli.specs.Reading.{FileNotRead, HasFile, IsRead, IsUnread, bundle_refusal}
-use Rattle.cocoon_cli.specs.Report.{Fault, by_read, by_write, fault_in, fault_of}
+use Rattle.cocoon_cli.specs.Reading.{FileNotRead, HasFile, IsRead, IsUnread}
+use Rattle.command_reports.specs.Refusals.{bundle_refusal}
+use Rattle.command_reports.specs.Report.{Fault, by_read, by_write, fault_in, fault_of}
 use Rattle.cocoon_cli.specs.Run.{Count, CountsFault, InputsAre, NamesFault, Performs}
 use Rattle.cocoon_cli.specs.Steps.{Inputs, BundleIs, asks, reads, writes}
 
 -- ---- files
-
--- the name and the most bytes of a file that the command reads by a name of its own
-abbrev pub IsWanted : Command → CommandFile → Option Wanted → Type 0
-IsWanted c file None = most_in c file ≡ None
-IsWanted c file (Some w) = (most_in c file ≡ Some w.most) × (w.name.now ≡ name_in c file)
 
 -- the folder gives these bytes, if there is such a file
 abbrev pub HasWanted : Option Files → (name : List ℕ) → Option ℕ → List ℕ → Type 0

@@ -10,12 +10,12 @@ ghost use Rattle.cocoon_cli.specs.DesignTexts.{BindsTables, ReadsChecked};
 ghost use Rattle.cocoon_cli.specs.ReportLines.{totals_line, totals_of};
 ghost use Rattle.cocoon_cli.specs.Shell.{Asked, IsQuiet};
 ghost use Rattle.cocoon_cli.specs.Steps.{Inputs};
-ghost use Rattle.cocoon_cli.specs.declared.files.CommandFile.TheVariants.{Definitions, Design};
+ghost use Rattle.command_reports.specs.declared.files.CommandFile.TheVariants.{Definitions, Design};
 
-use crate::answer::{Answer, Report, Writing};
+use command_reports::{InputFault, Refusal, Report};
+use crate::answer::{Answer, Writing};
 use crate::design_texts::{Bound, bind_text, read_checked};
 use crate::laws::deliveries_stay_within;
-use crate::refusal::{InputFault, Refusal};
 use cocoon_num::NoMemory;
 use cocoon_resolve::Checked;
 use command_line::Compile;

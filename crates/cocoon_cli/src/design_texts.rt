@@ -12,12 +12,12 @@ ghost use Rattle.cocoon_types.specs.RuleNames.{fault_at};
 ghost use Rattle.runtime_defs.specs.Bound as defs;
 ghost use Rattle.cocoon_cli.specs.DesignTexts.{BindsTables, NotBound, NotChecked, NotMatched, NotRead, NotReadAfter, ReadsChecked};
 
-use crate::refusal::{DefinitionsFault, EntryRule, InputFault, Refusal};
 use cocoon_num::{LimitName, NoMemory, Text};
 use cocoon_resolve::{Checked, FunId, TypeFault, resolve};
 use cocoon_syntax::{DefsText, Design};
 use cocoon_text::{Unread, position_of, read_defs, read_design};
 use cocoon_types::TypeRule;
+use command_reports::{DefinitionsFault, EntryRule, InputFault, Refusal};
 use runtime_defs::{Defs, DefsFault, bind};
 use sound_types::laws::code_literals_fit;
 use std::alloc::Global;

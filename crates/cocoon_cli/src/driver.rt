@@ -1,17 +1,14 @@
 //! The top call: the words are read, the command is performed, and one report is printed.
 ghost use Rattle.std.specs.Prelude.{◌≡◌, map, string_bytes};
 ghost use Rattle.cocoon_cli.specs.Headline.{Headline};
-ghost use Rattle.cocoon_cli.specs.Report.{Prints, Puts, ending_of, no_memory};
+ghost use Rattle.command_reports.specs.Report.{Prints, Puts, ending_of, no_memory};
 ghost use Rattle.cocoon_cli.specs.Run.{Keeps, count};
 ghost use Rattle.command_line.specs.Stands.{stands_for};
 ghost use Rattle.cocoon_io.specs.Calls.{Rose};
 
-use crate::answer::Report;
+use command_reports::{Refusal, Report, Status, refusal_line, status_of};
 use crate::laws::one_outcome;
-use crate::refusal::Refusal;
-use crate::report::{refusal_line, status};
 use crate::shell::perform;
-use crate::status::Status;
 use cocoon_io::{Folder, Sink, SinkFault};
 use cocoon_num::NoMemory;
 use command_line::{Command, parse_command};
@@ -53,9 +50,9 @@ fn print<S: Sink>(
         (S.output out.old) (S.output out.new) result }
 {
     match outcome {
-        Ok(report) => put(alloc, out, report.lines.items(), status(outcome)),
+        Ok(report) => put(alloc, out, report.lines.items(), status_of(outcome)),
         Err(refusal) => match refusal_line(alloc, command, refusal) {
-            Ok(line) => put(alloc, out, &line, status(outcome)),
+            Ok(line) => put(alloc, out, &line, status_of(outcome)),
             Err(NoMemory) => tell_no_memory(alloc, out),
         },
     }

@@ -9,11 +9,10 @@ ghost use Rattle.cocoon_cli.specs.Forwarding.{NotRun, NotSaid, RunsPackets};
 ghost use Rattle.cocoon_cli.specs.Shell.{Asked, IsQuiet};
 ghost use Rattle.cocoon_cli.specs.Steps.{BundleIs, Inputs};
 ghost use Rattle.cocoon_cli.specs.declared.answer.Writing.TheVariants.{Nothing};
-ghost use Rattle.cocoon_cli.specs.declared.files.CommandFile.TheVariants.{Packets};
+ghost use Rattle.command_reports.specs.declared.files.CommandFile.TheVariants.{Packets};
 
-use crate::answer::{Answer, Report, Writing};
-use crate::files::CommandFile;
-use crate::refusal::Refusal;
+use command_reports::{CommandFile, Refusal, Report};
+use crate::answer::{Answer, Writing};
 use bundle_reader::Net;
 use cocoon_num::LimitName;
 use command_line::Forward;

@@ -1,16 +1,15 @@
 //! What a command reads: its files, each within its limit, and a bundle.
 ghost use Rattle.std.specs.Prelude.{◌≡◌, ◌≤◌, ◌<◌, ◌^◌, IfErr, IfOk, length};
 ghost use Rattle.command_line.specs.Stands.{stands_for};
-ghost use Rattle.cocoon_cli.specs.FileNames.{bundle_in, most_in, name_in};
+ghost use Rattle.command_reports.specs.FileNames.{bundle_in, most_in, name_in};
 ghost use Rattle.cocoon_cli.specs.Reading.{FileNotRead, HasFile, IsRead, IsUnread, NamesBundleFailure, NamesReadFailure, ReadFaultRose};
 ghost use Rattle.cocoon_cli.specs.Run.{count};
 ghost use Rattle.cocoon_cli.specs.Shell.{Called, HasNet, HasWanted, IsShort, LacksNet, LacksWanted, ReadsAll, ReadsNot};
 
-use crate::files::{CommandFile, Wanted, bundle_of};
-use crate::refusal::{Refusal, unread};
 use bundle_reader::{Net, read_bundle};
 use cocoon_io::{Folder, FolderFault};
 use command_line::Command;
+use command_reports::{CommandFile, Refusal, Wanted, bundle_of, unread};
 use std::alloc::Global;
 
 /// What a command has read: the bytes of each file that it reads, and the network of its bundle.

@@ -8,11 +8,11 @@ ghost use Rattle.cocoon_cli.specs.Run.{count};
 ghost use Rattle.cocoon_cli.specs.Shell.{Acts, Asked, IsGiven, IsQuiet, IsShort, Plans};
 ghost use Rattle.cocoon_cli.specs.Steps.{Inputs};
 
-use crate::answer::{Answer, Report};
+use command_reports::{Refusal, Report};
+use crate::answer::Answer;
 use crate::compile::compile;
 use crate::forward::forward;
 use crate::reading::{Read, read_all};
-use crate::refusal::Refusal;
 use crate::step::step;
 use crate::writing::write_all;
 use cocoon_io::Folder;

@@ -2,15 +2,14 @@
 ghost use Rattle.std.specs.Prelude.{◌≡◌, ◌⊎◌, IfErr, OnOk};
 ghost use Rattle.cocoon_io.specs.Calls.{with_file};
 ghost use Rattle.command_line.specs.Stands.{stands_for};
-ghost use Rattle.cocoon_cli.specs.FileNames.{name_in};
+ghost use Rattle.command_reports.specs.FileNames.{name_in};
 ghost use Rattle.cocoon_cli.specs.Leaves.{own};
 ghost use Rattle.cocoon_cli.specs.Run.{count};
 ghost use Rattle.cocoon_cli.specs.Shell.{AllWritten, Called, CanWrite, HoldsNet, NotAllWritten, writing_of};
 
+use command_reports::{CommandFile, Refusal};
 use crate::answer::Writing;
-use crate::files::CommandFile;
 use crate::reading::Read;
-use crate::refusal::Refusal;
 use cocoon_io::{Folder, FolderFault};
 use command_line::Command;
 use net_bundle::write_bundle;

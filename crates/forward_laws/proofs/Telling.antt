@@ -12,7 +12,7 @@ use Rattle.packet_runs.specs.Reports.{IsReport}
 use Rattle.net_bundle.specs.Network.{Network}
 use Rattle.cocoon_cli.specs.Outcomes.{Reports}
 use Rattle.cocoon_cli.specs.Run.{Call, CauseOf, DoneOf, InputsAre, KeepsMore, inputs_of}
-use Rattle.cocoon_cli.specs.declared.answer.Report.{Report}
+use Rattle.command_reports.specs.declared.report.Report.{Report}
 use Rattle.forward_laws.specs.ForwardsCompiled.{ForwardsCompiled}
 use Rattle.forward_laws.proofs.SameBundle.{still_network}
 

@@ -13,7 +13,7 @@ use Rattle.net_bundle.specs.declared.file.BundleFile.TheVariants.{Program, Rows}
 use Rattle.cocoon_cli.specs.Built.{IsBuilt}
 use Rattle.cocoon_cli.specs.Compiling as lowered
 use Rattle.cocoon_cli.specs.Compiling.{LongFile}
-use Rattle.cocoon_cli.specs.declared.files.CommandFile.TheVariants.{Bundle}
+use Rattle.command_reports.specs.declared.files.CommandFile.TheVariants.{Bundle}
 use Rattle.cocoon_cli.proofs.compile.lower_bound.Goals as goal
 
 pub returns-in-Ok-clause-lowers : goal.returns-in-Ok-clause-lowers

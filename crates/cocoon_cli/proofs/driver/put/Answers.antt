@@ -1,6 +1,6 @@
 use Rattle.std.proofs.Common.{refl, ◌∙◌, ap}
 use Rattle.std.specs.Prelude.{Err}
-use Rattle.cocoon_cli.specs.Report.{all, a_prefix, nothing}
+use Rattle.command_reports.specs.Report.{all, a_prefix, nothing}
 use Rattle.cocoon_cli.proofs.driver.put.Goals as goal
 
 pub returns-in-Ok : goal.returns-in-Ok

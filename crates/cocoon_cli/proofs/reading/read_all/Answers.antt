@@ -1,8 +1,8 @@
 use Rattle.std.proofs.Common.{IfErr, subst, ◌∙◌}
 use Rattle.command_line.specs.Stands.{stands_for}
-use Rattle.cocoon_cli.specs.FileNames.{bundle_in}
+use Rattle.command_reports.specs.FileNames.{bundle_in}
 use Rattle.cocoon_cli.specs.Shell.{HasNet, LacksNet, ReadsNot}
-use Rattle.cocoon_cli.specs.declared.files.CommandFile.TheVariants.{Case, Definitions, Packets}
+use Rattle.command_reports.specs.declared.files.CommandFile.TheVariants.{Case, Definitions, Packets}
 use Rattle.cocoon_cli.proofs.Counted.{passed}
 use Rattle.cocoon_cli.proofs.Readings.{Has, Lacks, all_read, no_case, no_definitions, no_design, no_net, no_packets}
 use Rattle.cocoon_cli.proofs.reading.read_all.Goals as goal

@@ -1,10 +1,11 @@
 -- Cited by `CommandFile::name`, `wanted` and `bundle_of` of files.rt, by the lines of report.rt,
 -- and through Run.antt by `keeps` of `run`. The files of a command: their names, and how long they
 -- may be. It follows the section "Commands" of README.md and "Bundle files" in docs/FORMATS.md.
-use Rattle.std.specs.Prelude.{ℕ, List, [], Option, Some, None}
+use Rattle.std.specs.Prelude.{◌≡◌, ℕ, List, [], Option, Some, None}
 use Rattle.net_bundle.specs.Bundle.{whole_name}
-use Rattle.cocoon_cli.specs.declared.files.CommandFile.{CommandFile}
-use Rattle.cocoon_cli.specs.declared.files.CommandFile.TheVariants.{Design, Definitions, Bundle, Case, Packets}
+use Rattle.command_reports.specs.declared.files.CommandFile.{CommandFile}
+use Rattle.command_reports.specs.declared.files.CommandFile.TheVariants.{Design, Definitions, Bundle, Case, Packets}
+use Rattle.command_reports.specs.declared.files.Wanted.{Wanted}
 use Rattle.command_line.specs.Command.{Command, compile, step, forward}
 
 -- the name of a file of a command; none where the command has no such file
@@ -56,3 +57,8 @@ abbrev pub bundle_in : Command → Option (List ℕ)
 bundle_in (compile design defs out) = None
 bundle_in (step design defs level file) = None
 bundle_in (forward out packets hops) = Some out
+
+-- the name and the most bytes of a file that the command reads by a name of its own
+abbrev pub IsWanted : Command → CommandFile → Option Wanted → Type 0
+IsWanted c file None = most_in c file ≡ None
+IsWanted c file (Some w) = (most_in c file ≡ Some w.most) × (w.name.now ≡ name_in c file)

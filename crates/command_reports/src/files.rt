@@ -2,8 +2,7 @@
 ghost use Rattle.std.specs.Prelude.{◌≡◌, IfOk, option_map, string_bytes};
 ghost use Rattle.command_line.specs.Command as spec;
 ghost use Rattle.command_line.specs.Stands.{stands_for};
-ghost use Rattle.cocoon_cli.specs.FileNames.{bundle_in, name_in};
-ghost use Rattle.cocoon_cli.specs.Shell.{IsWanted};
+ghost use Rattle.command_reports.specs.FileNames.{IsWanted, bundle_in, name_in};
 
 use cocoon_num::NoMemory;
 use command_line::{Command, Compile, Forward, Step};

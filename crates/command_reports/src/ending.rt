@@ -1,13 +1,13 @@
 //! How an outcome ends the program: its status, and the line of a refusal.
 ghost use Rattle.std.specs.Prelude.{◌≡◌, ◌++◌, codes, IfOk, string_bytes};
-ghost use Rattle.cocoon_cli.specs.FileNames.{name_in};
-ghost use Rattle.cocoon_cli.specs.declared.files.CommandFile.TheVariants.{Bundle};
-ghost use Rattle.cocoon_cli.specs.Report.{HasBytes, bundle_line, cause_text, definitions_line, fault_line, form_line, host_line, language_line, level_line, limit_line, line_with, load_text, most_allowed, no_default_line, over_line, p4_text, pointer_text, refusal_line, stale_text, status_of};
+ghost use Rattle.command_reports.specs.FileNames.{name_in};
+ghost use Rattle.command_reports.specs.declared.files.CommandFile.TheVariants.{Bundle};
+ghost use Rattle.command_reports.specs.Report.{HasBytes, bundle_line, cause_text, definitions_line, fault_line, form_line, host_line, language_line, level_line, limit_line, line_with, load_text, most_allowed, no_default_line, over_line, p4_text, pointer_text, refusal_line, stale_text, status_of};
 ghost use Rattle.command_line.specs.Stands.{stands_for};
 
-use crate::answer::Report;
 use crate::files::CommandFile;
 use crate::refusal::{BundleCause, DefinitionsFault, InputFault, Refusal};
+use crate::report::Report;
 use crate::status::Status;
 use bundle_reader::{LoadFault, P4Fault};
 use cocoon_num::{LimitName, NoMemory};
@@ -318,7 +318,7 @@ pub fn refusal_line(
 }
 
 /// The status with which a command of this outcome ends.
-pub fn status(outcome: &Result<Report, Refusal>) -> Status
+pub fn status_of(outcome: &Result<Report, Refusal>) -> Status
     ensures { result ≡ status_of outcome.now }
 {
     match outcome {

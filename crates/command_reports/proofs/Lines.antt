@@ -2,7 +2,7 @@
 use Rattle.std.proofs.Common.{◌≡◌, ℕ, List, [], ◌∷◌, ◌++◌, ap, ◌∙◌}
 use Rattle.std.proofs.lemmas.List.{append_assoc}
 use Rattle.std.specs.Prelude.{codes}
-use Rattle.cocoon_cli.specs.Report.{no_default_line}
+use Rattle.command_reports.specs.Report.{no_default_line}
 
 -- pieces in their order, grouped to the left and to the right
 grouped : (p f s n e : List ℕ) → ((p ++ (f ++ s)) ++ n) ++ e ≡ p ++ (f ++ (s ++ (n ++ e)))

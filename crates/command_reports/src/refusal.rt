@@ -1,8 +1,8 @@
 //! Why a command stopped.
 ghost use Rattle.std.specs.Prelude.{◌≡◌};
 ghost use Rattle.bundle_reader.specs.declared.fault.ReadFault.TheVariants.{Folder};
-ghost use Rattle.cocoon_cli.specs.Reading.{unread_as};
-ghost use Rattle.cocoon_cli.specs.Report.{column_number, entry_rule_name, fault_name, line_number, refusal_status};
+ghost use Rattle.command_reports.specs.Refusals.{unread_as};
+ghost use Rattle.command_reports.specs.Report.{column_number, entry_rule_name, fault_name, line_number, refusal_status};
 
 use crate::files::CommandFile;
 use crate::status::Status;
@@ -143,7 +143,7 @@ pub enum Refusal {
 
 impl From<NoMemory> for Refusal {
     ghost use Rattle.std.specs.Prelude.{◌≡◌};
-    ghost use Rattle.cocoon_cli.specs.declared.refusal.Refusal.TheVariants.{NoMemory};
+    ghost use Rattle.command_reports.specs.declared.refusal.Refusal.TheVariants.{NoMemory};
 
     ghost from_gives = { λ _ r. r ≡ NoMemory };
 
@@ -154,7 +154,7 @@ impl From<NoMemory> for Refusal {
 
 impl From<AllocError> for Refusal {
     ghost use Rattle.std.specs.Prelude.{◌≡◌};
-    ghost use Rattle.cocoon_cli.specs.declared.refusal.Refusal.TheVariants.{NoMemory};
+    ghost use Rattle.command_reports.specs.declared.refusal.Refusal.TheVariants.{NoMemory};
 
     ghost from_gives = { λ _ r. r ≡ NoMemory };
 
@@ -165,7 +165,7 @@ impl From<AllocError> for Refusal {
 
 impl From<BundleFault> for Refusal {
     ghost use Rattle.std.specs.Prelude.{◌≡◌};
-    ghost use Rattle.cocoon_cli.specs.Reading.{bundle_refusal};
+    ghost use Rattle.command_reports.specs.Refusals.{bundle_refusal};
 
     ghost from_gives = { λ fault r. r ≡ bundle_refusal fault };
 
@@ -179,7 +179,7 @@ impl From<BundleFault> for Refusal {
 }
 
 /// What is told of a bundle that is not read.
-pub(crate) fn unread(fault: ReadFault) -> Refusal
+pub fn unread(fault: ReadFault) -> Refusal
     ensures { result ≡ unread_as fault }
 {
     match fault {

@@ -1,8 +1,8 @@
 use Rattle.std.proofs.Common.{ap, ◌∙◌}
 use Rattle.std.specs.Prelude.{Vec, string_bytes, ℕ}
 use Rattle.std.specs.declared.alloc.Global.{Global}
-use Rattle.cocoon_cli.proofs.Lines.{no_default}
-use Rattle.cocoon_cli.proofs.report.no_default_line.Goals as goal
+use Rattle.command_reports.proofs.Lines.{no_default}
+use Rattle.command_reports.proofs.ending.no_default_line.Goals as goal
 
 pub returns : goal.returns
 returns c =

@@ -19,30 +19,47 @@ use Rattle.p4_read.specs.declared.fault.P4Fault.{P4Fault}
 use Rattle.p4_read.specs.declared.fault.P4Fault.TheVariants as p4
 use Rattle.p4_run.specs.declared.faults.LoadFault.{LoadFault}
 use Rattle.p4_run.specs.declared.faults.LoadFault.TheVariants as load
-use Rattle.cocoon_cli.specs.declared.refusal.BundleCause.{BundleCause}
-use Rattle.cocoon_cli.specs.declared.refusal.BundleCause.TheVariants as cause
-use Rattle.cocoon_cli.specs.declared.files.CommandFile.{CommandFile}
-use Rattle.cocoon_cli.specs.declared.files.CommandFile.TheVariants.{Design, Definitions, Bundle}
-use Rattle.cocoon_cli.specs.declared.status.Status.{Status}
-use Rattle.cocoon_cli.specs.declared.status.Status.TheVariants as status
-use Rattle.cocoon_cli.specs.declared.refusal.InputFault.{InputFault}
-use Rattle.cocoon_cli.specs.declared.refusal.InputFault.TheVariants.{NoTree, Rule, NotYet}
-use Rattle.cocoon_cli.specs.declared.refusal.EntryRule.{EntryRule}
-use Rattle.cocoon_cli.specs.declared.refusal.EntryRule.TheVariants.{UnknownFunction, WrongRow, TwoDefaults, GuardRows, ForkRows}
-use Rattle.cocoon_cli.specs.declared.refusal.DefinitionsFault.{DefinitionsFault}
-use Rattle.cocoon_cli.specs.declared.refusal.DefinitionsFault.TheVariants as definitions
-use Rattle.cocoon_cli.specs.declared.refusal.Refusal.{Refusal}
-use Rattle.cocoon_cli.specs.declared.refusal.Refusal.TheVariants as refusal
-use Rattle.cocoon_cli.specs.declared.answer.Report.{Report}
-use Rattle.cocoon_cli.specs.declared.answer.Verdict.{Verdict}
-use Rattle.cocoon_cli.specs.declared.answer.Verdict.TheVariants as verdict
+use Rattle.command_reports.specs.declared.refusal.BundleCause.{BundleCause}
+use Rattle.command_reports.specs.declared.refusal.BundleCause.TheVariants as cause
+use Rattle.command_reports.specs.declared.files.CommandFile.{CommandFile}
+use Rattle.command_reports.specs.declared.files.CommandFile.TheVariants.{Design, Definitions, Bundle}
+use Rattle.command_reports.specs.declared.status.Status.{Status}
+use Rattle.command_reports.specs.declared.status.Status.TheVariants as status
+use Rattle.command_reports.specs.declared.refusal.InputFault.{InputFault}
+use Rattle.command_reports.specs.declared.refusal.InputFault.TheVariants.{NoTree, Rule, NotYet}
+use Rattle.command_reports.specs.declared.refusal.EntryRule.{EntryRule}
+use Rattle.command_reports.specs.declared.refusal.EntryRule.TheVariants.{UnknownFunction, WrongRow, TwoDefaults, GuardRows, ForkRows}
+use Rattle.command_reports.specs.declared.refusal.DefinitionsFault.{DefinitionsFault}
+use Rattle.command_reports.specs.declared.refusal.DefinitionsFault.TheVariants as definitions
+use Rattle.command_reports.specs.declared.refusal.Refusal.{Refusal}
+use Rattle.command_reports.specs.declared.refusal.Refusal.TheVariants as refusal
+use Rattle.command_reports.specs.declared.report.Report.{Report}
+use Rattle.command_reports.specs.declared.report.Verdict.{Verdict}
+use Rattle.command_reports.specs.declared.report.Verdict.TheVariants as verdict
 use Rattle.command_line.specs.Command.{Command}
-use Rattle.cocoon_cli.specs.FileNames.{name_in}
+use Rattle.command_reports.specs.FileNames.{name_in}
 
 -- a status and the whole report
 pub record Ending : Type 0 where
   pub status : Status
   pub report : List ℕ
+
+-- the number of a status
+abbrev pub status_number : Status → ℕ
+status_number status.Done = 0
+status_number status.Refuted = 1
+status_number status.Usage = 2
+status_number status.Language = 3
+status_number status.Broken = 4
+status_number status.HopBound = 5
+status_number status.Budget = 6
+status_number status.Bundle = 7
+status_number status.ReadFault = 8
+status_number status.WriteFault = 9
+status_number status.Limit = 10
+status_number status.Lines = 11
+status_number status.NoMemory = 12
+status_number status.NoFile = 13
 
 -- ---- what is wrong with a text
 
@@ -250,6 +267,10 @@ HasBytes (Ok line) (Ok bytes) = bytes.items ≡ string_bytes line
 HasBytes (Err e) (Ok bytes) = ⊥
 
 -- ---- endings
+
+-- the whole report of a command that succeeds
+abbrev pub success : List ℕ → Report
+success lines = record { verdict = verdict.Done; lines = lines }
 
 abbrev pub verdict_status : Verdict → Status
 verdict_status verdict.Done = status.Done

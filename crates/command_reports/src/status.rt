@@ -1,8 +1,8 @@
 //! How a command ends.
 ghost use Rattle.std.specs.Prelude.{◌≡◌};
-ghost use Rattle.cocoon_cli.specs.Run.{status_number};
+ghost use Rattle.command_reports.specs.Report.{status_number};
 
-use crate::answer::Verdict;
+use crate::report::Verdict;
 
 /// How a command ended, as "Statuses" in docs/FORMATS.md lists it. The program ends with its
 /// number.
@@ -35,7 +35,7 @@ impl Status {
 
 impl From<Verdict> for Status {
     ghost use Rattle.std.specs.Prelude.{◌≡◌};
-    ghost use Rattle.cocoon_cli.specs.Report.{verdict_status};
+    ghost use Rattle.command_reports.specs.Report.{verdict_status};
 
     ghost from_gives = { λ verdict status. status ≡ verdict_status verdict };
 
