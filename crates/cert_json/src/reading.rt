@@ -151,7 +151,8 @@ fn certs_of_value(alloc: Global, value: &Value) -> Result<Certs, FormFault>
 
 /// The certificates of these bytes, or why they are no file of certificates.
 pub fn from_json(alloc: Global, bytes: &[u8]) -> Result<Certs, FormFault>
-    ensures certs { IfOk result (λ certs. Answered spec.certs_form bytes.now (Ok (certs_of certs))) }
+    ensures certs { IfOk result (λ certs.
+        Answered spec.certs_form bytes.now (Ok (certs_of certs))) }
     ensures fault { IfErr result (λ fault. Refused spec.certs_form bytes.now fault) }
 {
     let value = value_of(alloc, bytes)?;

@@ -88,7 +88,8 @@ fn certs_value(alloc: Global, certs: &Certs) -> Result<Value, NoMemory>
 ///
 /// A literal of the number -2147483648 is written, and refused by `from_json`.
 pub fn to_json(alloc: Global, certs: &Certs) -> Result<Vec<u8>, NoMemory>
-    ensures text { IfOk result (λ v. v.items ≡ compact_text (spec.certs_data (certs_of certs.now))) }
+    ensures text { IfOk result (λ v.
+        v.items ≡ compact_text (spec.certs_data (certs_of certs.now))) }
     ensures reads { IfOk result (λ v. IsJson v.items (spec.certs_data (certs_of certs.now))) }
 {
     let value = certs_value(alloc, certs)?;
