@@ -1,8 +1,6 @@
 -- The loop over the terms that a term is made of.
 use Rattle.std.proofs.Common.{◌≡◌, ℕ, ◌-◌, ◌<◌, ◌≤◌, List, [], ◌∷◌, length, map, Some, slice_get, slice_index, get_or, refl, ap, sym, ◌∙◌, subst, arith, inl, inr}
 use Rattle.std.specs.List.{AllByRecursion}
-use Rattle.std.specs.Ordering.{nat_cmp}
-use Rattle.std.specs.BTreeMap.{UpdatesBy}
 use Rattle.std.proofs.lemmas.List.Elements.{recursion_from_All, All-from_recursion}
 use Rattle.std.proofs.lemmas.Option.{slice_get_within, slice_get-get_or}
 use Rattle.std.proofs.lemmas.Bool.{cases_eq}
@@ -12,6 +10,7 @@ use Rattle.bv_terms.specs.TermTrees.{Term, not_, slice, width, arg_widths, IsTer
 use Rattle.bv_terms.specs.Arenas.{parts, args_of, made_of, term_at, width_at, IsArena}
 use Rattle.bv_terms.specs.Needed.{AreNeeded, IsAmong}
 use Rattle.bv_terms.specs.Rebuilt.{Names, name_in, with_parts}
+use Rattle.bv_terms.specs.TermMaps.{IsSet}
 use Rattle.bv_terms.proofs.EvalFacts.{fit-of}
 use Rattle.bv_terms.proofs.Members.{both, each, read-index}
 use Rattle.bv_terms.proofs.NeededFacts.{inherits, needed-later}
@@ -157,7 +156,7 @@ module _ (tables : Tables) (old now : List Node) (goal : ℕ) (ids : List ℕ) (
 
   its-step : (new : List Node) (more : Names) (next : ℕ) (node : Node) → slice_get old its ≡ Some node
       → IsMade new (node_with_rows tables (term_at now) (with_parts (name_in names) node)) next → OnlyGrows now new
-      → UpdatesBy nat_cmp (nat_cmp its) names more (Some next) → Replacing tables old new goal ids (at - 1) more
+      → IsSet names more its next → Replacing tables old new goal ids (at - 1) more
   its-step new more next node e made grown up =
       let terms : AllByRecursion (λ q. term_at now (name_in names q) ≡ with_rows tables (term_at old q)) (parts node)
       = each (λ q (d : IsDone tables old now q (name_in names q)). d.term) (parts node) (parts-done node e) in
@@ -201,11 +200,11 @@ module _ (tables : Tables) (old now : List Node) (goal : ℕ) (ids : List ℕ) (
       (subst (λ x. CanMake tables now x w its) (sym o) (its-can node w (its-node k node e n) (we ∙ ap (width_at now) (own-is k e))))
 
   pub own-step : (new : List Node) (more : Names) (next k : ℕ) (node other : Node) → k ≡ get_or ids (at - 1) k → slice_get now k ≡ Some node → other ≡ with_parts (name_in names) node
-      → IsMade new (node_with_rows tables (term_at now) other) next → OnlyGrows now new → UpdatesBy nat_cmp (nat_cmp k) names more (Some next)
+      → IsMade new (node_with_rows tables (term_at now) other) next → OnlyGrows now new → IsSet names more k next
       → Replacing tables old new goal ids (at - 1) more
   own-step new more next k node other e n o made grown up =
       its-step new more next node (its-node k node e n) (subst (λ x. IsMade new (node_with_rows tables (term_at now) x) next) o made) grown
-      (subst (λ j. UpdatesBy nat_cmp (nat_cmp j) names more (Some next)) (own-is k e) up)
+      (subst (λ j. IsSet names more j next) (own-is k e) up)
 
 pub replace-last : (tables : Tables) (old now : List Node) (goal : ℕ) (ids : List ℕ) (at : ℕ) (names : Names) → Replacing tables old now goal ids at names → at ≡ 0
     → IsDone tables old now goal (name_in names goal)

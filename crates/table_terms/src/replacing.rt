@@ -7,10 +7,9 @@ ghost use Rattle.table_terms.specs.Nodes.{CanMake, node_with_rows};
 ghost use Rattle.table_terms.specs.WithRows.{table_of, with_rows};
 
 use crate::rows::table_choices;
-use bv_terms::{FunId, Node, TermId, Terms, with_parts};
+use bv_terms::{FunId, Node, TermId, TermMap, Terms, with_parts};
 use cocoon_num::{FunTable, NoMemory};
 use std::alloc::Global;
-use std::collections::BTreeMap;
 
 /// The table of a function, if it has one.
 fn table_of(tables: &[Option<FunTable>], function: FunId) -> Option<&FunTable>
@@ -64,14 +63,14 @@ pub fn with_defs(
     ensures inputs { inputs_in terms.new ≡ inputs_in terms.old }
 {
     let needed = terms.needed(alloc, goal)?;
-    let mut ids = BTreeMap::new(alloc);
+    let mut ids = TermMap::over(alloc, &needed)?;
     let mut at = needed.len();
     while at > 0 {
         at -= 1;
         let own = needed[at];
         let node = with_parts(alloc, &ids, terms.node(own))?;
         let next = choose(terms, tables, own, node, terms.width(own))?;
-        ids.insert(own, next)?;
+        ids.set(own, next)?;
     }
-    Ok(ids.get(&goal).copied().unwrap_or(goal))
+    Ok(ids.get(goal).unwrap_or(goal))
 }

@@ -4,7 +4,7 @@ use Rattle.table_terms.proofs.replacing.with_defs.Goals as goal
 
 pub loop-at-init : goal.loop-at-init
 loop-at-init c =
-    replace-first c.args.tables.now c.args.terms.now c.args.goal c.in_ok-needed.needed.items c.len-at.result c.new-ids.result c.in_ok-needed.ensures c.requires.there c.requires.tables
+    replace-first c.args.tables.now c.args.terms.now c.args.goal c.in_ok-needed.needed.items c.len-at.result c.in_ok-ids.ids c.in_ok-needed.ensures c.requires.there c.requires.tables
     (omega (arith, c.len-at.ensures, c.in_ok-needed.needed.ok.0))
 
 pub node-requires : goal.node-requires
@@ -25,5 +25,5 @@ choose-requires c =
 pub loop-at-preserved : goal.loop-at-preserved
 loop-at-preserved c =
     own-step c.args.tables.now c.args.terms.now c.loop-at.terms c.args.goal c.in_ok-needed.needed.items c.loop-at.at c.loop-at.ids c.loop-at.invariant c.loop-at-test.true
-    c.choose.new.terms c.insert.new.self c.in_ok-next.next c.index-own.result.now c.node.result.now c.in_ok-node.node c.index-own.ensures c.node.ensures.node c.in_ok-node.ensures
-    c.in_ok-next.ensures.made c.choose.ensures.grown c.in_ok-insert.ensures.updates
+    c.choose.new.terms c.set.new.self c.in_ok-next.next c.index-own.result.now c.node.result.now c.in_ok-node.node c.index-own.ensures c.node.ensures.node c.in_ok-node.ensures
+    c.in_ok-next.ensures.made c.choose.ensures.grown c.in_ok-set.ensures
