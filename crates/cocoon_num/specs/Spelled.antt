@@ -1,5 +1,4 @@
--- How the names of a tree that was read are spelled. The clauses of `read_design` (cocoon_text), of `lower` (lower_p4) and of
--- cocoon_cli, which hands it from the one to the other, cite it.
+-- How the names of a tree that was read are spelled. `headers_are_spelled` (tree_names) and what a `Checked` keeps (cocoon_resolve) cite it.
 use Rattle.std.specs.Prelude.{◌&&◌, Bool}
 use Rattle.cocoon_num.specs.Lists.{each}
 use Rattle.cocoon_num.specs.Tokens.{is_run}
