@@ -32,9 +32,7 @@ pub(crate) fn call_key(alloc: Global, function: FunId, args: &[u128]) -> Result<
 impl KeptCalls {
     /// No calls.
     pub(crate) fn new(alloc: Global) -> KeptCalls
-        ensures {
-            (design : Design) (tables : List (Maybe FunTable)) → AreValues design tables result
-        }
+        ensures { (d : Design) (tables : List (Maybe FunTable)) → AreValues d tables result }
     {
         KeptCalls {
             values: BTreeMap::new(alloc),
