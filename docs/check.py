@@ -29,6 +29,8 @@ TOP = pathlib.Path(__file__).resolve().parent.parent
 CRATES = TOP / "crates"
 PROMISES = TOP / "docs" / "PROMISES.md"
 HEADLINE = ("cocoon_cli", "Headline")
+# What every promise of a call stands on: its cause, and the one outcome of the files.
+CAUSES = ("cocoon_cli", "Run")
 # The most lines of definitions that a reader has to believe, without comments, blank lines and imports.
 MOST_BELIEVED = 2500
 
@@ -55,16 +57,23 @@ def file_of(crate, module):
     return CRATES / crate / "specs" / (module.replace(".", "/") + ".antt")
 
 
+def home(crate, module):
+    """The crate in which a file of definitions stands that this one may hand on from another."""
+    if file_of(crate, module).exists():
+        return crate
+    return next(other for other, name in IMPORT.findall((CRATES / crate / "specs" / "Lib.antt").read_text()) if name == module)
+
+
 def imports(crate, module):
     """The files of definitions that one imports, of this repository's crates. What a crate's code declares is no such file."""
     for other, name in IMPORT.findall(file_of(crate, module).read_text()):
         if (CRATES / other).is_dir() and not name.startswith("declared"):
-            yield other, name
+            yield home(other, name), name
 
 
-def closure():
-    """The files that the headline's definition stands on, with its own."""
-    found, left = set(), [HEADLINE]
+def closure(first):
+    """The files that a definition stands on, with its own."""
+    found, left = set(), [first]
     while left:
         one = left.pop()
         if one not in found:
@@ -92,7 +101,7 @@ def check_believed():
     rows = re.findall(r"^\| `(\w+)/specs/([\w/]+)\.antt` \| (\d+) \|", section[1], re.M)
     listed = [(crate, name.replace("/", ".")) for crate, name, _ in rows]
     wrong = [f"docs/PROMISES.md: {c}/specs/{m}.antt is listed twice" for c, m in set(listed) if listed.count((c, m)) > 1]
-    stands = closure()
+    stands = closure(HEADLINE)
     wrong += [f"docs/PROMISES.md: {c}/specs/{m}.antt is not listed, and the headline stands on it" for c, m in sorted(stands - set(listed))]
     wrong += [f"docs/PROMISES.md: {c}/specs/{m}.antt is listed, and the headline does not stand on it" for c, m in sorted(set(listed) - stands)]
     for (crate, module), (_, _, length) in zip(listed, rows):
@@ -103,6 +112,10 @@ def check_believed():
         wrong.append(f"docs/PROMISES.md: `What is believed` does not say `{len(stands)} files with {total:,} lines`")
     if total > MOST_BELIEVED:
         wrong.append(f"the headline stands on {total:,} lines of definitions, and at most {MOST_BELIEVED:,} are to be believed")
+    more = closure(CAUSES) - stands
+    causes = f"{len(more)} more files with {sum(weight(file_of(*one)) for one in more):,} lines"
+    if causes not in section[1]:
+        wrong.append(f"docs/PROMISES.md: `What is believed` does not say `{causes}` of the causes of statuses")
     for path in sorted(CRATES.glob("*/specs/**/*.antt")):
         one = (path.relative_to(CRATES).parts[0], ".".join(path.relative_to(path.parents[len(path.relative_to(CRATES).parts) - 3]).with_suffix("").parts))
         if path.name != "Lib.antt" and one not in stands and "cite" not in opening(path).lower():
