@@ -3,36 +3,21 @@ use Rattle.std.proofs.Common.{◌≡◌, ◌≤◌, ℕ, suc, List, Some, false,
 use Rattle.serde_json.specs.Data.{Data, depth}
 use Rattle.serde_json.specs.Read.{read, max_depth}
 use Rattle.serde_json.specs.Written.{has_float}
-use Rattle.json_forms.specs.Values.{number_data, integer_data}
-use Rattle.json_forms.proofs.Plain.{no_float, within, number_plain, number_flat, integer_plain, integer_flat}
-use Rattle.certificates.specs.Certificates.{Cert, Instance, Step}
-use Rattle.cert_json.specs.CertsJson.{step_data, instance_data, cert_data, certs_data}
-
-step_plain : (s : Step) → has_float (step_data s) ≡ false
-step_plain s = rw (no_float integer_data integer_plain s.clause, no_float number_data number_plain s.hints) refl
-
-instance_plain : (i : Instance) → has_float (instance_data i) ≡ false
-instance_plain i = rw (no_float number_data number_plain i.values) refl
+use Rattle.json_forms.proofs.Plain.{no_float, within}
+use Rattle.certificates.specs.Certificates.{Cert}
+use Rattle.log_json.proofs.LogsValue.{instances_plain, instances_shallow, log_plain, log_shallow}
+use Rattle.cert_json.specs.CertsJson.{cert_data, certs_data}
 
 cert_plain : (c : Cert) → has_float (cert_data c) ≡ false
-cert_plain c = rw (no_float instance_data instance_plain c.instances, no_float step_data step_plain c.log) refl
+cert_plain c = rw (instances_plain c.instances, log_plain c.log) refl
 
 pub certs_plain : (cs : List Cert) → has_float (certs_data cs) ≡ false
 certs_plain cs = rw (no_float cert_data cert_plain cs) refl
 
-step_shallow : (s : Step) → depth (step_data s) ≤ 3
-step_shallow s =
-    let a = within integer_data 1 integer_flat s.clause in
-    let b = within number_data 1 number_flat s.hints in
-    grind (arith, a, b)
-
-instance_shallow : (i : Instance) → depth (instance_data i) ≤ 3
-instance_shallow i = let a = within number_data 1 number_flat i.values in grind (arith, a)
-
 cert_shallow : (c : Cert) → depth (cert_data c) ≤ 5
 cert_shallow c =
-    let a = within instance_data 3 instance_shallow c.instances in
-    let b = within step_data 3 step_shallow c.log in
+    let a = instances_shallow c.instances in
+    let b = log_shallow c.log in
     grind (arith, a, b)
 
 two_deep : (a : ℕ) → a ≤ 5 → suc (max (suc a) (max 0 0)) ≤ max_depth

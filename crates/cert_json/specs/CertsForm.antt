@@ -1,40 +1,20 @@
 -- The form of a file of certificates, member by member in ascending order of keys. The clauses of `from_json` cite it. It
 -- follows "Certificates" in docs/FORMATS.md.
-use Rattle.std.specs.Prelude.{ℕ, ◌^◌, ◌==◌, ◌&&◌, ℤ, unsigned_abs, Bool, nat_le, nat_lt, List, [], ◌∷◌, Option, Some, None, if◌then◌else◌, Result, Ok, Err, codes}
+use Rattle.std.specs.Prelude.{ℕ, ◌^◌, ◌==◌, ◌&&◌, Bool, List, [], ◌∷◌, Option, Some, None, if◌then◌else◌, Result, Ok, Err, codes}
 use Rattle.serde_json.specs.Data.{Data}
 use Rattle.cocoon_num.specs.Lists.{each}
-use Rattle.json_forms.specs.Forms.{number_form, integer_form, fitting, list_form, has_items, item_form, has_keys, member_form, both_of}
-use Rattle.certificates.specs.Certificates.{Cert, Instance, Step}
-
--- from -2147483647 to 2147483647, and not 0
-abbrev pub is_literal : ℤ → Bool
-is_literal z = nat_le 1 (unsigned_abs z) && nat_lt (unsigned_abs z) (2 ^ 31)
-
-abbrev pub literal_form : Data → Option ℤ
-literal_form d = fitting is_literal (integer_form d)
-
--- [[LIT],[HINT]]
-abbrev pub step_form : Data → Option Step
-step_form d =
-    if has_items 2 d
-    then both_of (λ ls hs. record { clause = ls; hints = hs }) (item_form (list_form literal_form) 0 d) (item_form (list_form (number_form (2 ^ 32))) 1 d)
-    else None
-
--- [ASSUMPTION,[VALUE]]
-abbrev pub instance_form : Data → Option Instance
-instance_form d =
-    if has_items 2 d
-    then both_of (λ a vs. record { number = a; values = vs }) (item_form (number_form (2 ^ 32)) 0 d) (item_form (list_form (number_form (2 ^ 64))) 1 d)
-    else None
+use Rattle.json_forms.specs.Forms.{number_form, fitting, list_form, has_keys, member_form, both_of}
+use Rattle.certificates.specs.Certificates.{Cert}
+use Rattle.log_json.specs.LogsForm.{instances_form, log_form, instances_fit, log_fits}
 
 abbrev pub cert_keys : List (List ℕ)
 cert_keys = codes "instances" ∷ codes "log" ∷ []
 
--- {"instances":[INSTANCE],"log":[STEP]}
+-- {"instances":[INSTANCE],"log":LOG}
 abbrev pub cert_form : Data → Option Cert
 cert_form d =
     if has_keys cert_keys d
-    then both_of (λ is ss. record { instances = is; log = ss }) (member_form (list_form instance_form) (codes "instances") d) (member_form (list_form step_form) (codes "log") d)
+    then both_of (λ is ss. record { instances = is; log = ss }) (member_form instances_form (codes "instances") d) (member_form log_form (codes "log") d)
     else None
 
 abbrev pub cocoon_of : Data → Option ℕ
@@ -59,14 +39,8 @@ certs_form d =
 
 -- ---- which certificates are of the form
 
-abbrev pub step_fits : Step → Bool
-step_fits s = each is_literal s.clause && each (λ h. nat_lt h (2 ^ 32)) s.hints
-
-abbrev pub instance_fits : Instance → Bool
-instance_fits i = nat_lt i.number (2 ^ 32) && each (λ v. nat_lt v (2 ^ 64)) i.values
-
 abbrev pub cert_fits : Cert → Bool
-cert_fits c = each instance_fits c.instances && each step_fits c.log
+cert_fits c = instances_fit c.instances && log_fits c.log
 
 -- each literal is one that the file may have, and so is each number
 abbrev pub certs_fit : List Cert → Bool

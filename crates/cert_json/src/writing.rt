@@ -1,61 +1,19 @@
 //! The text of a file of certificates.
-ghost use Rattle.std.specs.Prelude.{◌≡◌, ℤ, IfOk};
+ghost use Rattle.std.specs.Prelude.{◌≡◌, IfOk};
 ghost use Rattle.serde_json.specs.View.{view};
 ghost use Rattle.serde_json.specs.Written.{compact_text};
-ghost use Rattle.json_forms.specs.Values.{IsJson, integer_data};
+ghost use Rattle.json_forms.specs.Values.{IsJson};
 ghost use Rattle.certificates.specs.Certificates as tree;
-ghost use Rattle.certificates.specs.CertsOf.{cert_of, certs_of, instance_of, step_of};
+ghost use Rattle.certificates.specs.CertsOf.{cert_of, certs_of};
 ghost use Rattle.cert_json.specs.CertsJson as spec;
 
 use crate::kind::CertJson;
 use certificates::{Cert, Certs, Instance};
-use cnf_core::{Lit, Step};
 use cocoon_num::NoMemory;
 use json_forms::{ToJson, array, with};
+use log_json::LogJson;
 use serde_json::{Map, Value};
 use std::alloc::Global;
-
-impl ToJson<CertJson> for Lit {
-    ghost Meaning = { ℤ };
-
-    ghost meaning = { λ l. l.number };
-
-    ghost json = { integer_data };
-
-    /// `LIT`
-    fn to_json(&self, _: Global) -> Result<Value, NoMemory> {
-        Ok(Value::from(self.number))
-    }
-}
-
-impl ToJson<CertJson> for Step {
-    ghost Meaning = { tree.Step };
-
-    ghost meaning = { step_of };
-
-    ghost json = { spec.step_data };
-
-    /// `[[LIT],[HINT]]`
-    fn to_json(&self, alloc: Global) -> Result<Value, NoMemory> {
-        let lits = array::<CertJson, Lit>(alloc, self.clause.lits.items())?;
-        let hints = array::<CertJson, u32>(alloc, self.hints.items())?;
-        Ok(Value::Array(vec![in alloc; lits, hints]?))
-    }
-}
-
-impl ToJson<CertJson> for Instance {
-    ghost Meaning = { tree.Instance };
-
-    ghost meaning = { instance_of };
-
-    ghost json = { spec.instance_data };
-
-    /// `[ASSUMPTION,[VALUE]]`
-    fn to_json(&self, alloc: Global) -> Result<Value, NoMemory> {
-        let values = array::<CertJson, u64>(alloc, self.values.items())?;
-        Ok(Value::Array(vec![in alloc; Value::from(self.number), values]?))
-    }
-}
 
 impl ToJson<CertJson> for Cert {
     ghost Meaning = { tree.Cert };
@@ -64,10 +22,10 @@ impl ToJson<CertJson> for Cert {
 
     ghost json = { spec.cert_data };
 
-    /// `{"instances":[INSTANCE],"log":[STEP]}`
+    /// `{"instances":[INSTANCE],"log":LOG}`
     fn to_json(&self, alloc: Global) -> Result<Value, NoMemory> {
-        let instances = array::<CertJson, Instance>(alloc, self.instances.items());
-        let log = array::<CertJson, Step>(alloc, self.log.steps.items());
+        let instances = array::<LogJson, Instance>(alloc, self.instances.items());
+        let log = self.log.to_json(alloc);
         let object = with(alloc, Ok(Map::new(alloc)), "instances", instances);
         let object = with(alloc, object, "log", log);
         Ok(Value::Object(object?))

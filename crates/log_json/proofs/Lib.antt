@@ -1,0 +1,3 @@
+pub mod LogsExact
+pub mod LogsApart
+pub mod LogsValue

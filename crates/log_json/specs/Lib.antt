@@ -1,0 +1,2 @@
+pub mod LogsJson
+pub mod LogsForm
