@@ -1,0 +1,4 @@
+mod DefsUtf8
+mod BudgetValue
+mod BudgetApart
+mod Example

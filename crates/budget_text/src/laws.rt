@@ -1,0 +1,10 @@
+//! What a file says: a law, the contract of a function that does nothing.
+ghost use Rattle.std.specs.Prelude.{◌≡◌, ℕ, List};
+ghost use Rattle.budget_text.specs.BudgetJson.{IsBudgetFile};
+ghost use Rattle.budget_text.specs.Spent.{Spent};
+
+/// A file says of one thing that a budget was spent on it.
+pub fn files_are_of_one()
+    ensures { (bytes : List ℕ) (spent other : Spent) → IsBudgetFile spent bytes
+        → IsBudgetFile other bytes → spent ≡ other }
+{}
