@@ -153,8 +153,9 @@ def figures(program, numbers):
 
 
 def drawn(source):
-    """Numbers of a design, most of them small."""
-    return {name: 1 + int((most - 1) * source.random() ** 4) if most > 1 else source.randint(0, 1) for name, most in MOST.items()}
+    """Numbers of a design, most of them small; most designs are of one level without assumptions, which `compile` takes."""
+    numbers = {name: 1 + int((most - 1) * source.random() ** 4) for name, most in MOST.items()}
+    return numbers | ({"level": 0, "assumptions": 0} if source.random() < 0.7 else {})
 
 
 def changed(numbers, source):
@@ -170,7 +171,7 @@ def changed(numbers, source):
 def main(program, seconds=600, seed=1, folder=TOP / "out" / "slow"):
     program, source, folder = str(pathlib.Path(program).resolve()), random.Random(seed), pathlib.Path(folder)
     folder.mkdir(parents=True, exist_ok=True)
-    start = {name: 1 for name in MOST} | {"width": 0, "ports": 4, "level": 0, "unused": 0, "place": 0}
+    start = {name: 1 for name in MOST} | {"width": 0, "ports": 4, "level": 0, "unused": 0, "place": 0, "assumptions": 0}
     best, worst, over, tried, statuses, until = [(0.0, start)], {}, 0, 0, {}, time.monotonic() + seconds
     while time.monotonic() < until:
         numbers = changed(source.choice(best)[1], source) if source.random() < 0.8 else drawn(source)
