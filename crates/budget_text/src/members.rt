@@ -50,12 +50,8 @@ pub(crate) fn assumed(alloc: Global, checked: &Checked, number: u32, defs: &Defs
         (member (codes "defs") (string (defs_text (design_of checked.now) defs.now)) no_members)) }
 {
     let text = defs_value(alloc, checked, defs);
-    let object = with(
-        alloc,
-        Ok(Map::new(alloc)),
-        "assumption",
-        Ok(Value::from(number)),
-    );
+    let object = Ok(Map::new(alloc));
+    let object = with(alloc, object, "assumption", Ok(Value::from(number)));
     with(alloc, object, "defs", text)
 }
 
@@ -64,12 +60,8 @@ pub(crate) fn with_instances(alloc: Global, object: Object, instances: &[Instanc
         → IfOk result (λ o. members_view o.entries ≡ put (codes "instances")
         (instances_data (map instance_of instances.now)) members) }
 {
-    with(
-        alloc,
-        object,
-        "instances",
-        array::<LogJson, Instance>(alloc, instances),
-    )
+    let values = array::<LogJson, Instance>(alloc, instances);
+    with(alloc, object, "instances", values)
 }
 
 pub(crate) fn with_log(alloc: Global, object: Object, log: &Log) -> Object

@@ -4,4 +4,4 @@ use Rattle.log_json.specs.LogsJson.{instances_data}
 use Rattle.budget_text.proofs.members.with_instances.Goals as goal
 
 pub returns : goal.returns
-returns c = λ members is. c.with.ensures members (instances_data (map instance_of c.args.instances.now)) is c.array.ensures
+returns c = λ members is. c.with.ensures members (instances_data (map instance_of c.args.instances.now)) is c.array-values.ensures
