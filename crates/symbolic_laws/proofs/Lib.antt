@@ -1,0 +1,15 @@
+pub mod Values
+pub mod Fields
+pub mod Followings
+pub mod Meaning
+pub mod Leading
+pub mod Statements
+pub mod Hopping
+pub mod Numbering
+pub mod Growing
+pub mod Finding
+pub mod Trees
+pub mod Counting
+pub mod Widths
+pub mod Ascending
+pub mod Together
