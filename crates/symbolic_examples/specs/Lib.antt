@@ -1,0 +1,3 @@
+pub mod DesignR
+pub mod DesignWays
+pub mod Seen

@@ -1,0 +1,4 @@
+//! The trees of four designs, worked out from the definitions.
+#![tactic(auto)]
+
+pub mod laws;
