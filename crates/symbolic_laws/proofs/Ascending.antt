@@ -1,17 +1,16 @@
 -- Numbers of the inputs of leaves, and the kinds of their ends.
-use Rattle.std.proofs.Common.{◌≡◌, ◌⊎◌, inl, inr, ℕ, zero, suc, ◌+◌, ◌≤◌, List, [], ◌∷◌, ◌++◌, length, map, Bool, true, false, Option, Some, None, if◌then◌else◌, refl, sym, ap, subst, ◌∙◌, arith}
+use Rattle.std.proofs.Common.{◌≡◌, inl, inr, ℕ, zero, suc, ◌+◌, ◌≤◌, List, [], ◌∷◌, ◌++◌, length, map, Bool, true, false, Option, Some, None, if◌then◌else◌, refl, sym, ap, subst, ◌∙◌, arith}
 use Rattle.std.specs.Prelude.{flat_map, slice_get}
 use Rattle.std.proofs.lemmas.List.{append-nil, append_assoc}
 use Rattle.cocoon_num.specs.Tree.{Role, Stmt, let_, set_field, if_, filter, havoc_var, havoc_field, assume, fork, send, Block, no_stmts, stmt}
 use Rattle.cocoon_types.specs.Design.{widths_of}
 use Rattle.sound_types.proofs.Members.{In, at_place, flat_in, in_either, map_in}
-use Rattle.bv_terms.specs.TermTrees.{Term}
 use Rattle.symbolic_laws.specs.States as states
 use Rattle.symbolic_laws.specs.States.{NewInput, Place, State, TermWorld, choice_width, input_term, inputs_from, where_true}
 use Rattle.symbolic_laws.specs.Following.{Followed, chosen_as, each, follow, follow_all, has_sent, in_branch, next_input, one, term_at, those_sent, unless_sent}
 use Rattle.symbolic_laws.specs.LeafForms.{Ascend, EndsBy}
 use Rattle.symbolic_laws.specs.Leaves.{Leaf, Tree, at_new, begins, end_at, entered, entry_of, follow_body, hops, leaf_of, onward, params_of, tree_of}
-use Rattle.symbolic_laws.proofs.Followings.{passed, unless_in}
+use Rattle.symbolic_laws.proofs.Followings.{passed}
 use Rattle.symbolic_laws.proofs.Growing.{Grows, block_grows, each_grows, followed_grows, hop_grows}
 use Rattle.symbolic_laws.proofs.Numbering.{numbered_from, numbered_join, numbered_wider}
 

@@ -4,7 +4,7 @@ use Rattle.std.specs.Prelude.{filter}
 use Rattle.std.proofs.lemmas.Bool.{ltb-true}
 use Rattle.std.proofs.lemmas.List.{append-nil, append_assoc}
 use Rattle.cocoon_num.specs.Packets.{Packet}
-use Rattle.cocoon_num.specs.Tree.{Param, Stmt, let_, set_field, if_, filter as filter_stmt, havoc_var, havoc_field, assume, fork, send, Block, no_stmts, stmt, Role, Design}
+use Rattle.cocoon_num.specs.Tree.{Stmt, let_, set_field, if_, filter as filter_stmt, havoc_var, havoc_field, assume, fork, send, Block, no_stmts, stmt, Role, Design}
 use Rattle.cocoon_num.specs.Values.{Value, number, truth, FitsWidth, as_number, fits_width}
 use Rattle.cocoon_types.specs.Design.{field_width, role_at, write_field}
 use Rattle.cocoon_types.specs.Runs.{End, falls, sends, Loc, World, back_to, world}
@@ -18,12 +18,12 @@ use Rattle.symbolic_laws.specs.States as states
 use Rattle.symbolic_laws.specs.States.{NewInput, Place, State, TermWorld, choice_width, input_term, term_world, where_true}
 use Rattle.symbolic_laws.specs.Following as following
 use Rattle.symbolic_laws.specs.Following.{Followed, chosen_as, each, follow, follow_all, has_sent, next_input, one, sends_to, term_at, those_sent, unless_sent}
-use Rattle.symbolic_laws.specs.Leaves.{at_new, entered, follow_body, hops, onward}
+use Rattle.symbolic_laws.specs.Leaves.{entered, follow_body, hops, onward}
 use Rattle.symbolic_laws.proofs.Growing.{Place_of, block_grows, body_grows, followed_grows, hop_grows, place_in}
 use Rattle.symbolic_laws.proofs.Hopping.{arrive, hops_in, new_at}
 use Rattle.symbolic_laws.proofs.Leading.{map_there, sends_only, some_there}
 use Rattle.symbolic_laws.specs.LeafForms.{Ascend}
-use Rattle.symbolic_laws.proofs.Numbering.{Fill, fill_join, numbered_join, numbered_wider, numbered_within}
+use Rattle.symbolic_laws.proofs.Numbering.{Fill, fill_join, numbered_join, numbered_wider}
 
 -- ---- parts of runs
 

@@ -1,9 +1,9 @@
 -- Which states come of others.
-use Rattle.std.proofs.Common.{◌≡◌, ◌⊎◌, inl, inr, ℕ, List, [], ◌∷◌, ◌++◌, Bool, true, false, cond, Option, Some, None, is_some, refl, sym, ap, subst, ◌∙◌}
+use Rattle.std.proofs.Common.{◌≡◌, ◌⊎◌, inl, inr, ℕ, List, [], ◌∷◌, Bool, true, false, cond, Option, Some, None, is_some, refl, ap, ◌∙◌}
 use Rattle.std.specs.Prelude.{filter}
 use Rattle.sound_types.proofs.Members.{In, in_either}
 use Rattle.symbolic_laws.specs.States.{Place, State}
-use Rattle.symbolic_laws.specs.Following.{Followed, each, has_sent, one, those_sent, unless_sent}
+use Rattle.symbolic_laws.specs.Following.{Followed, each, one, unless_sent}
 
 -- a state that comes of some comes of one of them
 pub each_in : (f : State → ℕ → Followed) (ss : List State) (n : ℕ) (t : State) → In t (each f ss n).0 → (s : State) × In s ss × (k : ℕ) × In t (f s k).0

@@ -1,9 +1,8 @@
 -- The number of the next input only grows.
-use Rattle.std.proofs.Common.{◌≡◌, ◌⊎◌, inl, inr, ℕ, zero, suc, ◌≤◌, Bool, true, false, List, [], ◌∷◌, ◌++◌, Option, Some, None, if◌then◌else◌, refl, sym, ap, subst, arith}
+use Rattle.std.proofs.Common.{inl, inr, ℕ, zero, suc, ◌≤◌, Bool, true, false, List, [], ◌∷◌, Option, Some, None, if◌then◌else◌, sym, subst, arith}
 use Rattle.cocoon_num.specs.Tree.{Role, Stmt, let_, set_field, if_, filter, havoc_var, havoc_field, assume, fork, send, Block, no_stmts, stmt}
 use Rattle.sound_types.proofs.Members.{In, in_left, in_right}
-use Rattle.symbolic_laws.specs.States as states
-use Rattle.symbolic_laws.specs.States.{NewInput, Place, State, TermWorld, where_true}
+use Rattle.symbolic_laws.specs.States.{Place, State, TermWorld, where_true}
 use Rattle.symbolic_laws.specs.Leaves.{at_new, entered, follow_body, hops, onward}
 use Rattle.symbolic_laws.specs.Following.{Followed, chosen_as, each, follow, follow_all, in_branch, next_input, one, term_at, those_sent, unless_sent}
 

@@ -1,28 +1,24 @@
 -- Each state that bodies lead to comes of the one where they began by a run of those bodies.
-use Rattle.std.proofs.Common.{◌≡◌, ◌⊎◌, inl, inr, ℕ, zero, suc, List, [], ◌∷◌, ◌++◌, Bool, true, false, Option, Some, None, if◌then◌else◌, option_and_then, option_map, refl, sym, ap, subst, ◌∙◌}
+use Rattle.std.proofs.Common.{◌≡◌, inl, inr, ℕ, zero, suc, List, [], ◌∷◌, ◌++◌, Bool, true, false, Option, Some, None, if◌then◌else◌, option_and_then, option_map, refl, sym, ap, subst, ◌∙◌}
 use Rattle.std.specs.List.{AllZip}
 use Rattle.std.proofs.lemmas.List.{append-nil, append_assoc, append_cancel_left}
 use Rattle.cocoon_num.specs.Packets.{Packet}
-use Rattle.cocoon_num.specs.Tree.{Param, Block, Role, Design}
-use Rattle.cocoon_num.specs.Values.{number, truth}
+use Rattle.cocoon_num.specs.Tree.{Block, Role, Design}
 use Rattle.cocoon_types.specs.Design.{role_at, widths_of}
 use Rattle.cocoon_types.specs.Runs.{End, falls, sends, Loc, World, world}
 use Rattle.cocoon_types.specs.Tables.{Defs}
-use Rattle.cocoon_types.specs.Taken.{guard_at}
-use Rattle.cocoon_types.specs.Val.{Env, bind}
 use Rattle.refinement.specs.Segments.{is_new}
 use Rattle.refinement.specs.Ways.{Arrival, Course, Way, after, arrival, body_by, go_by, hops_by, if_new, on_true, run_all_by}
 use Rattle.bv_terms.specs.TermValues.{Functions, Inputs}
 use Rattle.sound_types.proofs.Members.{In}
-use Rattle.expr_term_laws.specs.Shown.{HasNumber, functions_by, numbers_of}
-use Rattle.expr_term_laws.specs.TermOf.{bind_terms}
-use Rattle.symbolic_laws.specs.States.{NewInput, Place, State, TermWorld, term_world}
+use Rattle.expr_term_laws.specs.Shown.{HasNumber, functions_by}
+use Rattle.symbolic_laws.specs.States.{NewInput, Place, State, term_world}
 use Rattle.symbolic_laws.specs.Following.{Followed, each, follow_all, has_sent, one, those_sent}
 use Rattle.symbolic_laws.specs.Leaves.{at_new, entered, follow_body, hops, onward}
 use Rattle.symbolic_laws.specs.Meant.{AllFit, IsOne, given}
 use Rattle.symbolic_laws.proofs.Followings.{each_in, passed, some_place}
 use Rattle.symbolic_laws.proofs.Leading.{Leads, fit_split, given_join, map_there, sent_fits, some_there}
-use Rattle.symbolic_laws.proofs.Meaning.{AtFits, Fits, FitsBy, Holds, bound_are, end_by, end_of, env_at, loc_at, packet_at}
+use Rattle.symbolic_laws.proofs.Meaning.{Fits, FitsBy, Holds, bound_are, end_by, end_of, env_at, loc_at, packet_at}
 use Rattle.symbolic_laws.proofs.Statements.{block_vars, block_leads, of_one, runs_all}
 
 abbrev pub arrive : Loc → Packet → List ℕ → Way → Arrival

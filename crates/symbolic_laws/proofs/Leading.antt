@@ -1,11 +1,11 @@
 -- A state that comes of another, and the run that leads from one to the other, for given inputs.
-use Rattle.std.proofs.Common.{◌≡◌, ◌⊎◌, inl, inr, ℕ, List, [], ◌∷◌, ◌++◌, map, Bool, true, false, Option, Some, None, option_and_then, option_map, refl, sym, ap, subst, ◌∙◌}
+use Rattle.std.proofs.Common.{◌≡◌, ℕ, List, [], ◌∷◌, ◌++◌, Bool, true, false, Option, Some, None, option_and_then, option_map, refl, sym, ap, subst, ◌∙◌}
 use Rattle.std.specs.Prelude.{not}
-use Rattle.std.proofs.lemmas.List.{append-nil, append_assoc, append_cancel_left, map-append}
+use Rattle.std.proofs.lemmas.List.{append-nil, append_assoc, append_cancel_left}
 use Rattle.cocoon_num.specs.Packets.{Packet}
 use Rattle.cocoon_num.specs.Tree.{Param, Design}
-use Rattle.cocoon_num.specs.Values.{Value, number, truth, FitsWidth}
-use Rattle.cocoon_types.specs.Runs.{End, falls, sends, Loc, back_to}
+use Rattle.cocoon_num.specs.Values.{truth, FitsWidth}
+use Rattle.cocoon_types.specs.Runs.{End, falls, sends, back_to}
 use Rattle.cocoon_types.specs.Tables.{Defs}
 use Rattle.cocoon_types.specs.Val.{Env}
 use Rattle.refinement.specs.Ways.{Course, Way, branch, if_sends, in_branch, on_true, since, then_on}

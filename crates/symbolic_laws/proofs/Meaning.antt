@@ -1,5 +1,5 @@
 -- What states mean for given inputs, and that terms in them have the values of expressions.
-use Rattle.std.proofs.Common.{◌≡◌, ℕ, ◌<◌, ◌^◌, List, [], ◌∷◌, ◌++◌, map, Bool, true, false, Option, Some, None, if◌then◌else◌, option_and_then, option_map, refl, sym, ap, subst, ◌∙◌}
+use Rattle.std.proofs.Common.{◌≡◌, ℕ, ◌<◌, ◌^◌, List, [], ◌∷◌, Bool, true, Option, Some, None, if◌then◌else◌, option_and_then, option_map, refl, sym, ap, subst, ◌∙◌}
 use Rattle.std.specs.List.{AllZip}
 use Rattle.std.proofs.lemmas.Bool.{lt-ltb}
 use Rattle.cocoon_num.specs.Packets.{Packet}
@@ -8,11 +8,11 @@ use Rattle.cocoon_num.specs.Tree.{Param, Expr, Exprs, Role, Design}
 use Rattle.cocoon_num.specs.Values.{Value, number, truth, FitsWidth, as_number}
 use Rattle.cocoon_resolve.specs.Readers.{all_widths}
 use Rattle.cocoon_types.specs.Design.{role_at, widths_of}
-use Rattle.cocoon_types.specs.Runs.{End, falls, sends, Loc, World, world}
+use Rattle.cocoon_types.specs.Runs.{End, falls, sends, Loc, world}
 use Rattle.cocoon_types.specs.Tables.{Defs}
 use Rattle.cocoon_types.specs.Taken.{guard_at}
 use Rattle.cocoon_types.specs.Val.{Env, bind, bound, context, numbers, value}
-use Rattle.refinement.specs.Ways.{Course, Way, choose}
+use Rattle.refinement.specs.Ways.{choose}
 use Rattle.bv_terms.specs.TermTrees.{Term}
 use Rattle.bv_terms.specs.TermValues.{Functions, Inputs, number_in, term_value}
 use Rattle.sound_types.specs.Matching.{Binds, IsOfSort}
@@ -20,8 +20,8 @@ use Rattle.sound_types.specs.WellTyped.{HasType, HaveWidths, IsTypedRole, scope_
 use Rattle.expr_term_laws.specs.Shown.{HasNumber, env_of, functions_by, numbers_of, packet_in}
 use Rattle.expr_term_laws.specs.TermOf.{TermEnv, bind_terms, term_context, term_of, terms_of}
 use Rattle.expr_term_laws.proofs.OperatorTerms.{shown}
-use Rattle.expr_term_laws.proofs.Values.{AreNumbers, ShownAs, numbers_are}
-use Rattle.symbolic_laws.specs.States.{Place, State, TermWorld, guard_term, term_world}
+use Rattle.expr_term_laws.proofs.Values.{AreNumbers, ShownAs}
+use Rattle.symbolic_laws.specs.States.{Place, State, guard_term, term_world}
 use Rattle.symbolic_laws.specs.Meant.{IsOne}
 use Rattle.symbolic_laws.proofs.Values.{IsBit}
 

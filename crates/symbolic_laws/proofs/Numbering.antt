@@ -1,5 +1,5 @@
 -- Numbers of inputs, and inputs with some numbers put in.
-use Rattle.std.proofs.Common.{◌≡◌, ℕ, zero, suc, ◌+◌, ◌<◌, ◌≤◌, ◌==◌, List, [], ◌∷◌, ◌++◌, length, map, Bool, true, false, if◌then◌else◌, refl, sym, ap, subst, ◌∙◌, arith}
+use Rattle.std.proofs.Common.{◌≡◌, ℕ, suc, ◌+◌, ◌<◌, ◌≤◌, ◌==◌, List, [], ◌∷◌, ◌++◌, length, true, false, if◌then◌else◌, refl, sym, ap, subst, ◌∙◌, arith}
 use Rattle.cocoon_num.specs.Values.{FitsWidth}
 use Rattle.bv_terms.specs.TermValues.{Inputs}
 use Rattle.symbolic_laws.specs.States.{NewInput, inputs_from}

@@ -1,39 +1,34 @@
 -- Each state that a statement or a block makes of another comes of it by a run.
-use Rattle.std.proofs.Common.{◌≡◌, ◌⊎◌, inl, inr, ℕ, suc, List, [], ◌∷◌, ◌++◌, map, Bool, true, false, Option, Some, None, is_some, option_and_then, option_map, refl, sym, ap, subst, ◌∙◌}
+use Rattle.std.proofs.Common.{◌≡◌, ◌⊎◌, inl, inr, ℕ, suc, List, [], ◌∷◌, ◌++◌, true, false, Option, Some, None, option_and_then, option_map, refl, sym, ap, subst, ◌∙◌}
 use Rattle.std.specs.Prelude.{not}
-use Rattle.std.specs.List.{AllZip}
 use Rattle.cocoon_num.specs.Packets.{Packet}
-use Rattle.cocoon_num.specs.Sorts.{Sort, bits_sort, truth_sort}
-use Rattle.cocoon_num.specs.Tree.{Name, Expr, Exprs, Param, Stmt, let_, set_field, if_, filter, havoc_var, havoc_field, assume, fork, send, Block, no_stmts, stmt, Design}
-use Rattle.cocoon_num.specs.Values.{Value, number, truth, FitsWidth, as_number}
-use Rattle.cocoon_resolve.specs.Readers.{all_widths}
-use Rattle.cocoon_types.specs.Design.{field_width, widths_of, write_field}
-use Rattle.cocoon_types.specs.Runs.{End, falls, sends, Loc, World, world}
-use Rattle.cocoon_types.specs.Sites.{after_stmt}
+use Rattle.cocoon_num.specs.Sorts.{bits_sort, truth_sort}
+use Rattle.cocoon_num.specs.Tree.{Expr, Param, Stmt, let_, set_field, if_, filter, havoc_var, havoc_field, assume, fork, send, Block, no_stmts, stmt, Design}
+use Rattle.cocoon_num.specs.Values.{Value, number, truth, FitsWidth}
+use Rattle.cocoon_types.specs.Design.{widths_of, write_field}
+use Rattle.cocoon_types.specs.Runs.{falls, sends, world}
 use Rattle.cocoon_types.specs.Tables.{Defs}
 use Rattle.cocoon_types.specs.Taken.{guard_at}
-use Rattle.cocoon_types.specs.Val.{Env, bound, context, numbers, value}
-use Rattle.refinement.specs.Ways.{Course, Way, branch, choose, if_sends, in_branch, on_true, run_all_by, run_by, straight}
+use Rattle.cocoon_types.specs.Val.{Env, bound, context, value}
+use Rattle.refinement.specs.Ways.{Course, branch, choose, if_sends, in_branch, on_true, run_all_by, run_by, straight}
 use Rattle.bv_terms.specs.TermTrees as term
 use Rattle.bv_terms.specs.TermTrees.{Term}
 use Rattle.bv_terms.specs.TermValues.{Functions, Inputs, number_in, term_value}
-use Rattle.sound_types.specs.Matching.{Binds, IsOfSort}
 use Rattle.sound_types.specs.WellTyped.{HasType, IsTyped, IsTypedStmt, scope_at}
 use Rattle.sound_types.proofs.Bodies.{after_scope, after_vars}
 use Rattle.sound_types.proofs.Members.{In, in_either, map_in}
-use Rattle.expr_term_laws.specs.Shown.{HasNumber, env_of, functions_by, numbers_of, packet_in}
-use Rattle.expr_term_laws.specs.TermOf.{term_context, term_of, terms_of}
-use Rattle.expr_term_laws.proofs.OperatorTerms.{shown}
-use Rattle.expr_term_laws.proofs.Values.{AreNumbers, numbers_are}
+use Rattle.expr_term_laws.specs.Shown.{HasNumber, functions_by}
+use Rattle.expr_term_laws.specs.TermOf.{term_context, terms_of}
+use Rattle.expr_term_laws.proofs.Values.{numbers_are}
 use Rattle.symbolic_laws.specs.States.{NewInput, Place, State, TermWorld, choice_width, guard_term, input_term, set_term, term_world, where_true}
 use Rattle.symbolic_laws.specs.States as states
 use Rattle.symbolic_laws.specs.Following as following
 use Rattle.symbolic_laws.specs.Following.{Followed, chosen_as, each, follow, follow_all, has_sent, next_input, one, sends_to, term_at, unless_sent}
 use Rattle.symbolic_laws.proofs.Fields.{set_fits, set_packet}
 use Rattle.symbolic_laws.proofs.Followings.{each_in, passed, some_place, unless_in}
-use Rattle.symbolic_laws.proofs.Leading.{Branched, Forked, Leads, Run, Tested, binds_of, branched, composed, course, forked, picks, quiet, stopped, tested}
-use Rattle.symbolic_laws.proofs.Meaning.{AtFits, Fits, FitsBy, Holds, NumberShown, TruthShown, are_have, end_by, end_of, env_at, guard_shown, loc_at, number_shown, packet_at, taken, truth_shown}
-use Rattle.symbolic_laws.proofs.Values.{IsBit, and_bit, holds as bit_holds, not_bit, parts_hold}
+use Rattle.symbolic_laws.proofs.Leading.{Leads, Run, binds_of, branched, composed, course, forked, picks, quiet, stopped, tested}
+use Rattle.symbolic_laws.proofs.Meaning.{AtFits, Fits, FitsBy, Holds, NumberShown, TruthShown, are_have, end_by, env_at, guard_shown, loc_at, number_shown, packet_at, taken, truth_shown}
+use Rattle.symbolic_laws.proofs.Values.{and_bit, holds as bit_holds, not_bit, parts_hold}
 
 -- the variables after a block
 abbrev pub block_vars : Block → List Param → List Param

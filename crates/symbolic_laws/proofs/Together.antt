@@ -1,7 +1,7 @@
 -- The laws, put together.
 use Rattle.std.proofs.Common.{◌≡◌, ℕ, suc, ◌+◌, ◌≤◌, Bool, List, [], length, map, reverse, true, false, Some, refl, sym, subst, arith}
 use Rattle.cocoon_num.specs.Sorts.{truth_sort}
-use Rattle.cocoon_num.specs.Tree.{Role, DefsText, Design}
+use Rattle.cocoon_num.specs.Tree.{Role, Design}
 use Rattle.cocoon_resolve.specs.Readers.{all_widths}
 use Rattle.cocoon_types.specs.Design.{functions, role_at, widths_of}
 use Rattle.cocoon_types.specs.Rules.{WellFormed}

@@ -1,28 +1,26 @@
 -- Leaves of trees and runs of bodies.
-use Rattle.std.proofs.Common.{◌≡◌, ◌⊎◌, inl, inr, ℕ, zero, suc, ◌+◌, ◌≤◌, List, [], ◌∷◌, ◌++◌, length, map, Bool, true, false, Option, Some, None, option_and_then, refl, sym, ap, subst, ◌∙◌, arith}
-use Rattle.std.specs.Prelude.{flat_map, slice_get}
+use Rattle.std.proofs.Common.{◌≡◌, inl, inr, ℕ, zero, suc, ◌+◌, ◌≤◌, List, [], ◌∷◌, ◌++◌, length, map, Bool, true, false, Option, Some, None, option_and_then, refl, sym, ap, subst, ◌∙◌, arith}
+use Rattle.std.specs.Prelude.{flat_map}
 use Rattle.std.specs.List.{AllZip}
 use Rattle.cocoon_num.specs.Packets.{Packet}
 use Rattle.cocoon_num.specs.Tree.{Role, Design}
-use Rattle.cocoon_num.specs.Values.{Value, number, truth}
+use Rattle.cocoon_num.specs.Values.{truth}
 use Rattle.cocoon_resolve.specs.Readers.{all_widths}
 use Rattle.cocoon_types.specs.Design.{role_at, widths_of}
 use Rattle.cocoon_types.specs.Runs.{Loc, World, world}
 use Rattle.cocoon_types.specs.Tables.{Defs}
-use Rattle.cocoon_types.specs.Taken.{guard_at}
-use Rattle.refinement.specs.Ways.{Arrival, Way, body_by, go_by, if_new, on_true}
-use Rattle.bv_terms.specs.TermTrees.{Term}
+use Rattle.refinement.specs.Ways.{Arrival, body_by, go_by, if_new, on_true}
 use Rattle.bv_terms.specs.TermValues.{Functions, Inputs}
 use Rattle.role_values.specs.Flat.{packet_of}
 use Rattle.sound_types.proofs.Members.{In, at_place, flat_in, in_flat}
 use Rattle.expr_term_laws.specs.Shown.{HasNumber, functions_by, numbers_of}
 use Rattle.expr_term_laws.proofs.Typings.{in_place}
-use Rattle.symbolic_laws.specs.States.{NewInput, Place, State, TermWorld, guard_term, input_term, inputs_from, term_world}
+use Rattle.symbolic_laws.specs.States.{NewInput, Place, State, guard_term, input_term, inputs_from, term_world}
 use Rattle.symbolic_laws.specs.Leaves.{Leaf, Tree, begins, end_at, entry_of, hops, leaf_of, params_of, tree_of}
-use Rattle.symbolic_laws.specs.LeafRuns.{HasLeaf, IsItsRun, LeavesAreRuns, RunsHaveLeaves, first_loc, first_packet}
+use Rattle.symbolic_laws.specs.LeafRuns.{IsItsRun, LeavesAreRuns, RunsHaveLeaves, first_loc, first_packet}
 use Rattle.symbolic_laws.specs.Meant.{AllFit, IsOne, arrives, given}
-use Rattle.symbolic_laws.proofs.Finding.{Found, HopsFound, hops_found}
-use Rattle.symbolic_laws.proofs.Hopping.{Hops, arrive, hops_in, hops_lead}
+use Rattle.symbolic_laws.proofs.Finding.{hops_found}
+use Rattle.symbolic_laws.proofs.Hopping.{arrive, hops_in, hops_lead}
 use Rattle.symbolic_laws.proofs.Leading.{some_there, was_true}
 use Rattle.symbolic_laws.proofs.Meaning.{AtFits, Fits, GuardShown, Holds, guard_shown, loc_at, packet_at}
 use Rattle.symbolic_laws.specs.LeafForms.{Ascend}

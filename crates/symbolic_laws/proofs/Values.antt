@@ -1,7 +1,7 @@
 -- Truth of terms: of chains and of what is not true.
 use Rattle.std.proofs.Common.{◌≡◌, ℕ, Bool, true, false, ◌&&◌, refl, sym, ap, ◌∙◌}
 use Rattle.std.specs.Prelude.{not}
-use Rattle.cocoon_num.specs.Values.{Value, number, truth, apply_unary, flip}
+use Rattle.cocoon_num.specs.Values.{number, truth, apply_unary, flip}
 use Rattle.bv_terms.specs.declared.node.TermOp.TheVariants as ops
 use Rattle.bv_terms.specs.TermTrees as term
 use Rattle.bv_terms.specs.TermTrees.{Term}

@@ -1,7 +1,7 @@
 -- Cited by the clauses of the laws of this crate and by those of code that follows bodies: what each statement makes of a
 -- state, by cases on the tree. A way that sends is not followed further. It follows the sections "A body's run" of
 -- docs/LANGUAGE.md and "Leaves" of docs/CLAUSES.md; every statement has its case.
-use Rattle.std.specs.Prelude.{ℕ, suc, Bool, true, false, List, [], ◌∷◌, ◌++◌, map, filter as list_filter, Option, Some, None, is_some}
+use Rattle.std.specs.Prelude.{ℕ, suc, Bool, true, false, List, [], ◌∷◌, ◌++◌, map, filter as list_filter, Some, None, is_some}
 use Rattle.cocoon_num.specs.Tree.{Expr, Stmt, let_, set_field, if_, filter, havoc_var, havoc_field, assume, fork, send, Block, no_stmts, stmt}
 use Rattle.bv_terms.specs.TermTrees as term
 use Rattle.bv_terms.specs.TermTrees.{Term}

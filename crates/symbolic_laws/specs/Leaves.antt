@@ -1,8 +1,8 @@
 -- Cited by the clauses of the laws of this crate and by those of code that makes trees: the tree of a role's body, and of
 -- the bodies of new roles behind it. Inputs are numbered from a first one on: parameters, fields, then choices as
 -- statements are followed. It follows the section "Leaves" of docs/CLAUSES.md.
-use Rattle.std.specs.Prelude.{ℕ, zero, suc, ◌+◌, Bool, false, List, [], ◌∷◌, flat_map, length, map, if◌then◌else◌, Option, Some, None}
-use Rattle.cocoon_num.specs.Tree.{Param, Block, Role, Design}
+use Rattle.std.specs.Prelude.{ℕ, zero, suc, ◌+◌, Bool, false, List, [], ◌∷◌, flat_map, length, map, if◌then◌else◌, Some, None}
+use Rattle.cocoon_num.specs.Tree.{Param, Role, Design}
 use Rattle.cocoon_resolve.specs.Readers.{all_widths}
 use Rattle.cocoon_types.specs.Design.{widths_of}
 use Rattle.refinement.specs.Segments.{is_new}

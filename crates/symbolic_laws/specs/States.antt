@@ -1,9 +1,9 @@
 -- Cited by the clauses of the laws of this crate and by those of code that follows bodies: what is known of a packet
 -- on its way, as terms over inputs. It follows the section "Leaves" of docs/CLAUSES.md. Headers are all there: none is
 -- optional.
-use Rattle.std.specs.Prelude.{ℕ, suc, Bool, List, [], ◌∷◌, ◌++◌, length, map, take, drop, if◌then◌else◌, Option, Some, None}
+use Rattle.std.specs.Prelude.{ℕ, suc, Bool, List, [], ◌∷◌, ◌++◌, length, take, drop, if◌then◌else◌, Option, Some, None}
 use Rattle.cocoon_num.specs.Names.{same_name}
-use Rattle.cocoon_num.specs.Tree.{Param, Block, Role, HeaderDecl, Design}
+use Rattle.cocoon_num.specs.Tree.{Param, Role, HeaderDecl, Design}
 use Rattle.cocoon_types.specs.Design.{field_width, role_at}
 use Rattle.refinement.specs.Ways.{Way}
 use Rattle.bv_terms.specs.declared.node.TermOp.TheVariants as ops
