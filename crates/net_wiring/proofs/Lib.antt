@@ -1,0 +1,4 @@
+mod Differing
+mod ItemByItem
+mod OtherTrees
+mod SameTrees
