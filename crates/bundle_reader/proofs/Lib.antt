@@ -6,3 +6,4 @@ mod OldNew
 mod OneFile
 mod OneSwitch
 mod OneReading
+mod WireReading

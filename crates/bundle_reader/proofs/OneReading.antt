@@ -53,7 +53,7 @@ StopsAt files out all (n ∷ ns) f =
     × (SwitchFails files out n program rows f ⊎ ((p : tree.Program) × (r : tree.RowsFile) × Well files out n program rows p r × StopsAt files out rest ns f))
 
 -- the files of all of them are well
-abbrev AllRead : Files → (out : List ℕ) → List KeptDigest → List ℕ → List SwitchFiles → Type 0
+abbrev pub AllRead : Files → (out : List ℕ) → List KeptDigest → List ℕ → List SwitchFiles → Type 0
 AllRead files out all [] [] = Unit {0}
 AllRead files out all [] (s ∷ ss) = ⊥
 AllRead files out all (n ∷ ns) [] = ⊥
@@ -195,13 +195,13 @@ switches_fit laws files out all (n ∷ ns) (s ∷ ss) (first, rest, number, part
     subst (λ k. Fitting k (n ∷ ns)) (sym (parts ∙ more_kept files out n first rest s here number)) (two_fit laws n ns here.program_text here.rows_text rest (switches_fit laws files out rest ns ss more))
 
 -- the network is that of a file, and of the files of its switches
-record Given (files : Files) (out : List ℕ) (n : NetData) : Type 0 where
-  file : NetFile
-  reads : NetReads files out file
-  whole : n ≡ net_with file.ports n.switches file.links file.hosts
-  all : AllRead files out file.files file.switches n.switches
+pub record Given (files : Files) (out : List ℕ) (n : NetData) : Type 0 where
+  pub file : NetFile
+  pub reads : NetReads files out file
+  pub whole : n ≡ net_with file.ports n.switches file.links file.hosts
+  pub all : AllRead files out file.files file.switches n.switches
 
-given : Laws → (files : Files) (out : List ℕ) (n : NetData) → ReadsAs files out n → Given files out n
+pub given : Laws → (files : Files) (out : List ℕ) (n : NetData) → ReadsAs files out n → Given files out n
 given laws files out n (network, net_short, short) =
     let fitting = switches_fit laws files out network.file.files network.file.switches n.switches network.switches in
     let fits : IsTrue (file_fits network.file) = and_from _ _ (and_from _ _ network.fits fitting.digests) fitting.names in
@@ -219,7 +219,7 @@ given laws files out n (network, net_short, short) =
 net_has : (files : Files) (out : List ℕ) (file : NetFile) → (r : NetReads files out file) → Has files out Network None r.0
 net_has files out file (text, held, answered) = record { held = held; agrees = tt }
 
-one_file : (files : Files) (out : List ℕ) (f g : NetFile) → NetReads files out f → NetReads files out g → f ≡ g
+pub one_file : (files : Files) (out : List ℕ) (f g : NetFile) → NetReads files out f → NetReads files out g → f ≡ g
 one_file files out f g x y =
     let text = has_same files out Network None x.0 y.0 (net_has files out f x) (net_has files out g y) in
     ok_same f g (answered_same net_form y.0 _ _ (subst (λ t. Answered net_form t (Ok f)) text x.2) y.2)
@@ -230,7 +230,7 @@ data BundleFails (files : Files) (out : List ℕ) (f : ReadFault) : Type 0 where
   by_network : Fails files out Network None (Malformed Network net_form) f → BundleFails files out f
   by_switches : (network : NetFile) → NetReads files out network → StopsAt files out network.files network.switches f → BundleFails files out f
 
-network_or_fails : (files : Files) (out : List ℕ) (f : ReadFault) (network : NetFile) → Fails files out Network None (Malformed Network net_form) f → NetReads files out network → ⊥
+pub network_or_fails : (files : Files) (out : List ℕ) (f : ReadFault) (network : NetFile) → Fails files out Network None (Malformed Network net_form) f → NetReads files out network → ⊥
 network_or_fails files out f network x reads =
     fails_or_good files out Network None _ (Malformed Network net_form) (json_ways Network net_form) f reads.0 x (net_has files out network reads) (network, reads.2)
 

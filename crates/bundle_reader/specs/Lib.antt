@@ -4,3 +4,4 @@ pub mod Told
 pub mod Parts
 pub mod Mixed
 pub mod OneReading
+pub mod Alone

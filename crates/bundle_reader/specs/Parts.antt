@@ -1,5 +1,5 @@
 -- What is said of a folder's files where a bundle is read step by step. Private clauses of `reading`, `files` and `switches`
--- cite it.
+-- cite it; those of `read_wiring` and `read_certificates` cite `OfFiles`.
 use Rattle.std.specs.Prelude.{◌≡◌, ℕ, List, Option, Some, None}
 use Rattle.cocoon_io.specs.Files.{Files}
 use Rattle.p4_ir.specs.NetTree.{SwitchFiles}

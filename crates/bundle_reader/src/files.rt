@@ -2,6 +2,7 @@
 ghost use Rattle.std.specs.Prelude.{◌≡◌, ◌≤◌, ℕ, IfErr, IfOk, List, Option, Some, length};
 ghost use Rattle.net_bundle.specs.BundleNames.{digest_of};
 ghost use Rattle.net_bundle.specs.Writing.{most_of};
+ghost use Rattle.bundle_reader.specs.Alone.{IsOfFile, NotRead};
 ghost use Rattle.bundle_reader.specs.FolderCounts.{NamesFailure, ReadFaultRose};
 ghost use Rattle.bundle_reader.specs.Parts.{FaultAt, OfFiles, formed_at, program_at};
 ghost use Rattle.bundle_reader.specs.Readings.{Held};
@@ -37,6 +38,8 @@ pub(crate) fn read_file<F: Folder>(
     ensures fits { IfOk result (λ bytes. length bytes.items ≤ most_of file) }
     ensures refused { IfErr result (λ fault. OfFiles (F.content folder.old)
         (λ files. (kept : Option (List ℕ)) → FaultAt out.now file kept fault files)) }
+    ensures unread { IfErr result (NotRead file (F.content folder.old) out.now) }
+    ensures about { IfErr result (IsOfFile file) }
     ensures told { IfErr result IsTold }
     ensures same { F.content folder.new ≡ F.content folder.old }
     ensures failed { IfErr result (ReadFaultRose F.last_read_fault

@@ -1,5 +1,6 @@
 //! Laws of bundles that are written and read. The functions do nothing; their contracts are the laws.
 ghost use Rattle.std.specs.Prelude.{◌≡◌, ◌⊎◌, List, Option, Some, ℕ};
+ghost use Rattle.bundle_reader.specs.Alone.{OneWiring};
 ghost use Rattle.bundle_reader.specs.Mixed.{NoTwoAlike, SameNetFile};
 ghost use Rattle.bundle_reader.specs.OneReading.{OneReading};
 ghost use Rattle.bundle_reader.specs.Readings.{ReadsAs};
@@ -27,6 +28,17 @@ pub fn written_reads_back()
 /// of the folder and being out of memory are no faults of the files.
 pub fn one_reading()
     ensures { (files : Files) (out : List ℕ) → OneReading files out }
+{
+    one_answer();
+    net_form_is_exact();
+    rows_form_is_exact();
+    rows_without_fault_load();
+}
+
+/// The file of the network gives one network of wires at most, and has a first fault or gives one, never both. Where the whole
+/// bundle gives a network, it has these wires.
+pub fn one_wiring()
+    ensures { (files : Files) (out : List ℕ) → OneWiring files out }
 {
     one_answer();
     net_form_is_exact();

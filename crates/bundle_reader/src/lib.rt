@@ -2,14 +2,17 @@
 //! order.
 #![tactic(auto)]
 
+pub mod certificates;
 pub mod fault;
 mod files;
 pub mod laws;
 pub mod reading;
 mod switches;
+mod wires;
 
+pub use certificates::read_certificates;
 pub use fault::ReadFault;
 pub use loaded_net::Net;
 pub use p4_read::P4Fault;
 pub use p4_run::LoadFault;
-pub use reading::read_bundle;
+pub use reading::{read_bundle, read_wiring};

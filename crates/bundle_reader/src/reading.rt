@@ -1,16 +1,21 @@
 //! The reading of a bundle.
 ghost use Rattle.std.specs.Prelude.{◌≡◌, ◌≤◌, IfErr, IfOk, IsTrue};
 ghost use Rattle.bundle_forms.specs.NetForm.{file_fits};
+ghost use Rattle.bundle_reader.specs.Alone.{IsOfFile, WiresRead};
 ghost use Rattle.bundle_reader.specs.FolderCounts.{NamesFailure, ReadFaultRose};
 ghost use Rattle.bundle_reader.specs.Parts.{OfFiles};
 ghost use Rattle.bundle_reader.specs.Readings.{ContentFault, ContentReads, IsFirstFault, NetReads};
 ghost use Rattle.bundle_reader.specs.Told.{IsTold};
 ghost use Rattle.loaded_net.specs.Nets.{net_in};
 ghost use Rattle.net_bundle.specs.NetFileOf.{net_file_of};
+ghost use Rattle.p4_ir.specs.NetFits.{wiring_of};
+ghost use Rattle.p4_ir.specs.NetOf.{net_of};
+ghost use Rattle.p4_ir.specs.Wiring.{wiring_fits};
 
 use crate::fault::ReadFault;
 use crate::files::{form_fault, read_file};
 use crate::switches::read_switches;
+use crate::wires::bare_switches;
 use bundle_forms::laws::net_form_is_exact;
 use bundle_forms::read_net;
 use cocoon_io::Folder;
@@ -28,6 +33,7 @@ fn read_network<F: Folder>(alloc: Global, folder: &mut F, out: &str) -> Result<N
         (λ files. NetReads files out.now (net_file_of file))) }
     ensures refused { IfErr result (λ fault. OfFiles (F.content folder.old)
         (λ files. IsFirstFault files out.now fault)) }
+    ensures about { IfErr result (IsOfFile BundleFile.Network) }
     ensures told { IfErr result IsTold }
     ensures same { F.content folder.new ≡ F.content folder.old }
     ensures failed { IfErr result (ReadFaultRose F.last_read_fault
@@ -70,4 +76,34 @@ pub fn read_bundle<F: Folder>(alloc: Global, folder: &mut F, out: &str) -> Resul
         hosts: List::from(file.hosts),
     };
     Ok(Net::from_loaded(parts, read.loaded))
+}
+
+/// Reads the file of the network of the bundle `out` alone. The switches that it names have empty programs and no rows.
+pub fn read_wiring<F: Folder>(
+    alloc: Global,
+    folder: &mut F,
+    out: &str,
+) -> Result<NetData, ReadFault>
+    ensures wires { IfOk result (λ net. OfFiles (F.content folder.old)
+        (λ files. WiresRead files out.now (net_of net))) }
+    ensures fits { IfOk result (λ net. IsTrue (wiring_fits (wiring_of (net_of net)))) }
+    ensures refused { IfErr result (ContentFault (F.content folder.old) out.now) }
+    ensures about { IfErr result (IsOfFile BundleFile.Network) }
+    ensures told { IfErr result IsTold }
+    ensures same { F.content folder.new ≡ F.content folder.old }
+    ensures failed { IfErr result (ReadFaultRose F.last_read_fault
+        (F.read_faults folder.old) (F.read_faults folder.new)) }
+    ensures counted { IfOk result (λ net. F.read_faults folder.new ≡ F.read_faults folder.old) }
+    ensures named { IfErr result (NamesFailure (F.last_failure folder.new) out.now) }
+    ensures reads { F.read_faults folder.old ≤ F.read_faults folder.new }
+    ensures writes { F.write_faults folder.new ≡ F.write_faults folder.old }
+{
+    let file = read_network(alloc, folder, out)?;
+    let switches = bare_switches(alloc, &file.switches)?;
+    Ok(NetData {
+        ports: file.ports,
+        switches: List::from(switches),
+        links: List::from(file.links),
+        hosts: List::from(file.hosts),
+    })
 }
