@@ -14,8 +14,8 @@ ghost use Rattle.symbolic_examples.specs.DesignR.{r_design};
 ghost use Rattle.symbolic_examples.specs.DesignWays.{ways_design};
 ghost use Rattle.symbolic_examples.specs.Seen.{inputs_of, is_inside, told, true_ways};
 
-/// In the design r the body of the first level has one leaf, whose choice is the next input, and the
-/// guard of the place sent to stands behind that of the first place.
+/// In the design r the body of the first level has one leaf, whose choice is the next input, and
+/// the guard of the place sent to stands behind that of the first place.
 pub fn leaves_of_r()
     ensures above { body_tree 0 r_design (codes "SwIn") 0 ≡ record {
           args = (record { number = 0; width = 16 }) ∷ (record { number = 1; width = 16 }) ∷ [];
@@ -36,8 +36,8 @@ pub fn leaves_of_r()
         ≡ (true ∷ [], codes "SwOut", false, []) ∷ (false ∷ [], codes "SwOut", false, []) ∷ [] }
 {}
 
-/// Leaves come depth first, the first branch before the second. What falls has none, choices take the
-/// next input, and at a new role it goes on, while bodies are allowed.
+/// Leaves come depth first, the first branch before the second. What falls has none, choices take
+/// the next input, and at a new role it goes on, while bodies are allowed.
 pub fn leaves_of_ways()
     ensures one { map told (inlined 0 ways_design (codes "SwIn") 1 0).leaves
         ≡ (true ∷ true ∷ [], codes "SwOut", false, [])
@@ -60,8 +60,8 @@ pub fn leaves_of_m()
         ≡ ([], codes "SwOut", true, []) ∷ [] }
 {}
 
-/// The design t has 36 leaves, 16 of which end inside. For a packet from the first host to the second
-/// one of them is true, which is the one whose way its bodies go.
+/// The design t has 36 leaves, 16 of which end inside. For a packet from the first host to the
+/// second one of them is true, which is the one whose way its bodies go.
 pub fn leaves_of_t()
     ensures leaves { length (inlined 0 t_design (codes "HostOut") 5 0).leaves ≡ 36 }
     ensures insides { length (filter (λ (l : Leaf). is_inside l.end)
