@@ -5,14 +5,16 @@
     bench/search.py FOLDER           the same, with the crates and the built program kept in this folder, for a later run
     bench/search.py FOLDER LISTS     in place of it searches through this many small lists of clauses, made by chance
     bench/search.py FOLDER refused   in place of it refuses each allocation of some searches in turn
+    bench/search.py FOLDER NAME..    in place of it searches through these lists alone: `made`, those that this script makes; `hostile`, those that ask
+                                     for much; or a file of DIMACS
 
 It copies the crates that it needs, with the program `search.rt.txt`, and has `rt run` prove and build what is not kept on this machine. `cc` compiles
 `check_log.c` and `refuse.c`. MiniSat and CaDiCaL are asked if they are there.
 """
 
 import collections
+import dataclasses
 import os
-
 import pathlib
 import random
 import re
@@ -20,7 +22,6 @@ import shutil
 import subprocess
 import sys
 import tempfile
-import time
 
 TOP = pathlib.Path(__file__).resolve().parent.parent
 TESTS = TOP / "crates" / "solver_tests"
@@ -28,19 +29,22 @@ DATA = TESTS / "data"
 NEEDED = ["cocoon_num", "name_table", "cnf_core", "proof_check", "search_laws", "watched_literals", "unit_propagation", "cdcl", "case_files", "bv_terms", "term_walk", "bit_blast"]
 # Each kind with growing sizes, up to the first that takes too long.
 FORMULAS = [
-    ("exchanged", [2, 4, 6, 8, 10, 12, 14]),
-    ("sums", [1, 2, 3, 4, 5]),
+    ("exchanged", [2, 4, 6, 8, 10, 12, 14, 24, 32, 64]),
+    ("sums", [1, 2, 3, 4, 5, 6, 7, 8]),
     ("comparisons", [4, 8, 16, 32, 64, 128]),
-    ("choices", [2, 4, 8, 16, 32]),
+    ("choices", [2, 4, 8, 16, 32, 64, 128]),
 ]
 SOLVERS = [
     ("minisat", ["minisat", "-verb=1", "-no-pre"]),
     ("minisat with its preprocessor", ["minisat", "-verb=1"]),
     ("cadical", ["cadical", "-n"]),
 ]
-MOST_SECONDS = 30
-# The least time of so many runs counts.
-RUNS = 25
+MOST_SECONDS = 300
+# The least time of so many runs counts, of fewer where one takes long.
+RUNS, LONG_RUNS = 25, 3
+LONG_MILLIS = 300
+# So many conflicts are allowed where a list is not hostile.
+CONFLICTS = 1_000_000
 
 
 def run(words, text=""):
@@ -82,22 +86,58 @@ def built(folder):
     return path
 
 
-def solved(program, text):
-    """What the search says of clauses: its answer, its steps, its microseconds, and its log."""
-    said = run([program, "solve"], text)
+@dataclasses.dataclass
+class Solved:
+    """What the search says of clauses: its answer, its steps, its microseconds, and its log; and the peak of the whole process in KiB."""
+    answer: str
+    steps: int
+    micros: int
+    log: str
+    peak: int
+
+    def a_step(self):
+        """How many literals and hints a step has, on the average."""
+        lines = self.log.splitlines()
+        literals = sum(len(line.partition(":")[0].split()) - 1 for line in lines)
+        hints = sum(len(line.partition(":")[2].split()) for line in lines)
+        return literals / max(1, len(lines)), hints / max(1, len(lines))
+
+
+def solved(program, text, conflicts=CONFLICTS):
+    with tempfile.TemporaryFile("w+") as file:
+        file.write(text)
+        file.seek(0)
+        said, used = ended([program, str(conflicts)], file)
     head, _, log = said.partition("\n")
     _, answer, steps, micros = head.split(" ")
-    return answer, int(steps), int(micros), log
+    return Solved(answer, int(steps), int(micros), log, used.ru_maxrss)
+
+
+def ended(words, given=None):
+    """What a process says, and what it used, from its start to its end."""
+    process = subprocess.Popen(["timeout", str(MOST_SECONDS), *words], stdin=given, stdout=subprocess.PIPE, stderr=subprocess.STDOUT, text=True)
+    said = process.stdout.read()
+    _, status, used = os.wait4(process.pid, 0)
+    process.returncode = 0
+    process.stdout.close()
+    if os.waitstatus_to_exitcode(status) == 124:
+        raise subprocess.TimeoutExpired(words, MOST_SECONDS)
+    return said, used
 
 
 def processor_time(words):
-    """What a process says, and its milliseconds of processor time, from its start to its end."""
-    process = subprocess.Popen(words, stdout=subprocess.PIPE, stderr=subprocess.STDOUT, text=True)
-    said = process.stdout.read()
-    _, _, used = os.wait4(process.pid, 0)
-    process.returncode = 0
-    process.stdout.close()
+    """What a process says, and its milliseconds of processor time."""
+    said, used = ended(words)
     return said, (used.ru_utime + used.ru_stime) * 1000
+
+
+def least(measure):
+    """The result of the run of which the time was the least. It is called again and again, more often where it is short."""
+    best = measure()
+    for _ in range((LONG_RUNS if best[1] > LONG_MILLIS else RUNS) - 1):
+        again = measure()
+        best = min(best, again, key=lambda result: result[1])
+    return best
 
 
 def outside(text):
@@ -108,10 +148,12 @@ def outside(text):
         file.flush()
         for name, words in SOLVERS:
             if shutil.which(words[0]):
-                runs = [processor_time([*words, file.name]) for _ in range(RUNS)]
-                said = runs[0][0]
+                try:
+                    said, millis = least(lambda: processor_time([*words, file.name]))
+                except subprocess.TimeoutExpired:
+                    continue
                 conflicts = re.search(r"conflicts *: *(\d+)", said)
-                found[name] = ("unsat" if "UNSAT" in said else "sat", conflicts[1] if conflicts else "0", min(millis for _, millis in runs))
+                found[name] = ("unsat" if "UNSAT" in said else "sat", conflicts[1] if conflicts else "0", millis)
     return found
 
 
@@ -227,7 +269,7 @@ def judge_logs(program, checker):
     for case in cases:
         texts = [case]
         if case.startswith("c unsat"):
-            log = solved(program, case)[3].splitlines()
+            log = solved(program, case).log.splitlines()
             texts = ["\n".join([case, *log])]
             for _ in range(10):
                 at = luck.randrange(len(log))
@@ -279,7 +321,7 @@ def wide_log(hints):
 def searched_log(program, hints):
     """A log with so many hints at least: that of a search, whose steps but the last are there again and again."""
     clauses = run([program, "clauses"], "exchanged 8")
-    steps = solved(program, clauses)[3].splitlines()
+    steps = solved(program, clauses).log.splitlines()
     count = sum(len(step.partition(":")[2].split()) for step in steps)
     return "\n".join([clauses.strip(), *steps[:-1] * -(-hints // count), steps[-1]]) + "\n"
 
@@ -301,20 +343,72 @@ def time_checks(program, checker):
             print(f"    {ours // 2:,} instructions, in C {theirs:,}, ratio {ours / 2 / theirs:.2f}")
 
 
-def time_search(program, name, text):
+def time_search(program, checker, name, text, conflicts=CONFLICTS):
     try:
-        answer, steps, micros, _ = solved(program, text)
+        given = least(lambda: (found := solved(program, text, conflicts), found.micros / 1000))[0]
     except subprocess.TimeoutExpired:
         print(f"{name}: longer than {MOST_SECONDS} s", flush=True)
         return False
-    micros = min([micros, *(solved(program, text)[2] for _ in range(RUNS - 1))])
     head = re.search(r"^p cnf (\d+) (\d+)$", text, re.MULTILINE)
-    others = outside(text)
-    if any(other != answer for other, _, _ in others.values()):
-        sys.exit(f"{name}: {answer}, but {others}")
+    others = outside(text) if given.answer != "spent" else {}
+    if any(other != given.answer for other, _, _ in others.values()):
+        sys.exit(f"{name}: {given.answer}, but {others}")
+    if given.answer == "unsat" and run([checker], f"{text.strip()}\n{given.log}").split()[0] != "true":
+        sys.exit(f"{name}: the log does not derive the empty clause")
+    literals, hints = given.a_step()
+    log = f" of {literals:.1f} literals and {hints:.1f} hints" if given.log else ""
     beside = "".join(f", {solver} {conflicts} conflicts {millis:.1f} ms" for solver, (_, conflicts, millis) in others.items())
-    print(f"{name}: {int(head[1]):,} variables, {int(head[2]):,} clauses, {answer}, {steps:,} steps, {micros / 1000:.1f} ms{beside}", flush=True)
+    print(
+        f"{name}: {int(head[1]):,} variables, {int(head[2]):,} clauses, {given.answer}, {given.steps:,} steps{log}, {given.micros / 1000:.1f} ms,"
+        f" {given.peak / 1024:.0f} MiB{beside}",
+        flush=True,
+    )
     return True
+
+
+def dimacs(variables, clauses):
+    return "\n".join([f"p cnf {variables} {len(clauses)}", *(" ".join(map(str, [*clause, 0])) for clause in clauses)]) + "\n"
+
+
+def pigeonholes(holes):
+    """One pigeon more than there are holes, each in one, and no two in one."""
+    place = lambda pigeon, hole: pigeon * holes + hole + 1
+    clauses = [[place(pigeon, hole) for hole in range(holes)] for pigeon in range(holes + 1)]
+    pairs = [(one, two) for one in range(holes + 1) for two in range(one)]
+    clauses += [[-place(one, hole), -place(two, hole)] for hole in range(holes) for one, two in pairs]
+    return dimacs((holes + 1) * holes, clauses)
+
+
+def threes(variables, seed):
+    """Clauses of three literals by chance, as many as make a hard list."""
+    luck = random.Random(seed)
+    return dimacs(variables, [[luck.choice((1, -1)) * name for name in luck.sample(range(1, variables + 1), 3)] for _ in range(round(variables * 4.26))])
+
+
+def made():
+    """Names and texts of lists that ask for a search."""
+    for holes in (6, 7, 8):
+        yield f"pigeonholes {holes}", pigeonholes(holes)
+    for variables in (100, 150, 200):
+        for seed in (1, 2):
+            yield f"threes {variables} {seed}", threes(variables, seed)
+
+
+def hostile():
+    """Names, texts and budgets of lists that ask for much."""
+    for holes in (9, 10):
+        yield f"pigeonholes {holes}", pigeonholes(holes), 20_000
+    yield "threes 400", threes(400, 1), 200_000
+    many = 4_000_000
+    yield "a unit against the last of its clauses", dimacs(many, [[1], *([-1, name] for name in range(2, many)), [-1, -2]]), CONFLICTS
+    long = 1_000_000
+    yield "a long clause and a unit against each literal", dimacs(long, [list(range(1, long + 1)), *([-name] for name in range(1, long + 1))]), CONFLICTS
+    yield "a long clause in a chain of implications", dimacs(long, [list(range(1, long + 1)), *([-name, name + 1] for name in range(1, long)), [-long]]), CONFLICTS
+    some = 100_000
+    order = [1, 2, *range(some, 2, -1)]
+    yield "a long clause whose last literals become false first", dimacs(some, [list(range(1, some + 1)), [-1], *([one, -next] for one, next in zip(order, order[1:]))]), CONFLICTS
+    yield "units", dimacs(1 << 20, [[name] for name in range(1, (1 << 20) + 1)]), CONFLICTS
+    yield "clauses that have one literal", dimacs(200_001, [[1, -2 * name, 2 * name + 1] for name in range(1, 100_001)]), CONFLICTS
 
 
 def refuse_allocations(program, folder):
@@ -345,30 +439,45 @@ def refuse_allocations(program, folder):
         print(f"{name}: {last} allocations, each refused, alone and with all after it: {dict(ends)}", flush=True)
 
 
-def time_searches(program):
+def time_searches(program, checker):
     for kind, sizes in FORMULAS:
         for size in sizes:
-            if not time_search(program, f"{kind} {size}", run([program, "clauses"], f"{kind} {size}")):
+            if not time_search(program, checker, f"{kind} {size}", run([program, "clauses"], f"{kind} {size}")):
                 break
     for file in ("searches", "random"):
         for case in (DATA / f"{file}.dimacs").read_text().split("\n\n"):
             head = case.partition("\n")[0].split(" ", 2)
-            time_search(program, head[2], case.strip() + "\n")
+            time_search(program, checker, head[2], case.strip() + "\n")
+    time_lists(program, checker, ["made"])
 
 
-def measure(folder, lists=None):
+def time_lists(program, checker, names):
+    for name in names:
+        if name == "made":
+            for title, text in made():
+                time_search(program, checker, title, text)
+        elif name == "hostile":
+            for title, text, conflicts in hostile():
+                time_search(program, checker, title, text, conflicts)
+        else:
+            path = pathlib.Path(name)
+            time_search(program, checker, path.stem, path.read_text())
+
+
+def measure(folder, *lists):
     program = built(folder)
     checker = folder / "check_log"
     subprocess.run(["cc", "-O2", "-o", checker, TOP / "bench" / "check_log.c"], check=True)
-    if lists == "refused":
+    if lists == ("refused",):
         refuse_allocations(program, folder)
-        return
-    if lists:
-        try_lists(program, checker, int(lists), folder)
-        return
-    judge_logs(program, checker)
-    time_checks(program, checker)
-    time_searches(program)
+    elif len(lists) == 1 and lists[0].isdigit():
+        try_lists(program, checker, int(lists[0]), folder)
+    elif lists:
+        time_lists(program, checker, lists)
+    else:
+        judge_logs(program, checker)
+        time_checks(program, checker)
+        time_searches(program, checker)
 
 
 def main():

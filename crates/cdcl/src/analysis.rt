@@ -5,6 +5,7 @@ ghost use Rattle.search_laws.specs.Marks.{count_from};
 use cnf_core::{Clause, Lit, Trail};
 use cocoon_num::{List, NoMemory};
 use std::alloc::Global;
+use unit_propagation::Order;
 
 /// Marks on the literals of a trail.
 #[derive(Drop)]
@@ -51,8 +52,8 @@ impl Analysis {
         }
     }
 
-    /// Marks the literals that make literals of a clause false.
-    pub fn mark_clause(&mut self, trail: &Trail, clause: &Clause)
+    /// Marks the literals that make literals of a clause false. The order learns of each that was not marked.
+    pub fn mark_clause(&mut self, trail: &Trail, order: &mut Order, clause: &Clause)
         requires named { All (Names (room trail.now)) (literals clause.now) }
         requires sized { length self.old.marks.items ≡ length (trues trail.now) }
         ensures marks { MarksToo (literals clause.now) (trues trail.now)
@@ -61,12 +62,12 @@ impl Analysis {
         ensures more { self.old.count ≤ self.new.count }
     {
         for lit in clause.lits.items() {
-            self.mark_false(trail, *lit);
+            self.mark_false(trail, order, *lit);
         }
     }
 
     /// Marks the literal that makes this one false, if one does.
-    fn mark_false(&mut self, trail: &Trail, lit: Lit)
+    fn mark_false(&mut self, trail: &Trail, order: &mut Order, lit: Lit)
         requires named { Names (room trail.now) lit.number }
         requires sized { length self.old.marks.items ≡ length (trues trail.now) }
         ensures marks { MarksToo (lit.number ∷ []) (trues trail.now)
@@ -77,22 +78,26 @@ impl Analysis {
         if !trail.is_false(lit) {
             return;
         }
-        self.mark(trail.place(lit.opposite()));
+        if self.mark(trail.place(lit.opposite())) {
+            order.bump(lit);
+        }
     }
 
-    fn mark(&mut self, place: usize)
+    /// Marks a literal. False if it is marked already.
+    fn mark(&mut self, place: usize) -> bool
         requires within { place < length self.old.marks.items }
         ensures marks { self.new.marks.items ≡ slice_set self.old.marks.items place true }
         ensures same { IsSameBut self.old self.new }
         ensures more { self.old.count ≤ self.new.count }
     {
         if self.marks[place] {
-            return;
+            return false;
         }
         self.marks[place] = true;
         if place >= self.floor {
             self.count += 1;
         }
+        true
     }
 
     /// Takes back the mark of a literal of the last level.

@@ -32,14 +32,21 @@ pub fn solve(alloc: Global, cnf: &Cnf, conflicts: u64) -> Result<Answer, NoMemor
     if conflicts == 0 {
         return Ok(Answer::Spent(search.into_log()));
     }
+    let order = Order::new(alloc, cnf.vars)?;
     match conflict {
-        Some(number) => unsat(alloc, cnf, search, number),
-        None => decide_and_learn(alloc, cnf, search, conflicts),
+        Some(number) => unsat(alloc, cnf, search, order, number),
+        None => decide_and_learn(alloc, cnf, search, order, conflicts),
     }
 }
 
 /// Nothing satisfies the clauses: one is a conflict before any decision.
-fn unsat(alloc: Global, cnf: &Cnf, search: Search, conflict: u32) -> Result<Answer, NoMemory>
+fn unsat(
+    alloc: Global,
+    cnf: &Cnf,
+    search: Search,
+    order: Order,
+    conflict: u32,
+) -> Result<Answer, NoMemory>
     requires sound { IsSound cnf.now search }
     requires named { WellNamed cnf.now }
     requires conflict { IsConflictAt (clauses_of cnf.now search) (trues search.trail) conflict }
@@ -48,7 +55,8 @@ fn unsat(alloc: Global, cnf: &Cnf, search: Search, conflict: u32) -> Result<Answ
         → Answers cnf.now conflicts answer) }
 {
     let mut search = search;
-    refute(&mut search, alloc, cnf, conflict)?;
+    let mut order = order;
+    refute(&mut search, alloc, cnf, &mut order, conflict)?;
     Ok(Answer::Unsat(search.into_log()))
 }
 
@@ -57,6 +65,7 @@ fn decide_and_learn(
     alloc: Global,
     cnf: &Cnf,
     search: Search,
+    order: Order,
     conflicts: u64,
 ) -> Result<Answer, NoMemory>
     requires sound { IsSound cnf.now search }
@@ -67,17 +76,16 @@ fn decide_and_learn(
     ensures { IfOk result (λ answer. Answers cnf.now conflicts answer) }
 {
     let mut search = search;
-    let mut order = Order::new(alloc, cnf.vars)?;
+    let mut order = order;
     while (search.steps.len() as u64) < conflicts {
-        let Some(conflict) = search.next_conflict(cnf, &order)? else {
+        let Some(conflict) = search.next_conflict(cnf, &mut order)? else {
             return Ok(Answer::Satisfied(search.assignment(alloc, cnf)?));
         };
         if search.starts.is_empty() {
-            return unsat(alloc, cnf, search, conflict);
+            return unsat(alloc, cnf, search, order, conflict);
         }
-        learn(&mut search, alloc, cnf, conflict)?;
+        learn(&mut search, alloc, cnf, &mut order, conflict)?;
         order.decay();
-        order.bump(cnf, &search);
     }
     Ok(Answer::Spent(search.into_log()))
 }

@@ -16,7 +16,7 @@ use crate::analysis::Analysis;
 use cnf_core::{Clause, Cnf, Lit, Step};
 use cocoon_num::{List, NoMemory};
 use std::alloc::Global;
-use unit_propagation::Search;
+use unit_propagation::{Order, Search};
 use watched_literals::Pair;
 
 /// Marks what a conflict follows from, until `keep` literals of the last level are left: one, the first unique
@@ -25,6 +25,7 @@ pub(crate) fn analyze(
     search: &Search,
     alloc: Global,
     cnf: &Cnf,
+    order: &mut Order,
     conflict: u32,
     floor: usize,
     keep: usize,
@@ -40,11 +41,11 @@ pub(crate) fn analyze(
         (trues search.now.trail) floor keep analysis) }
 {
     let mut analysis = Analysis::new(alloc, search.trail.len(), floor)?;
-    add_antecedent(search, cnf, &mut analysis, conflict)?;
+    add_antecedent(search, cnf, order, &mut analysis, conflict)?;
     let mut top = search.trail.len();
     while keep < analysis.count {
         top -= 1;
-        resolve(search, cnf, &mut analysis, top)?;
+        resolve(search, cnf, order, &mut analysis, top)?;
     }
     Ok(analysis)
 }
@@ -53,6 +54,7 @@ pub(crate) fn analyze(
 fn add_antecedent(
     search: &Search,
     cnf: &Cnf,
+    order: &mut Order,
     analysis: &mut Analysis,
     number: u32,
 ) -> Result<(), NoMemory>
@@ -63,13 +65,19 @@ fn add_antecedent(
     ensures { OnOk result (MarksClause (clauses_of cnf.now search.now) (trues search.now.trail)
         number analysis.old analysis.new) }
 {
-    mark_number(search, cnf, analysis, number as usize);
+    mark_number(search, cnf, order, analysis, number as usize);
     analysis.hints.push(number)?;
     Ok(())
 }
 
 /// Marks what makes the literals of the clause of this number false.
-fn mark_number(search: &Search, cnf: &Cnf, analysis: &mut Analysis, number: usize)
+fn mark_number(
+    search: &Search,
+    cnf: &Cnf,
+    order: &mut Order,
+    analysis: &mut Analysis,
+    number: usize,
+)
     requires sound { IsSound cnf.now search.now }
     requires named { WellNamed cnf.now }
     requires sized { length analysis.old.marks.items ≡ length (trues search.now.trail) }
@@ -80,7 +88,7 @@ fn mark_number(search: &Search, cnf: &Cnf, analysis: &mut Analysis, number: usiz
         analysis.old.marks.items analysis.new.marks.items }
 {
     match search.clause(cnf, number) {
-        Some(clause) => analysis.mark_clause(&search.trail, clause),
+        Some(clause) => analysis.mark_clause(&search.trail, order, clause),
         None => (),
     }
 }
@@ -97,6 +105,7 @@ fn reason(search: &Search, place: usize) -> Option<u32>
 fn resolve(
     search: &Search,
     cnf: &Cnf,
+    order: &mut Order,
     analysis: &mut Analysis,
     place: usize,
 ) -> Result<(), NoMemory>
@@ -118,7 +127,7 @@ fn resolve(
     }
     analysis.unmark(place);
     match reason(search, place) {
-        Some(number) => add_antecedent(search, cnf, analysis, number),
+        Some(number) => add_antecedent(search, cnf, order, analysis, number),
         None => Ok(()),
     }
 }
@@ -197,6 +206,7 @@ pub(crate) fn learn(
     search: &mut Search,
     alloc: Global,
     cnf: &Cnf,
+    order: &mut Order,
     conflict: u32,
 ) -> Result<(), NoMemory>
     requires sound { IsSound cnf.now search.old }
@@ -213,13 +223,13 @@ pub(crate) fn learn(
 {
     let last = search.starts.len() - 1;
     let floor = search.starts[last];
-    let analysis = analyze(search, alloc, cnf, conflict, floor, 1)?;
+    let analysis = analyze(search, alloc, cnf, order, conflict, floor, 1)?;
     let clause = learned(search, alloc, &analysis)?;
     let hints = analysis.hints(alloc)?;
     let second = analysis.last_before(floor);
     let pair = asserting_pair(search, &analysis, second);
     let level = search.backtrack_level(second);
-    search.backtrack(cnf, level);
+    search.backtrack(cnf, order, level);
     search.add_step(cnf, Step { clause, hints }, pair)?;
     Ok(())
 }
@@ -229,6 +239,7 @@ pub(crate) fn refute(
     search: &mut Search,
     alloc: Global,
     cnf: &Cnf,
+    order: &mut Order,
     conflict: u32,
 ) -> Result<(), NoMemory>
     requires sound { IsSound cnf.now search.old }
@@ -238,7 +249,7 @@ pub(crate) fn refute(
     requires undecided { length search.old.starts.items ≡ 0 }
     ensures { OnOk result (RefutesIn cnf.now search.old.steps.items search.new.steps.items) }
 {
-    let analysis = analyze(search, alloc, cnf, conflict, 0, 0)?;
+    let analysis = analyze(search, alloc, cnf, order, conflict, 0, 0)?;
     let clause = learned(search, alloc, &analysis)?;
     let hints = analysis.hints(alloc)?;
     search.steps.push(Step { clause, hints })?;

@@ -26,10 +26,11 @@
 //! | `search`: what it does of a conflict | `learn` |
 //! | `search`: its loop | `decide_and_learn` of `answer`, with `Search::next_conflict` for what is between two conflicts |
 //! | `ok` that becomes false | a conflict before any decision, of which `refute` makes the empty clause |
+//! | `activity`, `var_inc` | `Scores` of `unit_propagation`, in whole numbers |
 //! | `varBumpActivity`, `varDecayActivity` | `Order::bump`, `Order::decay` |
+//! | `order_heap`, `polarity`; `insertVarOrder` | `Heap`, `Order::was_true`; `Order::release` |
 //!
-//! There are no restarts, no saved phases, no heap of variables; no clause is deleted, simplified or minimised, so literals
-//! of level 0 stay in learned clauses.
+//! There are no restarts; no clause is deleted, simplified or minimised, so literals of level 0 stay in learned clauses.
 #![tactic(auto)]
 
 mod analysis;

@@ -9,6 +9,7 @@ ghost use Rattle.cnf_core.specs.TrailViews.{trues};
 ghost use Rattle.search_laws.specs.Searching.{IsAsserting};
 ghost use Rattle.unit_propagation.specs.States.{Backtracks, clauses_of, HasWatches, IsReady, IsSound};
 
+use crate::order::Order;
 use crate::search::Search;
 use cnf_core::{ClauseStatus, Cnf, Step};
 use cocoon_num::NoMemory;
@@ -32,8 +33,15 @@ impl Search {
         level
     }
 
+    /// Tells the order that the literals from this place on will be true no more.
+    fn release(&self, order: &mut Order, cut: usize) {
+        for place in cut..self.trail.len() {
+            order.release(self.trail.literal(place));
+        }
+    }
+
     /// Takes back this level (counted from 0) and the later ones, so that as many levels are left.
-    pub fn backtrack(&mut self, cnf: &Cnf, level: usize)
+    pub fn backtrack(&mut self, cnf: &Cnf, order: &mut Order, level: usize)
         requires sound { IsSound cnf.now self.old }
         requires ready { IsReady cnf.now self.old }
         requires within { level < length self.old.starts.items }
@@ -42,6 +50,7 @@ impl Search {
         ensures back { Backtracks self.old self.new level }
     {
         let cut = self.starts[level];
+        self.release(order, cut);
         self.trail.truncate(cut);
         self.reasons.truncate(cut);
         self.starts.truncate(level);

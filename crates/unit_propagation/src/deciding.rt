@@ -1,5 +1,5 @@
 //! Decisions, made when nothing is forced any more.
-ghost use Rattle.std.specs.Prelude.{◌≡◌, ◌≤◌, ◌<◌, ◌^◌, IfOk, IsTrue, length, OnOk, pos};
+ghost use Rattle.std.specs.Prelude.{◌≡◌, ◌≤◌, ◌<◌, ◌^◌, IfOk, IfSome, IsTrue, length, OnOk, pos, unsigned_abs};
 ghost use Rattle.cnf_core.specs.Deriving.{has_no_value};
 ghost use Rattle.cnf_core.specs.Literals.{Names};
 ghost use Rattle.cnf_core.specs.Satisfying.{HasAllValues, Satisfies, WellNamed};
@@ -15,8 +15,7 @@ use cocoon_num::{List, NoMemory};
 use std::alloc::Global;
 
 impl Search {
-    /// The last variable that has no value. Clauses of goals number a gate after what it is made of, so it is one near the
-    /// goal.
+    /// The last variable that has no value.
     fn last_unassigned(&self) -> Option<Lit>
         ensures { Decides (room self.now.trail) (trues self.now.trail) result }
     {
@@ -29,28 +28,39 @@ impl Search {
         None
     }
 
-    /// The variable without a value that comes first in the order; among equals the last one. `last` is the last of all.
-    fn first_unassigned(&self, order: &Order, last: Lit) -> Lit
-        requires { CanDecide (room self.now.trail) (trues self.now.trail) last }
-        ensures { CanDecide (room self.now.trail) (trues self.now.trail) result }
+    /// The literal of this variable that is true where the variable has the value that it had last, if it has none now.
+    fn decision(&self, order: &Order, variable: u32) -> Option<Lit>
+        ensures { IfSome result (λ lit. CanDecide (room self.now.trail) (trues self.now.trail) lit) }
     {
-        let mut first = last;
-        for index in (0..self.trail.vars()).rev() {
-            let lit = positive(index + 1);
-            if !self.trail.has_value(lit) && order.is_before(lit, first) {
-                first = lit;
+        if variable == 0 || variable > self.trail.vars() {
+            return None;
+        }
+        let lit = literal(variable, order.was_true(variable));
+        if self.trail.has_value(lit) {
+            return None;
+        }
+        Some(lit)
+    }
+
+    /// The first variable of the order that has no value.
+    fn first_unassigned(&self, order: &mut Order) -> Option<Lit>
+        ensures { IfSome result (λ lit. CanDecide (room self.now.trail) (trues self.now.trail) lit) }
+    {
+        while let Some(variable) = order.next() {
+            if let Some(lit) = self.decision(order, variable) {
+                return Some(lit);
             }
         }
-        first
+        None
     }
 
     /// The variable that is decided next.
-    fn next_decision(&self, order: &Order) -> Option<Lit>
+    fn next_decision(&self, order: &mut Order) -> Option<Lit>
         ensures { Decides (room self.now.trail) (trues self.now.trail) result }
     {
-        match self.last_unassigned() {
-            Some(last) => Some(self.first_unassigned(order, last)),
-            None => None,
+        match self.first_unassigned(order) {
+            Some(lit) => Some(lit),
+            None => self.last_unassigned(),
         }
     }
 
@@ -75,7 +85,7 @@ impl Search {
 
     /// Propagates and decides until a clause is a conflict, whose number it gives then, or each variable has a value and
     /// none is.
-    pub fn next_conflict(&mut self, cnf: &Cnf, order: &Order) -> Result<Option<u32>, NoMemory>
+    pub fn next_conflict(&mut self, cnf: &Cnf, order: &mut Order) -> Result<Option<u32>, NoMemory>
         requires sound { IsSound cnf.now self.old }
         requires named { WellNamed cnf.now }
         requires ready { IsReady cnf.now self.old }
@@ -114,6 +124,16 @@ impl Search {
             values: List::from(values),
         })
     }
+}
+
+/// The literal that is true where this variable has this value.
+fn literal(variable: u32, is_true: bool) -> Lit
+    requires some { 1 ≤ variable }
+    requires few { variable < 2 ^ 31 }
+    ensures { unsigned_abs result.number ≡ variable }
+{
+    let lit = positive(variable);
+    if is_true { lit } else { lit.opposite() }
 }
 
 /// The literal that is true where this variable is.

@@ -5,8 +5,10 @@
 mod backtracking;
 mod beginning;
 mod deciding;
+mod heap;
 pub mod order;
 mod propagation;
+mod scores;
 pub mod search;
 
 pub use order::Order;

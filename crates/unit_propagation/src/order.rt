@@ -1,67 +1,65 @@
-//! Which variables are decided first. Any order is right; a good one makes a search short.
+//! Which variables are decided first, and on which values. Any order and any values are right; good ones make a search short.
+ghost use Rattle.std.specs.Prelude.{◌<◌, ℕ, IfSome};
+ghost use Rattle.unit_propagation.specs.Waiting.{waiting};
 
-use crate::search::Search;
-use cnf_core::{Clause, Cnf, Lit};
+use crate::heap::Heap;
+use crate::scores::Scores;
+use cnf_core::Lit;
 use cocoon_num::NoMemory;
 use std::alloc::Global;
 
-/// What one literal of a clause of a conflict adds.
-const INCREMENT: u64 = 1 << 32;
-
-/// How much each variable had to do with the conflicts so far, the last ones above all: the order that is known as VSIDS.
+/// The variables that wait to be decided, and the values that they had.
 #[derive(Drop)]
 pub struct Order {
-    /// At the number of each variable. Half of it is left at the next conflict.
-    activities: Vec<u64>,
+    scores: Scores,
+    heap: Heap,
+    /// At the number of each variable whether it was true when it had a value last; false before that.
+    phases: Vec<bool>,
 }
 
 impl Order {
     /// No conflict yet, over this many variables.
     pub fn new(alloc: Global, vars: u32) -> Result<Order, NoMemory> {
-        let activities = vec![in alloc; 0; vars as usize + 1]?;
-        Ok(Order { activities })
+        Ok(Order {
+            scores: Scores::new(alloc, vars)?,
+            heap: Heap::new(alloc, vars)?,
+            phases: vec![in alloc; false; vars as usize + 1]?,
+        })
     }
 
-    fn activity(&self, lit: Lit) -> u64 {
-        match self.activities.get(lit.variable() as usize) {
-            Some(activity) => *activity,
-            None => 0,
+    /// Takes out the first variable.
+    pub(crate) fn next(&mut self) -> Option<u32>
+        ensures { IfSome result (λ variable. waiting self.new < waiting self.old) }
+    {
+        self.heap.pop(&self.scores)
+    }
+
+    /// Whether the variable was true when it had a value last.
+    pub(crate) fn was_true(&self, variable: u32) -> bool {
+        match self.phases.get(variable as usize) {
+            Some(phase) => *phase,
+            None => false,
         }
     }
 
-    /// Whether the first literal's variable comes before that of the other.
-    pub fn is_before(&self, lit: Lit, other: Lit) -> bool {
-        self.activity(lit) > self.activity(other)
+    /// The variable of this literal, which was true, has no value any more.
+    pub(crate) fn release(&mut self, lit: Lit) {
+        let variable = lit.variable();
+        if let Some(phase) = self.phases.get_mut(variable as usize) {
+            *phase = lit.number > 0;
+        }
+        self.heap.insert(&self.scores, variable);
     }
 
-    /// What was added at earlier conflicts counts half.
+    /// The variable of this literal had to do with the conflict.
+    pub fn bump(&mut self, lit: Lit) {
+        let variable = lit.variable();
+        self.scores.raise(variable);
+        self.heap.raise(&self.scores, variable);
+    }
+
+    /// The next conflict counts more.
     pub fn decay(&mut self) {
-        for activity in &mut self.activities {
-            *activity /= 2;
-        }
-    }
-
-    fn bump_literal(&mut self, lit: Lit) {
-        if let Some(activity) = self.activities.get_mut(lit.variable() as usize) {
-            *activity = activity.saturating_add(INCREMENT);
-        }
-    }
-
-    fn bump_clause(&mut self, clause: &Clause) {
-        for lit in clause.lits.items() {
-            self.bump_literal(*lit);
-        }
-    }
-
-    /// Adds to the variables of the last conflict: those of the clauses that were resolved to the last step.
-    pub fn bump(&mut self, cnf: &Cnf, search: &Search) {
-        let Some(step) = search.steps.last() else {
-            return;
-        };
-        for hint in step.hints.items() {
-            if let Some(clause) = search.clause(cnf, *hint as usize) {
-                self.bump_clause(clause);
-            }
-        }
+        self.scores.grow();
     }
 }

@@ -1,6 +1,8 @@
-use Rattle.cnf_core.specs.TrailViews.{room, trues}
-use Rattle.unit_propagation.specs.States.{CanDecide}
+use Rattle.unit_propagation.specs.Waiting.{waiting}
 use Rattle.unit_propagation.proofs.search.Search.first_unassigned.Given as goal
 
-abbrev pub invariant-loop-index : goal.invariant-loop-index
-invariant-loop-index l = CanDecide (room l.self.trail) (trues l.self.trail) l.first
+abbrev pub invariant-loop-variable : goal.invariant-loop-variable
+invariant-loop-variable l = Unit {0}
+
+abbrev pub decreases-loop-variable : goal.decreases-loop-variable
+decreases-loop-variable l = waiting l.order
