@@ -1,5 +1,5 @@
 -- The file of a network alone: its wires fit, and it is read in one way.
-use Rattle.std.proofs.Common.{◌≡◌, ◌≢◌, ℕ, ◌<◌, IsTrue, List, [], ◌∷◌, map, length, Option, Some, None, refl, sym, ap, ap₂, ◌∙◌, subst}
+use Rattle.std.proofs.Common.{◌≡◌, ◌≢◌, ℕ, ◌<◌, IsTrue, List, [], ◌∷◌, map, length, Some, None, refl, sym, ap, ap₂, ◌∙◌, subst}
 use Rattle.std.specs.FinMap.{get}
 use Rattle.std.proofs.lemmas.Bool.{and_parts}
 use Rattle.cocoon_io.specs.Files.{Files}
@@ -11,7 +11,6 @@ use Rattle.net_bundle.specs.Bundle.{whole_name}
 use Rattle.net_bundle.specs.NetJson.{KeptDigest, NetFile}
 use Rattle.net_bundle.specs.Network.{file_wiring, is_digest}
 use Rattle.net_bundle.specs.Writing.{most_of}
-use Rattle.net_bundle.specs.declared.file.BundleFile.{BundleFile}
 use Rattle.net_bundle.specs.declared.file.BundleFile.TheVariants.{Network}
 use Rattle.bundle_forms.specs.NetForm.{file_fits, net_form}
 use Rattle.json_forms.specs.declared.fault.FormFault.TheVariants as form

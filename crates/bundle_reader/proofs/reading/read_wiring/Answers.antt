@@ -1,4 +1,4 @@
-use Rattle.std.proofs.Common.{◌≡◌, ◌∙◌, ap, map, subst, sym, IsTrue}
+use Rattle.std.proofs.Common.{◌∙◌, ap, map, subst, sym, IsTrue}
 use Rattle.p4_ir.specs.NetFits.{wiring_of}
 use Rattle.p4_ir.specs.NetOf.{host_port_of, link_of, switch_of}
 use Rattle.p4_ir.specs.Wiring.{wiring_fits}
