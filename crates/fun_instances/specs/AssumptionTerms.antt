@@ -1,0 +1,20 @@
+-- Cited by the clauses of this crate: the terms that an assumption of a design stands for. It follows the section
+-- "Assumptions as terms" of docs/CLAUSES.md.
+use Rattle.std.specs.Prelude.{ℕ, List, [], ◌∷◌}
+use Rattle.cocoon_num.specs.Tree.{AssumeDecl, Design}
+use Rattle.cocoon_types.specs.Design.{widths_of}
+use Rattle.bv_terms.specs.TermTrees.{Term, constant}
+use Rattle.expr_term_laws.specs.TermOf.{bind_terms, term_context, term_of}
+
+-- what it says where its parameters stand for these terms: it has no packet
+abbrev pub assumption_term : Design → AssumeDecl → List Term → Term
+assumption_term d a ts = term_of (term_context d) (bind_terms a.params ts) [] a.body
+
+-- numbers of these widths
+abbrev pub number_terms : (widths numbers : List ℕ) → List Term
+number_terms (w ∷ ws) (n ∷ ns) = constant w n ∷ number_terms ws ns
+number_terms _ _ = []
+
+-- what it says of these numbers
+abbrev pub value_term : Design → AssumeDecl → List ℕ → Term
+value_term d a ns = assumption_term d a (number_terms (widths_of a.params) ns)

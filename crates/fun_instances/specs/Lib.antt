@@ -1,0 +1,3 @@
+pub mod AssumptionTerms
+pub mod Taking
+pub mod Saying

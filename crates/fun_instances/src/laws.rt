@@ -1,0 +1,45 @@
+//! What assumptions say as terms. The functions do nothing; their contracts are the laws.
+ghost use Rattle.std.specs.Prelude.{◌≡◌, ℕ, List};
+ghost use Rattle.cocoon_num.specs.Tree.{DefsText, Design};
+ghost use Rattle.cocoon_types.specs.Tables.{defs_of};
+ghost use Rattle.bv_terms.specs.TermTrees.{Term};
+ghost use Rattle.bv_terms.specs.TermValues.{Inputs};
+ghost use Rattle.refinement.specs.Assumptions.{IsMet};
+ghost use Rattle.sound_types.specs.Defined.{HasDefinitions};
+ghost use Rattle.fun_instances.specs.AssumptionTerms.{assumption_term, value_term};
+ghost use Rattle.fun_instances.specs.Saying.{IsTrueUnder, SaysOf};
+ghost use Rattle.fun_instances.specs.Taking.{NumbersFit, OfAssumption, TermsFit};
+
+use sound_types::laws::{declarations_are_typed, expressions_have_values};
+
+/// Under the definitions of a text the term of an assumption has the value that the assumption has at the numbers of the
+/// terms of its parameters.
+pub fn assumptions_have_values()
+    ensures { (d : Design) (es : DefsText) → HasDefinitions d es → (i : ℕ)
+        → OfAssumption d i (λ a.
+        (ins : Inputs) (ts : List Term) → TermsFit d (defs_of d es) ins a ts
+        → SaysOf d (defs_of d es) ins a ts (assumption_term d a ts)) }
+{
+    declarations_are_typed();
+    expressions_have_values();
+}
+
+/// Definitions meet an assumption if and only if its terms are true under them.
+pub fn met_assumptions_are_true()
+    ensures terms { (d : Design) (es : DefsText) → HasDefinitions d es → (i : ℕ)
+        → OfAssumption d i (λ a.
+        IsMet d (defs_of d es) a → (ins : Inputs) (ts : List Term)
+        → TermsFit d (defs_of d es) ins a ts
+        → IsTrueUnder d (defs_of d es) ins (assumption_term d a ts)) }
+    ensures numbers { (d : Design) (es : DefsText) → HasDefinitions d es → (i : ℕ)
+        → OfAssumption d i (λ a.
+        IsMet d (defs_of d es) a → (ins : Inputs) (ns : List ℕ) → NumbersFit a ns
+        → IsTrueUnder d (defs_of d es) ins (value_term d a ns)) }
+    ensures met { (d : Design) (es : DefsText) → HasDefinitions d es → (i : ℕ)
+        → OfAssumption d i (λ a.
+        (ins : Inputs) → ((ns : List ℕ) → NumbersFit a ns
+        → IsTrueUnder d (defs_of d es) ins (value_term d a ns)) → IsMet d (defs_of d es) a) }
+{
+    declarations_are_typed();
+    expressions_have_values();
+}
