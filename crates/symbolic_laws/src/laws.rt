@@ -19,8 +19,8 @@ ghost use Rattle.symbolic_laws.specs.Leaves.{body_tree, inlined, Leaf};
 use expr_term_laws::laws::terms_have_widths;
 use sound_types::laws::{declarations_are_typed, expressions_have_values};
 
-/// Under any definitions of a text, and for inputs that fit: a leaf is true exactly where the run with
-/// its choices takes its way, and then the run ends as the leaf says.
+/// Under any definitions of a text, and for inputs that fit: a leaf is true exactly where the run
+/// with its choices takes its way, and then the run ends as the leaf says.
 pub fn leaves_are_runs()
     ensures inlined { (d : Design) (es : DefsText) → HasDefinitions d es
         → (above within : ℕ) → 1 ≤ within
@@ -36,8 +36,8 @@ pub fn leaves_are_runs()
     expressions_have_values();
 }
 
-/// Each run has its leaf: there are inputs at which the leaf is true, takes the run's choices and ends
-/// as the run does.
+/// Each run has its leaf: there are inputs at which the leaf is true, takes the run's choices and
+/// ends as the run does.
 pub fn runs_have_leaves()
     ensures inlined { (d : Design) (es : DefsText) → HasDefinitions d es
         → (above within : ℕ) → 1 ≤ within
@@ -63,8 +63,8 @@ pub fn leaves_are_counted()
         ≡ leaf_count (role_at level d) (λ r. false) 1 role }
 {}
 
-/// A leaf's condition is a truth value, and its other terms have the widths of the parameters and the
-/// fields that they stand for.
+/// A leaf's condition is a truth value, and its other terms have the widths of the parameters and
+/// the fields that they stand for.
 pub fn leaves_have_widths()
     ensures inlined { (d : Design) → WellFormed d → DesignLiteralsFit d
         → (above : ℕ) (role : List ℕ) (r : Role) → role_at (suc above) d role ≡ Some r
@@ -81,7 +81,8 @@ pub fn leaves_have_widths()
     terms_have_widths();
 }
 
-/// A leaf of several bodies ends inside, if and only if its last role is new; one body's leaves never do.
+/// A leaf of several bodies ends inside, if and only if its last role is new; one body's leaves
+/// never do.
 pub fn leaves_end_by_role()
     ensures inlined { (d : Design) (above : ℕ) (role : List ℕ) (within first n : ℕ) (leaf : Leaf)
         → slice_get (inlined above d role within first).leaves n ≡ Some leaf
@@ -91,8 +92,8 @@ pub fn leaves_end_by_role()
         → EndsBy (λ r. false) leaf.end }
 {}
 
-/// The inputs of a leaf, parameters, fields and then choices, have ascending numbers, from the first on
-/// and below that of the next input. So no two are the same.
+/// The inputs of a leaf, parameters, fields and then choices, have ascending numbers, from the
+/// first on and below that of the next input. So no two are the same.
 pub fn inputs_ascend()
     ensures inlined { (d : Design) (above : ℕ) (role : List ℕ) (within first n : ℕ) (leaf : Leaf)
         → slice_get (inlined above d role within first).leaves n ≡ Some leaf

@@ -1,0 +1,5 @@
+pub mod Names
+pub mod Saturation
+pub mod BlockWays
+pub mod Weighing
+pub mod Tables
