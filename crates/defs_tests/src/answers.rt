@@ -5,6 +5,7 @@ ghost use Rattle.cocoon_syntax.specs.TreeOf.{design_of};
 ghost use Rattle.runtime_defs.specs.Fitting.{FitsDesign};
 ghost use Rattle.runtime_defs.specs.Places.{table_at, TakesArgs};
 
+use crate::budgets::put_file;
 use crate::faults::put_fault;
 use crate::same::are_same_tables;
 use case_files::{Printer, first_word, numbers};
@@ -170,6 +171,7 @@ fn put_asked(alloc: Global, checked: &Checked, defs: &Defs, question: &str, give
         "hosts" => put_numbers(defs.hosts(checked), given),
         "switches" => put_short_numbers(defs.switches(checked), given),
         "look" => put_look(alloc, checked, defs, rest, given),
+        "file" => put_file(alloc, checked, defs, rest, given),
         _ => given.put("no such question"),
     }
 }

@@ -7,6 +7,7 @@
 #![tactic(auto)]
 
 mod answers;
+mod budgets;
 mod faults;
 mod same;
 mod timed;
