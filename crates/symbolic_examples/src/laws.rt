@@ -18,20 +18,20 @@ ghost use Rattle.symbolic_examples.specs.Seen.{inputs_of, is_inside, told, true_
 /// the guard of the place sent to stands behind that of the first place.
 pub fn leaves_of_r()
     ensures above { body_tree 0 r_design (codes "SwIn") 0 ≡ record {
-          args = (record { number = 0; width = 16 }) ∷ (record { number = 1; width = 16 }) ∷ [];
-          fields = (record { number = 2; width = 8 }) ∷ [];
-          leaves = (record {
-            cond = binary op.And
-                (binary op.And (apply 1 (arg (input 0 16) no_args) 1)
-                (binary op.Less (input 1 16) (constant 16 4)))
-                (binary op.And (apply 1 (arg (input 0 16) no_args) 1)
-                (binary op.Less (input 3 16) (constant 16 4)));
-            choices = (record { number = 3; width = 16 }) ∷ [];
-            way = [];
-            end = sent_to (codes "SwOut") (input 0 16 ∷ input 3 16 ∷ []) (input 2 8 ∷ []);
-          }) ∷ [];
-          next = 4;
-        } }
+      args = (record { number = 0; width = 16 }) ∷ (record { number = 1; width = 16 }) ∷ [];
+      fields = (record { number = 2; width = 8 }) ∷ [];
+      leaves = (record {
+        cond = binary op.And
+            (binary op.And (apply 1 (arg (input 0 16) no_args) 1)
+            (binary op.Less (input 1 16) (constant 16 4)))
+            (binary op.And (apply 1 (arg (input 0 16) no_args) 1)
+            (binary op.Less (input 3 16) (constant 16 4)));
+        choices = (record { number = 3; width = 16 }) ∷ [];
+        way = [];
+        end = sent_to (codes "SwOut") (input 0 16 ∷ input 3 16 ∷ []) (input 2 8 ∷ []);
+      }) ∷ [];
+      next = 4;
+    } }
     ensures refined { map told (inlined 0 r_design (codes "SwIn") 1 4).leaves
         ≡ (true ∷ [], codes "SwOut", false, []) ∷ (false ∷ [], codes "SwOut", false, []) ∷ [] }
 {}

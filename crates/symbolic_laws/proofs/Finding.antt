@@ -350,8 +350,8 @@ module _ (d : Design) (defs : Defs) (level : ℕ) where
           let to : Ends (sends a.to e.0) q.state = subst (λ v. Ends v q.state) e.1 q.ends in
           let all = follow_all T b (one u n) in
           let led : follow_body T at s n ≡ those_sent all =
-              ap (λ (o : Option Role). elim o as (λ x. Followed) [ None ↦ ([], n) | Some x ↦ elim x.body [ None ↦ ([], n) | Some y ↦ those_sent (follow_all T y (one (entered x at s) n)) ] ]) is
-              ∙ ap (λ (o : Option Block). elim o as (λ x. Followed) [ None ↦ ([], n) | Some y ↦ those_sent (follow_all T y (one u n)) ]) body in
+          ap (λ (o : Option Role). elim o as (λ x. Followed) [ None ↦ ([], n) | Some x ↦ elim x.body [ None ↦ ([], n) | Some y ↦ those_sent (follow_all T y (one (entered x at s) n)) ] ]) is
+          ∙ ap (λ (o : Option Block). elim o as (λ x. Followed) [ None ↦ ([], n) | Some y ↦ those_sent (follow_all T y (one u n)) ]) body in
           let found : Found s q.state c.0.way cs c.0.rest n all.1 = record { chosen = q.found.chosen; chosen_is = q.found.chosen_is; way_is = q.found.way_is; used = q.found.used; used_is = q.found.used_is; fill = q.found.fill; numbers = q.found.numbers } in
           record {
             state = q.state;

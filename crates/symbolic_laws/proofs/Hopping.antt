@@ -108,7 +108,7 @@ module _ (d : Design) (defs : Defs) (ins : Inputs) (level : ℕ) where
       let after = block_vars b r.params in
       let typed = (holds.roles at.role r is).body b body in
       let l : Leads d defs ins level r.params after (entered r at s) t (runs_all d defs ins level b (entered r at s)) =
-          of_one d defs ins level r.params after (entered r at s) t (runs_all d defs ins level b) refl (block_leads d defs ins level holds b r.params typed (entered r at s ∷ []) n t k.0) in
+      of_one d defs ins level r.params after (entered r at s) t (runs_all d defs ins level b) refl (block_leads d defs ins level holds b r.params typed (entered r at s ∷ []) n t k.0) in
       record {
         to = to.0;
         sent = to.1;
@@ -118,10 +118,12 @@ module _ (d : Design) (defs : Defs) (ins : Inputs) (level : ℕ) where
         chosen_is = l.chosen_is;
         fits = λ f g. sent_fits d defs ins level after [] t to.0 to.1 (l.fits (enters s at r is p f) g);
         sound = λ f g yes.
-            let m = l.sound (enters s at r is p f) g yes in
-            (m.0, λ rest. goes_by s at r b is body p f m.0 (given ins l.chosen ++ rest)
-            ∙ ap (option_and_then (λ (c : Course). arrival c.end c)) (m.1 rest)
-            ∙ ap (λ o. arrival (end_by d defs ins level o (env_at d defs ins level t) (packet_at d defs ins level t)) (record { end = end_of d defs ins level t; rest = rest; way = l.way })) to.1);
+            let m = l.sound (enters s at r is p f) g yes in (
+              m.0,
+              λ rest. goes_by s at r b is body p f m.0 (given ins l.chosen ++ rest)
+                  ∙ ap (option_and_then (λ (c : Course). arrival c.end c)) (m.1 rest)
+                  ∙ ap (λ o. arrival (end_by d defs ins level o (env_at d defs ins level t) (packet_at d defs ins level t)) (record { end = end_of d defs ins level t; rest = rest; way = l.way })) to.1,
+            );
         back = λ f g yes rest c a z ran same.
             let cs = given ins l.chosen ++ rest in
             let m = some_there (λ (x : Course). arrival x.end x) (runs_all d defs ins level b (entered r at s) cs) c (sym (goes_by s at r b is body p f yes cs) ∙ ran) in
@@ -160,9 +162,11 @@ module _ (d : Design) (defs : Defs) (ins : Inputs) (level : ℕ) where
     chosen_is = l.chosen_is;
     fits = l.fits;
     sound = λ f g yes.
-        let k = l.sound f g yes in
-        (k.0, λ rest. ap (option_and_then (λ (c : Arrival). if_new (new c.to.role) c more)) (k.1 rest)
-        ∙ ap (λ b. if_new b (arrive (loc_at d defs ins level l.to) (packet_at d defs ins level m) rest l.way) more) old);
+        let k = l.sound f g yes in (
+          k.0,
+          λ rest. ap (option_and_then (λ (c : Arrival). if_new (new c.to.role) c more)) (k.1 rest)
+              ∙ ap (λ b. if_new b (arrive (loc_at d defs ins level l.to) (packet_at d defs ins level m) rest l.way) more) old,
+        );
     back = λ f g yes rest c a b ran same.
         let there = some_there (λ (x : Arrival). if_new (new x.to.role) x more) (run (given ins l.chosen ++ rest)) c ran in
         let way = longer (new there.0.to.role) there.0 more c there.2 in
@@ -208,23 +212,23 @@ module _ (d : Design) (defs : Defs) (ins : Inputs) (level : ℕ) where
       → Hops s t (hops_in (world level d defs) new k (loc_at d defs ins level at) (packet_at d defs ins level s))
   hops_lead holds new zero s at p n t i = elim i [
     | inl same ↦ subst (λ z. Hops s z (hops_in (world level d defs) new zero (loc_at d defs ins level at) (packet_at d defs ins level s))) (sym same) (record {
-        to = at;
-        sent = p;
-        way = [];
-        chosen = [];
-        way_is = sym (append-nil s.way);
-        chosen_is = sym (append-nil s.choices);
-        fits = λ f g. f;
-        sound = λ f g yes. (yes, λ rest. refl);
-        back = λ f g yes rest c a b ran same. yes;
-      })
+      to = at;
+      sent = p;
+      way = [];
+      chosen = [];
+      way_is = sym (append-nil s.way);
+      chosen_is = sym (append-nil s.choices);
+      fits = λ f g. f;
+      sound = λ f g yes. (yes, λ rest. refl);
+      back = λ f g yes rest c a b ran same. yes;
+    })
     | inr l ↦ absurd l
   ]
   hops_lead holds new (suc k) s at p n t i =
       let w = term_world level d in
       let led = follow_body w at s n in
       let inside : In t (each (onward new (hops w new k)) led.0 led.1).0 =
-          subst (λ (o : Option Place). In t (elim o as (λ x. Followed) [ None ↦ ([], n) | Some to ↦ each (onward new (hops w new k)) (follow_body w to s n).0 (follow_body w to s n).1 ]).0) p i in
+      subst (λ (o : Option Place). In t (elim o as (λ x. Followed) [ None ↦ ([], n) | Some to ↦ each (onward new (hops w new k)) (follow_body w to s n).0 (follow_body w to s n).1 ]).0) p i in
       let m = each_in (onward new (hops w new k)) led.0 led.1 t inside in
       let l = body_hops holds s at p n m.0 m.1 in
       by_new m.0 t m.2 (hops_lead holds new k m.0) l (at_new new m.0) refl m.3

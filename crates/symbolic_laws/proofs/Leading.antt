@@ -228,10 +228,12 @@ module _ (d : Design) (defs : Defs) (ins : Inputs) (level : ℕ) where
     sound = λ f g one.
         let x = h f g.0 in
         let k = l.sound x.fit g.1 one in
-        let p = parts_hold G ins s.cond q f.cond (x.truth_, x.term) (subst (IsOne G ins) cond k.0) in
-        (p.0, λ rest. x.runs (given ins l.chosen ++ rest)
-        ∙ (λ j. on_true (Some (truth (holds G ins q x.truth_ x.term p.1 j))) (option_and_then (λ (r : Course). if_sends r.end r) (k.1 rest j)))
-        ∙ sends_on t at sent (course (End_of t) rest l.way));
+        let p = parts_hold G ins s.cond q f.cond (x.truth_, x.term) (subst (IsOne G ins) cond k.0) in (
+          p.0,
+          λ rest. x.runs (given ins l.chosen ++ rest)
+              ∙ (λ j. on_true (Some (truth (holds G ins q x.truth_ x.term p.1 j))) (option_and_then (λ (r : Course). if_sends r.end r) (k.1 rest j)))
+              ∙ sends_on t at sent (course (End_of t) rest l.way),
+        );
     back = λ f g one rest c a b ran same.
         let x = h f g.0 in
         let was = was_true x.truth_ (option_and_then (λ (r : Course). if_sends r.end r) (inner (given ins l.chosen ++ rest))) c (sym (x.runs (given ins l.chosen ++ rest)) ∙ ran) in
@@ -268,11 +270,13 @@ module _ (d : Design) (defs : Defs) (ins : Inputs) (level : ℕ) where
     sound = λ f g one.
         let x = h f in
         let m = l.sound x.fit g one in
-        let n = parts_hold G ins s.cond q f.cond (agree k x.truth_, x.term) (subst (IsOne G ins) cond m.0) in
-        (n.0, λ rest. x.runs (given ins l.chosen ++ rest)
-        ∙ branch_runs k x.truth_ (env_at d defs ins level s) (first (given ins l.chosen ++ rest)) (second (given ins l.chosen ++ rest)) (agree_is k x.truth_ (holds G ins q (agree k x.truth_) x.term n.1))
-        ∙ ap (option_map (in_branch k (env_at d defs ins level s))) (m.1 rest)
-        ∙ ap (λ e. Some (course e rest (k ∷ l.way))) (back_end s t t.sent));
+        let n = parts_hold G ins s.cond q f.cond (agree k x.truth_, x.term) (subst (IsOne G ins) cond m.0) in (
+          n.0,
+          λ rest. x.runs (given ins l.chosen ++ rest)
+              ∙ branch_runs k x.truth_ (env_at d defs ins level s) (first (given ins l.chosen ++ rest)) (second (given ins l.chosen ++ rest)) (agree_is k x.truth_ (holds G ins q (agree k x.truth_) x.term n.1))
+              ∙ ap (option_map (in_branch k (env_at d defs ins level s))) (m.1 rest)
+              ∙ ap (λ e. Some (course e rest (k ∷ l.way))) (back_end s t t.sent),
+        );
     back = λ f g one rest c a b ran same.
         let x = h f in
         let cs = given ins l.chosen ++ rest in

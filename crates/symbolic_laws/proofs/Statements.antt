@@ -141,7 +141,7 @@ module _ (d : Design) (defs : Defs) (ins : Inputs) (level : ℕ) where
                 place = subst (λ o. FitsBy d defs ins level (record { name = x; width = w } ∷ vars) o z) (sym p) (refl, a.fits, binds_of d defs ins level vars s p f);
               },
               λ rest. ap (option_map (λ v. straight (falls (bound x.text v (env_at d defs ins level s)) (packet_at d defs ins level s)) rest)) a.is
-              ∙ ap (λ o. Some (course (end_by d defs ins level o (env_at d defs ins level z) (packet_at d defs ins level z)) rest [])) (sym p),
+                  ∙ ap (λ o. Some (course (end_by d defs ins level o (env_at d defs ins level z) (packet_at d defs ins level z)) rest [])) (sym p),
             )))
         | inr l ↦ absurd l
       ]
@@ -158,7 +158,7 @@ module _ (d : Design) (defs : Defs) (ins : Inputs) (level : ℕ) where
                 place = subst (λ o. FitsBy d defs ins level vars o z) (sym p) (binds_of d defs ins level vars s p f);
               },
               λ rest. ap (option_map (λ m. straight (falls (env_at d defs ins level s) (write_field d.headers (packet_at d defs ins level s) x.text g.text m)) rest)) a.number_
-              ∙ (λ k. Some (course (end_by d defs ins level (sym p k) (env_at d defs ins level s) (sym (set_packet num (HasNumber G ins) d.headers s.fields f.fields x.text g.text u) k)) rest [])),
+                  ∙ (λ k. Some (course (end_by d defs ins level (sym p k) (env_at d defs ins level s) (sym (set_packet num (HasNumber G ins) d.headers s.fields f.fields x.text g.text u) k)) rest [])),
             )))
         | inr l ↦ absurd l
       ]
@@ -215,7 +215,7 @@ module _ (d : Design) (defs : Defs) (ins : Inputs) (level : ℕ) where
                 place = subst (λ o. FitsBy d defs ins level (record { name = x; width = w } ∷ vars) o z) (sym p) (refl, (refl, g), binds_of d defs ins level vars s p f);
               },
               λ rest. taken w (ins n) rest (λ m more. Some (straight (falls (bound x.text (number w m) (env_at d defs ins level s)) (packet_at d defs ins level s)) more)) g
-              ∙ ap (λ o. Some (course (end_by d defs ins level o (env_at d defs ins level z) (packet_at d defs ins level z)) rest [])) (sym p),
+                  ∙ ap (λ o. Some (course (end_by d defs ins level o (env_at d defs ins level z) (packet_at d defs ins level z)) rest [])) (sym p),
             )))
         | inr l ↦ absurd l
       ]
@@ -234,7 +234,7 @@ module _ (d : Design) (defs : Defs) (ins : Inputs) (level : ℕ) where
                 place = subst (λ o. FitsBy d defs ins level vars o z) (sym p) (binds_of d defs ins level vars s p f);
               },
               λ rest. ap (option_and_then (λ w. choose w (ins n ∷ rest) goes)) h.1 ∙ taken h.0 (ins n) rest goes (subst (λ w. FitsWidth w (ins n)) wide fit)
-              ∙ (λ k. Some (course (end_by d defs ins level (sym p k) (env_at d defs ins level s) (sym (set_packet num (HasNumber G ins) d.headers s.fields f.fields x.text g.text (input_term c)) k)) rest [])),
+                  ∙ (λ k. Some (course (end_by d defs ins level (sym p k) (env_at d defs ins level s) (sym (set_packet num (HasNumber G ins) d.headers s.fields f.fields x.text g.text (input_term c)) k)) rest [])),
             )))
         | inr l ↦ absurd l
       ]
@@ -253,8 +253,8 @@ module _ (d : Design) (defs : Defs) (ins : Inputs) (level : ℕ) where
           let v = value (context d defs) (env_at d defs ins level z) (packet_at d defs ins level z) e in
           let inner : Run = runs_all body z in
           let then_body : ℕ → List ℕ → Option Course = λ m rest.
-              on_true (value (context d defs) (bound x.text (number w m) (env_at d defs ins level s)) (packet_at d defs ins level s) e)
-              (option_and_then (λ (r : Course). if_sends r.end r) (run_all_by (world level d defs) body (bound x.text (number w m) (env_at d defs ins level s)) (packet_at d defs ins level s) rest)) in
+          on_true (value (context d defs) (bound x.text (number w m) (env_at d defs ins level s)) (packet_at d defs ins level s) e)
+          (option_and_then (λ (r : Course). if_sends r.end r) (run_all_by (world level d defs) body (bound x.text (number w m) (env_at d defs ins level s)) (packet_at d defs ins level s) rest)) in
           forked d defs ins level vars more (block_vars body more) vars s y t (runs (fork at x w e body) s) inner c u to.0 refl refl refl to.1
           (λ f g.
           let fit : Fits d defs ins level more z = record {
@@ -283,7 +283,7 @@ module _ (d : Design) (defs : Defs) (ins : Inputs) (level : ℕ) where
             let z = sends_to w to s in
             let packet = packet_at d defs ins level s in
             let goes : List ℕ → List ℕ → Option Course = λ rest ns.
-                on_true (guard_at (world level d defs) (record { role = r.text; values = ns })) (Some (straight (sends (record { role = r.text; values = ns }) packet) rest)) in
+            on_true (guard_at (world level d defs) (record { role = r.text; values = ns })) (Some (straight (sends (record { role = r.text; values = ns }) packet) rest)) in
             tested d defs ins level vars vars s z (runs (send at r es) s) u refl refl refl
             (λ f.
             let ns = holds.numbers_ vars s.vars s.fields (binds_of d defs ins level vars s p f) f.fields (widths_of h.0.params) es h.2 in
@@ -308,8 +308,11 @@ module _ (d : Design) (defs : Defs) (ins : Inputs) (level : ℕ) where
       block_leads no_stmts vars h ss n t i = (t, i, by t.sent refl)
         where
           by : (o : Option Place) → t.sent ≡ o → Comes vars vars t t (runs_all no_stmts t)
-          by None p = inl (p, quiet d defs ins level vars vars t t (runs_all no_stmts t) refl refl refl
-              (λ f. (f, λ rest. ap (λ o. Some (course (end_by d defs ins level o (env_at d defs ins level t) (packet_at d defs ins level t)) rest [])) (sym p))))
+          by None p = inl (
+            p,
+            quiet d defs ins level vars vars t t (runs_all no_stmts t) refl refl refl
+                (λ f. (f, λ rest. ap (λ o. Some (course (end_by d defs ins level o (env_at d defs ins level t) (packet_at d defs ins level t)) rest [])) (sym p))),
+          )
           by (Some at) p = inr (at, p, refl)
       block_leads (stmt x rest) vars h ss n t i =
           let w = term_world level d in
@@ -317,8 +320,11 @@ module _ (d : Design) (defs : Defs) (ins : Inputs) (level : ℕ) where
           let mids = each (unless_sent (follow w x)) ss n in
           let later : IsTyped (scope_at d level mid true) rest = subst (λ s. IsTyped s rest) (after_scope x (scope_at d level vars true)) h.1 in
           let m = block_leads rest mid later mids.0 mids.1 t i in
-          let s = each_in (unless_sent (follow w x)) ss n m.0 m.1 in
-          (s.0, s.1, joined x rest vars s.0 m.0 t m.2 (elim (unless_in (follow w x) s.0 s.2 m.0 s.3) [
-            | inl k ↦ inl (k.0, stmt_leads x vars h.0 s.0 k.0 s.2 m.0 k.1)
-            | inr k ↦ inr k
-          ]))
+          let s = each_in (unless_sent (follow w x)) ss n m.0 m.1 in (
+            s.0,
+            s.1,
+            joined x rest vars s.0 m.0 t m.2 (elim (unless_in (follow w x) s.0 s.2 m.0 s.3) [
+              | inl k ↦ inl (k.0, stmt_leads x vars h.0 s.0 k.0 s.2 m.0 k.1)
+              | inr k ↦ inr k
+            ]),
+          )

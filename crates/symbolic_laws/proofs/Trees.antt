@@ -131,7 +131,7 @@ module _ (d : Design) (defs : Defs) (level : ℕ) (new : List ℕ → Bool) (bod
             ∙ ap Some (arrival_is ins t to rest);
         only = λ rest led went way.
             let went' : run (loc_at d defs ins level at) (packet_at d defs ins level start) (given ins h.chosen ++ rest) ≡ Some led =
-                ap (λ cs. run (loc_at d defs ins level at) (packet_at d defs ins level start) (given ins cs ++ rest)) (sym h.chosen_is) ∙ ran ins (given ins t.choices ++ rest) ∙ went in
+            ap (λ cs. run (loc_at d defs ins level at) (packet_at d defs ins level start) (given ins cs ++ rest)) (sym h.chosen_is) ∙ ran ins (given ins t.choices ++ rest) ∙ went in
             h.back starts fits (entered_true ins r holds is f l (packet_at d defs ins level start) (given ins h.chosen ++ rest) led went') rest led [] [] went' (ap (λ w. w ++ []) (way ∙ h.way_is));
       }
 
@@ -169,7 +169,7 @@ module _ (d : Design) (defs : Defs) (level : ℕ) (new : List ℕ → Bool) (bod
       let place = in_place leaf (flat_map (leaf_of new) all.0) inside in
       let its = its_run inputs r (holds inputs) is l (put_fit ins first next all.1 tree.args chosen used args_before numbers f) (put_fit ins (first + length tree.args) next all.1 tree.fields chosen used fields_before numbers g) t found.within found.to found.sent fit in
       let goes : run (first_loc inputs role tree) (first_packet inputs d.headers tree) (given inputs t.choices ++ led.rest) ≡ Some led =
-          (λ k. run (record { role = role; values = same_args k }) (packet_of d.headers (same_fields k)) (sym uses k)) ∙ went in
+      (λ k. run (record { role = role; values = same_args k }) (packet_of d.headers (same_fields k)) (sym uses k)) ∙ went in
       let one = its.only led.rest led goes (sym found.found.way_is) in
       let ends : arrives F inputs d.headers leaf led.rest ≡ led = let e : Some (arrives F inputs d.headers leaf led.rest) ≡ Some led = sym (its.runs one led.rest) ∙ goes in cc in
       record { number = place.0; leaf = leaf; there = place.1; inputs = inputs; same_args = same_args; same_fields = same_fields; fit = fit; used = uses; true_ = one; ends = ends }
