@@ -1,1 +1,3 @@
 pub mod AssumptionValues
+pub mod Assumed
+pub mod Numbers

@@ -1,3 +1,4 @@
 pub mod AssumptionTerms
 pub mod Taking
 pub mod Saying
+pub mod Numbers
