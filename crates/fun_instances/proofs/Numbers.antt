@@ -60,11 +60,11 @@ are_constants d w i a is ns fit =
 
 -- ---- their terms
 
-pub are_wide : (ws ns : List ℕ) → AreConstants ws ns → AllZip HasWidth ws (number_terms ws ns)
-are_wide [] [] h = tt
-are_wide [] (n ∷ ns) h = absurd h
-are_wide (w ∷ ws) [] h = absurd h
-are_wide (w ∷ ws) (n ∷ ns) h = (refl, are_wide ws ns h.1)
+pub numbers_wide : (ws ns : List ℕ) → FieldsFit ws ns → AllZip HasWidth ws (number_terms ws ns)
+numbers_wide [] [] h = tt
+numbers_wide [] (n ∷ ns) h = absurd h
+numbers_wide (w ∷ ws) [] h = absurd h
+numbers_wide (w ∷ ws) (n ∷ ns) h = (refl, numbers_wide ws ns h.1)
 
 as_many : {A : Type 0} (g : A → Param) (ps : List A) (ns : List ℕ) → AreConstants (widths_of (map g ps)) ns → length ps ≡ length ns
 as_many g [] [] h = refl

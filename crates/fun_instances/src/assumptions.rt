@@ -55,7 +55,8 @@ pub fn assumption_term(
     expr_term(alloc, checked, sizes, &bound, &[], terms, &assumed.body)
 }
 
-/// The term of the assumption of a number at numbers, one for each of its parameters, which fit their widths. Likewise.
+/// The term of the assumption of a number at these numbers, one for each of its parameters. The bodies of all functions are
+/// counted as well; for the rest time and memory are as above.
 pub fn value_instance(
     alloc: Global,
     checked: &Checked,

@@ -1,16 +1,36 @@
 //! What assumptions say as terms. The functions do nothing; their contracts are the laws.
 ghost use Rattle.std.specs.Prelude.{◌≡◌, ℕ, List};
+ghost use Rattle.std.specs.List.{AllZip};
 ghost use Rattle.cocoon_num.specs.Tree.{DefsText, Design};
+ghost use Rattle.cocoon_types.specs.Design.{widths_of};
+ghost use Rattle.cocoon_types.specs.Rules.{WellFormed};
 ghost use Rattle.cocoon_types.specs.Tables.{defs_of};
 ghost use Rattle.bv_terms.specs.TermTrees.{Term};
 ghost use Rattle.bv_terms.specs.TermValues.{Inputs};
 ghost use Rattle.refinement.specs.Assumptions.{IsMet};
 ghost use Rattle.sound_types.specs.Defined.{HasDefinitions};
+ghost use Rattle.sound_types.specs.Literals.{DesignLiteralsFit};
+ghost use Rattle.expr_term_laws.specs.Shown.{HasWidth};
 ghost use Rattle.fun_instances.specs.AssumptionTerms.{assumption_term, value_term};
 ghost use Rattle.fun_instances.specs.Saying.{IsTrueUnder, SaysOf};
 ghost use Rattle.fun_instances.specs.Taking.{NumbersFit, OfAssumption, TermsFit};
 
+use expr_term_laws::laws::terms_have_widths;
 use sound_types::laws::{declarations_are_typed, expressions_have_values};
+
+/// The term of an assumption has width 1, where the terms of its parameters have their widths.
+pub fn assumptions_have_width_1()
+    ensures terms { (d : Design) → WellFormed d → DesignLiteralsFit d → (i : ℕ)
+        → OfAssumption d i (λ a.
+        (ts : List Term) → AllZip HasWidth (widths_of a.params) ts
+        → HasWidth 1 (assumption_term d a ts)) }
+    ensures numbers { (d : Design) → WellFormed d → DesignLiteralsFit d → (i : ℕ)
+        → OfAssumption d i (λ a.
+        (ns : List ℕ) → NumbersFit a ns → HasWidth 1 (value_term d a ns)) }
+{
+    declarations_are_typed();
+    terms_have_widths();
+}
 
 /// Under the definitions of a text the term of an assumption has the value that the assumption has at the numbers of the
 /// terms of its parameters.
