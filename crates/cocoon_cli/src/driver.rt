@@ -3,7 +3,7 @@ ghost use Rattle.std.specs.Prelude.{◌≡◌, map, string_bytes};
 ghost use Rattle.cocoon_cli.specs.Headline.{Headline};
 ghost use Rattle.cocoon_cli.specs.Report.{Prints, Puts, ending_of, no_memory};
 ghost use Rattle.cocoon_cli.specs.Run.{Keeps, count};
-ghost use Rattle.command_line.specs.Stands.{stands_for};
+ghost use Rattle.command_line.specs.Command.{stands_for};
 ghost use Rattle.cocoon_io.specs.Calls.{Rose};
 
 use crate::answer::Report;

@@ -1,7 +1,7 @@
 //! The files that a command reads and writes.
 ghost use Rattle.std.specs.Prelude.{◌≡◌, IfOk, option_map, string_bytes};
 ghost use Rattle.command_line.specs.Command as spec;
-ghost use Rattle.command_line.specs.Stands.{stands_for};
+ghost use Rattle.command_line.specs.Command.{stands_for};
 ghost use Rattle.cocoon_cli.specs.FileNames.{bundle_in, name_in};
 ghost use Rattle.cocoon_cli.specs.Shell.{IsWanted};
 

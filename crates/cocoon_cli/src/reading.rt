@@ -1,6 +1,6 @@
 //! What a command reads: its files, each within its limit, and a bundle.
 ghost use Rattle.std.specs.Prelude.{◌≡◌, ◌≤◌, ◌<◌, ◌^◌, IfErr, IfOk, length};
-ghost use Rattle.command_line.specs.Stands.{stands_for};
+ghost use Rattle.command_line.specs.Command.{stands_for};
 ghost use Rattle.cocoon_cli.specs.FileNames.{bundle_in, most_in, name_in};
 ghost use Rattle.cocoon_cli.specs.Reading.{FileNotRead, HasFile, IsRead, IsUnread, NamesBundleFailure, NamesReadFailure, ReadFaultRose};
 ghost use Rattle.cocoon_cli.specs.Run.{count};

@@ -3,7 +3,7 @@ ghost use Rattle.std.specs.Prelude.{◌≡◌, ◌++◌, codes, IfOk, string_byt
 ghost use Rattle.cocoon_cli.specs.FileNames.{name_in};
 ghost use Rattle.cocoon_cli.specs.declared.files.CommandFile.TheVariants.{Bundle};
 ghost use Rattle.cocoon_cli.specs.Report.{HasBytes, bundle_line, cause_text, definitions_line, fault_line, form_line, host_line, language_line, level_line, limit_line, line_with, load_text, most_allowed, no_default_line, over_line, p4_text, pointer_text, refusal_line, stale_text, status_of};
-ghost use Rattle.command_line.specs.Stands.{stands_for};
+ghost use Rattle.command_line.specs.Command.{stands_for};
 
 use crate::answer::Report;
 use crate::files::CommandFile;

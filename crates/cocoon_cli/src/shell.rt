@@ -2,7 +2,7 @@
 //! was read, and what it answers is written. A command has no folder, so it can read and write nothing
 //! else.
 ghost use Rattle.std.specs.Prelude.{IfErr, IfOk, Some};
-ghost use Rattle.command_line.specs.Stands.{stands_for};
+ghost use Rattle.command_line.specs.Command.{stands_for};
 ghost use Rattle.cocoon_cli.specs.Headline.{CompiledOf};
 ghost use Rattle.cocoon_cli.specs.Run.{count};
 ghost use Rattle.cocoon_cli.specs.Shell.{Acts, Asked, IsGiven, IsQuiet, IsShort, Plans};

@@ -1,7 +1,7 @@
 //! What a command writes.
 ghost use Rattle.std.specs.Prelude.{◌≡◌, ◌⊎◌, IfErr, OnOk};
 ghost use Rattle.cocoon_io.specs.Calls.{with_file};
-ghost use Rattle.command_line.specs.Stands.{stands_for};
+ghost use Rattle.command_line.specs.Command.{stands_for};
 ghost use Rattle.cocoon_cli.specs.FileNames.{name_in};
 ghost use Rattle.cocoon_cli.specs.Leaves.{own};
 ghost use Rattle.cocoon_cli.specs.Run.{count};

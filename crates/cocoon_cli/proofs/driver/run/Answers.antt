@@ -1,5 +1,5 @@
 use Rattle.std.proofs.Common.{◌∙◌, refl, ap, sym, inl, option_map, None, []}
-use Rattle.command_line.specs.Stands.{stands_for}
+use Rattle.command_line.specs.Command.{stands_for}
 use Rattle.cocoon_cli.proofs.Running.{keeps_of, keeps_memory, headline_of, headline_given}
 use Rattle.cocoon_cli.proofs.driver.run.Goals as goal
 

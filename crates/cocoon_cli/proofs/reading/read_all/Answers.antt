@@ -1,5 +1,5 @@
 use Rattle.std.proofs.Common.{IfErr, subst, ◌∙◌}
-use Rattle.command_line.specs.Stands.{stands_for}
+use Rattle.command_line.specs.Command.{stands_for}
 use Rattle.cocoon_cli.specs.FileNames.{bundle_in}
 use Rattle.cocoon_cli.specs.Shell.{HasNet, LacksNet, ReadsNot}
 use Rattle.cocoon_cli.specs.declared.files.CommandFile.TheVariants.{Case, Definitions, Packets}

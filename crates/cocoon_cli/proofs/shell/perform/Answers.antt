@@ -1,5 +1,5 @@
 use Rattle.std.proofs.Common.{◌∙◌}
-use Rattle.command_line.specs.Stands.{stands_for}
+use Rattle.command_line.specs.Command.{stands_for}
 use Rattle.cocoon_cli.specs.Run.{count}
 use Rattle.cocoon_cli.specs.Shell.{Acts}
 use Rattle.cocoon_cli.proofs.Counted.{called_after, called_ok, called_same, passed, uncounted, unnamed}

@@ -1,8 +1,8 @@
 use Rattle.std.proofs.Common.{ap, ◌∙◌}
 use Rattle.clap.specs.Words.{found_of}
 use Rattle.clap.proofs.WalkLemmas.{first_value-rows}
-use Rattle.command_line.specs.Words.{hops_by}
-use Rattle.command_line.proofs.parse.hops.Goals as goal
+use Rattle.command_line.specs.Subcommands.{hops_by}
+use Rattle.command_line.proofs.subcommands.hops.Goals as goal
 
 pub returns-in-Some : goal.returns-in-Some
 returns-in-Some c = c.number_between.ensures ∙ ap hops_by (c.in-Some.ensures ∙ first_value-rows (found_of c.args.matches.now) _)

@@ -1,7 +1,7 @@
 use Rattle.std.proofs.Common.{sym}
 use Rattle.command_line.proofs.Matching.{is_name, is_other, is_absent}
-use Rattle.command_line.proofs.parse.argument_name.Goals as goal
-use Rattle.command_line.proofs.parse.argument_name.Goals.{in_default-via-in-Some+else-is_file_name, in_default-via-in_default}
+use Rattle.command_line.proofs.arguments.argument_name.Goals as goal
+use Rattle.command_line.proofs.arguments.argument_name.Goals.{in_default-via-in-Some+else-is_file_name, in_default-via-in_default}
 
 pub returns-in-Some : goal.returns-in-Some
 returns-in-Some c = is_name c.args.matches.now c.args.argument.now c.in-Some.word.now c.in-Some.ensures (sym c.if-is_file_name.ensures)
