@@ -8,11 +8,12 @@ use Rattle.cocoon_num.specs.PacketForms.{FieldsFit}
 use Rattle.cocoon_types.specs.Runs.{Go, Loc, World}
 use Rattle.cocoon_types.specs.Taken.{body_go, go, if_true, Reached, RunsAreTaken}
 use Rattle.cocoon_types.specs.Val.{bind, Env, value}
-use Rattle.role_meaning.specs.Goings.{all_taken, went_of}
-use Rattle.role_meaning.specs.Leading.{Leads}
+use Rattle.role_meaning.specs.Goings.{all_taken, led_of, went_of}
+use Rattle.role_meaning.specs.Leading.{Leads, LeadsOn}
 use Rattle.role_meaning.specs.Located.{loc_of, sent_of}
 use Rattle.role_meaning.specs.declared.place.Loc as code
 use Rattle.role_meaning.specs.declared.place.Packet as sent
+use Rattle.role_meaning.specs.declared.place.Led.{Led}
 use Rattle.role_values.specs.FittingRuns.{fitting_body, fitting_go}
 use Rattle.role_meaning.proofs.Bridges.{bound_fit}
 
@@ -59,3 +60,10 @@ leads laws d w at packet cs (Some r) h =
     let e : go w (loc_of d at) (sent_of d packet) cs ≡ Some (loc_of d r.0, sent_of d r.1, []) = taken_some (go w (loc_of d at) (sent_of d packet) cs) (loc_of d r.0) (sent_of d r.1) h in
     let used = laws.gives w (loc_of d at) (sent_of d packet) cs (loc_of d r.0) (sent_of d r.1) [] e in
     subst (λ xs. Go w (loc_of d at) (sent_of d packet) xs (loc_of d r.0) (sent_of d r.1)) (sym (append-nil used.0) ∙ sym used.1) used.2
+
+pub leads_on : (laws : RunsAreTaken) (d : Design) (w : World) (at : code.Loc) (packet : sent.Packet) (cs : List ℕ) (led : Option Led)
+    → option_map (led_of d) led ≡ go w (loc_of d at) (sent_of d packet) cs → LeadsOn d w at packet cs led
+leads_on laws d w at packet cs None h = λ used rest to sent e g.
+    let some : go w (loc_of d at) (sent_of d packet) cs ≡ Some (to, sent, rest) = ap (go w (loc_of d at) (sent_of d packet)) e ∙ laws.takes w (loc_of d at) (sent_of d packet) used to sent g rest in
+    let both : None ≡ Some (to, sent, rest) = h ∙ some in cc
+leads_on laws d w at packet cs (Some r) h = laws.gives w (loc_of d at) (sent_of d packet) cs (loc_of d r.to) (sent_of d r.packet) r.rest.now (sym h)

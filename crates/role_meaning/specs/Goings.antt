@@ -1,12 +1,13 @@
--- Cited by the clauses of runs of bodies: where they lead with all choices.
+-- Cited by the clauses of runs of bodies: where they lead, and the choices that are left.
 use Rattle.std.specs.Prelude.{ℕ, List, [], ◌∷◌, Option, Some, None, option_and_then}
 use Rattle.cocoon_num.specs.Packets.{Packet}
 use Rattle.cocoon_num.specs.Tree.{Block, Design}
 use Rattle.cocoon_types.specs.Runs as runs
-use Rattle.cocoon_types.specs.Taken.{Ended, if_reached, Reached}
+use Rattle.cocoon_types.specs.Taken.{if_reached, Reached}
 use Rattle.role_meaning.specs.Levels.{design_at, world_at}
 use Rattle.role_meaning.specs.Located.{loc_of, sent_of}
 use Rattle.role_meaning.specs.declared.level.Level.{Level}
+use Rattle.role_meaning.specs.declared.place.Led.{Led}
 use Rattle.role_meaning.specs.declared.place.Loc.{Loc}
 use Rattle.role_meaning.specs.declared.place.Packet as code
 use Rattle.role_values.specs.Bound.{env_of}
@@ -15,11 +16,15 @@ use Rattle.role_values.specs.Flat.{packet_of}
 use Rattle.role_values.specs.Scenes.{headers_of}
 use Rattle.role_values.specs.declared.bindings.Binding.{Binding}
 
--- the location and the packet
-abbrev pub went : Level → Loc × code.Packet → runs.Loc × Packet
-went l r = (loc_of (design_at l) r.0, packet_of (headers_of l.scene) r.1.fields)
+-- the location, the packet and the choices that are left
+abbrev pub led_at : Level → Led → runs.Loc × Packet × List ℕ
+led_at l r = (loc_of (design_at l) r.to, packet_of (headers_of l.scene) r.packet.fields, r.rest.now)
 
 -- the same, by the design
+abbrev pub led_of : Design → Led → runs.Loc × Packet × List ℕ
+led_of d r = (loc_of d r.to, sent_of d r.packet, r.rest.now)
+
+-- the location and the packet
 abbrev pub went_of : Design → Loc × code.Packet → runs.Loc × Packet
 went_of d r = (loc_of d r.0, sent_of d r.1)
 
@@ -28,13 +33,10 @@ abbrev pub if_none_left : runs.Loc → Packet → List ℕ → Option (runs.Loc 
 if_none_left to sent [] = Some (to, sent)
 if_none_left to sent (c ∷ cs) = None
 
+-- where a run leads that takes all choices
 abbrev pub all_taken : Reached → Option (runs.Loc × Packet)
 all_taken r = option_and_then (λ (x : runs.Loc × Packet × List ℕ). if_none_left x.0 x.1 x.2) r
 
--- where a run leads that takes all choices
-abbrev pub with_all_choices : Ended → Option (runs.Loc × Packet)
-with_all_choices e = all_taken (if_reached e)
-
 -- where a block leads from these variables, fields and choices
-abbrev pub sent_from : Level → Block → List Binding → (fields choices : List ℕ) → Option (runs.Loc × Packet)
-sent_from l b bs fields choices = with_all_choices (fitting_all (world_at l) b (env_of bs) (packet_of (headers_of l.scene) fields) choices)
+abbrev pub led_from : Level → Block → List Binding → (fields choices : List ℕ) → Reached
+led_from l b bs fields choices = if_reached (fitting_all (world_at l) b (env_of bs) (packet_of (headers_of l.scene) fields) choices)

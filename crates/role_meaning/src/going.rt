@@ -4,8 +4,8 @@ ghost use Rattle.cocoon_num.specs.PacketForms.{FieldsFit};
 ghost use Rattle.cocoon_resolve.specs.Readers.{all_widths, HasRole};
 ghost use Rattle.cocoon_syntax.specs.TreeOf.{block_of, param_of, role_of, stmt_of};
 ghost use Rattle.cocoon_types.specs.Design.{widths_of};
-ghost use Rattle.role_meaning.specs.Goings as spec;
-ghost use Rattle.role_meaning.specs.Goings.{sent_from, with_all_choices};
+ghost use Rattle.cocoon_types.specs.Taken.{if_reached};
+ghost use Rattle.role_meaning.specs.Goings.{led_at, led_from};
 ghost use Rattle.role_meaning.specs.Levels.{CanRun, design_at, entered, world_at};
 ghost use Rattle.role_meaning.specs.Located.{loc_of};
 ghost use Rattle.role_meaning.specs.Progresses.{ended_of};
@@ -17,7 +17,7 @@ ghost use Rattle.role_values.specs.FittingRuns.{fitting_go};
 ghost use Rattle.role_values.specs.Scenes.{headers_of, SeesFunctions};
 
 use crate::level::Level;
-use crate::place::{Loc, Packet};
+use crate::place::{Led, Loc, Packet};
 use crate::progress::{End, Progress};
 use crate::run::run_block;
 use cocoon_num::{List, NoMemory};
@@ -36,51 +36,52 @@ fn widened(alloc: Global, numbers: &[u64]) -> Result<Vec<u128>, NoMemory>
     Ok(widened)
 }
 
-/// The location with the packet, where no choice is left.
-fn arrive(to: Loc, progress: Progress<'_>) -> Option<(Loc, Packet)>
-    ensures leads { (l : At) → option_map (spec.went l) result
-        ≡ with_all_choices (ended_of l (Some (End.Sends to)) progress.entry) }
-    ensures fields { IfSome result (λ r. r.1.fields ≡ progress.entry.state.fields.items) }
-    ensures at { IfSome result (λ r. r.0 ≡ to) }
+/// The location with the packet, and the choices that are left.
+fn arrive<'c>(to: Loc, progress: Progress<'c>) -> Led<'c>
+    ensures leads { (l : At) → Some (led_at l result)
+        ≡ if_reached (ended_of l (Some (End.Sends to)) progress.entry) }
+    ensures fields { result.packet.fields ≡ progress.entry.state.fields.items }
+    ensures at { result.to ≡ to }
 {
-    if progress.choices.is_empty() {
-        let fields = List::from(progress.state.fields);
-        Some((to, Packet { fields }))
-    } else {
-        None
+    let rest = progress.choices;
+    let fields = List::from(progress.state.fields);
+    Led {
+        to,
+        packet: Packet { fields },
+        rest,
     }
 }
 
-/// Where an end leads that sends and leaves no choice.
-fn reached(end: Option<End>, progress: Progress<'_>) -> Option<(Loc, Packet)>
-    ensures leads { (l : At) → option_map (spec.went l) result
-        ≡ with_all_choices (ended_of l end progress.entry) }
-    ensures fields { IfSome result (λ r. r.1.fields ≡ progress.entry.state.fields.items) }
-    ensures at { IfSome result (λ r. end ≡ Some (End.Sends r.0)) }
+/// Where an end leads that sends.
+fn reached<'c>(end: Option<End>, progress: Progress<'c>) -> Option<Led<'c>>
+    ensures leads { (l : At) → option_map (led_at l) result
+        ≡ if_reached (ended_of l end progress.entry) }
+    ensures fields { IfSome result (λ r. r.packet.fields ≡ progress.entry.state.fields.items) }
+    ensures at { IfSome result (λ r. end ≡ Some (End.Sends r.to)) }
 {
     match end? {
-        End::Sends(to) => arrive(to, progress),
+        End::Sends(to) => Some(arrive(to, progress)),
         End::Falls => None,
     }
 }
 
 /// The end of a body that begins with these variables.
-fn run_body(
+fn run_body<'c>(
     alloc: Global,
     level: &Level<'_>,
     body: &[Stmt],
     variables: Vec<Binding>,
     packet: &Packet,
-    choices: &[u64],
-) -> Result<Option<(Loc, Packet)>, NoMemory>
+    choices: &'c [u64],
+) -> Result<Option<Led<'c>>, NoMemory>
     requires ready { CanRun level.now }
     requires fits { FieldsFit (all_widths (headers_of level.now.scene)) packet.now.fields }
-    ensures fits { IfOk result (λ to. IfSome to (λ r.
-        FieldsFit (all_widths (headers_of level.now.scene)) r.1.fields)) }
-    ensures at { IfOk result (λ to. IfSome to (λ r.
-        HasRole (design_at level.now) r.0.role level.now.number)) }
-    ensures leads { IfOk result (λ to. option_map (spec.went level.now) to
-        ≡ sent_from level.now (block_of (map stmt_of body.now)) variables.items
+    ensures fits { IfOk result (λ led. IfSome led (λ r.
+        FieldsFit (all_widths (headers_of level.now.scene)) r.packet.fields)) }
+    ensures at { IfOk result (λ led. IfSome led (λ r.
+        HasRole (design_at level.now) r.to.role level.now.number)) }
+    ensures leads { IfOk result (λ led. option_map (led_at level.now) led
+        ≡ led_from level.now (block_of (map stmt_of body.now)) variables.items
         packet.now.fields choices.now) }
 {
     let fields = packet.fields.items().to_vec(alloc)?;
@@ -106,24 +107,24 @@ fn enter_own(
     level.enter(alloc, role, &values)
 }
 
-/// Where the body of a role leads from a location, with exactly these choices.
-pub(crate) fn run_role(
+/// Where the body of a role leads from a location, with the first of these choices.
+pub(crate) fn run_role<'c>(
     alloc: Global,
     level: &Level<'_>,
     at: &Loc,
     packet: &Packet,
-    choices: &[u64],
-) -> Result<Option<(Loc, Packet)>, NoMemory>
+    choices: &'c [u64],
+) -> Result<Option<Led<'c>>, NoMemory>
     requires ready { CanRun level.now }
     requires role { HasRole (design_at level.now) at.now.role level.now.number }
     requires fits { FieldsFit (all_widths (headers_of level.now.scene)) packet.now.fields }
-    ensures fits { IfOk result (λ to. IfSome to (λ r.
-        FieldsFit (all_widths (headers_of level.now.scene)) r.1.fields)) }
-    ensures at { IfOk result (λ to. IfSome to (λ r.
-        HasRole (design_at level.now) r.0.role level.now.number)) }
-    ensures leads { IfOk result (λ to. option_map (spec.went level.now) to ≡ spec.all_taken
-        (fitting_go (world_at level.now) (loc_of (design_at level.now) at.now)
-        (packet_of (headers_of level.now.scene) packet.now.fields) choices.now)) }
+    ensures fits { IfOk result (λ led. IfSome led (λ r.
+        FieldsFit (all_widths (headers_of level.now.scene)) r.packet.fields)) }
+    ensures at { IfOk result (λ led. IfSome led (λ r.
+        HasRole (design_at level.now) r.to.role level.now.number)) }
+    ensures leads { IfOk result (λ led. option_map (led_at level.now) led
+        ≡ fitting_go (world_at level.now) (loc_of (design_at level.now) at.now)
+        (packet_of (headers_of level.now.scene) packet.now.fields) choices.now) }
 {
     let role = level.scene.checked.role(at.role, level.number);
     let Some(body) = &role.body else {

@@ -12,5 +12,5 @@ mod run;
 mod steps;
 
 pub use bytes::{enter, leave};
-pub use leading::go;
-pub use place::{Loc, Packet};
+pub use leading::{go, lead};
+pub use place::{Led, Loc, Packet};

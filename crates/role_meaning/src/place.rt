@@ -16,3 +16,12 @@ pub struct Packet {
     /// Header by header, in the order of declaration.
     pub fields: List<u64>,
 }
+
+/// Where a body leads, and what its run leaves of the choices.
+#[derive(Drop)]
+pub struct Led<'c> {
+    pub to: Loc,
+    pub packet: Packet,
+    /// The choices behind those that were taken.
+    pub rest: &'c [u64],
+}

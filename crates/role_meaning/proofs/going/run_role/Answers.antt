@@ -2,7 +2,7 @@ use Rattle.std.proofs.Common.{◌≡◌, Some, None, Vec, Global, map, option_ma
 use Rattle.cocoon_num.specs.Tree.{Block}
 use Rattle.cocoon_syntax.specs.TreeOf.{block_of, body_of, role_of, stmt_of}
 use Rattle.cocoon_types.specs.Design.{role_at}
-use Rattle.role_meaning.specs.Goings.{all_taken, sent_from, went}
+use Rattle.role_meaning.specs.Goings.{led_at, led_from}
 use Rattle.role_meaning.specs.Levels.{design_at, entered, world_at}
 use Rattle.role_meaning.specs.Located.{loc_of}
 use Rattle.role_values.specs.Bound.{env_of}
@@ -20,7 +20,7 @@ returns-in_default-clause-leads c =
     let r = role_of c.role-role.result.now in
     let here : role_at l.number d at.role ≡ Some r = ap (role_at l.number d) (role_name_of d c.requires.role.name c.args.at.now.role c.requires.role.number) ∙ c.role-role.ensures c.requires.role.name c.requires.role.number in
     let sink : r.body ≡ None = ap (option_map body_of) c.in_default.is in
-    sym (ap all_taken (no_go (world_at l) at (packet_of (headers_of l.scene) c.args.packet.now.fields) c.args.choices.now r here sink))
+    sym (no_go (world_at l) at (packet_of (headers_of l.scene) c.args.packet.now.fields) c.args.choices.now r here sink)
 
 pub returns-in-Some-2-clause-leads : goal.returns-in-Some-2-clause-leads
 returns-in-Some-2-clause-leads c =
@@ -36,11 +36,11 @@ returns-in-Some-2-clause-leads c =
     let values : c.items.result.now ≡ at.values = c.items.ensures in
     let env : entered w r at.values ≡ Some (env_of c.in-Some-2.variables.items) =
     sym (ap (option_map (λ (bs : Vec Binding Global). env_of bs.items)) (sym c.in-Some-2.is) ∙ c.in_ok-variables.ensures ∙ ap (entered w r) values) in
-    let same : sent_from l (block_of (map stmt_of c.deref.result.now)) c.in-Some-2.variables.items c.args.packet.now.fields c.args.choices.now
-    ≡ sent_from l b c.in-Some-2.variables.items c.args.packet.now.fields c.args.choices.now =
-    ap (λ xs. sent_from l (block_of (map stmt_of xs)) c.in-Some-2.variables.items c.args.packet.now.fields c.args.choices.now) c.deref.ensures.value in
-    subst (λ z. IfOk c.run_body.result (λ to. option_map (went l) to ≡ z))
-    (same ∙ sym (ap all_taken (entry w at packet c.args.choices.now r b (env_of c.in-Some-2.variables.items) here body env)))
+    let same : led_from l (block_of (map stmt_of c.deref.result.now)) c.in-Some-2.variables.items c.args.packet.now.fields c.args.choices.now
+    ≡ led_from l b c.in-Some-2.variables.items c.args.packet.now.fields c.args.choices.now =
+    ap (λ xs. led_from l (block_of (map stmt_of xs)) c.in-Some-2.variables.items c.args.packet.now.fields c.args.choices.now) c.deref.ensures.value in
+    subst (λ z. IfOk c.run_body.result (λ to. option_map (led_at l) to ≡ z))
+    (same ∙ sym (entry w at packet c.args.choices.now r b (env_of c.in-Some-2.variables.items) here body env))
     c.run_body.ensures.leads
 
 pub returns-in-None-clause-leads : goal.returns-in-None-clause-leads
@@ -57,4 +57,4 @@ returns-in-None-clause-leads c =
     let values : c.items.result.now ≡ at.values = c.items.ensures in
     let none : entered w r at.values ≡ None =
     sym (ap (option_map (λ (bs : Vec Binding Global). env_of bs.items)) (sym c.in-None.is) ∙ c.in_ok-variables.ensures ∙ ap (entered w r) values) in
-    sym (ap all_taken (no_entry w at packet c.args.choices.now r b here body none))
+    sym (no_entry w at packet c.args.choices.now r b here body none)

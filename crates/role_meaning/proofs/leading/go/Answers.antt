@@ -1,66 +1,39 @@
-use Rattle.std.proofs.Common.{◌≡◌, Some, sym, ap, subst, ◌∙◌}
-use Rattle.std.specs.List.{AllZip}
-use Rattle.std.proofs.lemmas.Result.{IfOk-weaker}
-use Rattle.cocoon_num.specs.PacketForms.{PacketFits}
+use Rattle.std.proofs.Common.{◌≡◌, Option, Some, None, IfSome, ap, subst, ◌∙◌}
+use Rattle.cocoon_num.specs.PacketForms.{FieldsFit}
+use Rattle.cocoon_resolve.specs.Readers.{field_widths, HasRole}
 use Rattle.cocoon_syntax.specs.TreeOf.{design_of}
-use Rattle.cocoon_types.specs.Design.{functions, layout, role_at}
 use Rattle.cocoon_types.specs.Runs.{world}
-use Rattle.cocoon_types.specs.Tables.{Defs}
-use Rattle.cocoon_types.specs.Taken.{go}
 use Rattle.role_meaning.specs.Goings.{all_taken}
-use Rattle.role_meaning.specs.Located.{loc_of, sent_of}
-use Rattle.role_values.specs.FittingRuns.{fitting_go}
-use Rattle.role_values.specs.Worlds.{world_by}
-use Rattle.runtime_defs.specs.Fitting.{FitsPlace}
-use Rattle.runtime_defs.specs.Stands.{Stands}
-use Rattle.sound_types.specs.Defined.{HasTables}
-use Rattle.sound_types.specs.Ends.{LocFits}
-use Rattle.role_meaning.proofs.Bridges.{packet_fits, stands_same, zip_count}
-use Rattle.role_meaning.proofs.Guards.{role_name_of}
-use Rattle.role_meaning.proofs.Exactly.{leads, where_fits}
+use Rattle.role_meaning.proofs.Exactly.{leads}
+use Rattle.role_meaning.specs.declared.place.Led.{Led}
+use Rattle.role_meaning.specs.declared.place.Loc.{Loc}
+use Rattle.role_meaning.specs.declared.place.Packet.{Packet}
 use Rattle.role_meaning.proofs.leading.go.Goals as goal
 
-pub go_by_tables-requires-clause-count : goal.go_by_tables-requires-clause-count
-go_by_tables-requires-clause-count c =
-    let d = design_of c.args.checked.now in
-    zip_count FitsPlace (functions d) c.args.defs.now c.requires.defs.places
+-- what holds of where it leads holds of the answer
+kept : (P : Loc → Packet → Type 0) (led : Option Led) (to : Option (Loc × Packet)) → IfSome to (λ r. (l : Led) × (led ≡ Some l) × (l.to ≡ r.0) × (l.packet ≡ r.1))
+    → IfSome led (λ l. P l.to l.packet) → IfSome to (λ r. P r.0 r.1)
+kept P led None h k = tt
+kept P led (Some r) h k =
+    let l = h.0 in
+    let there : P l.to l.packet = subst (λ (o : Option Led). IfSome o (λ x. P x.to x.packet)) h.1 k in
+    subst (λ x. P x r.1) h.2 (subst (P l.to) h.3 there)
 
 pub returns-clause-goes : goal.returns-clause-goes
 returns-clause-goes c =
     let d = design_of c.args.checked.now in
-    let level = c.args.level in
-    let tables = c.args.defs.now in
-    let at = loc_of d c.args.at.now in
-    let packet = sent_of d c.args.packet.now in
-    let cs = c.args.choices.now in
-    let r = c.requires.role.latest in
-    let here : role_at level d at.role ≡ Some r = ap (role_at level d) (role_name_of d c.requires.role.name c.args.at.now.role c.requires.role.number) ∙ c.requires.role.declared in
-    let has : HasTables d tables = record { rules = c.go_laws.ensures.rules.rules; literals = c.go_laws.ensures.literals c.args.checked.now; fits = c.requires.defs } in
-    let fits : PacketFits (layout d) packet = packet_fits d.headers c.args.packet.now.fields c.requires.fits in
-    let same : (F : Defs) → Stands d tables F → fitting_go (world_by tables level d) at packet cs ≡ go (world level d F) at packet cs = λ F stands.
-    where_fits (world_by tables level d) (world level d F) at packet cs r here here
-    (λ values. let in_place : LocFits level d at = (r, here, values) in
-    c.go_laws.ensures.fitting d tables has level at packet cs in_place fits ∙ c.go_laws.ensures.runs d tables F has (stands_same d tables F stands) level at packet cs in_place fits) in
-    IfOk-weaker c.go_by_tables.result _ _
-    (λ to h F stands. leads c.go_laws.ensures.taken d (world level d F) c.args.at.now c.args.packet.now cs to
-    (h ∙ ap all_taken (same F stands)))
-    c.go_by_tables.ensures.leads
+    λ F stands. leads c.runs_are_taken.ensures d (world c.args.level d F) c.args.at.now c.args.packet.now c.args.choices.now c.where_none_is_left.result
+    (c.where_none_is_left.ensures.leads d ∙ ap all_taken (c.in_ok-led.ensures.runs F stands))
 
 pub returns-clause-tables : goal.returns-clause-tables
 returns-clause-tables c =
     let d = design_of c.args.checked.now in
-    let level = c.args.level in
-    let tables = c.args.defs.now in
-    let at = loc_of d c.args.at.now in
-    let packet = sent_of d c.args.packet.now in
-    let cs = c.args.choices.now in
-    let r = c.requires.role.latest in
-    let w = world_by tables level d in
-    let here : role_at level d at.role ≡ Some r = ap (role_at level d) (role_name_of d c.requires.role.name c.args.at.now.role c.requires.role.number) ∙ c.requires.role.declared in
-    let has : HasTables d tables = record { rules = c.go_laws.ensures.rules.rules; literals = c.go_laws.ensures.literals c.args.checked.now; fits = c.requires.defs } in
-    let fits : PacketFits (layout d) packet = packet_fits d.headers c.args.packet.now.fields c.requires.fits in
-    let same : fitting_go w at packet cs ≡ go w at packet cs =
-    where_fits w w at packet cs r here here (λ values. c.go_laws.ensures.fitting d tables has level at packet cs (r, here, values) fits) in
-    IfOk-weaker c.go_by_tables.result _ _
-    (λ to h. h ∙ ap all_taken same)
-    c.go_by_tables.ensures.leads
+    c.where_none_is_left.ensures.leads d ∙ ap all_taken c.in_ok-led.ensures.tables
+
+pub returns-clause-fits : goal.returns-clause-fits
+returns-clause-fits c =
+    kept (λ to packet. FieldsFit (field_widths (design_of c.args.checked.now)) packet.fields) c.in_ok-led.led c.where_none_is_left.result c.where_none_is_left.ensures.same c.in_ok-led.ensures.fits
+
+pub returns-clause-at : goal.returns-clause-at
+returns-clause-at c =
+    kept (λ to packet. HasRole (design_of c.args.checked.now) to.role c.args.level) c.in_ok-led.led c.where_none_is_left.result c.where_none_is_left.ensures.same c.in_ok-led.ensures.at
