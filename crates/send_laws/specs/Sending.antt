@@ -1,4 +1,4 @@
--- Cited by the clause of the law `tried_choices_send`: what a body can send.
+-- Cited by the clause of the law `tried_choices_send`, and by that of `can_send`: what a body can send.
 use Rattle.std.specs.Prelude.{◌≡◌, ℕ, Bool, true, false, List, [], ◌∷◌, ◌++◌}
 use Rattle.cocoon_num.specs.Packets.{Packet}
 use Rattle.cocoon_num.specs.Tree.{Block, Design}

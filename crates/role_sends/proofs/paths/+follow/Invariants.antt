@@ -1,0 +1,20 @@
+use Rattle.std.proofs.Common.{◌≡◌, ℕ, ◌||◌, Bool, List, drop, map, vec_len}
+use Rattle.cocoon_syntax.specs.TreeOf.{block_of, stmt_of}
+use Rattle.send_laws.specs.Trails.{finds, finds_in, Marks}
+use Rattle.role_sends.specs.Views.{Keeps, marks_at, passes, some_goes, some_tried}
+use Rattle.role_sends.proofs.paths.+follow.Given as goal
+
+abbrev pub invariant-follow_block-loop-stmt : goal.invariant-follow_block-loop-stmt
+invariant-follow_block-loop-stmt l =
+    (t : Marks → Bool) (u : List ℕ → Bool)
+    → Keeps (finds_in l.wanted.to.now l.wanted.sent.now (block_of (map stmt_of l.stmts)) t u (marks_at l.fn.trail) || some_tried u l.fn.found.items)
+    (passes (finds_in l.wanted.to.now l.wanted.sent.now (block_of (map stmt_of (drop l.stmt-index l.stmts))) t u) u l.trails.items l.found.items)
+
+abbrev pub invariant-follow_all-loop-trail : goal.invariant-follow_all-loop-trail
+invariant-follow_all-loop-trail l =
+    (t : Marks → Bool) (u : List ℕ → Bool)
+    → Keeps (passes (finds l.wanted.to.now l.wanted.sent.now (stmt_of l.stmt) t u) u l.fn.trails.items l.fn.found.items)
+    (some_goes (finds l.wanted.to.now l.wanted.sent.now (stmt_of l.stmt) t u) l.trails.items || passes t u l.onward.items l.found.items)
+
+abbrev pub decreases-follow_all-loop-trail : goal.decreases-follow_all-loop-trail
+decreases-follow_all-loop-trail l = vec_len l.trails
