@@ -1,10 +1,11 @@
 -- Tests on trails and on what was found, as the loops over them meet them.
-use Rattle.std.proofs.Common.{◌≡◌, ℕ, ◌&&◌, ◌||◌, ◌⊎◌, if◌then◌else◌, Option, inl, inr, Bool, true, false, List, [], ◌∷◌, ◌++◌, Vec, Global, refl, sym, ap, subst, ◌∙◌}
+use Rattle.std.proofs.Common.{◌≡◌, ℕ, suc, ◌+◌, ◌<◌, ◌≤◌, ◌&&◌, ◌||◌, ◌⊎◌, if◌then◌else◌, Option, inl, inr, Bool, true, false, List, [], ◌∷◌, ◌++◌, map, length, get_or, slice_set, Result, Ok, Err, OnOk, Vec, Global, refl, sym, ap, subst, ◌∙◌, arith}
 use Rattle.std.proofs.Math.Bool.{or-false}
 use Rattle.std.proofs.lemmas.List.Folds.{list_any-append}
 use Rattle.cocoon_num.specs.Names.{same_name}
 use Rattle.send_laws.specs.Trails.{FieldMark, Marks, set_choice}
-use Rattle.role_sends.specs.Views.{Keeps, marks_at, passes, some_goes, some_tried}
+use Rattle.role_sends.specs.Views.{field_of, Keeps, marks_at, passes, place_of, some_goes, some_tried}
+use Rattle.role_sends.specs.declared.trail.Field.{Field}
 use Rattle.role_sends.specs.declared.trail.Trail.{Trail}
 
 -- ---- one or the other
@@ -26,11 +27,62 @@ last_first false b c h = h
 
 -- ---- fields
 
-pub set_here : (v : FieldMark) (vs : List FieldMark) (h f : List ℕ) (c : Option ℕ) → (same_name h v.header && same_name f v.field) ≡ true → set_choice (v ∷ vs) h f c ≡ record v { choice = c } ∷ vs
-set_here v vs h f c e = ap (λ b. if b then record v { choice = c } ∷ vs else v ∷ set_choice vs h f c) e
+pub here : (i : ℕ) (v : FieldMark) (vs : List FieldMark) (h f : List ℕ) → (same_name h v.header && same_name f v.field) ≡ true → place_of i (v ∷ vs) h f ≡ i
+here i v vs h f e = ap (λ b. if b then i else place_of (i + 1) vs h f) e
 
-pub set_there : (v : FieldMark) (vs : List FieldMark) (h f : List ℕ) (c : Option ℕ) → (same_name h v.header && same_name f v.field) ≡ false → set_choice (v ∷ vs) h f c ≡ v ∷ set_choice vs h f c
-set_there v vs h f c e = ap (λ b. if b then record v { choice = c } ∷ vs else v ∷ set_choice vs h f c) e
+pub not_here : (i : ℕ) (v : FieldMark) (vs : List FieldMark) (h f : List ℕ) → (same_name h v.header && same_name f v.field) ≡ false → place_of i (v ∷ vs) h f ≡ place_of (i + 1) vs h f
+not_here i v vs h f e = ap (λ b. if b then i else place_of (i + 1) vs h f) e
+
+later : (i : ℕ) (vs : List FieldMark) (h f : List ℕ) → place_of (i + 1) vs h f ≡ suc (place_of i vs h f)
+later i [] h f = omega arith
+later i (v ∷ vs) h f = by_same (same_name h v.header && same_name f v.field) (later (i + 1) vs h f)
+  where
+    by_same : (b : Bool) → place_of (i + 1 + 1) vs h f ≡ suc (place_of (i + 1) vs h f)
+        → (if b then i + 1 else place_of (i + 1 + 1) vs h f) ≡ suc (if b then i else place_of (i + 1) vs h f)
+    by_same true e = omega arith
+    by_same false e = e
+
+-- a field with its choice set
+abbrev with_choice : Field → Option ℕ → Field
+with_choice x c = record { header = x.header; field = x.field; choice = c }
+
+set_place : (fs : List Field) (h f : List ℕ) (c : Option ℕ) (d : Field) → place_of 0 (map field_of fs) h f < length fs
+    → map field_of (slice_set fs (place_of 0 (map field_of fs) h f) (with_choice (get_or fs (place_of 0 (map field_of fs) h f) d) c)) ≡ set_choice (map field_of fs) h f c
+set_place [] h f c d l = absurd (omega arith)
+set_place (x ∷ xs) h f c d l = by_same (same_name h x.header.now && same_name f x.field.now) l (later 0 (map field_of xs) h f) (λ m. set_place xs h f c d m)
+  where
+    by_same : (b : Bool) → (if b then 0 else place_of 1 (map field_of xs) h f) < length (x ∷ xs)
+        → place_of 1 (map field_of xs) h f ≡ suc (place_of 0 (map field_of xs) h f)
+        → (place_of 0 (map field_of xs) h f < length xs → map field_of (slice_set xs (place_of 0 (map field_of xs) h f) (with_choice (get_or xs (place_of 0 (map field_of xs) h f) d) c)) ≡ set_choice (map field_of xs) h f c)
+        → map field_of (slice_set (x ∷ xs) (if b then 0 else place_of 1 (map field_of xs) h f) (with_choice (get_or (x ∷ xs) (if b then 0 else place_of 1 (map field_of xs) h f) d) c))
+        ≡ (if b then record (field_of x) { choice = c } ∷ map field_of xs else field_of x ∷ set_choice (map field_of xs) h f c)
+    by_same true l q more = refl
+    by_same false l q more =
+        let le : suc (place_of 0 (map field_of xs) h f) < suc (length xs) = subst (λ n. n < suc (length xs)) q l in
+        ap (λ n. map field_of (slice_set (x ∷ xs) n (with_choice (get_or (x ∷ xs) n d) c))) q ∙ ap (λ ms. field_of x ∷ ms) (more (omega arith))
+
+-- what stands at the place has its choice set
+pub set_at : (fs : List Field) (h f : List ℕ) (c : Option ℕ) (d : Field) (p : ℕ) → p ≡ place_of 0 (map field_of fs) h f → p < length fs
+    → map field_of (slice_set fs p (record { header = (get_or fs p d).header; field = (get_or fs p d).field; choice = c })) ≡ set_choice (map field_of fs) h f c
+set_at fs h f c d p e l =
+    ap (λ n. map field_of (slice_set fs n (with_choice (get_or fs n d) c))) e ∙ set_place fs h f c d (subst (λ n. n < length fs) e l)
+
+no_place : (fs : List Field) (h f : List ℕ) (c : Option ℕ) → length fs ≤ place_of 0 (map field_of fs) h f → map field_of fs ≡ set_choice (map field_of fs) h f c
+no_place [] h f c l = refl
+no_place (x ∷ xs) h f c l = by_same (same_name h x.header.now && same_name f x.field.now) l (later 0 (map field_of xs) h f) (λ m. no_place xs h f c m)
+  where
+    by_same : (b : Bool) → length (x ∷ xs) ≤ (if b then 0 else place_of 1 (map field_of xs) h f)
+        → place_of 1 (map field_of xs) h f ≡ suc (place_of 0 (map field_of xs) h f)
+        → (length xs ≤ place_of 0 (map field_of xs) h f → map field_of xs ≡ set_choice (map field_of xs) h f c)
+        → field_of x ∷ map field_of xs ≡ (if b then record (field_of x) { choice = c } ∷ map field_of xs else field_of x ∷ set_choice (map field_of xs) h f c)
+    by_same true l q more = absurd (omega arith)
+    by_same false l q more =
+        let le : suc (length xs) ≤ suc (place_of 0 (map field_of xs) h f) = subst (λ n. suc (length xs) ≤ n) q l in
+        ap (λ ms. field_of x ∷ ms) (more (omega arith))
+
+-- where no field has the names, nothing is set
+pub not_set : (fs : List Field) (h f : List ℕ) (c : Option ℕ) (p : ℕ) → p ≡ place_of 0 (map field_of fs) h f → length fs ≤ p → map field_of fs ≡ set_choice (map field_of fs) h f c
+not_set fs h f c p e l = no_place fs h f c (subst (λ n. length fs ≤ n) e l)
 
 -- ---- one more, one less
 
@@ -85,6 +137,10 @@ pub forked : (u : List ℕ → Bool) (ts : List Trail) (found : List (Vec ℕ Gl
 forked u ts found a k = λ h. sym (ap (λ b. b || some_tried u found) (none_goes ts)) ∙ k h
 
 -- ---- branches
+
+pub OnOk-then : {X E : Type 0} (r : Result X E) (P Q : Type 0) → (P → Q) → OnOk r P → OnOk r Q
+OnOk-then (Ok x) P Q f h = f h
+OnOk-then (Err e) P Q f h = tt
 
 -- what leaves a block is kept
 pub left : (f g o0 o1 s0 s1 : Bool) → Keeps (f || s0) (g || s1) → Keeps (g || (o0 || s1)) (o1 || s1) → Keeps (f || (o0 || s0)) (o1 || s1)

@@ -1,7 +1,8 @@
 -- Cited by the clauses of the functions that follow a body's paths: what the values of the code stand for.
-use Rattle.std.specs.Prelude.{◌≡◌, ℕ, ◌||◌, Bool, true, List, map, Vec}
+use Rattle.std.specs.Prelude.{◌≡◌, ℕ, ◌+◌, ◌&&◌, ◌||◌, if◌then◌else◌, Bool, true, List, [], ◌∷◌, map, Vec}
 use Rattle.std.specs.List.{list_any}
 use Rattle.std.specs.declared.alloc.Global.{Global}
+use Rattle.cocoon_num.specs.Names.{same_name}
 use Rattle.send_laws.specs.Trails.{FieldMark, Marks, VarMark}
 use Rattle.role_sends.specs.declared.trail.Field.{Field}
 use Rattle.role_sends.specs.declared.trail.Trail.{Trail}
@@ -15,6 +16,11 @@ field_of f = record { header = f.header.now; field = f.field.now; choice = f.cho
 
 abbrev pub marks_at : Trail → Marks
 marks_at t = record { choices = t.choices.items; vars = map var_of t.variables.items; fields = map field_of t.fields.items }
+
+-- the place of the first field of these names, counted from the first number; behind all of them if there is none
+abbrev pub place_of : ℕ → List FieldMark → (header field : List ℕ) → ℕ
+place_of i [] h f = i
+place_of i (v ∷ vs) h f = if same_name h v.header && same_name f v.field then i else place_of (i + 1) vs h f
 
 -- ---- lists of the code
 

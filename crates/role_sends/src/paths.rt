@@ -6,7 +6,7 @@ ghost use Rattle.send_laws.specs.Trails as spec;
 ghost use Rattle.send_laws.specs.Trails.{leaves, Marks};
 ghost use Rattle.role_sends.specs.Views.{Keeps, marks_at, passes, some_goes, some_tried, var_of};
 
-use crate::trail::{Trail, Variable, bind, copy_trail, expr_choice, make, set};
+use crate::trail::{Trail, Variable, bind, copy_trail, expr_choice, make, set, variables_of};
 use crate::tries::{Wanted, tried};
 use cocoon_num::NoMemory;
 use cocoon_syntax::{Stmt, StmtKind};
@@ -92,7 +92,6 @@ fn follow_all<'t>(
 
 /// Follows a trail through a branch.
 #[cycle(follow)]
-#[tactic(auto, using(crate::proofs::Kept::left))]
 fn follow_branch<'t>(
     alloc: Global,
     wanted: &Wanted<'_>,
@@ -107,7 +106,7 @@ fn follow_branch<'t>(
         || passes t u onward.old.items found.old.items)
         (passes t u onward.new.items found.new.items)) }
 {
-    let variables = trail.variables.to_vec(alloc)?;
+    let variables = variables_of(alloc, &trail)?;
     let trails = follow_block(alloc, wanted, stmts, trail, found)?;
     leave_all(alloc, &variables, trails, onward)
 }

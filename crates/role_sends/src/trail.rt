@@ -3,7 +3,7 @@ ghost use Rattle.std.specs.Prelude.{◌≡◌, ◌&&◌, ◌++◌, ◌∷◌, []
 ghost use Rattle.cocoon_syntax.specs.TreeOf.{expr_of, exprs_of, header_of};
 ghost use Rattle.cocoon_num.specs.Names.{same_name};
 ghost use Rattle.send_laws.specs.Trails as spec;
-ghost use Rattle.role_sends.specs.Views.{field_of, marks_at, var_of};
+ghost use Rattle.role_sends.specs.Views.{field_of, marks_at, place_of, var_of};
 ghost use Rattle.send_laws.specs.Trails.{first_marks, header_marks};
 
 use cocoon_num::NoMemory;
@@ -136,18 +136,34 @@ pub(crate) fn bind<'t>(
     Ok(())
 }
 
-/// Sets the first field of a name, if there is one.
-#[tactic(auto, using(crate::proofs::Kept::set_here, crate::proofs::Kept::set_there))]
+/// Where the first field of these names is; behind all fields if there is none.
+#[tactic(auto, using(crate::proofs::Kept::here, crate::proofs::Kept::not_here))]
+fn field_place(fields: &[Field<'_>], header: &[u8], name: &[u8]) -> usize
+    ensures { result ≡ place_of 0 (map field_of fields.now) header.now name.now }
+{
+    let mut place = 0;
+    for field in fields {
+        if is_field(field, header, name) {
+            return place;
+        }
+        place += 1;
+    }
+    place
+}
+
+/// Sets the first field of these names, if there is one.
 fn set_field(fields: &mut [Field<'_>], header: &[u8], name: &[u8], choice: Option<u32>)
     ensures { map field_of fields.new
         ≡ spec.set_choice (map field_of fields.old) header.now name.now choice }
 {
-    if let Some((field, rest)) = fields.split_first_mut() {
-        if is_field(field, header, name) {
-            field.choice = choice;
-        } else {
-            set_field(rest, header, name, choice);
-        }
+    let place = field_place(fields, header, name);
+    if place < fields.len() {
+        let field = fields[place];
+        fields[place] = Field {
+            header: field.header,
+            field: field.field,
+            choice,
+        };
     }
 }
 
@@ -174,6 +190,17 @@ pub(crate) fn copy_trail<'t>(alloc: Global, trail: &Trail<'t>) -> Result<Trail<'
         variables: trail.variables.to_vec(alloc)?,
         fields: trail.fields.to_vec(alloc)?,
     })
+}
+
+/// The variables that are bound, in memory of their own.
+pub(crate) fn variables_of<'t>(
+    alloc: Global,
+    trail: &Trail<'t>,
+) -> Result<Vec<Variable<'t>>, NoMemory>
+    ensures { IfOk result (λ variables.
+        map var_of variables.items ≡ (marks_at trail.now).vars) }
+{
+    Ok(trail.variables.to_vec(alloc)?)
 }
 
 // ---- where a body begins
