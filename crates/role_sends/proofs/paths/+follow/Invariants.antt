@@ -1,4 +1,4 @@
-use Rattle.std.proofs.Common.{◌≡◌, ℕ, ◌+◌, ◌*◌, ◌||◌, Bool, List, drop, map, vec_len}
+use Rattle.std.proofs.Common.{ℕ, ◌+◌, ◌*◌, ◌||◌, Bool, List, drop, map, vec_len}
 use Rattle.cocoon_syntax.specs.TreeOf.{block_of, stmt_of}
 use Rattle.role_meaning.proofs.Sizes.{size, size_all}
 use Rattle.send_laws.specs.Trails.{finds, finds_in, Marks}

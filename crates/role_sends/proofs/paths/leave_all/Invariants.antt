@@ -1,4 +1,4 @@
-use Rattle.std.proofs.Common.{◌≡◌, ℕ, ◌||◌, Bool, List, map, vec_len, Vec, Global}
+use Rattle.std.proofs.Common.{ℕ, ◌||◌, Bool, List, map, vec_len, Vec, Global}
 use Rattle.send_laws.specs.Trails.{leaves, Marks}
 use Rattle.role_sends.specs.Views.{Keeps, passes, some_goes, var_of}
 use Rattle.role_sends.proofs.paths.leave_all.Given as goal

@@ -1,4 +1,4 @@
-use Rattle.std.proofs.Common.{◌≡◌, ℕ, drop, map}
+use Rattle.std.proofs.Common.{◌≡◌, drop, map}
 use Rattle.role_sends.specs.Views.{field_of, place_of}
 use Rattle.role_sends.proofs.trail.field_place.Given as goal
 
