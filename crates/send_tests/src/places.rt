@@ -1,5 +1,5 @@
 //! Locations and packets, as cases write them: a role with its values, and the values of all fields.
-ghost use Rattle.std.specs.Prelude.{◌≡◌, IfSome, true};
+ghost use Rattle.std.specs.Prelude.{◌≡◌, ◌∷◌, [], IfSome, true};
 ghost use Rattle.cocoon_num.specs.PacketForms.{FieldsFit};
 ghost use Rattle.cocoon_resolve.specs.Readers.{field_widths, HasRole};
 ghost use Rattle.cocoon_syntax.specs.TreeOf.{design_of};

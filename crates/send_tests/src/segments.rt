@@ -22,14 +22,19 @@ use segment_runs::{Followed, follow};
 use std::alloc::Global;
 
 /// Whether a name is that of the role of this number.
+#[tactic(auto, using(crate::proofs::Found::is_named))]
 fn is_role(checked: &Checked, name: &Name, role: RoleId) -> bool
     ensures { result ≡ true
         → same_name (role_name (design_of checked.now) role) name.now.text ≡ true }
 {
-    checked.role_of(name.text.bytes()) == Some(role)
+    match checked.role_of(name.text.bytes()) {
+        Some(found) => found == role,
+        None => false,
+    }
 }
 
 /// Whether one of these names is that of the role.
+#[tactic(auto, using(crate::proofs::Found::has_at))]
 fn is_listed(checked: &Checked, names: &[Name], role: RoleId) -> bool
     ensures { result ≡ true
         → has_name (role_name (design_of checked.now) role) (map name_of names.now) ≡ true }
