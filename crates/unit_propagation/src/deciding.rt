@@ -30,7 +30,7 @@ impl Search {
 
     /// The literal of this variable that is true where the variable has the value that it had last, if it has none now.
     fn decision(&self, order: &Order, variable: u32) -> Option<Lit>
-        ensures { IfSome result (λ lit. CanDecide (room self.now.trail) (trues self.now.trail) lit) }
+        ensures { IfSome result (λ l. CanDecide (room self.now.trail) (trues self.now.trail) l) }
     {
         if variable == 0 || variable > self.trail.vars() {
             return None;
@@ -44,7 +44,7 @@ impl Search {
 
     /// The first variable of the order that has no value.
     fn first_unassigned(&self, order: &mut Order) -> Option<Lit>
-        ensures { IfSome result (λ lit. CanDecide (room self.now.trail) (trues self.now.trail) lit) }
+        ensures { IfSome result (λ l. CanDecide (room self.now.trail) (trues self.now.trail) l) }
     {
         while let Some(variable) = order.next() {
             if let Some(lit) = self.decision(order, variable) {
