@@ -6,7 +6,9 @@ ghost use Rattle.send_laws.specs.Trails as spec;
 ghost use Rattle.send_laws.specs.Trails.{leaves, Marks};
 ghost use Rattle.role_sends.specs.Views.{Keeps, marks_at, passes, some_goes, some_tried, var_of};
 
-use crate::trail::{Trail, Variable, bind, copy_trail, expr_choice, make, set, variables_of};
+use crate::trail::{
+    Trail, Variable, bind, bind_made, copy_trail, expr_choice, set, set_made, variables_of,
+};
 use crate::tries::{Wanted, tried};
 use cocoon_num::NoMemory;
 use cocoon_syntax::{Stmt, StmtKind};
@@ -45,8 +47,8 @@ fn leave_all<'t>(
     Ok(())
 }
 
-/// Follows a trail through statements, to where it goes on after them. What is tried where it sends is
-/// added to what was found.
+/// Follows a trail through statements, to where it goes on after them. What is tried where it sends
+/// is added to what was found.
 #[cycle(follow)]
 #[tactic(auto, using(crate::proofs::Kept::only_one))]
 pub(crate) fn follow_block<'t>(
@@ -58,7 +60,8 @@ pub(crate) fn follow_block<'t>(
 ) -> Result<Vec<Trail<'t>>, NoMemory>
     ensures { IfOk result (λ trails. (t : Marks → Bool) (u : List ℕ → Bool) →
         Keeps (spec.finds_in wanted.now.to.now wanted.now.sent.now
-        (block_of (map stmt_of stmts.now)) t u (marks_at trail.entry) || some_tried u found.old.items)
+        (block_of (map stmt_of stmts.now)) t u (marks_at trail.entry)
+        || some_tried u found.old.items)
         (passes t u trails.items found.new.items)) }
 {
     let mut trails = Vec::new(alloc);
@@ -101,7 +104,8 @@ fn follow_branch<'t>(
     found: &mut Vec<Vec<u64>>,
 ) -> Result<(), NoMemory>
     ensures { OnOk result ((t : Marks → Bool) (u : List ℕ → Bool) →
-        Keeps (spec.finds_in wanted.now.to.now wanted.now.sent.now (block_of (map stmt_of stmts.now))
+        Keeps (spec.finds_in wanted.now.to.now wanted.now.sent.now
+        (block_of (map stmt_of stmts.now))
         (λ m. t (leaves (marks_at trail.entry).vars m)) u (marks_at trail.entry)
         || passes t u onward.old.items found.old.items)
         (passes t u onward.new.items found.new.items)) }
@@ -123,9 +127,11 @@ fn follow_if<'t>(
     found: &mut Vec<Vec<u64>>,
 ) -> Result<(), NoMemory>
     ensures { OnOk result ((t : Marks → Bool) (u : List ℕ → Bool) →
-        Keeps ((spec.finds_in wanted.now.to.now wanted.now.sent.now (block_of (map stmt_of first.now))
+        Keeps ((spec.finds_in wanted.now.to.now wanted.now.sent.now
+        (block_of (map stmt_of first.now))
         (λ m. t (leaves (marks_at trail.entry).vars m)) u (marks_at trail.entry)
-        || spec.finds_in wanted.now.to.now wanted.now.sent.now (block_of (map stmt_of second.now))
+        || spec.finds_in wanted.now.to.now wanted.now.sent.now
+        (block_of (map stmt_of second.now))
         (λ m. t (leaves (marks_at trail.entry).vars m)) u (marks_at trail.entry))
         || passes t u onward.old.items found.old.items)
         (passes t u onward.new.items found.new.items)) }
@@ -184,24 +190,16 @@ fn follow_stmt<'t>(
         }
         StmtKind::Filter(_) => go_on(onward, trail),
         StmtKind::HavocVar(name, _) => {
-            make(&mut trail, stmt.at)?;
-            bind(&mut trail, name.text.bytes(), Some(stmt.at))?;
+            bind_made(&mut trail, name.text.bytes(), stmt.at)?;
             go_on(onward, trail)
         }
         StmtKind::HavocField(header, field) => {
-            make(&mut trail, stmt.at)?;
-            set(
-                &mut trail,
-                header.text.bytes(),
-                field.text.bytes(),
-                Some(stmt.at),
-            );
+            set_made(&mut trail, header.text.bytes(), field.text.bytes(), stmt.at)?;
             go_on(onward, trail)
         }
         StmtKind::Assume(_) => go_on(onward, trail),
         StmtKind::Fork(name, _, _, body) => {
-            make(&mut trail, stmt.at)?;
-            bind(&mut trail, name.text.bytes(), Some(stmt.at))?;
+            bind_made(&mut trail, name.text.bytes(), stmt.at)?;
             follow_fork(alloc, wanted, body, trail, found)
         }
         StmtKind::Send(_, args) => {

@@ -157,11 +157,11 @@ fn one_gives(
     Ok(false)
 }
 
-/// Whether the body of a role can send this packet to this location: whether some choices give that. The
-/// body reads back, as that of each role does that a block refines.
+/// Whether the body of a role can send this packet to this location: whether some choices give that.
+/// The body reads back, as that of each role does that a block refines.
 ///
-/// Each path of the body costs a walk along it, and one run with the choices that it wants. The trails of
-/// all paths are held at a time.
+/// Each path of the body costs a walk along it, and one run with the choices that it wants. The trails
+/// of all paths are held at a time.
 pub fn can_send(
     alloc: Global,
     checked: &Checked,

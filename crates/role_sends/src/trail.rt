@@ -1,5 +1,5 @@
 //! What a path holds, by the choices that its values are.
-ghost use Rattle.std.specs.Prelude.{◌≡◌, ◌&&◌, ◌++◌, ◌∷◌, [], IfOk, map, OnOk};
+ghost use Rattle.std.specs.Prelude.{◌≡◌, ◌&&◌, ◌++◌, ◌∷◌, [], IfOk, map, OnOk, Some};
 ghost use Rattle.cocoon_syntax.specs.TreeOf.{expr_of, exprs_of, header_of};
 ghost use Rattle.cocoon_num.specs.Names.{same_name};
 ghost use Rattle.send_laws.specs.Trails as spec;
@@ -174,10 +174,34 @@ pub(crate) fn set<'t>(trail: &mut Trail<'t>, header: &[u8], name: &[u8], choice:
 }
 
 /// Makes one more choice.
-pub(crate) fn make<'t>(trail: &mut Trail<'t>, at: u32) -> Result<(), NoMemory>
+fn make<'t>(trail: &mut Trail<'t>, at: u32) -> Result<(), NoMemory>
     ensures { OnOk result (marks_at trail.new ≡ spec.makes at (marks_at trail.old)) }
 {
     trail.choices.push(at)?;
+    Ok(())
+}
+
+/// Makes one more choice, and binds a variable to it.
+pub(crate) fn bind_made<'t>(trail: &mut Trail<'t>, name: &'t [u8], at: u32) -> Result<(), NoMemory>
+    ensures { OnOk result (marks_at trail.new
+        ≡ spec.binds name.now (Some at) (spec.makes at (marks_at trail.old))) }
+{
+    make(trail, at)?;
+    bind(trail, name, Some(at))
+}
+
+/// Makes one more choice, and sets a field to it.
+pub(crate) fn set_made<'t>(
+    trail: &mut Trail<'t>,
+    header: &[u8],
+    name: &[u8],
+    at: u32,
+) -> Result<(), NoMemory>
+    ensures { OnOk result (marks_at trail.new
+        ≡ spec.sets header.now name.now (Some at) (spec.makes at (marks_at trail.old))) }
+{
+    make(trail, at)?;
+    set(trail, header, name, Some(at));
     Ok(())
 }
 

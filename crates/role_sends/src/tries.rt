@@ -9,7 +9,7 @@ use cocoon_num::NoMemory;
 use cocoon_syntax::Expr;
 use std::alloc::Global;
 
-/// The numbers that are wanted where a body sends: those of the role's parameters, and of the fields.
+/// The numbers that are wanted where a body sends: those of the parameters, and of the fields.
 #[derive(Clone, Copy)]
 pub(crate) struct Wanted<'w> {
     pub(crate) to: &'w [u64],
@@ -44,7 +44,8 @@ fn number_in(choice: u32, values: &[Option<u32>], numbers: &[u64]) -> Option<u64
 
 /// The number that is wanted of a choice; 0 if it is none of the values.
 fn number_for(choice: u32, args: &[Option<u32>], fields: &[Option<u32>], wanted: &Wanted<'_>) -> u64
-    ensures { result ≡ spec.wanted args.now wanted.now.to.now fields.now wanted.now.sent.now choice }
+    ensures { result
+        ≡ spec.wanted args.now wanted.now.to.now fields.now wanted.now.sent.now choice }
 {
     match number_in(choice, args, wanted.to) {
         Some(number) => number,

@@ -43,7 +43,8 @@ pub(crate) struct Reached<'c> {
 /// Whether a role of the level behind `above` is new there.
 fn is_new_role(checked: &Checked, above: u32, role: RoleId) -> bool
     requires { HasRole (design_of checked.now) role (above + 1) }
-    ensures { result ≡ is_new above (design_of checked.now) (role_name (design_of checked.now) role) }
+    ensures { result
+        ≡ is_new above (design_of checked.now) (role_name (design_of checked.now) role) }
 {
     checked
         .names()
@@ -159,11 +160,11 @@ fn most_bodies(checked: &Checked, above: u32) -> u32
     checked.design().refines[above as usize].within
 }
 
-/// Which segment these choices make, all of them, in the order in which they are made: a body of a role
-/// that the block behind the level `above` refines, and the bodies of new roles that it leads through,
-/// until it has left them or has as many bodies as the block allows. `None` where they make none: where
-/// a body leads nowhere, or a choice is missing or left over. The meaning is that of docs/LANGUAGE.md,
-/// "Refinement".
+/// Which segment these choices make, all of them, in the order in which they are made: a body of a
+/// role that the block behind the level `above` refines, and the bodies of new roles that it leads
+/// through, until it has left them or has as many bodies as the block allows. `None` where they make
+/// none: where a body leads nowhere, or a choice is missing or left over. The meaning is that of
+/// docs/LANGUAGE.md, "Refinement".
 ///
 /// The time is that of the bodies' runs.
 pub fn follow(
