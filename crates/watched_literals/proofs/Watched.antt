@@ -1,7 +1,8 @@
 -- The watched literals of clauses, and the lists of where each literal is watched.
-use Rattle.std.proofs.Common.{◌≡◌, ◌≢◌, ℕ, zero, suc, ◌-◌, ◌<◌, ◌≤◌, ℤ, List, [], ◌∷◌, ◌++◌, length, get_or, take, Option, Some, None, refl, sym, ap, ◌∙◌, subst, arith, ◌⊎◌, inl, inr}
+use Rattle.std.proofs.Common.{◌≡◌, ◌≢◌, ℕ, zero, suc, ◌+◌, ◌-◌, ◌<◌, ◌≤◌, ℤ, List, [], ◌∷◌, ◌++◌, length, get_or, take, Option, Some, None, refl, sym, ap, ◌∙◌, subst, arith, ◌⊎◌, inl, inr}
 use Rattle.std.specs.Prelude.{slice_get}
-use Rattle.std.specs.List.{swap_remove}
+use Rattle.std.specs.List.{remove, swap_remove}
+use Rattle.std.proofs.lemmas.List.Edits.{get_or-remove_above, get_or-remove_below, length-remove}
 use Rattle.std.proofs.Math.ListN.{length-set, set}
 use Rattle.std.proofs.lemmas.Bool.{cases_Bool, cases_eq, cases_lt, both_ways}
 use Rattle.std.proofs.lemmas.List.{get_or_append_left, get_or_default, get_or_push, get_or-set_other, get_or-set_same, get_or-take, length-append, length-take-le, length_push}
@@ -9,7 +10,7 @@ use Rattle.std.proofs.lemmas.Option.{none-some, same_Some}
 use Rattle.cnf_core.specs.Literals.{same}
 use Rattle.cnf_core.specs.declared.lit.Lit.{Lit}
 use Rattle.cnf_core.proofs.LiteralFacts.{same-is, same-same}
-use Rattle.watched_literals.specs.Watching.{AreWatched, IsListed, IsOther, WatchesOther, list_of}
+use Rattle.watched_literals.specs.Watching.{AreWatched, IsListed, IsOther, IsTakenOut, WatchesOther, list_of}
 use Rattle.watched_literals.specs.declared.watches.Pair.{Pair}
 use Rattle.watched_literals.specs.declared.watches.Watches.{Watches}
 
@@ -101,6 +102,44 @@ listed-out xs at first k n lt is le differs h =
       ]
     ]
 
+pub swapped-out : (xs : List ℕ) (at n : ℕ) → at < length xs → n ≡ get_or xs at n → IsTakenOut xs at (swap_remove xs at n)
+swapped-out xs at n lt e =
+    let is : get_or xs at 0 ≡ n = sym (e ∙ get_or_default xs at n 0 lt) in
+    let m = length xs - 1 in
+    let y = get_or xs m n in
+    let sized : length (set xs at y) ≡ length xs = length-set xs at y in
+    let count : length (take m (set xs at y)) ≡ m = length-take-le m (set xs at y) (omega (arith, sized)) in
+    record {
+      fewer = omega (arith, count, lt);
+      others = λ first k le differs h. listed-out xs at first k n lt is le (λ same_number. differs (same_number ∙ sym is)) h;
+    }
+
+pub moved-out : (xs : List ℕ) (at : ℕ) → at < length xs → IsTakenOut xs at (remove xs at)
+moved-out xs at lt =
+    let sized : length (remove xs at) + 1 ≡ length xs = length-remove xs at lt in
+    record {
+      fewer = sized;
+      others = λ first k le differs h. elim (cases_eq h.at at) [
+        | inl same_place ↦ absurd (differs (sym h.there ∙ ap (λ i. get_or xs i 0) same_place))
+        | inr other ↦ elim (cases_lt h.at at) [
+          | inl before ↦ record {
+            at = h.at;
+            later = h.later;
+            within = omega (arith, before, lt, sized);
+            there = get_or-remove_below xs at 0 h.at before lt ∙ h.there;
+          }
+          | inr after ↦
+              let less : at < h.at = omega (arith, after, other) in
+              record {
+                at = h.at - 1;
+                later = omega (arith, le, less);
+                within = omega (arith, less, h.within, sized);
+                there = get_or-remove_above xs at 0 (h.at - 1) (omega (arith, less)) lt ∙ ap (λ i. get_or xs i 0) (omega (arith, less)) ∙ h.there;
+              }
+        ]
+      ];
+    }
+
 module _ (w v : Watches) (lit : ℤ) (n : ℕ) (there : list_of v lit ≡ list_of w lit ++ n ∷ []) (others : (l : ℤ) → l ≢ lit → list_of v l ≡ list_of w l) where
   pub listed-put : (l : ℤ) (first k : ℕ) → IsListed (list_of w l) first k → IsListed (list_of v l) first k
   listed-put l first k h = elim (cases-literal l lit) [
@@ -120,15 +159,13 @@ listed-added w v u pair n m is t1 o1 t2 o2 a b h = subst (IsListed (list_of u a)
   | inr y ↦ subst (λ l. IsListed (list_of u l) 0 n) y.0 (listed-here v u pair.second.number n t2 o2)
 ])
 
-pub listed-changed : (w t v : Watches) (from second : ℤ) (at n : ℕ) → at < length (list_of w from) → get_or (list_of w from) at 0 ≡ n
-    → list_of t from ≡ swap_remove (list_of w from) at n → ((l : ℤ) → l ≢ from → list_of t l ≡ list_of w l)
+pub listed-changed : (w t v : Watches) (from second : ℤ) (at n : ℕ) → IsTakenOut (list_of w from) at (list_of t from) → ((l : ℤ) → l ≢ from → list_of t l ≡ list_of w l)
     → list_of v second ≡ list_of t second ++ n ∷ [] → ((l : ℤ) → l ≢ second → list_of v l ≡ list_of t l)
     → (l : ℤ) (first k : ℕ) → first ≤ at → (l ≢ from) ⊎ (k ≢ get_or (list_of w from) at 0) → IsListed (list_of w l) first k → IsListed (list_of v l) first k
-listed-changed w t v from second at n lt is out o1 there o2 l first k le differs h = listed-put t v second n there o2 l first k (elim (cases-literal l from) [
+listed-changed w t v from second at n out o1 there o2 l first k le differs h = listed-put t v second n there o2 l first k (elim (cases-literal l from) [
   | inl here ↦ elim differs [
     | inl other ↦ absurd (other here)
-    | inr other ↦ subst (λ xs. IsListed xs first k) (sym (ap (list_of t) here ∙ out))
-        (listed-out (list_of w from) at first k n lt is le (λ e. other (e ∙ sym is)) (subst (λ m. IsListed (list_of w m) first k) here h))
+    | inr other ↦ subst (λ m. IsListed (list_of t m) first k) (sym here) (out.others first k le other (subst (λ m. IsListed (list_of w m) first k) here h))
   ]
   | inr other ↦ subst (λ xs. IsListed xs first k) (sym (o1 l other)) h
 ])

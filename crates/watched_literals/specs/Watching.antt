@@ -1,5 +1,5 @@
 -- Two watched literals in each clause. Cited by the clauses of `Watches` and of `Search`.
-use Rattle.std.specs.Prelude.{◌≡◌, ◌≢◌, ℕ, ◌<◌, ◌≤◌, ◌⊎◌, ℤ, IsTrue, List, [], length, slice_get, slice_index, Option, Some, None, Vec}
+use Rattle.std.specs.Prelude.{◌≡◌, ◌≢◌, ℕ, ◌+◌, ◌<◌, ◌≤◌, ◌⊎◌, ℤ, IsTrue, List, [], length, slice_get, slice_index, Option, Some, None, Vec}
 use Rattle.std.specs.Option.{option_map_or}
 use Rattle.std.specs.declared.alloc.Global.{Global}
 use Rattle.cnf_core.specs.Literals.{has_literal, index_of, opposite, variable}
@@ -32,6 +32,11 @@ pub record IsListed (list : List ℕ) (first number : ℕ) : Type 0 where
   pub later : first ≤ at
   pub within : at < length list
   pub there : slice_index list at ≡ number
+
+-- one number fewer: all others that are in the list up to this place or after it still are
+pub record IsTakenOut (old : List ℕ) (at : ℕ) (new : List ℕ) : Type 0 where
+  pub fewer : length new + 1 ≡ length old
+  pub others : (first k : ℕ) → first ≤ at → k ≢ slice_index old at → IsListed old first k → IsListed new first k
 
 -- the literal is true, and was set at the level of the one at place p or at an earlier one
 pub record IsTrueBy (trues : List ℤ) (starts : List ℕ) (p : ℕ) (l : ℤ) : Type 0 where

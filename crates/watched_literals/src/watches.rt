@@ -5,11 +5,15 @@
 //! is false the other is true.
 ghost use Rattle.std.specs.Prelude.{◌≡◌, ◌≢◌, ◌+◌, ◌*◌, ◌<◌, ◌≤◌, ◌^◌, ◌++◌, ◌∷◌, [], ◌⊎◌, IfOk, OnOk, ℕ, ℤ, length, slice_get, slice_index, slice_set};
 ghost use Rattle.cnf_core.specs.Literals.{index_of};
+ghost use Rattle.watched_literals.specs.Watching.{IsTakenOut};
 ghost use Rattle.watched_literals.specs.declared.watches.Pair.{Pair};
 
 use cnf_core::Lit;
 use cocoon_num::NoMemory;
 use std::alloc::Global;
+
+/// At most so many numbers move at once in a list.
+const MOST_MOVED: usize = 1 << 10;
 
 /// The watched literals of a clause.
 #[derive(Clone, Copy)]
@@ -56,8 +60,7 @@ impl Pair {
 }
 
 impl Watches {
-    ghost use Rattle.std.specs.List.{swap_remove};
-    ghost use Rattle.watched_literals.specs.Watching.{AreWatched, IsListed, list_of, WatchesOther};
+    ghost use Rattle.watched_literals.specs.Watching.{AreWatched, IsListed, IsTakenOut, list_of, WatchesOther};
 
     /// No clause is watched yet, over this many variables.
     pub fn new(alloc: Global, vars: u32) -> Result<Watches, NoMemory>
@@ -116,13 +119,12 @@ impl Watches {
         requires room { index_of lit.number < length self.old.lists.items }
         requires within { at < length (list_of self.old lit.number) }
         ensures number { slice_index (list_of self.old lit.number) at ≡ result }
-        ensures there { list_of self.new lit.number
-            ≡ swap_remove (list_of self.old lit.number) at result }
+        ensures there { IsTakenOut (list_of self.old lit.number) at (list_of self.new lit.number) }
         ensures others { (l : ℤ) → l ≢ lit.number → list_of self.new l ≡ list_of self.old l }
         ensures rooms { length self.new.lists.items ≡ length self.old.lists.items }
         ensures pairs { self.new.pairs.items ≡ self.old.pairs.items }
     {
-        self.lists[lit.index()].swap_remove(at)
+        take_number(&mut self.lists[lit.index()], at)
     }
 
     /// Attaches the next clause: it watches these literals.
@@ -169,5 +171,19 @@ impl Watches {
         self.put(to, number)?;
         self.pairs[number as usize] = pair;
         Ok(())
+    }
+}
+
+/// Takes the number at this place out of a list. Those after it stay in their order, so that the clauses that were there
+/// first are visited first; where they are very many the last one takes its place, so that this takes constant time.
+fn take_number(list: &mut Vec<u32>, at: usize) -> u32
+    requires { at < length list.old.items }
+    ensures number { slice_index list.old.items at ≡ result }
+    ensures there { IsTakenOut list.old.items at list.new.items }
+{
+    if list.len() - at > MOST_MOVED {
+        list.swap_remove(at)
+    } else {
+        list.remove(at)
     }
 }

@@ -5,7 +5,7 @@ use Rattle.watched_literals.proofs.watches.Watches.change.Goals as goal
 
 pub returns-clause-kept : goal.returns-clause-kept
 returns-clause-kept c = listed-changed c.args.self.now c.take_out-number.new.self c.put.new.self c.args.from.number c.args.pair.second.number c.args.at c.take_out-number.result
-    c.requires.within c.take_out-number.ensures.number c.take_out-number.ensures.there c.take_out-number.ensures.others c.in_ok-put.ensures.there c.put.ensures.others
+    c.take_out-number.ensures.there c.take_out-number.ensures.others c.in_ok-put.ensures.there c.put.ensures.others
 
 pub returns-clause-listed : goal.returns-clause-listed
 returns-clause-listed c = subst (IsListed (list_of c.put.new.self c.args.pair.second.number) 0) (sym c.take_out-number.ensures.number)
