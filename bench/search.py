@@ -41,7 +41,7 @@ SOLVERS = [
 ]
 MOST_SECONDS = 300
 # The least time of so many runs counts, of fewer where one takes long.
-RUNS, LONG_RUNS = 25, 3
+RUNS, LONG_RUNS = 15, 2
 LONG_MILLIS = 300
 # So many conflicts are allowed where a list is not hostile.
 CONFLICTS = 1_000_000
@@ -88,11 +88,13 @@ def built(folder):
 
 @dataclasses.dataclass
 class Solved:
-    """What the search says of clauses: its answer, its steps, its microseconds, and its log; and the peak of the whole process in KiB."""
+    """What the search says of clauses: its answer, its steps, its microseconds, and its log; and of the whole process the milliseconds of processor time
+    and the peak in KiB."""
     answer: str
     steps: int
     micros: int
     log: str
+    millis: float
     peak: int
 
     def a_step(self):
@@ -110,7 +112,7 @@ def solved(program, text, conflicts=CONFLICTS):
         said, used = ended([program, str(conflicts)], file)
     head, _, log = said.partition("\n")
     _, answer, steps, micros = head.split(" ")
-    return Solved(answer, int(steps), int(micros), log, used.ru_maxrss)
+    return Solved(answer, int(steps), int(micros), log, (used.ru_utime + used.ru_stime) * 1000, used.ru_maxrss)
 
 
 def ended(words, given=None):
@@ -131,30 +133,26 @@ def processor_time(words):
     return said, (used.ru_utime + used.ru_stime) * 1000
 
 
-def least(measure):
-    """The result of the run of which the time was the least. It is called again and again, more often where it is short."""
-    best = measure()
-    for _ in range((LONG_RUNS if best[1] > LONG_MILLIS else RUNS) - 1):
-        again = measure()
-        best = min(best, again, key=lambda result: result[1])
-    return best
-
-
-def outside(text):
-    """Of other solvers the answers, the conflicts and the least processor time of whole processes."""
-    found = {}
+def in_turn(program, text, conflicts):
+    """What our search and other solvers say of clauses, with the least processor time of whole processes. They run one after the other, again and again, so that
+    all meet the same other work on the machine. Of others the answers, the conflicts and the milliseconds."""
+    ours, others = solved(program, text, conflicts), {}
+    asked = [(name, words) for name, words in SOLVERS if shutil.which(words[0]) and ours.answer != "spent"]
     with tempfile.NamedTemporaryFile("w", suffix=".cnf") as file:
         file.write(text)
         file.flush()
-        for name, words in SOLVERS:
-            if shutil.which(words[0]):
+        for _ in range(LONG_RUNS if ours.millis > LONG_MILLIS else RUNS):
+            for name, words in [*asked]:
                 try:
-                    said, millis = least(lambda: processor_time([*words, file.name]))
+                    said, millis = processor_time([*words, file.name])
                 except subprocess.TimeoutExpired:
+                    asked.remove((name, words))
                     continue
-                conflicts = re.search(r"conflicts *: *(\d+)", said)
-                found[name] = ("unsat" if "UNSAT" in said else "sat", conflicts[1] if conflicts else "0", millis)
-    return found
+                found = re.search(r"conflicts *: *(\d+)", said)
+                again = ("unsat" if "UNSAT" in said else "sat", found[1] if found else "0", millis)
+                others[name] = min(others.get(name, again), again, key=lambda result: result[2])
+            ours = min(ours, solved(program, text, conflicts), key=lambda result: result.millis)
+    return ours, {name: others[name] for name, _ in asked}
 
 
 def compared(program, checker, text):
@@ -345,22 +343,21 @@ def time_checks(program, checker):
 
 def time_search(program, checker, name, text, conflicts=CONFLICTS):
     try:
-        given = least(lambda: (found := solved(program, text, conflicts), found.micros / 1000))[0]
+        given, others = in_turn(program, text, conflicts)
     except subprocess.TimeoutExpired:
         print(f"{name}: longer than {MOST_SECONDS} s", flush=True)
         return False
     head = re.search(r"^p cnf (\d+) (\d+)$", text, re.MULTILINE)
-    others = outside(text) if given.answer != "spent" else {}
     if any(other != given.answer for other, _, _ in others.values()):
         sys.exit(f"{name}: {given.answer}, but {others}")
     if given.answer == "unsat" and run([checker], f"{text.strip()}\n{given.log}").split()[0] != "true":
         sys.exit(f"{name}: the log does not derive the empty clause")
     literals, hints = given.a_step()
     log = f" of {literals:.1f} literals and {hints:.1f} hints" if given.log else ""
-    beside = "".join(f", {solver} {conflicts} conflicts {millis:.1f} ms" for solver, (_, conflicts, millis) in others.items())
+    beside = "".join(f", {solver} {conflicts} conflicts {millis:.1f} ms, {given.millis / max(millis, 0.1):.2f} times" for solver, (_, conflicts, millis) in others.items())
     print(
         f"{name}: {int(head[1]):,} variables, {int(head[2]):,} clauses, {given.answer}, {given.steps:,} steps{log}, {given.micros / 1000:.1f} ms,"
-        f" {given.peak / 1024:.0f} MiB{beside}",
+        f" {given.millis:.1f} ms of a processor in all, {given.peak / 1024:.0f} MiB{beside}",
         flush=True,
     )
     return True
