@@ -1,0 +1,3 @@
+pub mod Agreeing
+pub mod Matched
+pub mod Exact

@@ -1,0 +1,4 @@
+//! Widths of formulas: code that makes them asks for these.
+#![tactic(auto)]
+
+pub mod laws;

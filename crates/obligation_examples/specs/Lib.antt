@@ -1,0 +1,3 @@
+pub mod DesignW
+pub mod DesignBoth
+pub mod Expected

@@ -1,0 +1,4 @@
+pub mod Formulas
+pub mod Obligations
+pub mod Failing
+pub mod SmallTrees
