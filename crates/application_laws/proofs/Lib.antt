@@ -1,0 +1,4 @@
+pub mod Applied
+pub mod Places
+pub mod Plain
+pub mod Agreeing

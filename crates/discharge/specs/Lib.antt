@@ -1,0 +1,4 @@
+pub mod Queries
+pub mod Meeting
+pub mod Answering
+pub mod Asked
