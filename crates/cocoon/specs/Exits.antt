@@ -7,11 +7,11 @@ use Rattle.std.specs.Process.{exit_status}
 use Rattle.std.specs.declared.io.Error.{Error}
 use Rattle.std.specs.declared.io.ErrorKind.TheVariants.{OutOfMemory}
 use Rattle.std.specs.IoError.{error_kind}
-use Rattle.cocoon_cli.specs.declared.status.Status.{Status}
-use Rattle.cocoon_cli.specs.declared.status.Status.TheVariants.{Done}
+use Rattle.command_reports.specs.declared.status.Status.{Status}
+use Rattle.command_reports.specs.declared.status.Status.TheVariants.{Done}
 use Rattle.cocoon_cli.specs.Headline.{Headline}
-use Rattle.cocoon_cli.specs.Report.{Puts, no_memory}
-use Rattle.cocoon_cli.specs.Run.{Call, Counted, Keeps, status_number}
+use Rattle.command_reports.specs.Report.{Puts, no_memory, status_number}
+use Rattle.cocoon_cli.specs.Run.{Call, Counted, Keeps}
 
 -- The number is that of a status for which all clauses of `run` on these words hold. What a call on
 -- some words is that ends with some status is a parameter.

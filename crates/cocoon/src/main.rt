@@ -4,11 +4,13 @@
 
 ghost use Rattle.std.specs.Prelude.{◌≡◌};
 ghost use Rattle.std.specs.Process.{exit_status};
-ghost use Rattle.cocoon_cli.specs.Run.{count, status_number};
+ghost use Rattle.cocoon_cli.specs.Run.{count};
+ghost use Rattle.command_reports.specs.Report.{status_number};
 ghost use Rattle.cocoon.specs.Exits.{Exits};
 
-use cocoon_cli::{Status, run, tell_no_memory};
+use cocoon_cli::run;
 use cocoon_io::{Folder, RealFolder, RealOut, Sink};
+use command_reports::{Status, tell_no_memory};
 use std::alloc::Global;
 use std::env;
 use std::io::{self, ErrorKind};

@@ -1,7 +1,7 @@
 -- Steps one after another: which are good, and which of them ends a command.
 use Rattle.std.proofs.Common.{List, [], ◌∷◌, ◌++◌, Result, Err, inl}
-use Rattle.cocoon_cli.specs.declared.answer.Report.{Report}
-use Rattle.cocoon_cli.specs.declared.refusal.Refusal.{Refusal}
+use Rattle.command_reports.specs.declared.report.Report.{Report}
+use Rattle.command_reports.specs.declared.refusal.Refusal.{Refusal}
 use Rattle.cocoon_cli.specs.Outcomes.{AllGood, none, good, FirstWith, here, later, Ends, no_memory, at_step, at_fault}
 use Rattle.cocoon_cli.specs.Steps.{Inputs, Step, IsGood, Refuses, Stops}
 
@@ -17,6 +17,12 @@ first_before i P (s ∷ ss) ts (later g h) = later g (first_before i P ss ts h)
 pub first_after : (i : Inputs) (P : Step → Type 0) (ss ts : List Step) → AllGood i ss → FirstWith i P ts → FirstWith i P (ss ++ ts)
 first_after i P [] ts g h = h
 first_after i P (s ∷ ss) ts (good a g) h = later a (first_after i P ss ts g h)
+
+-- what follows of each step of which this holds follows of one of them
+pub first_gives : {R : Type 0} (i : Inputs) (P : Step → Type 0) → ((s : Step) → P s → R) → (ss : List Step) → FirstWith i P ss → R
+first_gives i P f [] h = elim h [ ]
+first_gives i P f (s ∷ ss) (here p) = f s p
+first_gives i P f (s ∷ ss) (later g h) = first_gives i P f ss h
 
 pub ends_before : (i : Inputs) (outcome : Result Report Refusal) (ss ts : List Step) → Ends i outcome ss → Ends i outcome (ss ++ ts)
 ends_before i outcome ss ts (no_memory m) = no_memory m

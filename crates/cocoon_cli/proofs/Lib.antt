@@ -1,4 +1,3 @@
-pub mod Lines
 pub mod Ending
 pub mod TextSteps
 pub mod Built
@@ -7,7 +6,10 @@ pub mod Stepped
 pub mod Forwarded
 pub mod Counted
 pub mod Readings
-pub mod Performing
 pub mod RuleValues
-pub mod Running
+pub mod OneStep
+pub mod Telling
+pub mod Commands
 pub mod OneOutcome
+pub mod Performing
+pub mod Running

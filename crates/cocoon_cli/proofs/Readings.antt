@@ -1,5 +1,6 @@
 -- What is read for a command, file after file.
-use Rattle.std.proofs.Common.{◌≡◌, ◌<◌, ℕ, zero, suc, List, [], ◌∷◌, ◌++◌, length, replicate, Option, Some, None, Err, refl, sym, ap, ap₂, subst, ◌∙◌, ◌⊎◌, inl, inr, arith}
+use Rattle.std.proofs.Common.{◌≡◌, ◌<◌, ℕ, zero, suc, List, [], ◌∷◌, ◌++◌, length, replicate, Option, Some, None, Result, Err, refl, sym, ap, ap₂, subst, ◌∙◌, ◌⊎◌, inl, inr, arith, option_and_then, option_map}
+use Rattle.std.specs.FinMap.{get}
 use Rattle.cocoon_io.specs.Files.{Files}
 use Rattle.cocoon_io.specs.declared.folder.FolderFault.TheVariants.{Failed, TooLong as Long, NoMemory as Wanting}
 use Rattle.bundle_reader.specs.FolderCounts as counts
@@ -9,19 +10,20 @@ use Rattle.bundle_reader.specs.declared.fault.ReadFault.TheVariants as read
 use Rattle.loaded_net.specs.Nets.{net_in}
 use Rattle.loaded_net.specs.declared.net.Net.{Net}
 use Rattle.net_bundle.specs.declared.file.BundleFile.{BundleFile}
-use Rattle.command_line.specs.Command.{Command}
-use Rattle.cocoon_cli.specs.declared.files.CommandFile.{CommandFile}
-use Rattle.cocoon_cli.specs.declared.files.CommandFile.TheVariants.{Design, Definitions, Bundle, Case, Packets}
+use Rattle.command_reports.specs.FileNames.{FileNames, bundle_in, name_of, wanted, with_most}
+use Rattle.command_reports.specs.Refusals.{IsOfFiles, unread_as}
+use Rattle.command_reports.specs.Report.{fault_of}
+use Rattle.command_reports.specs.declared.files.CommandFile.{CommandFile}
+use Rattle.command_reports.specs.declared.files.CommandFile.TheVariants.{Design, Definitions, Bundle, Case, Packets}
+use Rattle.command_reports.specs.declared.refusal.Refusal.{Refusal}
+use Rattle.command_reports.specs.declared.refusal.Refusal.TheVariants as refusal
+use Rattle.command_reports.specs.declared.report.Report.{Report}
 use Rattle.cocoon_cli.specs.declared.reading.Read.{Read}
-use Rattle.cocoon_cli.specs.declared.refusal.Refusal.{Refusal}
-use Rattle.cocoon_cli.specs.declared.refusal.Refusal.TheVariants as refusal
-use Rattle.cocoon_cli.specs.FileNames.{bundle_in, most_in, name_in}
-use Rattle.cocoon_cli.specs.Outcomes.{AllGood, none, good, Ends, no_memory}
-use Rattle.cocoon_cli.specs.Reading.{FileNotRead, HasFile, HasLongFile, IsOfFiles, IsUnread, LacksFile, NamesBundleFailure, ReadFaultRose, unread_as}
-use Rattle.cocoon_cli.specs.Report.{fault_of}
+use Rattle.cocoon_cli.specs.Outcomes.{AllGood, none, good, Ends, bundle_steps, file_steps, no_memory, reads}
+use Rattle.cocoon_cli.specs.Reading.{FileNotRead, HasFile, HasLongFile, IsUnread, LacksFile, NamesBundleFailure, ReadFaultRose}
 use Rattle.cocoon_cli.specs.Run.{InputsAre, inputs_of}
 use Rattle.cocoon_cli.specs.Shell.{Given, GivenNet, HasNet, HasWanted, IsReading, LacksNet, LacksWanted, ReadsAll, ReadsNot}
-use Rattle.cocoon_cli.specs.Steps.{Inputs, Step, bundle_reads, bundle_steps, file_steps, is_there, is_within, reads}
+use Rattle.cocoon_cli.specs.Steps.{Inputs, Step, bundle_reads, is_there, is_within}
 use Rattle.cocoon_cli.proofs.Ending.{all_good, ends_after, ends_before, next, refused, stopped}
 
 -- ---- what is read
@@ -37,26 +39,35 @@ by_kind x y z w Packets = w
 abbrev answered : (x y z w : Option (List ℕ)) → Inputs
 answered x y z w = record { file = by_kind x y z w; content = None }
 
-abbrev pick : Command → Option Files → Inputs → Inputs
-pick c None a = a
-pick c (Some files) a = inputs_of c files
+abbrev pick : FileNames → Option Files → Inputs → Inputs
+pick ns None a = a
+pick ns (Some files) a = inputs_of ns files
 
-picked : (c : Command) (content : Option Files) (a : Inputs) → InputsAre c content (pick c content a)
-picked c None a = tt
-picked c (Some files) a = refl
+picked : (ns : FileNames) (content : Option Files) (a : Inputs) → InputsAre ns content (pick ns content a)
+picked ns None a = tt
+picked ns (Some files) a = refl
 
 -- where its content is known, a bundle stands there
-content_is : (c : Command) (content : Option Files) (x y z w : Option (List ℕ)) → (pick c content (answered x y z w)).content ≡ content
-content_is c None x y z w = refl
-content_is c (Some files) x y z w = refl
+content_is : (ns : FileNames) (content : Option Files) (x y z w : Option (List ℕ)) → (pick ns content (answered x y z w)).content ≡ content
+content_is ns None x y z w = refl
+content_is ns (Some files) x y z w = refl
 
-there : (c : Command) (content : Option Files) (a : Inputs) (file : CommandFile) (most : ℕ) (bytes : List ℕ) → a.file file ≡ Some bytes → HasFile content (name_in c file) most bytes → (pick c content a).file file ≡ Some bytes
-there c None a file most bytes e h = e
-there c (Some files) a file most bytes e h = h.0
+-- the name of a file that is read
+read_name : (most : Option ℕ) (o : Option (List ℕ)) (name : List ℕ) (m : ℕ) → with_most most o ≡ Some (name, m) → o ≡ Some name
+read_name (Some k) (Some x) name m e = ap (option_map (λ (p : List ℕ × ℕ). p.0)) e
+read_name (Some k) None name m e = cc
+read_name None o name m e = cc
 
-lacking : (c : Command) (content : Option Files) (a : Inputs) (file : CommandFile) → a.file file ≡ None → LacksFile content (name_in c file) → (pick c content a).file file ≡ None
-lacking c None a file e h = e
-lacking c (Some files) a file e h = h
+at_name : (ns : FileNames) (files : Files) (file : CommandFile) (name : List ℕ) (most : ℕ) → wanted ns file ≡ Some (name, most) → (inputs_of ns files).file file ≡ get files name
+at_name ns files file name most q = ap (option_and_then (get files)) (read_name _ (name_of ns file) name most q)
+
+there : (ns : FileNames) (content : Option Files) (a : Inputs) (file : CommandFile) (name : List ℕ) (most : ℕ) (bytes : List ℕ) → wanted ns file ≡ Some (name, most) → a.file file ≡ Some bytes → HasFile content name most bytes → (pick ns content a).file file ≡ Some bytes
+there ns None a file name most bytes q e h = e
+there ns (Some files) a file name most bytes q e h = at_name ns files file name most q ∙ h.0
+
+lacking : (ns : FileNames) (content : Option Files) (a : Inputs) (file : CommandFile) (name : List ℕ) (most : ℕ) → wanted ns file ≡ Some (name, most) → a.file file ≡ None → LacksFile content name → (pick ns content a).file file ≡ None
+lacking ns None a file name most q e h = e
+lacking ns (Some files) a file name most q e h = at_name ns files file name most q ∙ h
 
 -- bytes that are one more than so many
 abbrev more : ℕ → List ℕ
@@ -75,37 +86,38 @@ record TooManyBytes (o : Option (List ℕ)) (most : ℕ) : Type 0 where
   are : o ≡ Some bytes
   long : most < length bytes
 
-is_long : (c : Command) (content : Option Files) (a : Inputs) (file : CommandFile) (most : ℕ) → a.file file ≡ Some (more most) → HasLongFile content (name_in c file) most → TooManyBytes ((pick c content a).file file) most
-is_long c None a file most e h = record { bytes = more most; are = e; long = more_long most }
-is_long c (Some files) a file most e h = record { bytes = h.0; are = h.1; long = h.2 }
+is_long : (ns : FileNames) (content : Option Files) (a : Inputs) (file : CommandFile) (name : List ℕ) (most : ℕ) → wanted ns file ≡ Some (name, most) → a.file file ≡ Some (more most) → HasLongFile content name most → TooManyBytes ((pick ns content a).file file) most
+is_long ns None a file name most q e h = record { bytes = more most; are = e; long = more_long most }
+is_long ns (Some files) a file name most q e h = record { bytes = h.0; are = at_name ns files file name most q ∙ h.1; long = h.2 }
 
 -- ---- one file
 
 -- of a file that was not read, what a folder whose content is not known may have answered
-abbrev shown : Refusal → Option ℕ → Option (List ℕ)
-shown (refusal.TooLong file n) (Some most) = Some (more most)
-shown r most = None
+abbrev pub shown : Refusal → Option (List ℕ × ℕ) → Option (List ℕ)
+shown (refusal.TooLong file n) (Some (name, most)) = Some (more most)
+shown r w = None
 
-pub given : (c : Command) (content : Option Files) (a : Inputs) (file : CommandFile) (most : Option ℕ) (bytes : List ℕ) → a.file file ≡ Some bytes → HasWanted content (name_in c file) most bytes → Given (pick c content a) file most bytes
-given c content a file None bytes e h = tt
-given c content a file (Some most) bytes e h = (there c content a file most bytes e h.0, h.1)
+given : (ns : FileNames) (content : Option Files) (a : Inputs) (file : CommandFile) (w : Option (List ℕ × ℕ)) (bytes : List ℕ) → wanted ns file ≡ w → a.file file ≡ Some bytes → HasWanted content w bytes → Given (pick ns content a) file w bytes
+given ns content a file None bytes q e h = tt
+given ns content a file (Some (name, most)) bytes q e h = (there ns content a file name most bytes q e h.0, h.1)
 
-given_good : (i : Inputs) (file : CommandFile) (most : Option ℕ) (bytes : List ℕ) → Given i file most bytes → AllGood i (file_steps file most)
+given_good : (i : Inputs) (file : CommandFile) (w : Option (List ℕ × ℕ)) (bytes : List ℕ) → Given i file w bytes → AllGood i (file_steps file w)
 given_good i file None bytes g = none
-given_good i file (Some most) bytes g = good (bytes, g.0) (good (bytes, g.0, g.1) none)
+given_good i file (Some (name, most)) bytes g = good (record { text = bytes; is = g.0; holds = tt }) (good (record { text = bytes; is = g.0; holds = g.1 }) none)
 
-file_ends : (c : Command) (content : Option Files) (a : Inputs) (file : CommandFile) (most : ℕ) (r : Refusal) → a.file file ≡ shown r (Some most) → FileNotRead content (name_in c file) file most r → Ends (pick c content a) (Err r) (is_there file ∷ is_within file most ∷ [])
-file_ends c content a file most (refusal.NoFile f) e h = refused _ _ (is_there file) _ (lacking c content a file e h.1, ap refusal.NoFile h.0)
-file_ends c content a file most (refusal.TooLong f n) e h =
-    let l = is_long c content a file most e h.2 in
-    next _ _ (is_there file) _ (l.bytes, l.are) (refused _ _ (is_within file most) _ (l.bytes, l.are, l.long, ap₂ (λ (g : CommandFile) (m : ℕ). refusal.TooLong g m) h.0 h.1))
-file_ends c content a file most (refusal.ReadFault f) e h = stopped _ _ (is_there file) _ (ap refusal.ReadFault h)
-file_ends c content a file most refusal.NoMemory e h = no_memory refl
-file_ends c content a file most r e h = absurd h
+file_ends : (ns : FileNames) (content : Option Files) (a : Inputs) (file : CommandFile) (name : List ℕ) (most : ℕ) (r : Refusal) → wanted ns file ≡ Some (name, most) → a.file file ≡ shown r (Some (name, most)) → FileNotRead content name file most r → Ends (pick ns content a) (Err r) (is_there file ∷ is_within file most ∷ [])
+file_ends ns content a file name most (refusal.NoFile f) q e h = refused _ _ (is_there file) _ (lacking ns content a file name most q e h.1, ap refusal.NoFile h.0)
+file_ends ns content a file name most (refusal.TooLong f n) q e h =
+    let l = is_long ns content a file name most q e h.2 in
+    next _ _ (is_there file) _ (record { text = l.bytes; is = l.are; holds = tt })
+    (refused _ _ (is_within file most) _ (record { text = l.bytes; is = l.are; holds = (l.long, ap₂ (λ (g : CommandFile) (m : ℕ). refusal.TooLong g m) h.0 h.1) }))
+file_ends ns content a file name most (refusal.ReadFault f) q e h = stopped _ _ (is_there file) _ (ap refusal.ReadFault h)
+file_ends ns content a file name most refusal.NoMemory q e h = no_memory refl
+file_ends ns content a file name most r q e h = absurd h
 
-kind_ends : (c : Command) (content : Option Files) (a : Inputs) (file : CommandFile) (most : Option ℕ) (r : Refusal) → a.file file ≡ shown r most → LacksWanted content (name_in c file) file most r → Ends (pick c content a) (Err r) (file_steps file most)
-kind_ends c content a file None r e h = absurd h
-kind_ends c content a file (Some most) r e h = file_ends c content a file most r e h
+kind_ends : (ns : FileNames) (content : Option Files) (a : Inputs) (file : CommandFile) (w : Option (List ℕ × ℕ)) (r : Refusal) → wanted ns file ≡ w → a.file file ≡ shown r w → LacksWanted content file w r → Ends (pick ns content a) (Err r) (file_steps file w)
+kind_ends ns content a file None r q e h = absurd h
+kind_ends ns content a file (Some (name, most)) r q e h = file_ends ns content a file name most r q e h
 
 -- ---- a bundle
 
@@ -115,16 +127,10 @@ record Faulted (r : Refusal) : Type 0 where
   is : r ≡ refusal.ReadFault (Bundle file)
 
 sorted : (fault : ReadFault) → (unread_as fault ≡ refusal.NoMemory) ⊎ (Faulted (unread_as fault) ⊎ IsOfFiles (unread_as fault))
-sorted (read.Missing file) = inr (inr tt)
 sorted (read.Folder file Failed) = inr (inl (record { file = file; is = refl }))
-sorted (read.Folder file (Long n)) = inr (inr tt)
 sorted (read.Folder file Wanting) = inl refl
-sorted (read.Stale file found old) = inr (inr tt)
-sorted (read.NotJson file) = inr (inr tt)
-sorted (read.P4 file fault) = inr (inr tt)
-sorted (read.Shape file pointer) = inr (inr tt)
-sorted (read.Load file fault) = inr (inr tt)
 sorted read.NoMemory = inl refl
+sorted fault = inr (inr tt)
 
 unread_ends : (i : Inputs) (content : Option Files) (o : List ℕ) (r : Refusal) → i.content ≡ content → IsUnread content o r → Ends i (Err r) (bundle_reads o ∷ [])
 unread_ends i content o r e h = elim (sorted h.0) [
@@ -145,36 +151,51 @@ given_net i content (Some o) (Some net) e h = subst (λ x. ContentReads x o (net
 net_good : (i : Inputs) (o : Option (List ℕ)) (net : Option Net) → GivenNet i o net → AllGood i (bundle_steps o)
 net_good i None net h = none
 net_good i (Some o) None h = absurd h
-net_good i (Some o) (Some net) h = good (net_in net, h) none
+net_good i (Some o) (Some net) h = good (record { net = net_in net; reads = h; holds = tt }) none
 
 -- ---- all that is read
 
 -- one file was read
-abbrev pub Has : Command → Option Files → CommandFile → List ℕ → Type 0
-Has c content file bytes = HasWanted content (name_in c file) (most_in c file) bytes
+abbrev pub Has : FileNames → Option Files → CommandFile → List ℕ → Type 0
+Has ns content file bytes = HasWanted content (wanted ns file) bytes
 
 -- it was not
-abbrev pub Lacks : Command → Option Files → CommandFile → Refusal → Type 0
-Lacks c content file r = LacksWanted content (name_in c file) file (most_in c file) r
+abbrev pub Lacks : FileNames → Option Files → CommandFile → Refusal → Type 0
+Lacks ns content file r = LacksWanted content file (wanted ns file) r
 
-file_good : (c : Command) (content : Option Files) (a : Inputs) (file : CommandFile) (bytes : List ℕ) → a.file file ≡ Some bytes → Has c content file bytes → AllGood (pick c content a) (file_steps file (most_in c file))
-file_good c content a file bytes e h = given_good (pick c content a) file (most_in c file) bytes (given c content a file (most_in c file) bytes e h)
+-- the same of a folder that is as it was
+pub still_has : (ns : FileNames) (file : CommandFile) (bytes : List ℕ) (now before : Option Files) → now ≡ before → Has ns now file bytes → Has ns before file bytes
+still_has ns file bytes now before same h = subst (λ content. Has ns content file bytes) same h
+
+pub still_lacks : (ns : FileNames) (file : CommandFile) (r : Refusal) (now before : Option Files) → now ≡ before → Lacks ns now file r → Lacks ns before file r
+still_lacks ns file r now before same h = subst (λ content. Lacks ns content file r) same h
+
+file_good : (ns : FileNames) (content : Option Files) (a : Inputs) (file : CommandFile) (bytes : List ℕ) → a.file file ≡ Some bytes → Has ns content file bytes → AllGood (pick ns content a) (file_steps file (wanted ns file))
+file_good ns content a file bytes e h = given_good (pick ns content a) file (wanted ns file) bytes (given ns content a file (wanted ns file) bytes refl e h)
+
+after_file : (ns : FileNames) (content : Option Files) (a : Inputs) (file : CommandFile) (bytes : List ℕ) (rest : List Step) (outcome : Result Report Refusal) → a.file file ≡ Some bytes → Has ns content file bytes
+    → Ends (pick ns content a) outcome rest → Ends (pick ns content a) outcome (file_steps file (wanted ns file) ++ rest)
+after_file ns content a file bytes rest outcome e h k = ends_after (pick ns content a) outcome (file_steps file (wanted ns file)) rest (file_good ns content a file bytes e h) k
+
+at_file : (ns : FileNames) (content : Option Files) (a : Inputs) (file : CommandFile) (rest : List Step) (r : Refusal) → a.file file ≡ shown r (wanted ns file) → Lacks ns content file r
+    → Ends (pick ns content a) (Err r) (file_steps file (wanted ns file) ++ rest)
+at_file ns content a file rest r e h = ends_before (pick ns content a) (Err r) (file_steps file (wanted ns file)) rest (kind_ends ns content a file (wanted ns file) r refl e h)
 
 -- the steps from each file on
-abbrev from_packets : Command → List Step
-from_packets c = file_steps Packets (most_in c Packets) ++ bundle_steps (bundle_in c)
+abbrev from_packets : FileNames → List Step
+from_packets ns = file_steps Packets (wanted ns Packets) ++ bundle_steps (bundle_in ns)
 
-abbrev from_case : Command → List Step
-from_case c = file_steps Case (most_in c Case) ++ from_packets c
+abbrev from_case : FileNames → List Step
+from_case ns = file_steps Case (wanted ns Case) ++ from_packets ns
 
-abbrev from_definitions : Command → List Step
-from_definitions c = file_steps Definitions (most_in c Definitions) ++ from_case c
+abbrev from_definitions : FileNames → List Step
+from_definitions ns = file_steps Definitions (wanted ns Definitions) ++ from_case ns
 
 -- no read answers that a write failed
-file_reading : (content : Option Files) (n : List ℕ) (file : CommandFile) (most : Option ℕ) (r : Refusal) → LacksWanted content n file most r → IsReading (fault_of r)
-file_reading content n file None r h = absurd h
-file_reading content n file (Some most) (refusal.WriteFault f) h = h
-file_reading content n file (Some most) r h = tt
+file_reading : (content : Option Files) (file : CommandFile) (w : Option (List ℕ × ℕ)) (r : Refusal) → LacksWanted content file w r → IsReading (fault_of r)
+file_reading content file None r h = absurd h
+file_reading content file (Some (name, most)) (refusal.WriteFault f) h = h
+file_reading content file (Some (name, most)) r h = tt
 
 unread_reading : (fault : ReadFault) → IsReading (fault_of (unread_as fault))
 unread_reading (read.Folder file Failed) = tt
@@ -186,72 +207,72 @@ net_reading : (content : Option Files) (o : Option (List ℕ)) (r : Refusal) →
 net_reading content None r h = absurd h
 net_reading content (Some o) r h = subst (λ (x : Refusal). IsReading (fault_of x)) (sym h.2) (unread_reading h.0)
 
-not_read : (c : Command) (content : Option Files) (a : Inputs) (r : Refusal) → IsReading (fault_of r) → Ends (pick c content a) (Err r) (reads c) → ReadsNot c content r
-not_read c content a r q h = record { inputs = pick c content a; inputs_are = picked c content a; ends = h; reading = q }
+not_read : (ns : FileNames) (content : Option Files) (a : Inputs) (r : Refusal) → IsReading (fault_of r) → Ends (pick ns content a) (Err r) (reads ns) → ReadsNot ns content r
+not_read ns content a r q h = record { inputs = pick ns content a; inputs_are = picked ns content a; ends = h; reading = q }
 
-pub no_design : (c : Command) (content : Option Files) (r : Refusal) → Lacks c content Design r → ReadsNot c content r
-no_design c content r h =
-    let a = answered (shown r (most_in c Design)) None None None in
-    not_read c content a r (file_reading content (name_in c Design) Design (most_in c Design) r h) (ends_before _ _ (file_steps Design (most_in c Design)) (from_definitions c) (kind_ends c content a Design (most_in c Design) r refl h))
+pub no_design : (ns : FileNames) (content : Option Files) (r : Refusal) → Lacks ns content Design r → ReadsNot ns content r
+no_design ns content r h =
+    let a = answered (shown r (wanted ns Design)) None None None in
+    not_read ns content a r (file_reading content Design (wanted ns Design) r h) (at_file ns content a Design (from_definitions ns) r refl h)
 
-pub no_definitions : (c : Command) (content : Option Files) (x : List ℕ) (r : Refusal) → Has c content Design x → Lacks c content Definitions r → ReadsNot c content r
-no_definitions c content x r d h =
-    let a = answered (Some x) (shown r (most_in c Definitions)) None None in
-    not_read c content a r (file_reading content (name_in c Definitions) Definitions (most_in c Definitions) r h) (ends_after _ _ (file_steps Design (most_in c Design)) (from_definitions c) (file_good c content a Design x refl d)
-    (ends_before _ _ (file_steps Definitions (most_in c Definitions)) (from_case c) (kind_ends c content a Definitions (most_in c Definitions) r refl h)))
+pub no_definitions : (ns : FileNames) (content : Option Files) (x : List ℕ) (r : Refusal) → Has ns content Design x → Lacks ns content Definitions r → ReadsNot ns content r
+no_definitions ns content x r d h =
+    let a = answered (Some x) (shown r (wanted ns Definitions)) None None in
+    not_read ns content a r (file_reading content Definitions (wanted ns Definitions) r h)
+    (after_file ns content a Design x (from_definitions ns) _ refl d (at_file ns content a Definitions (from_case ns) r refl h))
 
-pub no_case : (c : Command) (content : Option Files) (x y : List ℕ) (r : Refusal) → Has c content Design x → Has c content Definitions y → Lacks c content Case r → ReadsNot c content r
-no_case c content x y r d e h =
-    let a = answered (Some x) (Some y) (shown r (most_in c Case)) None in
-    not_read c content a r (file_reading content (name_in c Case) Case (most_in c Case) r h) (ends_after _ _ (file_steps Design (most_in c Design)) (from_definitions c) (file_good c content a Design x refl d)
-    (ends_after _ _ (file_steps Definitions (most_in c Definitions)) (from_case c) (file_good c content a Definitions y refl e)
-    (ends_before _ _ (file_steps Case (most_in c Case)) (from_packets c) (kind_ends c content a Case (most_in c Case) r refl h))))
+pub no_case : (ns : FileNames) (content : Option Files) (x y : List ℕ) (r : Refusal) → Has ns content Design x → Has ns content Definitions y → Lacks ns content Case r → ReadsNot ns content r
+no_case ns content x y r d e h =
+    let a = answered (Some x) (Some y) (shown r (wanted ns Case)) None in
+    not_read ns content a r (file_reading content Case (wanted ns Case) r h)
+    (after_file ns content a Design x (from_definitions ns) _ refl d
+    (after_file ns content a Definitions y (from_case ns) _ refl e (at_file ns content a Case (from_packets ns) r refl h)))
 
-pub no_packets : (c : Command) (content : Option Files) (x y z : List ℕ) (r : Refusal) → Has c content Design x → Has c content Definitions y → Has c content Case z → Lacks c content Packets r → ReadsNot c content r
-no_packets c content x y z r d e f h =
-    let a = answered (Some x) (Some y) (Some z) (shown r (most_in c Packets)) in
-    not_read c content a r (file_reading content (name_in c Packets) Packets (most_in c Packets) r h) (ends_after _ _ (file_steps Design (most_in c Design)) (from_definitions c) (file_good c content a Design x refl d)
-    (ends_after _ _ (file_steps Definitions (most_in c Definitions)) (from_case c) (file_good c content a Definitions y refl e)
-    (ends_after _ _ (file_steps Case (most_in c Case)) (from_packets c) (file_good c content a Case z refl f)
-    (ends_before _ _ (file_steps Packets (most_in c Packets)) (bundle_steps (bundle_in c)) (kind_ends c content a Packets (most_in c Packets) r refl h)))))
+pub no_packets : (ns : FileNames) (content : Option Files) (x y z : List ℕ) (r : Refusal) → Has ns content Design x → Has ns content Definitions y → Has ns content Case z → Lacks ns content Packets r → ReadsNot ns content r
+no_packets ns content x y z r d e f h =
+    let a = answered (Some x) (Some y) (Some z) (shown r (wanted ns Packets)) in
+    not_read ns content a r (file_reading content Packets (wanted ns Packets) r h)
+    (after_file ns content a Design x (from_definitions ns) _ refl d
+    (after_file ns content a Definitions y (from_case ns) _ refl e
+    (after_file ns content a Case z (from_packets ns) _ refl f (at_file ns content a Packets (bundle_steps (bundle_in ns)) r refl h))))
 
 -- all files were read
-pub record HasFiles (c : Command) (content : Option Files) (x y z w : List ℕ) : Type 0 where
-  pub design : Has c content Design x
-  pub definitions : Has c content Definitions y
-  pub case : Has c content Case z
-  pub packets : Has c content Packets w
+pub record HasFiles (ns : FileNames) (content : Option Files) (x y z w : List ℕ) : Type 0 where
+  pub design : Has ns content Design x
+  pub definitions : Has ns content Definitions y
+  pub case : Has ns content Case z
+  pub packets : Has ns content Packets w
 
-pub no_net : (c : Command) (content : Option Files) (x y z w : List ℕ) (r : Refusal) → HasFiles c content x y z w → LacksNet content (bundle_in c) r → ReadsNot c content r
-no_net c content x y z w r g h =
+pub no_net : (ns : FileNames) (content : Option Files) (x y z w : List ℕ) (r : Refusal) → HasFiles ns content x y z w → LacksNet content (bundle_in ns) r → ReadsNot ns content r
+no_net ns content x y z w r g h =
     let a = answered (Some x) (Some y) (Some z) (Some w) in
-    not_read c content a r (net_reading content (bundle_in c) r h) (ends_after _ _ (file_steps Design (most_in c Design)) (from_definitions c) (file_good c content a Design x refl g.design)
-    (ends_after _ _ (file_steps Definitions (most_in c Definitions)) (from_case c) (file_good c content a Definitions y refl g.definitions)
-    (ends_after _ _ (file_steps Case (most_in c Case)) (from_packets c) (file_good c content a Case z refl g.case)
-    (ends_after _ _ (file_steps Packets (most_in c Packets)) (bundle_steps (bundle_in c)) (file_good c content a Packets w refl g.packets)
-    (net_ends (pick c content a) content (bundle_in c) r (content_is c content (Some x) (Some y) (Some z) (Some w)) h)))))
+    not_read ns content a r (net_reading content (bundle_in ns) r h)
+    (after_file ns content a Design x (from_definitions ns) _ refl g.design
+    (after_file ns content a Definitions y (from_case ns) _ refl g.definitions
+    (after_file ns content a Case z (from_packets ns) _ refl g.case
+    (after_file ns content a Packets w (bundle_steps (bundle_in ns)) _ refl g.packets
+    (net_ends (pick ns content a) content (bundle_in ns) r (content_is ns content (Some x) (Some y) (Some z) (Some w)) h)))))
 
-pub all_read : (c : Command) (content : Option Files) (of : Read) → HasFiles c content of.design.items of.definitions.items of.case.items of.packets.items → HasNet content (bundle_in c) of.net → ReadsAll c content of
-all_read c content of g h =
+pub all_read : (ns : FileNames) (content : Option Files) (of : Read) → HasFiles ns content of.design.items of.definitions.items of.case.items of.packets.items → HasNet content (bundle_in ns) of.net → ReadsAll ns content of
+all_read ns content of g h =
     let x = of.design.items in
     let y = of.definitions.items in
     let z = of.case.items in
     let w = of.packets.items in
     let a = answered (Some x) (Some y) (Some z) (Some w) in
-    let i = pick c content a in
-    let n : GivenNet i (bundle_in c) of.net = given_net i content (bundle_in c) of.net (content_is c content (Some x) (Some y) (Some z) (Some w)) h in
+    let i = pick ns content a in
+    let n : GivenNet i (bundle_in ns) of.net = given_net i content (bundle_in ns) of.net (content_is ns content (Some x) (Some y) (Some z) (Some w)) h in
     record {
       inputs = i;
-      inputs_are = picked c content a;
-      good = all_good i (file_steps Design (most_in c Design)) (from_definitions c) (file_good c content a Design x refl g.design)
-          (all_good i (file_steps Definitions (most_in c Definitions)) (from_case c) (file_good c content a Definitions y refl g.definitions)
-          (all_good i (file_steps Case (most_in c Case)) (from_packets c) (file_good c content a Case z refl g.case)
-          (all_good i (file_steps Packets (most_in c Packets)) (bundle_steps (bundle_in c)) (file_good c content a Packets w refl g.packets) (net_good i (bundle_in c) of.net n))));
+      inputs_are = picked ns content a;
+      good = all_good i _ _ (file_good ns content a Design x refl g.design)
+          (all_good i _ _ (file_good ns content a Definitions y refl g.definitions)
+          (all_good i _ _ (file_good ns content a Case z refl g.case) (all_good i _ _ (file_good ns content a Packets w refl g.packets) (net_good i (bundle_in ns) of.net n))));
       given = record {
-        design = given c content a Design (most_in c Design) x refl g.design;
-        definitions = given c content a Definitions (most_in c Definitions) y refl g.definitions;
-        case = given c content a Case (most_in c Case) z refl g.case;
-        packets = given c content a Packets (most_in c Packets) w refl g.packets;
+        design = given ns content a Design (wanted ns Design) x refl refl g.design;
+        definitions = given ns content a Definitions (wanted ns Definitions) y refl refl g.definitions;
+        case = given ns content a Case (wanted ns Case) z refl refl g.case;
+        packets = given ns content a Packets (wanted ns Packets) w refl refl g.packets;
         net = n;
       };
     }
@@ -259,31 +280,19 @@ all_read c content of g h =
 -- ---- the faults of a bundle, told as those of a command
 
 rose_by : (last : Option ℕ) (old new : ℕ) (fault : ReadFault) → counts.ReadFaultRose last old new fault → ReadFaultRose last old new (unread_as fault)
-rose_by last old new (read.Missing file) h = h
 rose_by last old new (read.Folder file Failed) h = h
 rose_by last old new (read.Folder file (Long n)) h = h
 rose_by last old new (read.Folder file Wanting) h = h
-rose_by last old new (read.Stale file found old_one) h = h
-rose_by last old new (read.NotJson file) h = h
-rose_by last old new (read.P4 file fault) h = h
-rose_by last old new (read.Shape file pointer) h = h
-rose_by last old new (read.Load file fault) h = h
-rose_by last old new read.NoMemory h = h
+rose_by last old new fault h = h
 
 pub rose : (last : Option ℕ) (old new : ℕ) (fault : ReadFault) (r : Refusal) → r ≡ unread_as fault → counts.ReadFaultRose last old new fault → ReadFaultRose last old new r
 rose last old new fault r e h = subst (ReadFaultRose last old new) (sym e) (rose_by last old new fault h)
 
 names_by : (last : List ℕ → Type 0) (o : List ℕ) (fault : ReadFault) → counts.NamesFailure last o fault → NamesBundleFailure last o (unread_as fault)
-names_by last o (read.Missing file) h = tt
 names_by last o (read.Folder file Failed) h = (file, refl, h)
 names_by last o (read.Folder file (Long n)) h = tt
 names_by last o (read.Folder file Wanting) h = tt
-names_by last o (read.Stale file found old_one) h = tt
-names_by last o (read.NotJson file) h = tt
-names_by last o (read.P4 file fault) h = tt
-names_by last o (read.Shape file pointer) h = tt
-names_by last o (read.Load file fault) h = tt
-names_by last o read.NoMemory h = tt
+names_by last o fault h = tt
 
 pub names : (last : List ℕ → Type 0) (o : List ℕ) (fault : ReadFault) (r : Refusal) → r ≡ unread_as fault → counts.NamesFailure last o fault → NamesBundleFailure last o r
 names last o fault r e h = subst (NamesBundleFailure last o) (sym e) (names_by last o fault h)

@@ -1,253 +1,191 @@
 -- What the top call keeps, put together from what a command does and what is printed.
 use Rattle.std.proofs.Common.{◌≡◌, ◌⊎◌, ℕ, ◌+◌, List, [], ◌∷◌, length, take, Option, Some, None, Result, Ok, Err, IfOk, refl, sym, ap, subst, ◌∙◌, inl, inr}
-use Rattle.std.specs.Prelude.{codes}
+use Rattle.std.specs.Prelude.{codes, option_map}
 use Rattle.cocoon_io.specs.Files.{Files}
 use Rattle.cocoon_io.specs.Calls.{appended}
 use Rattle.net_bundle.specs.Bundle.{MadeFile}
 use Rattle.net_bundle.specs.declared.file.BundleFile.{BundleFile}
 use Rattle.net_bundle.specs.Writing.{SomeWritten, StopsAt, with_files}
-use Rattle.cocoon_cli.specs.declared.answer.Report.{Report}
-use Rattle.cocoon_cli.specs.declared.answer.Verdict.{Verdict}
-use Rattle.cocoon_cli.specs.declared.answer.Verdict.TheVariants as verdict
-use Rattle.cocoon_cli.specs.declared.files.CommandFile.{CommandFile}
-use Rattle.cocoon_cli.specs.declared.files.CommandFile.TheVariants.{Bundle as BundleOf}
-use Rattle.cocoon_cli.specs.declared.refusal.Refusal.{Refusal}
-use Rattle.cocoon_cli.specs.declared.refusal.Refusal.TheVariants as refusal
-use Rattle.cocoon_cli.specs.declared.status.Status.{Status}
-use Rattle.cocoon_cli.specs.declared.status.Status.TheVariants.{Done, Refuted, Usage, HopBound, Budget, ReadFault, WriteFault, NoMemory}
-use Rattle.command_line.specs.Command.{Command, compile, step, forward}
+use Rattle.command_line.specs.Command.{Command}
 use Rattle.command_line.specs.Words.{command}
+use Rattle.command_reports.specs.FileNames.{HasName, name_of}
+use Rattle.command_reports.specs.Report.{Ending, Fault, by_read, by_write, by_memory, no_fault, Puts, all, a_prefix, nothing, Prints, fault_in, fault_of, line_of, line_with, no_memory, status_of, usage, verdict_status}
+use Rattle.command_reports.specs.declared.files.CommandFile.{CommandFile}
+use Rattle.command_reports.specs.declared.files.CommandFile.TheVariants.{Bundle as BundleOf}
+use Rattle.command_reports.specs.declared.refusal.Refusal.{Refusal}
+use Rattle.command_reports.specs.declared.refusal.Refusal.TheVariants as refusal
+use Rattle.command_reports.specs.declared.report.Report.{Report}
+use Rattle.command_reports.specs.declared.report.Verdict.{Verdict}
+use Rattle.command_reports.specs.declared.report.Verdict.TheVariants as verdict
+use Rattle.command_reports.specs.declared.status.Status.{Status}
+use Rattle.command_reports.specs.declared.status.Status.TheVariants.{Done, Usage, ReadFault, WriteFault, NoMemory}
+use Rattle.cocoon_cli.specs.Commands.{Reports, files_of}
 use Rattle.cocoon_cli.specs.Headline.{CompiledOf}
-use Rattle.cocoon_cli.specs.FileNames.{name_in}
-use Rattle.cocoon_cli.specs.Leaves.{Writing, nothing as nothing_written, bundle, own, Leaves, LeavesAll, LeavesSome, LeavesFault, SomeOf, StopsIn, with_writing}
-use Rattle.cocoon_cli.specs.Outcomes.{EndsAt, no_memory as out_of_memory, at_step, at_fault, FirstWith, here, later, StopsAt as StopsAtStep, Answers, HasOutcome, Reports}
-use Rattle.cocoon_cli.specs.Report.{Ending, Fault, by_read, by_write, by_memory, no_fault, Puts, all, a_prefix, nothing, Prints, ending_of, fault_in, fault_of, line_with, no_memory, refusal_line, refusal_status, usage, verdict_status}
-use Rattle.cocoon_cli.specs.Run.{Call, Counted, CountsFault, Uncounted, MayCount, of_read as counts_read, of_write as counts_write, of_memory as counts_memory, Count, inputs_of, InputsAre, Performs, IsOnly, CauseOf, LineNames, NamesFault, EndsWith, Yields, to_read_fault, to_write_fault, to_no_memory, TheOutcome, OutcomeOf, DoneOf, LeavesOf, MayWrite, done, failed, UsageOf, Keeps, KeepsMore}
+use Rattle.cocoon_cli.specs.Leaves.{Leaves, LeavesSome, LeavesFault}
+use Rattle.cocoon_cli.specs.Outcomes.{EndsAt, no_memory as out_of_memory, at_step, at_fault, StopsAt as StopsAtStep, Answers, HasOutcome, steps}
+use Rattle.cocoon_cli.specs.Run.{Call, Cause, Counted, CountsFault, Uncounted, MayCount, of_read, of_write, of_memory, Count, inputs_of, InputsAre, Performs, IsOnly, CauseOf, LineNames, NamesFault, EndsWith, Yields, to_read_fault, to_write_fault, to_no_memory, TheOutcome, OutcomeOf, DoneOf, LeavesOf, MayWrite, failed, UsageOf, Keeps, KeepsMore}
 use Rattle.cocoon_cli.specs.Run as run
-use Rattle.cocoon_cli.specs.Steps.{Inputs, Step, is_there, bundle_reads, bundle_written, Stops, steps}
+use Rattle.cocoon_cli.specs.Steps.{Inputs, Step, is_there, bundle_reads, bundle_written}
+use Rattle.cocoon_cli.specs.Writing.{Writing, nothing as nothing_written, bundle, own, SomeOf, StopsIn, with_writing}
+use Rattle.cocoon_cli.proofs.Commands.{report_writes}
+use Rattle.cocoon_cli.proofs.Ending.{first_gives}
 
 -- ---- what is printed
 
--- the ending is printed, or the answer yields
-printed : (call : Call) (f : Ending) → Prints (Counted call.puts) f call.output_before call.output_after call.status → EndsWith call f ⊎ Yields call
-printed call f (inl (all e n)) = inl (e, n)
-printed call f (inl (a_prefix e rose n)) = inr (to_write_fault e (inr rose))
-printed call f (inl (nothing e n)) = inr (to_no_memory e)
-printed call f (inr (all e n)) = inr (to_no_memory e)
-printed call f (inr (a_prefix e rose n)) = inr (to_write_fault e (inr rose))
-printed call f (inr (nothing e n)) = inr (to_no_memory e)
+-- with the whole ending, cut off by the sink, or out of memory
+data How (call : Call) (e : Ending) : Type 0 where
+  whole : EndsWith call e → How call e
+  cut : call.status ≡ WriteFault → Counted call.puts → How call e
+  lost : call.status ≡ NoMemory → How call e
+
+how : (call : Call) (e : Ending) → Prints (Counted call.puts) e call.output_before call.output_after call.status → How call e
+how call e (inl (all s n)) = whole (s, n)
+how call e (inl (a_prefix s rose n)) = cut s rose
+how call e (inl (nothing s n)) = lost s
+how call e (inr (all s n)) = lost s
+how call e (inr (a_prefix s rose n)) = cut s rose
+how call e (inr (nothing s n)) = lost s
+
+-- a status with which a call ends as its command does
+abbrev IsPlain : Status → Type 0
+IsPlain WriteFault = ⊥
+IsPlain NoMemory = ⊥
+IsPlain s = Unit {0}
+
+plain : (call : Call) (e : Ending) (s : Status) → IsPlain s → call.status ≡ s → How call e → EndsWith call e
+plain call e s p is (whole w) = w
+plain call e s p is (cut c rose) = absurd (subst IsPlain (sym is ∙ c) p)
+plain call e s p is (lost c) = absurd (subst IsPlain (sym is ∙ c) p)
+
+-- with that of a write fault it does, or the sink failed
+or_sink : (call : Call) (e : Ending) → call.status ≡ WriteFault → How call e → EndsWith call e ⊎ Counted call.puts
+or_sink call e is (whole w) = inl w
+or_sink call e is (cut c rose) = inr rose
+or_sink call e is (lost c) = let no : ◌≡◌ {A = Status} NoMemory WriteFault = sym c ∙ is in cc
+
+-- ---- statuses
+
+-- what the status of an outcome says of it
+abbrev Speaks : Status → Result Report Refusal → Type 0
+Speaks Usage x = ⊥
+Speaks Done x = (report : Report) × (x ≡ Ok report)
+Speaks ReadFault x = (file : CommandFile) × (x ≡ Err (refusal.ReadFault file))
+Speaks WriteFault x = (file : CommandFile) × (x ≡ Err (refusal.WriteFault file))
+Speaks s x = Unit {0}
+
+verdict_speaks : (v : Verdict) (report : Report) → Speaks (verdict_status v) (Ok report)
+verdict_speaks verdict.Done report = (report, refl)
+verdict_speaks v report = tt
+
+speaks : (x : Result Report Refusal) → Speaks (status_of x) x
+speaks (Ok report) = verdict_speaks report.verdict report
+speaks (Err (refusal.ReadFault file)) = (file, refl)
+speaks (Err (refusal.WriteFault file)) = (file, refl)
+speaks (Err r) = tt
+
+told : (c : Command) (call : Call) (h : Cause c call) (s : Status) → call.status ≡ s → EndsWith call h.ending → Speaks s h.outcome
+told c call h s is w = subst (λ (t : Status). Speaks t h.outcome) (sym (w.0 ∙ h.is_ending.status) ∙ is) (speaks h.outcome)
+
+-- a status that is none of a fault of the sink or of memory
+plainly : (c : Command) (call : Call) (h : Cause c call) (s : Status) → IsPlain s → call.status ≡ s → Speaks s h.outcome
+plainly c call h s p is = told c call h s is (plain call h.ending s p is (how call h.ending h.prints))
+
+-- words that are no command end with no such status but that of the usage line
+no_command : (call : Call) (s : Status) → IsPlain s → CauseOf None call → call.status ≡ s → s ≡ Usage
+no_command call s p h is = sym is ∙ (plain call usage s p is (how call usage h.1)).0
 
 -- ---- the outcome
 
 -- a fault of the folder
-data IsFault (outcome : Result Report Refusal) : Type 0 where
-  a_read : (file : CommandFile) → outcome ≡ Err (refusal.ReadFault file) → IsFault outcome
-  a_write : (file : CommandFile) → outcome ≡ Err (refusal.WriteFault file) → IsFault outcome
+abbrev IsFault : Result Report Refusal → Type 0
+IsFault x = (file : CommandFile) × ((x ≡ Err (refusal.ReadFault file)) ⊎ (x ≡ Err (refusal.WriteFault file)))
 
-stopped : (i : Inputs) (s : Step) (r : Refusal) → Stops i s r → IsFault (Err r)
-stopped i (is_there file) r h = a_read file (ap Err h)
-stopped i (bundle_reads o) r h = a_read (BundleOf h.0) (ap Err h.1)
-stopped i bundle_written r h = a_write (BundleOf h.0) (ap Err h.1)
-stopped i s r h = absurd h
+stopped : (i : Inputs) (x : Result Report Refusal) (s : Step) → StopsAtStep i x s → IsFault x
+stopped i (Ok report) s h = absurd h
+stopped i (Err r) (is_there file) h = (file, inl (ap Err h))
+stopped i (Err r) (bundle_reads out) (file, h) = (BundleOf file, inl (ap Err h))
+stopped i (Err r) bundle_written (file, h) = (BundleOf file, inr (ap Err h))
+stopped i (Err r) s h = absurd h
 
-stopped_at : (i : Inputs) (outcome : Result Report Refusal) (s : Step) → StopsAtStep i outcome s → IsFault outcome
-stopped_at i (Ok report) s h = absurd h
-stopped_at i (Err r) s h = stopped i s r h
-
-stopped_among : (i : Inputs) (outcome : Result Report Refusal) (ss : List Step) → FirstWith i (StopsAtStep i outcome) ss → IsFault outcome
-stopped_among i outcome [] h = elim h [ ]
-stopped_among i outcome (s ∷ ss) (here h) = stopped_at i outcome s h
-stopped_among i outcome (s ∷ ss) (later g h) = stopped_among i outcome ss h
-
--- a fault of the folder is one to which the answer yields
-fault_yields : (c : Command) (call : Call) (outcome : Result Report Refusal) → IsFault outcome → CountsFault call.reads call.writes (fault_in outcome) → EndsWith call (ending_of c outcome) → Yields call
-fault_yields c call outcome (a_read file e) h f =
-    to_read_fault (f.0 ∙ ap (λ (x : Result Report Refusal). (ending_of c x).status) e) (subst (λ (x : Result Report Refusal). CountsFault call.reads call.writes (fault_in x)) e h).0
-fault_yields c call outcome (a_write file e) h f =
-    to_write_fault (f.0 ∙ ap (λ (x : Result Report Refusal). (ending_of c x).status) e) (inl (subst (λ (x : Result Report Refusal). CountsFault call.reads call.writes (fault_in x)) e h).1)
+-- the answer yields to it
+fault_yields : (call : Call) (x : Result Report Refusal) → IsFault x → CountsFault call.reads call.writes (fault_in x) → call.status ≡ status_of x → Yields call
+fault_yields call x (file, inl e) h s = to_read_fault (s ∙ ap status_of e) (subst (λ (x : Result Report Refusal). CountsFault call.reads call.writes (fault_in x)) e h).0
+fault_yields call x (file, inr e) h s = to_write_fault (s ∙ ap status_of e) (inl (subst (λ (x : Result Report Refusal). CountsFault call.reads call.writes (fault_in x)) e h).1)
 
 -- a command has one outcome
 abbrev pub OneOutcome : Type 0
 OneOutcome = (c : Command) (i : Inputs) (outcome : Result Report Refusal) → HasOutcome c i outcome → IsOnly c i outcome
 
 -- what a command answers is its outcome, or it yields
-outcome_or_yields : (c : Command) (i : Inputs) (call : Call) (outcome : Result Report Refusal) → CountsFault call.reads call.writes (fault_in outcome) → EndsWith call (ending_of c outcome) → Answers c i outcome → HasOutcome c i outcome ⊎ Yields call
-outcome_or_yields c i call outcome counts f (inl (out_of_memory e)) = inr (to_no_memory (f.0 ∙ ap (λ (x : Result Report Refusal). (ending_of c x).status) e))
-outcome_or_yields c i call outcome counts f (inl (at_step h)) = inl (inl h)
-outcome_or_yields c i call outcome counts f (inl (at_fault h)) = inr (fault_yields c call outcome (stopped_among i outcome (steps c) h) counts f)
-outcome_or_yields c i call outcome counts f (inr h) = inl (inr h)
+outcome_or_yields : (c : Command) (i : Inputs) (call : Call) (x : Result Report Refusal) → CountsFault call.reads call.writes (fault_in x) → call.status ≡ status_of x → Answers c i x → HasOutcome c i x ⊎ Yields call
+outcome_or_yields c i call x counts s (inl (out_of_memory e)) = inr (to_no_memory (s ∙ ap status_of e))
+outcome_or_yields c i call x counts s (inl (at_step h)) = inl (inl h)
+outcome_or_yields c i call x counts s (inl (at_fault h)) = inr (fault_yields call x (first_gives i (StopsAtStep i x) (stopped i x) (steps c) h) counts s)
+outcome_or_yields c i call x counts s (inr h) = inl (inr h)
 
-outcome_known : OneOutcome → (c : Command) (files : Files) (call : Call) (outcome : Result Report Refusal) → Performs c (Some files) call.content_after outcome → CountsFault call.reads call.writes (fault_in outcome)
-    → Prints (Counted call.puts) (ending_of c outcome) call.output_before call.output_after call.status → ((f : TheOutcome c files) × EndsWith call (ending_of c f.outcome)) ⊎ Yields call
-outcome_known one c files call outcome performs counts prints = elim (printed call (ending_of c outcome) prints) [
-  | inr y ↦ inr y
-  | inl f ↦ elim (outcome_or_yields c performs.inputs call outcome counts f performs.answers) [
+outcome_known : OneOutcome → (c : Command) (files : Files) (call : Call) (h : Cause c call) → Performs c (Some files) call.content_after h.outcome → ((f : TheOutcome c files) × EndsWith call f.ending) ⊎ Yields call
+outcome_known one c files call h performs = elim (how call h.ending h.prints) [
+  | cut s rose ↦ inr (to_write_fault s (inr rose))
+  | lost s ↦ inr (to_no_memory s)
+  | whole w ↦ elim (outcome_or_yields c performs.inputs call h.outcome h.counts (w.0 ∙ h.is_ending.status) performs.answers) [
     | inr y ↦ inr y
     | inl holds ↦
-        let at_files : HasOutcome c (inputs_of c files) outcome = subst (λ (i : Inputs). HasOutcome c i outcome) performs.inputs_are holds in
-        inl (record { outcome = outcome; holds = at_files; one = one c (inputs_of c files) outcome at_files }, f)
+        let known = inputs_of (files_of c) files in
+        let at_files : HasOutcome c known h.outcome = subst (λ (i : Inputs). HasOutcome c i h.outcome) performs.inputs_are holds in
+        inl (record { outcome = h.outcome; holds = at_files; one = one c known h.outcome at_files; ending = h.ending; is_ending = h.is_ending }, w)
   ]
 ]
 
 outcome_of : OneOutcome → (c : Option Command) (call : Call) → CauseOf c call → OutcomeOf c call.content_before call
-outcome_of one None call h = printed call usage h.1
+outcome_of one None call h = elim (how call usage h.1) [
+  | whole w ↦ inl w
+  | cut s rose ↦ inr (to_write_fault s (inr rose))
+  | lost s ↦ inr (to_no_memory s)
+]
 outcome_of one (Some c) call h = content call.content_before h.performs
   where
     content : (before : Option Files) → Performs c before call.content_after h.outcome → OutcomeOf (Some c) before call
     content None performs = tt
-    content (Some files) performs = outcome_known one c files call h.outcome performs h.counts h.prints
+    content (Some files) performs = outcome_known one c files call h performs
 
--- ---- statuses
-
-abbrev pub IsEnding : Status → Type 0
-IsEnding s = (s ≡ WriteFault) ⊎ (s ≡ NoMemory)
-
--- the status is that of the ending, or one of the ends of a put
-ends : (call : Call) (f : Ending) → Prints (Counted call.puts) f call.output_before call.output_after call.status → (call.status ≡ f.status) ⊎ IsEnding call.status
-ends call f (inl (all e n)) = inl e
-ends call f (inl (a_prefix e rose n)) = inr (inl e)
-ends call f (inl (nothing e n)) = inr (inr e)
-ends call f (inr (all e n)) = inr (inr e)
-ends call f (inr (a_prefix e rose n)) = inr (inl e)
-ends call f (inr (nothing e n)) = inr (inr e)
-
--- neither of words that are no command, nor of a fault, nor of a success
-abbrev IsRefusing : Status → Type 0
-IsRefusing Done = ⊥
-IsRefusing Usage = ⊥
-IsRefusing ReadFault = ⊥
-IsRefusing WriteFault = ⊥
-IsRefusing NoMemory = ⊥
-IsRefusing s = Unit {0}
-
--- the status of a refusal is that of the fault that it speaks of, or none of these
-abbrev Suits : Fault → Status → Type 0
-Suits (by_read file) s = s ≡ ReadFault
-Suits (by_write file) s = s ≡ WriteFault
-Suits by_memory s = s ≡ NoMemory
-Suits no_fault s = IsRefusing s
-
-refusal_suits : (r : Refusal) → Suits (fault_of r) (refusal_status r)
-refusal_suits (refusal.ReadFault f) = refl
-refusal_suits (refusal.WriteFault f) = refl
-refusal_suits refusal.NoMemory = refl
-refusal_suits r = tt
-
-never_done : (f : Fault) (s : Status) → Suits f s → s ≡ Done → ⊥
-never_done (by_read file) s h e = let no : ◌≡◌ {A = Status} ReadFault Done = sym h ∙ e in cc
-never_done (by_write file) s h e = let no : ◌≡◌ {A = Status} WriteFault Done = sym h ∙ e in cc
-never_done by_memory s h e = let no : ◌≡◌ {A = Status} NoMemory Done = sym h ∙ e in cc
-never_done no_fault s h e = subst IsRefusing e h
-
-never_used : (f : Fault) (s : Status) → Suits f s → s ≡ Usage → ⊥
-never_used (by_read file) s h e = let no : ◌≡◌ {A = Status} ReadFault Usage = sym h ∙ e in cc
-never_used (by_write file) s h e = let no : ◌≡◌ {A = Status} WriteFault Usage = sym h ∙ e in cc
-never_used by_memory s h e = let no : ◌≡◌ {A = Status} NoMemory Usage = sym h ∙ e in cc
-never_used no_fault s h e = subst IsRefusing e h
-
--- a verdict has none of these statuses
-abbrev IsVerdict : Status → Type 0
-IsVerdict Done = Unit {0}
-IsVerdict Refuted = Unit {0}
-IsVerdict HopBound = Unit {0}
-IsVerdict Budget = Unit {0}
-IsVerdict s = ⊥
-
-is_verdict : (v : Verdict) → IsVerdict (verdict_status v)
-is_verdict verdict.Done = tt
-is_verdict verdict.Refuted = tt
-is_verdict verdict.HopBound = tt
-is_verdict verdict.Budget = tt
-
-never_usage : (c : Command) (outcome : Result Report Refusal) → (ending_of c outcome).status ≡ Usage → ⊥
-never_usage c (Ok report) e = subst IsVerdict e (is_verdict report.verdict)
-never_usage c (Err r) e = never_used (fault_of r) (refusal_status r) (refusal_suits r) e
+-- ---- what follows of each status
 
 usage_of : (c : Option Command) (call : Call) → CauseOf c call → UsageOf c call.status
-usage_of None call h = ends call usage h.1
-usage_of (Some c) call h = λ u. elim (ends call (ending_of c h.outcome) h.prints) [
-  | inl e ↦ never_usage c h.outcome (sym e ∙ u)
-  | inr (inl e) ↦ let no : ◌≡◌ {A = Status} WriteFault Usage = sym e ∙ u in cc
-  | inr (inr e) ↦ let no : ◌≡◌ {A = Status} NoMemory Usage = sym e ∙ u in cc
+usage_of None call h = elim (how call usage h.1) [
+  | whole w ↦ inl w.0
+  | cut s rose ↦ inr (inl s)
+  | lost s ↦ inr (inr s)
 ]
-
--- a refusal with the status of a read fault speaks of one
-reads_fault : (P : Fault → Type 0) (f : Fault) (s : Status) → Suits f s → s ≡ ReadFault → ((file : CommandFile) → P (by_read file)) → P f
-reads_fault P (by_read file) s h e at_read = at_read file
-reads_fault P (by_write file) s h e at_read = let no : ◌≡◌ {A = Status} WriteFault ReadFault = sym h ∙ e in cc
-reads_fault P by_memory s h e at_read = let no : ◌≡◌ {A = Status} NoMemory ReadFault = sym h ∙ e in cc
-reads_fault P no_fault s h e at_read = absurd (subst IsRefusing e h)
-
--- one with that of a write fault
-writes_fault : (P : Fault → Type 0) (f : Fault) (s : Status) → Suits f s → s ≡ WriteFault → ((file : CommandFile) → P (by_write file)) → P f
-writes_fault P (by_read file) s h e at_write = let no : ◌≡◌ {A = Status} ReadFault WriteFault = sym h ∙ e in cc
-writes_fault P (by_write file) s h e at_write = at_write file
-writes_fault P by_memory s h e at_write = let no : ◌≡◌ {A = Status} NoMemory WriteFault = sym h ∙ e in cc
-writes_fault P no_fault s h e at_write = absurd (subst IsRefusing e h)
-
--- a command whose ending has the status of a read fault was stopped by one
-is_read_fault : (c : Command) (reads writes : Count) (outcome : Result Report Refusal) → CountsFault reads writes (fault_in outcome) → (ending_of c outcome).status ≡ ReadFault → Counted reads
-is_read_fault c reads writes (Ok report) h e = absurd (subst IsVerdict e (is_verdict report.verdict))
-is_read_fault c reads writes (Err r) h e = reads_fault (λ f. CountsFault reads writes f → Counted reads) (fault_of r) (refusal_status r) (refusal_suits r) e (λ file k. k.0) h
-
-is_write_fault : (c : Command) (reads writes : Count) (outcome : Result Report Refusal) → CountsFault reads writes (fault_in outcome) → (ending_of c outcome).status ≡ WriteFault → Counted writes
-is_write_fault c reads writes (Ok report) h e = absurd (subst IsVerdict e (is_verdict report.verdict))
-is_write_fault c reads writes (Err r) h e = writes_fault (λ f. CountsFault reads writes f → Counted writes) (fault_of r) (refusal_status r) (refusal_suits r) e (λ file k. k.1) h
+usage_of (Some c) call h = λ u. plainly c call h Usage tt u
 
 read_fault_of : (c : Option Command) (call : Call) → CauseOf c call → call.status ≡ ReadFault → Counted call.reads
-read_fault_of None call h r = elim (ends call usage h.1) [
-  | inl e ↦ let no : ◌≡◌ {A = Status} Usage ReadFault = sym e ∙ r in cc
-  | inr (inl e) ↦ let no : ◌≡◌ {A = Status} WriteFault ReadFault = sym e ∙ r in cc
-  | inr (inr e) ↦ let no : ◌≡◌ {A = Status} NoMemory ReadFault = sym e ∙ r in cc
-]
-read_fault_of (Some c) call h r = elim (ends call (ending_of c h.outcome) h.prints) [
-  | inl e ↦ is_read_fault c call.reads call.writes h.outcome h.counts (sym e ∙ r)
-  | inr (inl e) ↦ let no : ◌≡◌ {A = Status} WriteFault ReadFault = sym e ∙ r in cc
-  | inr (inr e) ↦ let no : ◌≡◌ {A = Status} NoMemory ReadFault = sym e ∙ r in cc
-]
-
--- a write fault that is no fault of the folder is one of the sink
-sink_fault : (call : Call) (f : Ending) → Prints (Counted call.puts) f call.output_before call.output_after call.status → call.status ≡ WriteFault → (f.status ≡ WriteFault) ⊎ Counted call.puts
-sink_fault call f (inl (all e n)) w = inl (sym e ∙ w)
-sink_fault call f (inl (a_prefix e rose n)) w = inr rose
-sink_fault call f (inl (nothing e n)) w = let no : ◌≡◌ {A = Status} NoMemory WriteFault = sym e ∙ w in cc
-sink_fault call f (inr (all e n)) w = let no : ◌≡◌ {A = Status} NoMemory WriteFault = sym e ∙ w in cc
-sink_fault call f (inr (a_prefix e rose n)) w = inr rose
-sink_fault call f (inr (nothing e n)) w = let no : ◌≡◌ {A = Status} NoMemory WriteFault = sym e ∙ w in cc
+read_fault_of None call h r = let no : ◌≡◌ {A = Status} ReadFault Usage = no_command call ReadFault tt h r in cc
+read_fault_of (Some c) call h r = (subst (λ (x : Result Report Refusal). CountsFault call.reads call.writes (fault_in x)) (plainly c call h ReadFault tt r).1 h.counts).0
 
 write_fault_of : (c : Option Command) (call : Call) → CauseOf c call → call.status ≡ WriteFault → Counted call.writes ⊎ Counted call.puts
-write_fault_of None call h w = elim (sink_fault call usage h.1 w) [
-  | inl e ↦ let no : ◌≡◌ {A = Status} Usage WriteFault = e in cc
+write_fault_of None call h w = elim (or_sink call usage w (how call usage h.1)) [
+  | inl e ↦ let no : ◌≡◌ {A = Status} WriteFault Usage = sym w ∙ e.0 in cc
   | inr rose ↦ inr rose
 ]
-write_fault_of (Some c) call h w = elim (sink_fault call (ending_of c h.outcome) h.prints w) [
-  | inl e ↦ inl (is_write_fault c call.reads call.writes h.outcome h.counts e)
+write_fault_of (Some c) call h w = elim (or_sink call h.ending w (how call h.ending h.prints)) [
+  | inl e ↦ inl (subst (λ (x : Result Report Refusal). CountsFault call.reads call.writes (fault_in x)) (told c call h WriteFault w e).1 h.counts).1
   | inr rose ↦ inr rose
 ]
 
--- ---- where no fault is counted
-
--- the ending has the status of a fault of the folder, or none was counted
-counts_or_none : (reads writes : Count) (f : Fault) (s : Status) → Suits f s → CountsFault reads writes f → MayCount s ⊎ (Uncounted reads × Uncounted writes)
-counts_or_none reads writes (by_read file) s h k = inl (counts_read h)
-counts_or_none reads writes (by_write file) s h k = inl (counts_write h)
-counts_or_none reads writes by_memory s h k = inr k
-counts_or_none reads writes no_fault s h k = inr k
-
-none_or_fault : (c : Command) (reads writes : Count) (outcome : Result Report Refusal) → CountsFault reads writes (fault_in outcome) → MayCount (ending_of c outcome).status ⊎ (Uncounted reads × Uncounted writes)
-none_or_fault c reads writes (Ok report) h = inr h
-none_or_fault c reads writes (Err r) h = counts_or_none reads writes (fault_of r) (refusal_status r) (refusal_suits r) h
-
-ending_counts : (s : Status) → IsEnding s → MayCount s
-ending_counts s (inl e) = counts_write e
-ending_counts s (inr e) = counts_memory e
+-- the status is that of a fault of the folder, or none was counted
+none_or_fault : (reads writes : Count) (x : Result Report Refusal) → CountsFault reads writes (fault_in x) → MayCount (status_of x) ⊎ (Uncounted reads × Uncounted writes)
+none_or_fault reads writes (Ok report) h = inr h
+none_or_fault reads writes (Err (refusal.ReadFault file)) h = inl (of_read refl)
+none_or_fault reads writes (Err (refusal.WriteFault file)) h = inl (of_write refl)
+none_or_fault reads writes (Err r) h = inr h
 
 none_failed_of : (c : Option Command) (call : Call) → CauseOf c call → MayCount call.status ⊎ (Uncounted call.reads × Uncounted call.writes)
 none_failed_of None call h = inr (h.0.1, h.0.2)
-none_failed_of (Some c) call h = elim (ends call (ending_of c h.outcome) h.prints) [
-  | inr e ↦ inl (ending_counts call.status e)
-  | inl e ↦ elim (none_or_fault c call.reads call.writes h.outcome h.counts) [
-    | inl m ↦ inl (subst MayCount (sym e) m)
+none_failed_of (Some c) call h = elim (how call h.ending h.prints) [
+  | cut s rose ↦ inl (of_write s)
+  | lost s ↦ inl (of_memory s)
+  | whole w ↦ elim (none_or_fault call.reads call.writes h.outcome h.counts) [
+    | inl m ↦ inl (subst MayCount (sym (w.0 ∙ h.is_ending.status)) m)
     | inr n ↦ inr n
   ]
 ]
@@ -257,103 +195,62 @@ none_failed_of (Some c) call h = elim (ends call (ending_of c h.outcome) h.print
 -- what a command that has the cause of a call says of the folder's last call that failed
 abbrev pub NamedOf : (List ℕ → Type 0) → (c : Option Command) → (call : Call) → CauseOf c call → Type 0
 NamedOf last None call h = Unit {0}
-NamedOf last (Some c) call h = NamesFault last c (fault_in h.outcome)
+NamedOf last (Some c) call h = NamesFault last (files_of c) (fault_in h.outcome)
 
--- with the status of a read fault the whole ending is printed
-read_fault_printed : (call : Call) (f : Ending) → Prints (Counted call.puts) f call.output_before call.output_after call.status → call.status ≡ ReadFault → (f.status ≡ ReadFault) × (call.output_after ≡ appended call.output_before f.report)
-read_fault_printed call f (inl (all e n)) d = (sym e ∙ d, n)
-read_fault_printed call f (inl (a_prefix e rose n)) d = let no : ◌≡◌ {A = Status} WriteFault ReadFault = sym e ∙ d in cc
-read_fault_printed call f (inl (nothing e n)) d = let no : ◌≡◌ {A = Status} NoMemory ReadFault = sym e ∙ d in cc
-read_fault_printed call f (inr (all e n)) d = let no : ◌≡◌ {A = Status} NoMemory ReadFault = sym e ∙ d in cc
-read_fault_printed call f (inr (a_prefix e rose n)) d = let no : ◌≡◌ {A = Status} WriteFault ReadFault = sym e ∙ d in cc
-read_fault_printed call f (inr (nothing e n)) d = let no : ◌≡◌ {A = Status} NoMemory ReadFault = sym e ∙ d in cc
+same_line : (o : Option (List ℕ)) (x y : List ℕ) → o ≡ Some x → o ≡ Some y → x ≡ y
+same_line o x y p q = let e : ◌≡◌ {A = Option (List ℕ)} (Some x) (Some y) = sym p ∙ q in cc
 
--- with that of a write fault it is, or the sink failed
-write_fault_printed : (call : Call) (f : Ending) → Prints (Counted call.puts) f call.output_before call.output_after call.status → call.status ≡ WriteFault → ((f.status ≡ WriteFault) × (call.output_after ≡ appended call.output_before f.report)) ⊎ Counted call.puts
-write_fault_printed call f (inl (all e n)) d = inl (sym e ∙ d, n)
-write_fault_printed call f (inl (a_prefix e rose n)) d = inr rose
-write_fault_printed call f (inl (nothing e n)) d = let no : ◌≡◌ {A = Status} NoMemory WriteFault = sym e ∙ d in cc
-write_fault_printed call f (inr (all e n)) d = let no : ◌≡◌ {A = Status} NoMemory WriteFault = sym e ∙ d in cc
-write_fault_printed call f (inr (a_prefix e rose n)) d = inr rose
-write_fault_printed call f (inr (nothing e n)) d = let no : ◌≡◌ {A = Status} NoMemory WriteFault = sym e ∙ d in cc
-
--- the line of a refusal that speaks of a fault of the folder
-abbrev Says : Command → Fault → List ℕ → Type 0
-Says c (by_read file) line = line ≡ line_with (codes "read fault ") (name_in c file)
-Says c (by_write file) line = line ≡ line_with (codes "write fault ") (name_in c file)
-Says c f line = Unit {0}
-
-refusal_says : (c : Command) (r : Refusal) → Says c (fault_of r) (refusal_line c r)
-refusal_says c (refusal.ReadFault f) = refl
-refusal_says c (refusal.WriteFault f) = refl
-refusal_says c r = tt
-
-read_line : (last : List ℕ → Type 0) (c : Command) (call : Call) (outcome : Result Report Refusal) → NamesFault last c (fault_in outcome) → (ending_of c outcome).status ≡ ReadFault → call.output_after ≡ appended call.output_before (ending_of c outcome).report → LineNames last (codes "read fault ") (Some c) call
-read_line last c call (Ok report) h e n = absurd (subst IsVerdict e (is_verdict report.verdict))
-read_line last c call (Err r) h e n =
-    reads_fault (λ f. NamesFault last c f → Says c f (refusal_line c r) → LineNames last (codes "read fault ") (Some c) call) (fault_of r) (refusal_status r) (refusal_suits r) e
-    (λ file k says. (file, k, n ∙ ap (appended call.output_before) says)) h (refusal_says c r)
-
-write_line : (last : List ℕ → Type 0) (c : Command) (call : Call) (outcome : Result Report Refusal) → NamesFault last c (fault_in outcome) → (ending_of c outcome).status ≡ WriteFault → call.output_after ≡ appended call.output_before (ending_of c outcome).report → LineNames last (codes "write fault ") (Some c) call
-write_line last c call (Ok report) h e n = absurd (subst IsVerdict e (is_verdict report.verdict))
-write_line last c call (Err r) h e n =
-    writes_fault (λ f. NamesFault last c f → Says c f (refusal_line c r) → LineNames last (codes "write fault ") (Some c) call) (fault_of r) (refusal_status r) (refusal_suits r) e
-    (λ file k says. (file, k, n ∙ ap (appended call.output_before) says)) h (refusal_says c r)
+named_line : (last : List ℕ → Type 0) (c : Command) (call : Call) (prefix : List ℕ) (file : CommandFile) (report : List ℕ) → HasName (files_of c) file last
+    → option_map (line_with prefix) (name_of (files_of c) file) ≡ Some report → call.output_after ≡ appended call.output_before report → LineNames last prefix (Some c) call
+named_line last c call prefix file report (name, is, named) line out =
+    (file, (name, is, (named, out ∙ ap (appended call.output_before) (same_line _ report (line_with prefix name) line (ap (option_map (line_with prefix)) is)))))
 
 read_line_of : (last : List ℕ → Type 0) (c : Option Command) (call : Call) (h : CauseOf c call) → NamedOf last c call h → call.status ≡ ReadFault → LineNames last (codes "read fault ") c call
-read_line_of last None call h k r = let no : ◌≡◌ {A = Status} Usage ReadFault = (read_fault_printed call usage h.1 r).0 in cc
+read_line_of last None call h k r = let no : ◌≡◌ {A = Status} ReadFault Usage = no_command call ReadFault tt h r in cc
 read_line_of last (Some c) call h k r =
-    let s = read_fault_printed call (ending_of c h.outcome) h.prints r in
-    read_line last c call h.outcome k s.0 s.1
+    let w = plain call h.ending ReadFault tt r (how call h.ending h.prints) in
+    let f = told c call h ReadFault r w in
+    named_line last c call (codes "read fault ") f.0 h.ending.report (subst (λ (x : Result Report Refusal). NamesFault last (files_of c) (fault_in x)) f.1 k)
+    (subst (λ (x : Result Report Refusal). line_of (files_of c) x ≡ Some h.ending.report) f.1 h.is_ending.line) w.1
 
 write_line_of : (last : List ℕ → Type 0) (c : Option Command) (call : Call) (h : CauseOf c call) → NamedOf last c call h → call.status ≡ WriteFault → LineNames last (codes "write fault ") c call ⊎ Counted call.puts
-write_line_of last None call h k w = elim (write_fault_printed call usage h.1 w) [
-  | inl e ↦ let no : ◌≡◌ {A = Status} Usage WriteFault = e.0 in cc
+write_line_of last None call h k w = elim (or_sink call usage w (how call usage h.1)) [
+  | inl e ↦ let no : ◌≡◌ {A = Status} WriteFault Usage = sym w ∙ e.0 in cc
   | inr rose ↦ inr rose
 ]
-write_line_of last (Some c) call h k w = elim (write_fault_printed call (ending_of c h.outcome) h.prints w) [
-  | inl e ↦ inl (write_line last c call h.outcome k e.0 e.1)
+write_line_of last (Some c) call h k w = elim (or_sink call h.ending w (how call h.ending h.prints)) [
+  | inl e ↦
+      let f = told c call h WriteFault w e in
+      inl (named_line last c call (codes "write fault ") f.0 h.ending.report (subst (λ (x : Result Report Refusal). NamesFault last (files_of c) (fault_in x)) f.1 k)
+      (subst (λ (x : Result Report Refusal). line_of (files_of c) x ≡ Some h.ending.report) f.1 h.is_ending.line) e.1)
   | inr rose ↦ inr rose
 ]
 
 -- ---- what is left
 
 -- a step of today gives no verdict
-no_verdict : (i : Inputs) (report : Report) (ss : List Step) → FirstWith i (EndsAt i (Ok report)) ss → ⊥
-no_verdict i report [] h = elim h [ ]
-no_verdict i report (s ∷ ss) (here (inl h)) = h
-no_verdict i report (s ∷ ss) (here (inr h)) = h
-no_verdict i report (s ∷ ss) (later g h) = no_verdict i report ss h
-
-no_fault_reports : (i : Inputs) (report : Report) (ss : List Step) → FirstWith i (StopsAtStep i (Ok report)) ss → ⊥
-no_fault_reports i report [] h = elim h [ ]
-no_fault_reports i report (s ∷ ss) (here h) = h
-no_fault_reports i report (s ∷ ss) (later g h) = no_fault_reports i report ss h
+no_verdict : (i : Inputs) (report : Report) (s : Step) → EndsAt i (Ok report) s → ⊥
+no_verdict i report s (inl h) = h
+no_verdict i report s (inr h) = h
 
 reports_of : (c : Command) (i : Inputs) (report : Report) → Answers c i (Ok report) → Reports c i report
 reports_of c i report (inl (out_of_memory e)) = cc
-reports_of c i report (inl (at_step h)) = absurd (no_verdict i report (steps c) h)
-reports_of c i report (inl (at_fault h)) = absurd (no_fault_reports i report (steps c) h)
+reports_of c i report (inl (at_step h)) = absurd (first_gives i (EndsAt i (Ok report)) (no_verdict i report) (steps c) h)
+reports_of c i report (inl (at_fault h)) = absurd (first_gives i (StopsAtStep i (Ok report)) (λ s no. no) (steps c) h)
 reports_of c i report (inr h) = h.1
 
-done_ok : (c : Command) (call : Call) (outcome : Result Report Refusal) → Performs c call.content_before call.content_after outcome → (ending_of c outcome).status ≡ Done → call.output_after ≡ appended call.output_before (ending_of c outcome).report → DoneOf (Some c) call
-done_ok c call (Ok report) performs d n = (performs.inputs, report, performs.inputs_are, reports_of c performs.inputs report performs.answers, performs.leaves, n)
-done_ok c call (Err r) performs d n = absurd (never_done (fault_of r) (refusal_status r) (refusal_suits r) d)
-
--- with status 0 the whole report is printed
-done_printed : (call : Call) (f : Ending) → Prints (Counted call.puts) f call.output_before call.output_after call.status → call.status ≡ Done → (f.status ≡ Done) × (call.output_after ≡ appended call.output_before f.report)
-done_printed call f (inl (all e n)) d = (sym e ∙ d, n)
-done_printed call f (inl (a_prefix e rose n)) d = let no : ◌≡◌ {A = Status} WriteFault Done = sym e ∙ d in cc
-done_printed call f (inl (nothing e n)) d = let no : ◌≡◌ {A = Status} NoMemory Done = sym e ∙ d in cc
-done_printed call f (inr (all e n)) d = let no : ◌≡◌ {A = Status} NoMemory Done = sym e ∙ d in cc
-done_printed call f (inr (a_prefix e rose n)) d = let no : ◌≡◌ {A = Status} WriteFault Done = sym e ∙ d in cc
-done_printed call f (inr (nothing e n)) d = let no : ◌≡◌ {A = Status} NoMemory Done = sym e ∙ d in cc
+done_by : (c : Command) (call : Call) (report : Report) (line : List ℕ) → Performs c call.content_before call.content_after (Ok report) → line_of (files_of c) (Ok report) ≡ Some line
+    → call.output_after ≡ appended call.output_before line → DoneOf (Some c) call
+done_by c call report line p is out =
+    (p.inputs, report, p.inputs_are, reports_of c p.inputs report p.answers, p.leaves, out ∙ ap (appended call.output_before) (same_line _ line report.lines is refl))
 
 writes_of : (c : Option Command) (call : Call) → CauseOf c call → call.status ≡ Done → DoneOf c call
-writes_of None call h d = let no : ◌≡◌ {A = Status} Usage Done = (done_printed call usage h.1 d).0 in cc
+writes_of None call h d = let no : ◌≡◌ {A = Status} Done Usage = no_command call Done tt h d in cc
 writes_of (Some c) call h d =
-    let s = done_printed call (ending_of c h.outcome) h.prints d in
-    done_ok c call h.outcome h.performs s.0 s.1
+    let w = plain call h.ending Done tt d (how call h.ending h.prints) in
+    let f = told c call h Done d w in
+    done_by c call f.0 h.ending.report (subst (λ (x : Result Report Refusal). Performs c call.content_before call.content_after x) f.1 h.performs)
+    (subst (λ (x : Result Report Refusal). line_of (files_of c) x ≡ Some h.ending.report) f.1 h.is_ending.line) w.1
 
 -- what stands where all is written, or stops within it, is a part of it
 take_all : (fs : List MadeFile) → take (length fs) fs ≡ fs
@@ -387,48 +284,35 @@ leaves_some : (c : Command) (i : Inputs) (before after : Option Files) (outcome 
 leaves_some c i before after (Ok report) (w, may, h) = inr (w, may, all_some w before after h)
 leaves_some c i before after (Err r) h = leaves_fault c i before after (fault_of r) h
 
--- a fault that wrote nothing, or a status that may have
-fault_writes : (c : Command) (i : Inputs) (before after : Option Files) (f : Fault) (s : Status) → Suits f s → LeavesFault c i before after f → MayWrite s ⊎ (after ≡ before)
-fault_writes c i before after (by_read file) s e h = inr h
-fault_writes c i before after (by_write file) s e h = inl (failed e)
-fault_writes c i before after by_memory s e h = inl (run.no_memory e)
-fault_writes c i before after no_fault s e h = inr h
-
--- what a command that reports this writes, and the status of its report
-report_writes : (c : Command) (i : Inputs) (before after : Option Files) (report : Report) → Reports c i report → LeavesAll c i before after → MayWrite (verdict_status report.verdict) ⊎ (after ≡ before)
-report_writes (compile d e o) i before after report k h = inl (done (ap (λ (r : Report). verdict_status r.verdict) k.2))
-report_writes (step d e l f) i before after report k (w, is, h) = inr (h ∙ ap (λ x. with_writing x before) is)
-report_writes (forward o p n) i before after report k (w, is, h) = inr (h ∙ ap (λ x. with_writing x before) is)
-
-same_or_writes : (c : Command) (before after : Option Files) (outcome : Result Report Refusal) → Performs c before after outcome → MayWrite (ending_of c outcome).status ⊎ (after ≡ before)
-same_or_writes c before after (Ok report) p = report_writes c p.inputs before after report (reports_of c p.inputs report p.answers) p.leaves
-same_or_writes c before after (Err r) p = fault_writes c p.inputs before after (fault_of r) (refusal_status r) (refusal_suits r) p.leaves
-
-ending_writes : (s : Status) → IsEnding s → MayWrite s
-ending_writes s (inl e) = failed e
-ending_writes s (inr e) = run.no_memory e
-
-same_of : (c : Option Command) (call : Call) → CauseOf c call → MayWrite call.status ⊎ (call.content_after ≡ call.content_before)
-same_of None call h = inr h.0.0
-same_of (Some c) call h = elim (ends call (ending_of c h.outcome) h.prints) [
-  | inr e ↦ inl (ending_writes call.status e)
-  | inl e ↦ elim (same_or_writes c call.content_before call.content_after h.outcome h.performs) [
-    | inl m ↦ inl (subst MayWrite (sym e) m)
-    | inr s ↦ inr s
-  ]
-]
-
 leaves_of : (c : Option Command) (call : Call) → CauseOf c call → LeavesOf c call
 leaves_of None call h = h.0.0
 leaves_of (Some c) call h = (h.performs.inputs, h.performs.inputs_are, leaves_some c h.performs.inputs call.content_before call.content_after h.outcome h.performs.leaves)
+
+-- nothing was written, or the status may have another folder
+same_or_writes : (c : Command) (before after : Option Files) (x : Result Report Refusal) → Performs c before after x → MayWrite (status_of x) ⊎ (after ≡ before)
+same_or_writes c before after (Ok report) p = report_writes c p.inputs before after report (reports_of c p.inputs report p.answers) p.leaves
+same_or_writes c before after (Err (refusal.WriteFault file)) p = inl (failed refl)
+same_or_writes c before after (Err refusal.NoMemory) p = inl (run.no_memory refl)
+same_or_writes c before after (Err r) p = inr p.leaves
+
+same_of : (c : Option Command) (call : Call) → CauseOf c call → MayWrite call.status ⊎ (call.content_after ≡ call.content_before)
+same_of None call h = inr h.0.0
+same_of (Some c) call h = elim (how call h.ending h.prints) [
+  | cut s rose ↦ inl (failed s)
+  | lost s ↦ inl (run.no_memory s)
+  | whole w ↦ elim (same_or_writes c call.content_before call.content_after h.outcome h.performs) [
+    | inl m ↦ inl (subst MayWrite (sym (w.0 ∙ h.is_ending.status)) m)
+    | inr s ↦ inr s
+  ]
+]
 
 -- ---- out of memory while the words are read
 
 abbrev any_inputs : Command → Option Files → Inputs
 any_inputs c None = record { file = λ file. None; content = None }
-any_inputs c (Some files) = inputs_of c files
+any_inputs c (Some files) = inputs_of (files_of c) files
 
-any_are : (c : Command) (content : Option Files) → InputsAre c content (any_inputs c content)
+any_are : (c : Command) (content : Option Files) → InputsAre (files_of c) content (any_inputs c content)
 any_are c None = tt
 any_are c (Some files) = refl
 
@@ -444,17 +328,12 @@ memory_cause last (Some c) call same r w p = (
       leaves = inl same;
     };
     counts = (r, w);
+    ending = no_memory;
+    is_ending = record { status = refl; line = refl };
     prints = inr p;
   },
   tt,
 )
-
--- ---- the main promise
-
--- status 0 comes only of a command that reported
-pub headline_of : (c : Command) (call : Call) (outcome : Result Report Refusal) → Prints (Counted call.puts) (ending_of c outcome) call.output_before call.output_after call.status → IfOk outcome (λ r. CompiledOf (Some c) call.content_before call.content_after) → call.status ≡ Done → CompiledOf (Some c) call.content_before call.content_after
-headline_of c call (Ok report) prints h d = h
-headline_of c call (Err r) prints h d = absurd (never_done (fault_of r) (refusal_status r) (refusal_suits r) (done_printed call _ prints d).0)
 
 -- ---- all of it
 
@@ -490,6 +369,9 @@ keeps_memory one last call same r w p =
     let m = memory_cause last (command call.words) call same r w p in
     keeps one last call m.0 m.1
 
--- the main promise of the command that was read of the words
-pub headline_given : (c : Command) (o : Option Command) (before after : Option Files) → Some c ≡ o → CompiledOf (Some c) before after → CompiledOf o before after
-headline_given c o before after e h = subst (λ (d : Option Command). CompiledOf d before after) e h
+-- the main promise: status 0 comes only of a command that reported
+pub headline_of : (c : Command) (o : Option Command) (call : Call) (h : Cause c call) → Some c ≡ o → IfOk h.outcome (λ r. CompiledOf (Some c) call.content_before call.content_after) → call.status ≡ Done
+    → CompiledOf o call.content_before call.content_after
+headline_of c o call h e headline d =
+    subst (λ (d : Option Command). CompiledOf d call.content_before call.content_after) e
+    (subst (λ (x : Result Report Refusal). IfOk x (λ r. CompiledOf (Some c) call.content_before call.content_after)) (plainly c call h Done tt d).1 headline)

@@ -15,13 +15,13 @@ use Rattle.net_bundle.specs.Writing.{FirstOver, most_of}
 use Rattle.net_bundle.specs.declared.file.BundleFile.{BundleFile}
 use Rattle.cocoon_cli.specs.declared.answer.Writing.{Writing}
 use Rattle.cocoon_cli.specs.declared.answer.Writing.TheVariants as written
-use Rattle.cocoon_cli.specs.declared.files.CommandFile.{CommandFile}
-use Rattle.cocoon_cli.specs.declared.files.CommandFile.TheVariants.{Bundle}
-use Rattle.cocoon_cli.specs.declared.refusal.InputFault.TheVariants.{NotYet}
-use Rattle.cocoon_cli.specs.declared.refusal.Refusal.{Refusal}
-use Rattle.cocoon_cli.specs.declared.refusal.Refusal.TheVariants.{Language, OverLimit, TooLong, NoMemory}
+use Rattle.command_reports.specs.declared.files.CommandFile.{CommandFile}
+use Rattle.command_reports.specs.declared.files.CommandFile.TheVariants.{Bundle}
+use Rattle.command_reports.specs.declared.refusal.InputFault.TheVariants.{NotYet}
+use Rattle.command_reports.specs.declared.refusal.Refusal.{Refusal}
+use Rattle.command_reports.specs.declared.refusal.Refusal.TheVariants.{Language, OverLimit, TooLong, NoMemory}
 use Rattle.cocoon_cli.specs.Built.{IsBuilt}
-use Rattle.cocoon_cli.specs.DesignTexts.{BindsTables, NotBound, NotChecked, NotReadAfter, ReadsChecked}
+use Rattle.design_texts.specs.DesignTexts.{BindsTables, NotBound, NotChecked, NotReadAfter, ReadsChecked}
 
 -- `compile` takes the design, this is the network of both, and what it delivers the topmost
 -- specification may make

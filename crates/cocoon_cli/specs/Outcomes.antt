@@ -1,22 +1,39 @@
 -- Cited by `one_outcome` and by the clauses of the commands, and through Run.antt by `keeps` of
 -- `run`. The outcome of a command: that of the first of its steps that is not good, or else its
 -- report. It follows "Statuses" in docs/FORMATS.md.
-use Rattle.std.specs.Prelude.{◌≡◌, ◌⊎◌, ℕ, Bool, true, false, List, [], ◌∷◌, ◌||◌, Option, Result, Ok, Err}
-use Rattle.cocoon_num.specs.Tree as tree
-use Rattle.cocoon_types.specs.Tables.{defs_of}
-use Rattle.case_file.specs.Cases as cases
-use Rattle.case_runs.specs.Stepping.{Steps}
-use Rattle.case_runs.specs.declared.sent.Sent.{Sent}
-use Rattle.p4_ir.specs.NetTree.{NetData}
-use Rattle.packet_file.specs.Packets.{Packet}
-use Rattle.packet_runs.specs.Reports.{IsReport}
-use Rattle.command_line.specs.Command.{Command, compile, step, forward}
-use Rattle.cocoon_cli.specs.declared.refusal.Refusal.{Refusal}
-use Rattle.cocoon_cli.specs.declared.refusal.Refusal.TheVariants as refusal
-use Rattle.cocoon_cli.specs.declared.answer.Report.{Report}
-use Rattle.cocoon_cli.specs.declared.answer.Verdict.TheVariants.{Done}
-use Rattle.cocoon_cli.specs.ReportLines.{sent_text, totals_line, totals_of}
-use Rattle.cocoon_cli.specs.Steps.{Inputs, Step, BundleIs, CaseIs, Decides, DefinitionsAre, DesignIs, GivesUp, IsGood, Makes, PacketsAre, Stops, is_searched, steps}
+use Rattle.std.specs.Prelude.{◌≡◌, ◌⊎◌, ℕ, Bool, true, false, List, [], ◌∷◌, ◌++◌, ◌||◌, Option, Some, None, Result, Ok, Err}
+use Rattle.command_line.specs.Command.{Command}
+use Rattle.command_reports.specs.FileNames.{FileNames, bundle_in, wanted}
+use Rattle.command_reports.specs.declared.files.CommandFile.{CommandFile}
+use Rattle.command_reports.specs.declared.files.CommandFile.TheVariants.{Design, Definitions, Case, Packets}
+use Rattle.command_reports.specs.declared.refusal.Refusal.{Refusal}
+use Rattle.command_reports.specs.declared.refusal.Refusal.TheVariants as refusal
+use Rattle.command_reports.specs.declared.report.Report.{Report}
+use Rattle.cocoon_cli.specs.Commands.{Reports, asks, files_of, writes}
+use Rattle.cocoon_cli.specs.Steps.{Inputs, Step, Decides, GivesUp, IsGood, Stops, bundle_reads, is_searched, is_there, is_within}
+
+-- ---- the steps of a command
+
+-- those on a file that it reads by a name of its own: none if it reads no such file
+abbrev pub file_steps : CommandFile → Option (List ℕ × ℕ) → List Step
+file_steps file None = []
+file_steps file (Some (name, most)) = is_there file ∷ is_within file most ∷ []
+
+-- those on a bundle that it reads
+abbrev pub bundle_steps : Option (List ℕ) → List Step
+bundle_steps None = []
+bundle_steps (Some out) = bundle_reads out ∷ []
+
+-- what is read: the files in this order, then a bundle
+abbrev pub reads : FileNames → List Step
+reads names =
+    file_steps Design (wanted names Design) ++ (file_steps Definitions (wanted names Definitions)
+    ++ (file_steps Case (wanted names Case) ++ (file_steps Packets (wanted names Packets)
+    ++ bundle_steps (bundle_in names))))
+
+-- all steps of a command, in their order
+abbrev pub steps : Command → List Step
+steps c = reads (files_of c) ++ (asks c ++ writes c)
 
 -- ---- some steps
 
@@ -31,37 +48,12 @@ pub data FirstWith (inputs : Inputs) (P : Step → Type 0) : List Step → Type 
   later : {s : Step} {ss : List Step} → IsGood inputs s → FirstWith inputs P ss
       → FirstWith inputs P (s ∷ ss)
 
--- ---- reports
+-- ---- outcomes
 
--- what a step is of: a design, definitions, and a case at a level of the design
-pub record StepIs (inputs : Inputs) (level : ℕ) (design : tree.Design) (defs : tree.DefsText)
-    (case : cases.Case) : Type 0 where
-  pub design_is : DesignIs inputs design
-  pub defs_are : DefinitionsAre inputs defs
-  pub case_is : CaseIs inputs design level case
-
--- the whole report of a command that succeeds
-abbrev pub success : List ℕ → Report
-success lines = record { verdict = Done; lines = lines }
-
--- the report of a command of which all steps are good
-abbrev pub Reports : Command → Inputs → Report → Type 0
-Reports (compile design defs out) inputs report =
-    (net : NetData) × Makes inputs net × (report ≡ success (totals_line (totals_of net)))
-Reports (step design defs level file) inputs report =
-    (d : tree.Design) × (entries : tree.DefsText) × (case : cases.Case) × (sent : Option Sent)
-    × StepIs inputs level d entries case × Steps level d (defs_of d entries) case sent
-    × (report ≡ success (sent_text sent))
-Reports (forward out file hops) inputs report =
-    (net : NetData) × (packets : List Packet) × (lines : List ℕ) × BundleIs inputs out net
-    × PacketsAre inputs net packets × IsReport net hops packets lines × (report ≡ success lines)
-
--- the same of an outcome
+-- the report of a command, as an outcome
 abbrev pub ReportsOutcome : Command → Inputs → Result Report Refusal → Type 0
 ReportsOutcome c inputs (Ok report) = Reports c inputs report
 ReportsOutcome c inputs (Err r) = ⊥
-
--- ---- outcomes
 
 -- a step decides the outcome, or a search is given up at one
 abbrev pub EndsAt : Inputs → Result Report Refusal → Step → Type 0

@@ -1,26 +1,20 @@
--- Cited by the clauses of `read_file` and `read_network` in reading.rt, and by `From<BundleFault>` in refusal.rt. What is
--- read of one file and of a bundle, and why a bundle was not written. Of a folder whose content is not known the
--- first says nothing.
+-- Cited by the clauses of `read_file` and `read_network` in reading.rt. What is read of one file and of a bundle. Of a
+-- folder whose content is not known the first says nothing.
 use Rattle.std.specs.Prelude.{◌≡◌, ◌≤◌, ◌<◌, ℕ, List, length, Option, Some, None}
 use Rattle.std.specs.FinMap.{get}
 use Rattle.cocoon_io.specs.Files.{Files}
 use Rattle.cocoon_io.specs.Calls.{Rose}
-use Rattle.net_bundle.specs.Writing.{most_of}
-use Rattle.net_bundle.specs.declared.fault.BundleFault.{BundleFault}
-use Rattle.net_bundle.specs.declared.fault.BundleFault.TheVariants as bundle
-use Rattle.cocoon_cli.specs.declared.files.CommandFile.{CommandFile}
-use Rattle.cocoon_cli.specs.declared.files.CommandFile.TheVariants.{Bundle}
-use Rattle.cocoon_cli.specs.declared.refusal.Refusal.{Refusal}
-use Rattle.cocoon_cli.specs.declared.refusal.Refusal.TheVariants.{ReadFault, WriteFault, TooLong, Unread, NoMemory, NoFile}
-use Rattle.cocoon_cli.specs.declared.refusal.BundleCause.TheVariants.{Missing, Stale, NotJson, P4, Shape, Load}
-use Rattle.cocoon_io.specs.declared.folder.FolderFault.TheVariants.{Failed, TooLong as Long, NoMemory as Wanting}
+use Rattle.command_reports.specs.declared.files.CommandFile.{CommandFile}
+use Rattle.command_reports.specs.declared.files.CommandFile.TheVariants.{Bundle}
+use Rattle.command_reports.specs.declared.refusal.Refusal.{Refusal}
+use Rattle.command_reports.specs.declared.refusal.Refusal.TheVariants.{ReadFault, WriteFault, TooLong, NoMemory, NoFile}
 use Rattle.net_bundle.specs.Bundle.{whole_name}
 use Rattle.net_bundle.specs.declared.file.BundleFile.{BundleFile}
 use Rattle.bundle_reader.specs.Readings.{ContentFault, ContentReads}
 use Rattle.loaded_net.specs.Nets.{net_in}
 use Rattle.loaded_net.specs.declared.net.Net.{Net}
 use Rattle.bundle_reader.specs.declared.fault.ReadFault.{ReadFault as ReadFaultOf}
-use Rattle.bundle_reader.specs.declared.fault.ReadFault.TheVariants as read
+use Rattle.command_reports.specs.Refusals.{unread_as}
 
 -- the folder has the file, with at most so many bytes
 abbrev pub HasFile : Option Files → List ℕ → ℕ → List ℕ → Type 0
@@ -56,31 +50,6 @@ ReadFaultRose last old new _ = new ≡ old
 abbrev pub NamesReadFailure : (List ℕ → Type 0) → List ℕ → Refusal → Type 0
 NamesReadFailure last_failure name (ReadFault file) = last_failure name
 NamesReadFailure last_failure name _ = Unit {0}
-
--- why a bundle was not written
-abbrev pub bundle_refusal : BundleFault → Refusal
-bundle_refusal (bundle.Folder file fault) = WriteFault (Bundle file)
-bundle_refusal (bundle.Limit file) = TooLong (Bundle file) (most_of file)
-bundle_refusal bundle.NoMemory = NoMemory
-
--- what is told of a bundle that is not read
-abbrev pub unread_as : ReadFaultOf → Refusal
-unread_as (read.Missing file) = Unread file Missing
-unread_as (read.Folder file Failed) = ReadFault (Bundle file)
-unread_as (read.Folder file (Long n)) = TooLong (Bundle file) (most_of file)
-unread_as (read.Folder file Wanting) = NoMemory
-unread_as (read.Stale file found kept) = Unread file (Stale found kept)
-unread_as (read.NotJson file) = Unread file NotJson
-unread_as (read.P4 file fault) = Unread file (P4 fault)
-unread_as (read.Shape file pointer) = Unread file (Shape pointer)
-unread_as (read.Load file fault) = Unread file (Load fault)
-unread_as read.NoMemory = NoMemory
-
--- it is about what stands in the files
-abbrev pub IsOfFiles : Refusal → Type 0
-IsOfFiles (ReadFault file) = ⊥
-IsOfFiles NoMemory = ⊥
-IsOfFiles r = Unit {0}
 
 -- the folder has a bundle that gives this network
 abbrev pub IsRead : Option Files → (out : List ℕ) → Net → Type 0

@@ -1,38 +1,22 @@
 -- Cited by `keeps` of `run` and by the clauses of shell.rt. What the top call promises. It follows
 -- "Statuses" and "Reports" in docs/FORMATS.md.
-use Rattle.std.specs.Prelude.{◌≡◌, ◌⊎◌, ℕ, List, Option, Some, None, Result, codes}
+use Rattle.std.specs.Prelude.{◌≡◌, ◌⊎◌, ℕ, List, Option, Some, None, Result, codes, option_and_then}
 use Rattle.std.specs.FinMap.{get}
 use Rattle.cocoon_io.specs.Files.{Files}
 use Rattle.cocoon_io.specs.Calls.{Rose, appended}
-use Rattle.cocoon_cli.specs.declared.files.CommandFile.{CommandFile}
-use Rattle.cocoon_cli.specs.declared.refusal.Refusal.{Refusal}
-use Rattle.cocoon_cli.specs.declared.answer.Report.{Report}
-use Rattle.cocoon_cli.specs.declared.status.Status.{Status}
-use Rattle.cocoon_cli.specs.declared.status.Status.TheVariants.{Done, Refuted, Usage, Language, Broken, HopBound, Budget, Bundle, ReadFault, WriteFault, Limit, Lines, NoMemory, NoFile}
+use Rattle.command_reports.specs.declared.files.CommandFile.{CommandFile}
+use Rattle.command_reports.specs.declared.refusal.Refusal.{Refusal}
+use Rattle.command_reports.specs.declared.report.Report.{Report}
+use Rattle.command_reports.specs.declared.status.Status.{Status}
+use Rattle.command_reports.specs.declared.status.Status.TheVariants.{Done, Refuted, Usage, Language, Broken, HopBound, Budget, Bundle, ReadFault, WriteFault, Limit, Lines, NoMemory, NoFile}
 use Rattle.command_line.specs.Command.{Command}
 use Rattle.command_line.specs.Words.{command}
-use Rattle.cocoon_cli.specs.FileNames.{bundle_in, name_in}
+use Rattle.command_reports.specs.FileNames.{FileNames, HasName, bundle_in, name_of}
+use Rattle.cocoon_cli.specs.Commands.{Reports, files_of}
 use Rattle.cocoon_cli.specs.Leaves.{Leaves, LeavesAll, LeavesSome}
-use Rattle.cocoon_cli.specs.Outcomes.{Agree, Answers, HasOutcome, Reports, is_any_searched}
-use Rattle.cocoon_cli.specs.Report.{Ending, Fault, by_read, by_write, by_memory, no_fault, Prints, ending_of, fault_in, line_with, usage}
-use Rattle.cocoon_cli.specs.Steps.{Inputs, steps}
-
--- the number of a status
-abbrev pub status_number : Status → ℕ
-status_number Done = 0
-status_number Refuted = 1
-status_number Usage = 2
-status_number Language = 3
-status_number Broken = 4
-status_number HopBound = 5
-status_number Budget = 6
-status_number Bundle = 7
-status_number ReadFault = 8
-status_number WriteFault = 9
-status_number Limit = 10
-status_number Lines = 11
-status_number NoMemory = 12
-status_number NoFile = 13
+use Rattle.cocoon_cli.specs.Outcomes.{Agree, Answers, HasOutcome, is_any_searched, steps}
+use Rattle.command_reports.specs.Report.{Ending, Fault, IsEnding, by_read, by_write, by_memory, no_fault, Prints, fault_in, line_with, usage}
+use Rattle.cocoon_cli.specs.Steps.{Inputs}
 
 -- ---- one call
 
@@ -68,20 +52,21 @@ pub record Call : Type 0 where
 
 -- ---- what a command does
 
--- what the files have under the names of a command's files
-abbrev pub inputs_of : Command → Files → Inputs
-inputs_of c files = record { file = λ file. get files (name_in c file); content = Some files }
+-- what a folder has under these names
+abbrev pub inputs_of : FileNames → Files → Inputs
+inputs_of names files =
+    record { file = λ file. option_and_then (get files) (name_of names file); content = Some files }
 
--- this is read of the files; of a folder whose content is not known it may be anything
-abbrev pub InputsAre : Command → Option Files → Inputs → Type 0
-InputsAre c None inputs = Unit {0}
-InputsAre c (Some files) inputs = inputs ≡ inputs_of c files
+-- this is read of it; of a folder whose content is not known it may be anything
+abbrev pub InputsAre : FileNames → Option Files → Inputs → Type 0
+InputsAre names None inputs = Unit {0}
+InputsAre names (Some files) inputs = inputs ≡ inputs_of names files
 
 -- a command has this outcome by what it reads, and leaves this in the folder
 pub record Performs (c : Command) (before after : Option Files) (outcome : Result Report Refusal)
     : Type 0 where
   pub inputs : Inputs
-  pub inputs_are : InputsAre c before inputs
+  pub inputs_are : InputsAre (files_of c) before inputs
   pub answers : Answers c inputs outcome
   pub leaves : Leaves c inputs before after outcome
 
@@ -93,17 +78,19 @@ CountsFault reads writes by_memory = Uncounted reads × Uncounted writes
 CountsFault reads writes no_fault = Uncounted reads × Uncounted writes
 
 -- a fault of the folder is about the file of its last call that failed
-abbrev pub NamesFault : (List ℕ → Type 0) → Command → Fault → Type 0
-NamesFault last_failure c (by_read file) = last_failure (name_in c file)
-NamesFault last_failure c (by_write file) = last_failure (name_in c file)
-NamesFault last_failure c fault = Unit {0}
+abbrev pub NamesFault : (List ℕ → Type 0) → FileNames → Fault → Type 0
+NamesFault last_failure names (by_read file) = HasName names file last_failure
+NamesFault last_failure names (by_write file) = HasName names file last_failure
+NamesFault last_failure names fault = Unit {0}
 
 -- a command has an outcome, and its ending is printed
 pub record Cause (c : Command) (call : Call) : Type 0 where
   pub outcome : Result Report Refusal
   pub performs : Performs c call.content_before call.content_after outcome
   pub counts : CountsFault call.reads call.writes (fault_in outcome)
-  pub prints : Prints (Counted call.puts) (ending_of c outcome)
+  pub ending : Ending
+  pub is_ending : IsEnding (files_of c) outcome ending
+  pub prints : Prints (Counted call.puts) ending
       call.output_before call.output_after call.status
 
 -- words that are no command touch no file, and the usage line is printed
@@ -117,8 +104,8 @@ CauseOf (Some c) call = Cause c call
 abbrev pub LineNames : (List ℕ → Type 0) → List ℕ → Option Command → Call → Type 0
 LineNames last_failure prefix None call = ⊥
 LineNames last_failure prefix (Some c) call =
-    (file : CommandFile) × last_failure (name_in c file)
-    × (call.output_after ≡ appended call.output_before (line_with prefix (name_in c file)))
+    (file : CommandFile) × HasName (files_of c) file (λ name. last_failure name
+    × (call.output_after ≡ appended call.output_before (line_with prefix name)))
 
 -- ---- the outcome
 
@@ -141,20 +128,22 @@ IsKnown (Some out) inputs = (files : Files) × (inputs.content ≡ Some files)
 -- A command has no other outcome, where it is decided without a search; else any other agrees with it.
 abbrev pub IsOnly : Command → Inputs → Result Report Refusal → Type 0
 IsOnly c inputs outcome =
-    IsKnown (bundle_in c) inputs → (other : Result Report Refusal) → HasOutcome c inputs other
+    IsKnown (bundle_in (files_of c)) inputs → (other : Result Report Refusal) → HasOutcome c inputs other
     → Agree (is_any_searched (steps c)) inputs (steps c) other outcome
 
--- the outcome of a command over known files
+-- the outcome of a command over known files, and its ending
 pub record TheOutcome (c : Command) (files : Files) : Type 0 where
   pub outcome : Result Report Refusal
-  pub holds : HasOutcome c (inputs_of c files) outcome
-  pub one : IsOnly c (inputs_of c files) outcome
+  pub holds : HasOutcome c (inputs_of (files_of c) files) outcome
+  pub one : IsOnly c (inputs_of (files_of c) files) outcome
+  pub ending : Ending
+  pub is_ending : IsEnding (files_of c) outcome ending
 
 abbrev pub OutcomeOf : Option Command → Option Files → Call → Type 0
 OutcomeOf None content call = EndsWith call usage ⊎ Yields call
 OutcomeOf (Some c) None call = Unit {0}
 OutcomeOf (Some c) (Some files) call =
-    ((the : TheOutcome c files) × EndsWith call (ending_of c the.outcome)) ⊎ Yields call
+    ((the : TheOutcome c files) × EndsWith call the.ending) ⊎ Yields call
 
 -- ---- what is left
 
@@ -162,7 +151,7 @@ OutcomeOf (Some c) (Some files) call =
 abbrev pub DoneOf : Option Command → Call → Type 0
 DoneOf None call = ⊥
 DoneOf (Some c) call =
-    (inputs : Inputs) × (report : Report) × InputsAre c call.content_before inputs
+    (inputs : Inputs) × (report : Report) × InputsAre (files_of c) call.content_before inputs
     × Reports c inputs report × LeavesAll c inputs call.content_before call.content_after
     × (call.output_after ≡ appended call.output_before report.lines)
 
@@ -170,7 +159,7 @@ DoneOf (Some c) call =
 abbrev pub LeavesOf : Option Command → Call → Type 0
 LeavesOf None call = call.content_after ≡ call.content_before
 LeavesOf (Some c) call =
-    (inputs : Inputs) × InputsAre c call.content_before inputs
+    (inputs : Inputs) × InputsAre (files_of c) call.content_before inputs
     × LeavesSome c inputs call.content_before call.content_after
 
 -- only these statuses may leave another folder than there was

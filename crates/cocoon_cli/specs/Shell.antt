@@ -1,54 +1,49 @@
--- Cited by the clauses of shell.rt and of the commands. What one call of the shell does: it reads the
--- files of a command, asks the command for its answer over what was read, and writes what the answer
--- says.
+-- Cited by the clauses of reading.rt, writing.rt, shell.rt and of the commands. What one call of the shell
+-- does: it reads the files of a command, asks the command for its answer over what was read, and writes
+-- what the answer says.
 use Rattle.std.specs.Prelude.{◌≡◌, ◌⊎◌, ◌≤◌, ◌<◌, ◌^◌, ℕ, List, ◌++◌, length, Option, Some, None, Result, Ok, Err, IsTrue}
 use Rattle.cocoon_io.specs.Files.{Files}
 use Rattle.cocoon_io.specs.Calls.{with_file}
 use Rattle.loaded_net.specs.Nets.{net_in}
 use Rattle.loaded_net.specs.declared.net.Net.{Net}
 use Rattle.net_bundle.specs.Bundle as bundle_of
-use Rattle.net_bundle.specs.Bundle.{whole_name}
 use Rattle.net_bundle.specs.Writing.{AllFit, ContentHolds, NotWritten}
-use Rattle.net_bundle.specs.declared.file.BundleFile.{BundleFile}
 use Rattle.p4_ir.specs.NetFits.{net_fits}
 use Rattle.net_bundle.specs.declared.fault.BundleFault.{BundleFault}
 use Rattle.p4_ir.specs.NetOf.{net_of}
-use Rattle.command_line.specs.Command.{Command, compile, step, forward}
+use Rattle.bundle_reader.specs.Readings.{ContentReads}
+use Rattle.command_line.specs.Command.{Command}
+use Rattle.command_reports.specs.FileNames.{FileNames, bundle_in, name_of, wanted}
+use Rattle.command_reports.specs.Refusals.{bundle_refusal}
+use Rattle.command_reports.specs.Report.{Fault, by_read, by_write, fault_in, fault_of}
+use Rattle.command_reports.specs.declared.files.CommandFile.{CommandFile}
+use Rattle.command_reports.specs.declared.files.CommandFile.TheVariants.{Design, Definitions, Case, Packets}
+use Rattle.command_reports.specs.declared.refusal.Refusal.{Refusal}
+use Rattle.command_reports.specs.declared.refusal.Refusal.TheVariants.{WriteFault, NoMemory}
+use Rattle.command_reports.specs.declared.report.Report.{Report}
 use Rattle.cocoon_cli.specs.declared.answer.Answer.{Answer}
-use Rattle.cocoon_cli.specs.declared.answer.Report.{Report}
 use Rattle.cocoon_cli.specs.declared.answer.Writing.{Writing as Written}
 use Rattle.cocoon_cli.specs.declared.answer.Writing.TheVariants as written
-use Rattle.cocoon_cli.specs.declared.files.CommandFile.{CommandFile}
-use Rattle.cocoon_cli.specs.declared.files.CommandFile.TheVariants.{Design, Definitions, Bundle, Case, Packets}
-use Rattle.cocoon_cli.specs.declared.files.Wanted.{Wanted}
 use Rattle.cocoon_cli.specs.declared.reading.Read.{Read}
-use Rattle.cocoon_cli.specs.declared.refusal.Refusal.{Refusal}
-use Rattle.cocoon_cli.specs.declared.refusal.Refusal.TheVariants.{WriteFault, NoMemory}
-use Rattle.cocoon_cli.specs.Compiling.{Compiles}
-use Rattle.cocoon_cli.specs.FileNames.{bundle_in, most_in, name_in}
-use Rattle.cocoon_cli.specs.Leaves.{Writing, nothing, bundle, own, with_writing}
-use Rattle.cocoon_cli.specs.Outcomes.{AllGood, Ends, Reports}
-use Rattle.cocoon_cli.specs.Reading.{FileNotRead, HasFile, IsRead, IsUnread, bundle_refusal}
-use Rattle.cocoon_cli.specs.Report.{Fault, by_read, by_write, fault_in, fault_of}
+use Rattle.cocoon_cli.specs.Commands.{Reports, asks, files_of, writes}
+use Rattle.cocoon_cli.specs.Outcomes.{AllGood, Ends, reads}
+use Rattle.cocoon_cli.specs.Reading.{FileNotRead, HasFile, IsRead, IsUnread}
 use Rattle.cocoon_cli.specs.Run.{Count, CountsFault, InputsAre, NamesFault, Performs}
-use Rattle.cocoon_cli.specs.Steps.{Inputs, BundleIs, asks, reads, writes}
+use Rattle.cocoon_cli.specs.Steps.{Inputs}
+use Rattle.cocoon_cli.specs.Writing.{Writing, nothing, bundle, own, with_writing}
 
 -- ---- files
 
--- the name and the most bytes of a file that the command reads by a name of its own
-abbrev pub IsWanted : Command → CommandFile → Option Wanted → Type 0
-IsWanted c file None = most_in c file ≡ None
-IsWanted c file (Some w) = (most_in c file ≡ Some w.most) × (w.name.now ≡ name_in c file)
-
 -- the folder gives these bytes, if there is such a file
-abbrev pub HasWanted : Option Files → (name : List ℕ) → Option ℕ → List ℕ → Type 0
-HasWanted content name None bytes = Unit {0}
-HasWanted content name (Some most) bytes = HasFile content name most bytes × (length bytes ≤ most)
+abbrev pub HasWanted : Option Files → Option (List ℕ × ℕ) → List ℕ → Type 0
+HasWanted content None bytes = Unit {0}
+HasWanted content (Some (name, most)) bytes =
+    HasFile content name most bytes × (length bytes ≤ most)
 
 -- why it gives none
-abbrev pub LacksWanted : Option Files → (name : List ℕ) → CommandFile → Option ℕ → Refusal → Type 0
-LacksWanted content name file None r = ⊥
-LacksWanted content name file (Some most) r = FileNotRead content name file most r
+abbrev pub LacksWanted : Option Files → CommandFile → Option (List ℕ × ℕ) → Refusal → Type 0
+LacksWanted content file None r = ⊥
+LacksWanted content file (Some (name, most)) r = FileNotRead content name file most r
 
 -- the folder gives this network, if the command reads a bundle
 abbrev pub HasNet : Option Files → Option (List ℕ) → Option Net → Type 0
@@ -76,49 +71,50 @@ IsNoFault fault = Unit {0}
 
 -- The fault that the answer speaks of was counted, and no other, and it is about the file of the last
 -- call that failed.
-pub record Called {A : Type 0} (last_failure : List ℕ → Type 0) (c : Command) (reads writes : Count)
-    (answer : Result A Refusal) : Type 0 where
+pub record Called {A : Type 0} (last_failure : List ℕ → Type 0) (names : FileNames)
+    (reads writes : Count) (answer : Result A Refusal) : Type 0 where
   pub counts : CountsFault reads writes (fault_in answer)
-  pub named : NamesFault last_failure c (fault_in answer)
+  pub named : NamesFault last_failure names (fault_in answer)
 
 -- ---- what was read
 
 -- these bytes were read of a file, if it is read
-abbrev pub Given : Inputs → CommandFile → Option ℕ → List ℕ → Type 0
+abbrev pub Given : Inputs → CommandFile → Option (List ℕ × ℕ) → List ℕ → Type 0
 Given inputs file None bytes = Unit {0}
-Given inputs file (Some most) bytes = (inputs.file file ≡ Some bytes) × (length bytes ≤ most)
+Given inputs file (Some (name, most)) bytes =
+    (inputs.file file ≡ Some bytes) × (length bytes ≤ most)
 
 -- this network was read of a bundle, if one is read
 abbrev pub GivenNet : Inputs → Option (List ℕ) → Option Net → Type 0
 GivenNet inputs None net = Unit {0}
 GivenNet inputs (Some out) None = ⊥
-GivenNet inputs (Some out) (Some net) = BundleIs inputs out (net_in net)
+GivenNet inputs (Some out) (Some net) = ContentReads inputs.content out (net_in net)
 
--- this was read for a command
-pub record IsGiven (c : Command) (inputs : Inputs) (read : Read) : Type 0 where
-  pub design : Given inputs Design (most_in c Design) read.design.items
-  pub definitions : Given inputs Definitions (most_in c Definitions) read.definitions.items
-  pub case : Given inputs Case (most_in c Case) read.case.items
-  pub packets : Given inputs Packets (most_in c Packets) read.packets.items
-  pub net : GivenNet inputs (bundle_in c) read.net
+-- this was read of the files with these names
+pub record IsGiven (names : FileNames) (inputs : Inputs) (read : Read) : Type 0 where
+  pub design : Given inputs Design (wanted names Design) read.design.items
+  pub definitions : Given inputs Definitions (wanted names Definitions) read.definitions.items
+  pub case : Given inputs Case (wanted names Case) read.case.items
+  pub packets : Given inputs Packets (wanted names Packets) read.packets.items
+  pub net : GivenNet inputs (bundle_in names) read.net
 
 -- no text is longer than a reader of texts takes
 pub record IsShort (read : Read) : Type 0 where
   pub design : length read.design.items < 2 ^ 31
   pub definitions : length read.definitions.items < 2 ^ 31
 
--- all that a command reads was read
-pub record ReadsAll (c : Command) (content : Option Files) (read : Read) : Type 0 where
+-- all that is to be read was read
+pub record ReadsAll (names : FileNames) (content : Option Files) (read : Read) : Type 0 where
   pub inputs : Inputs
-  pub inputs_are : InputsAre c content inputs
-  pub good : AllGood inputs (reads c)
-  pub given : IsGiven c inputs read
+  pub inputs_are : InputsAre names content inputs
+  pub good : AllGood inputs (reads names)
+  pub given : IsGiven names inputs read
 
 -- why it was not
-pub record ReadsNot (c : Command) (content : Option Files) (r : Refusal) : Type 0 where
+pub record ReadsNot (names : FileNames) (content : Option Files) (r : Refusal) : Type 0 where
   pub inputs : Inputs
-  pub inputs_are : InputsAre c content inputs
-  pub ends : Ends inputs (Err r) (reads c)
+  pub inputs_are : InputsAre names content inputs
+  pub ends : Ends inputs (Err r) (reads names)
   pub reading : IsReading (fault_of r)
 
 -- ---- answers
@@ -132,28 +128,25 @@ Asked c inputs (Err r) = Ends inputs (Err r) (asks c ++ writes c)
 abbrev pub IsQuiet : Refusal → Type 0
 IsQuiet r = IsNoFault (fault_of r)
 
--- what it writes: `compile` the bundle of the network that is made of its two texts, all others
--- nothing
-abbrev pub Plans : Command → Read → Written → Type 0
-Plans (compile design defs out) read w = Compiles out read.design.items read.definitions.items w
-Plans (step design defs level file) read w = w ≡ written.Nothing
-Plans (forward out packets hops) read w = w ≡ written.Nothing
-
 -- ---- writes
 
--- what stands in the folder where it is written
-abbrev pub writing_of : Command → Read → Written → Writing
-writing_of c read written.Nothing = nothing
-writing_of c read (written.Bundle name net) =
-    bundle name.now (bundle_of.bundle read.design.items (net_of net) None)
-writing_of c read (written.Own file bytes) = own file (name_in c file) bytes
+-- one file, if there is a name for it
+abbrev pub own_file : CommandFile → Option (List ℕ) → List ℕ → Writing
+own_file file None bytes = nothing
+own_file file (Some name) bytes = own file name bytes
 
--- it may be written: a bundle is the one that the command names, and can be read back
-abbrev pub CanWrite : Command → Written → Type 0
-CanWrite c (written.Bundle name net) =
-    ((file : BundleFile) → whole_name name.now file ≡ name_in c (Bundle file))
-    × IsTrue (net_fits (net_of net))
-CanWrite c w = Unit {0}
+-- what stands in the folder where it is written
+abbrev pub writing_of : FileNames → Read → Written → Writing
+writing_of names read written.Nothing = nothing
+writing_of names read (written.Bundle name net) =
+    bundle name.now (bundle_of.bundle read.design.items (net_of net) None)
+writing_of names read (written.Own file bytes) = own_file file (name_of names file) bytes
+
+-- it may be written: a bundle is the one that is named, and can be read back
+abbrev pub CanWrite : FileNames → Written → Type 0
+CanWrite names (written.Bundle name net) =
+    (names.bundle ≡ Some name.now) × IsTrue (net_fits (net_of net))
+CanWrite names w = Unit {0}
 
 -- no file of a bundle is longer than it may be
 abbrev pub Fits : Writing → Type 0
@@ -174,7 +167,7 @@ HoldsNet read w before after = Unit {0}
 
 -- why it was not all written
 abbrev pub NotAllWritten : Writing → (before after : Option Files) → Refusal → Type 0
-NotAllWritten nothing before after r = ⊥
+NotAllWritten nothing before after r = (r ≡ NoMemory) × (after ≡ before)
 NotAllWritten (bundle out files) before after r =
     (fault : BundleFault) × NotWritten out files before after fault × (r ≡ bundle_refusal fault)
 NotAllWritten (own file name bytes) before after r =
@@ -187,4 +180,4 @@ NotAllWritten (own file name bytes) before after r =
 pub record Acts (last_failure : List ℕ → Type 0) (c : Command) (before after : Option Files)
     (reads writes : Count) (outcome : Result Report Refusal) : Type 0 where
   pub performs : Performs c before after outcome
-  pub called : Called last_failure c reads writes outcome
+  pub called : Called last_failure (files_of c) reads writes outcome

@@ -6,12 +6,12 @@ use Rattle.cocoon_types.specs.Design.{last_level}
 use Rattle.cocoon_types.specs.Tables.{defs_of}
 use Rattle.case_file.specs.Cases.{Case, case_of}
 use Rattle.runtime_defs.specs.Places.{Places}
-use Rattle.cocoon_cli.specs.declared.files.CommandFile.TheVariants.{Case as CaseFile}
-use Rattle.cocoon_cli.specs.declared.refusal.Refusal.{Refusal}
-use Rattle.cocoon_cli.specs.declared.refusal.Refusal.TheVariants.{NoLevel, Line, NoMemory}
+use Rattle.command_reports.specs.declared.files.CommandFile.TheVariants.{Case as CaseFile}
+use Rattle.command_reports.specs.declared.refusal.Refusal.{Refusal}
+use Rattle.command_reports.specs.declared.refusal.Refusal.TheVariants.{NoLevel, Line, NoMemory}
 use Rattle.case_runs.specs.Stepping.{Steps}
 use Rattle.case_runs.specs.declared.sent.Sent.{Sent}
-use Rattle.cocoon_cli.specs.DesignTexts.{BindsTables, NotMatched}
+use Rattle.design_texts.specs.DesignTexts.{BindsTables, NotMatched}
 
 -- why a text is no case of a design, at a level
 abbrev pub NotCase : (level : ℕ) → Design → (text : List ℕ) → Refusal → Type 0

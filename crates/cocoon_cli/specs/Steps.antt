@@ -1,8 +1,8 @@
 -- Cited by `one_outcome` and by the clauses of the commands, and through Run.antt by `keeps` of
--- `run`. The steps of a command, and how each may end it. A step looks at what is read of the
--- command's files; each is a case of its own. A new command adds cases; a new rule or limit of
--- designs adds none. It follows "Statuses" in docs/FORMATS.md.
-use Rattle.std.specs.Prelude.{◌≡◌, ◌≤◌, ◌<◌, ℕ, suc, Bool, false, List, [], ◌∷◌, ◌++◌, length, Option, Some, None, Result, Ok, Err}
+-- `run`. The steps of commands, and how each may end one. A step looks at what is read of the
+-- command's files; each is a case of its own. A new rule or limit of designs adds none. It follows
+-- "Statuses" in docs/FORMATS.md.
+use Rattle.std.specs.Prelude.{◌≡◌, ◌≤◌, ◌<◌, ℕ, suc, Bool, false, List, [], ◌∷◌, length, Option, Some, None, Result, Ok, Err}
 use Rattle.cocoon_num.specs.Lists.{first_of}
 use Rattle.cocoon_num.specs.Tree as tree
 use Rattle.cocoon_num.specs.declared.limit_name.LimitName.{LimitName}
@@ -35,21 +35,19 @@ use Rattle.net_bundle.specs.declared.file.BundleFile.{BundleFile}
 use Rattle.runtime_defs.specs.Bound.{most_rows, row_count}
 use Rattle.lower_p4.specs.Lowers.{Lowers}
 use Rattle.lower_p4.specs.LowerLimits.{IsOver, IsWithin}
-use Rattle.cocoon_cli.specs.declared.files.CommandFile.{CommandFile}
-use Rattle.cocoon_cli.specs.declared.files.CommandFile.TheVariants.{Design, Definitions, Bundle, Case, Packets}
-use Rattle.cocoon_cli.specs.declared.refusal.InputFault.TheVariants.{NoTree, Rule, NotYet}
-use Rattle.cocoon_cli.specs.declared.refusal.DefinitionsFault.TheVariants as definitions
-use Rattle.cocoon_cli.specs.declared.refusal.Refusal.{Refusal}
-use Rattle.cocoon_cli.specs.declared.refusal.Refusal.TheVariants as refusal
-use Rattle.cocoon_cli.specs.declared.answer.Report.{Report}
+use Rattle.command_reports.specs.declared.files.CommandFile.{CommandFile}
+use Rattle.command_reports.specs.declared.files.CommandFile.TheVariants.{Design, Definitions, Bundle, Case, Packets}
+use Rattle.command_reports.specs.declared.refusal.InputFault.TheVariants.{NoTree, Rule, NotYet}
+use Rattle.command_reports.specs.declared.refusal.DefinitionsFault.TheVariants as definitions
+use Rattle.command_reports.specs.declared.refusal.Refusal.{Refusal}
+use Rattle.command_reports.specs.declared.refusal.Refusal.TheVariants as refusal
+use Rattle.command_reports.specs.declared.report.Report.{Report}
+use Rattle.command_reports.specs.Refusals.{IsOfFiles, unread_as}
 use Rattle.case_file.specs.Cases as cases
 use Rattle.case_file.specs.Cases.{case_of}
 use Rattle.cocoon_types.specs.Design.{last_level}
-use Rattle.command_line.specs.Command.{Command, compile, step, forward}
-use Rattle.cocoon_cli.specs.FileNames.{bundle_in, most_in}
 use Rattle.cocoon_cli.specs.Built.{IsBuilt}
-use Rattle.cocoon_cli.specs.DesignTexts.{told}
-use Rattle.cocoon_cli.specs.Reading.{IsOfFiles, unread_as}
+use Rattle.design_texts.specs.DesignTexts.{told}
 
 -- What is read of each file of a command, nothing where it is not there; and the content in which the files of a bundle
 -- that is read stand, where it is known.
@@ -83,126 +81,84 @@ pub data Step : Type 0 where
   -- the files of the bundle are written
   bundle_written : Step
 
--- ---- the steps of a command
-
--- those on a file that it reads by a name of its own: none if it reads no such file
-abbrev pub file_steps : CommandFile → Option ℕ → List Step
-file_steps file None = []
-file_steps file (Some most) = is_there file ∷ is_within file most ∷ []
-
--- those on a bundle that it reads
-abbrev pub bundle_steps : Option (List ℕ) → List Step
-bundle_steps None = []
-bundle_steps (Some out) = bundle_reads out ∷ []
-
--- What it reads: the files in this order, then a bundle.
-abbrev pub reads : Command → List Step
-reads c =
-    file_steps Design (most_in c Design) ++ (file_steps Definitions (most_in c Definitions)
-    ++ (file_steps Case (most_in c Case) ++ (file_steps Packets (most_in c Packets)
-    ++ bundle_steps (bundle_in c))))
-
--- a design, whether the compiler takes it if that is asked, and definitions that fit it
-abbrev pub text_steps : (taken : List Step) → List Step → List Step
-text_steps taken rest =
-    design_reads ∷ design_well_formed ∷ design_within ∷ (taken
-    ++ (definitions_read ∷ definitions_fit ∷ definitions_within ∷ rest))
-
--- what it asks of what was read
-abbrev pub asks : Command → List Step
-asks (compile design defs out) =
-    text_steps (design_accepted ∷ []) (lowering_within ∷ [])
-asks (step design defs level file) = text_steps [] (level_there level ∷ lines_formed level ∷ [])
-asks (forward out packets hops) = packets_judged out ∷ copies_within out hops ∷ []
-
--- what it writes
-abbrev pub writes : Command → List Step
-writes (compile design defs out) = bundle_within ∷ bundle_written ∷ []
-writes (step design defs level file) = []
-writes (forward out packets hops) = []
-
--- all steps of a command, in their order
-abbrev pub steps : Command → List Step
-steps c = reads c ++ (asks c ++ writes c)
-
 -- ---- what the files say
 
--- the design reads as this tree
-pub record DesignIs (inputs : Inputs) (design : tree.Design) : Type 0 where
+-- the file is there, and this holds of its text
+pub record OfText (inputs : Inputs) (file : CommandFile) (Holds : List ℕ → Type 0) : Type 0 where
+  pub text : List ℕ
+  pub is : inputs.file file ≡ Some text
+  pub holds : Holds text
+
+-- the design reads as a tree, and this holds of its text and its tree
+pub record OfDesign (inputs : Inputs) (Holds : List ℕ → tree.Design → Type 0) : Type 0 where
   pub text : List ℕ
   pub is : inputs.file Design ≡ Some text
+  pub design : tree.Design
   pub reads : Reads text design
+  pub holds : Holds text design
 
--- the definitions read as this one
-pub record DefinitionsAre (inputs : Inputs) (defs : tree.DefsText) : Type 0 where
+-- the same of the definitions
+pub record OfDefinitions (inputs : Inputs) (Holds : List ℕ → tree.DefsText → Type 0) : Type 0 where
   pub text : List ℕ
   pub are : inputs.file Definitions ≡ Some text
-  pub read : ReadsDefs text defs
-
--- the lines of the case say this of a design, at a level
-pub record CaseIs (inputs : Inputs) (design : tree.Design) (level : ℕ) (case : cases.Case)
-    : Type 0 where
-  pub text : List ℕ
-  pub is : inputs.file Case ≡ Some text
-  pub says : case_of level design text ≡ Ok case
-
--- the files of a bundle give this network
-abbrev pub BundleIs : Inputs → (out : List ℕ) → NetData → Type 0
-BundleIs inputs out net = ContentReads inputs.content out net
-
--- the packets file says this, for the hosts of a network
-pub record PacketsAre (inputs : Inputs) (net : NetData) (packets : List Packet) : Type 0 where
-  pub text : List ℕ
-  pub are : inputs.file Packets ≡ Some text
-  pub say : packets_in (host_numbers net.hosts) text ≡ Ok packets
-
--- the network that the compiler makes of both
-pub record Makes (inputs : Inputs) (net : NetData) : Type 0 where
-  pub design : tree.Design
   pub defs : tree.DefsText
-  pub design_is : DesignIs inputs design
-  pub defs_are : DefinitionsAre inputs defs
-  pub lowers : Lowers design defs net
+  pub read : ReadsDefs text defs
+  pub holds : Holds text defs
 
--- and the files of its bundle
-pub record MakesFiles (inputs : Inputs) (files : List MadeFile) : Type 0 where
+-- both do, and this holds of both trees
+abbrev pub OfBoth : Inputs → (tree.Design → tree.DefsText → Type 0) → Type 0
+OfBoth inputs Holds =
+    OfDesign inputs (λ _ design. OfDefinitions inputs (λ _ defs. Holds design defs))
+
+-- this holds of the network that the compiler makes of both
+abbrev pub OfNetwork : Inputs → (NetData → Type 0) → Type 0
+OfNetwork inputs Holds =
+    OfBoth inputs (λ design defs. (net : NetData) × Lowers design defs net × Holds net)
+
+-- this holds of the files of its bundle
+abbrev pub OfFiles : Inputs → (List MadeFile → Type 0) → Type 0
+OfFiles inputs Holds =
+    OfDesign inputs (λ text design. OfDefinitions inputs (λ _ defs.
+    (net : NetData) × Lowers design defs net × Holds (bundle text net None)))
+
+-- the files of a bundle give a network of which this holds
+pub record OfBundle (inputs : Inputs) (out : List ℕ) (Holds : NetData → Type 0) : Type 0 where
   pub net : NetData
-  pub makes : Makes inputs net
-  pub files_are : files ≡ bundle makes.design_is.text net None
+  pub reads : ContentReads inputs.content out net
+  pub holds : Holds net
+
+-- this holds of the packets of a file, for the hosts of that network
+abbrev pub OfPackets : Inputs → (out : List ℕ) → (NetData → List Packet → Type 0) → Type 0
+OfPackets inputs out Holds =
+    OfBundle inputs out (λ net. OfText inputs Packets (λ text.
+    (packets : List Packet) × (packets_in (host_numbers net.hosts) text ≡ Ok packets)
+    × Holds net packets))
 
 -- ---- one step
 
 -- there is nothing to refuse
 abbrev pub IsGood : Inputs → Step → Type 0
-IsGood inputs (is_there file) = (bytes : List ℕ) × (inputs.file file ≡ Some bytes)
-IsGood inputs (is_within file most) =
-    (bytes : List ℕ) × (inputs.file file ≡ Some bytes) × (length bytes ≤ most)
-IsGood inputs design_reads = (design : tree.Design) × DesignIs inputs design
-IsGood inputs design_well_formed =
-    (design : tree.Design) × DesignIs inputs design × WellFormed design
-IsGood inputs design_within = (design : tree.Design) × DesignIs inputs design × WithinLimits design
-IsGood inputs design_accepted = (design : tree.Design) × DesignIs inputs design × IsBuilt design
-IsGood inputs definitions_read = (defs : tree.DefsText) × DefinitionsAre inputs defs
-IsGood inputs definitions_fit =
-    (design : tree.Design) × (defs : tree.DefsText) × DesignIs inputs design
-    × DefinitionsAre inputs defs × DefsFit design defs
-IsGood inputs definitions_within =
-    (defs : tree.DefsText) × DefinitionsAre inputs defs × (row_count defs ≤ most_rows)
+IsGood inputs (is_there file) = OfText inputs file (λ _. Unit {0})
+IsGood inputs (is_within file most) = OfText inputs file (λ text. length text ≤ most)
+IsGood inputs design_reads = OfDesign inputs (λ _ _. Unit {0})
+IsGood inputs design_well_formed = OfDesign inputs (λ _ design. WellFormed design)
+IsGood inputs design_within = OfDesign inputs (λ _ design. WithinLimits design)
+IsGood inputs design_accepted = OfDesign inputs (λ _ design. IsBuilt design)
+IsGood inputs definitions_read = OfDefinitions inputs (λ _ _. Unit {0})
+IsGood inputs definitions_fit = OfBoth inputs DefsFit
+IsGood inputs definitions_within = OfDefinitions inputs (λ _ defs. row_count defs ≤ most_rows)
 IsGood inputs lowering_within =
-    (net : NetData) × (makes : Makes inputs net) × IsWithin makes.design makes.defs
-IsGood inputs (level_there level) =
-    (design : tree.Design) × DesignIs inputs design × (level ≤ last_level design)
+    OfBoth inputs (λ design defs.
+    (net : NetData) × Lowers design defs net × IsWithin design defs)
+IsGood inputs (level_there level) = OfDesign inputs (λ _ design. level ≤ last_level design)
 IsGood inputs (lines_formed level) =
-    (design : tree.Design) × (case : cases.Case) × DesignIs inputs design
-    × CaseIs inputs design level case
-IsGood inputs (bundle_reads out) = (net : NetData) × BundleIs inputs out net
-IsGood inputs (packets_judged out) =
-    (net : NetData) × (packets : List Packet) × BundleIs inputs out net
-    × PacketsAre inputs net packets
+    OfDesign inputs (λ _ design. OfText inputs Case (λ text.
+    (case : cases.Case) × (case_of level design text ≡ Ok case)))
+IsGood inputs (bundle_reads out) = OfBundle inputs out (λ _. Unit {0})
+IsGood inputs (packets_judged out) = OfPackets inputs out (λ _ _. Unit {0})
 IsGood inputs (copies_within out hops) =
-    (net : NetData) × (packets : List Packet) × BundleIs inputs out net
-    × PacketsAre inputs net packets × AllWithin net hops packets
-IsGood inputs bundle_within = (files : List MadeFile) × MakesFiles inputs files × AllFit files
+    OfPackets inputs out (λ net packets. AllWithin net hops packets)
+IsGood inputs bundle_within = OfFiles inputs AllFit
 IsGood inputs bundle_written = Unit {0}
 
 -- what is refused of packets that are not all well
@@ -216,57 +172,50 @@ packets_refusal packets.NoMemory = None
 abbrev pub Refuses : Inputs → Step → Refusal → Type 0
 Refuses inputs (is_there file) r = (inputs.file file ≡ None) × (r ≡ refusal.NoFile file)
 Refuses inputs (is_within file most) r =
-    (bytes : List ℕ) × (inputs.file file ≡ Some bytes) × (most < length bytes)
-    × (r ≡ refusal.TooLong file most)
+    OfText inputs file (λ text. (most < length text) × (r ≡ refusal.TooLong file most))
 Refuses inputs design_reads r =
-    (text : List ℕ) × (fault : TextFault) × (inputs.file Design ≡ Some text)
-    × FirstFault BeginsDesign text fault × (r ≡ refusal.Language (NoTree fault))
+    OfText inputs Design (λ text. (fault : TextFault) × FirstFault BeginsDesign text fault
+    × (r ≡ refusal.Language (NoTree fault)))
 Refuses inputs design_well_formed r =
-    (design : tree.Design) × (rule : TypeRule) × (token : ℕ) × (given : DesignIs inputs design)
+    OfDesign inputs (λ text design. (rule : TypeRule) × (token : ℕ)
     × rules.FirstFault design (fault_at rule token)
-    × (r ≡ refusal.Language (Rule rule (token_position given.text token)))
+    × (r ≡ refusal.Language (Rule rule (token_position text token))))
 Refuses inputs design_within r =
-    (design : tree.Design) × (limit : LimitName) × (count : ℕ) × DesignIs inputs design
-    × IsFirstOver design (Some (limit, count)) × (r ≡ refusal.OverLimit limit count)
+    OfDesign inputs (λ _ design. (limit : LimitName) × (count : ℕ)
+    × IsFirstOver design (Some (limit, count)) × (r ≡ refusal.OverLimit limit count))
 Refuses inputs design_accepted r =
-    (design : tree.Design) × DesignIs inputs design × (¬ IsBuilt design)
-    × (r ≡ refusal.Language NotYet)
+    OfDesign inputs (λ _ design. (¬ IsBuilt design) × (r ≡ refusal.Language NotYet))
 Refuses inputs definitions_read r =
-    (text : List ℕ) × (fault : TextFault) × (inputs.file Definitions ≡ Some text)
-    × FirstFault BeginsDefs text fault × (r ≡ refusal.Definitions (definitions.NoTree fault))
+    OfText inputs Definitions (λ text. (fault : TextFault) × FirstFault BeginsDefs text fault
+    × (r ≡ refusal.Definitions (definitions.NoTree fault)))
 Refuses inputs definitions_fit r =
-    (design : tree.Design) × (defs : tree.DefsText) × (fault : DefsFault)
-    × DesignIs inputs design × (given : DefinitionsAre inputs defs)
+    OfDesign inputs (λ _ design. OfDefinitions inputs (λ text defs. (fault : DefsFault)
     × (first_of (defs_faults design defs) ≡ Some fault)
-    × (r ≡ refusal.Definitions (told given.text fault))
+    × (r ≡ refusal.Definitions (told text fault))))
 Refuses inputs definitions_within r =
-    (defs : tree.DefsText) × DefinitionsAre inputs defs × (most_rows < row_count defs)
-    × (r ≡ refusal.OverLimit Rows (row_count defs))
+    OfDefinitions inputs (λ _ defs.
+    (most_rows < row_count defs) × (r ≡ refusal.OverLimit Rows (row_count defs)))
 Refuses inputs lowering_within r =
-    (design : tree.Design) × (defs : tree.DefsText) × (limit : LimitName) × (count : ℕ)
-    × DesignIs inputs design × DefinitionsAre inputs defs × IsOver design defs limit count
-    × (r ≡ refusal.OverLimit limit count)
+    OfBoth inputs (λ design defs. (limit : LimitName) × (count : ℕ)
+    × IsOver design defs limit count × (r ≡ refusal.OverLimit limit count))
 Refuses inputs (level_there level) r =
-    (design : tree.Design) × DesignIs inputs design × (last_level design < level)
-    × (r ≡ refusal.NoLevel level (last_level design))
+    OfDesign inputs (λ _ design.
+    (last_level design < level) × (r ≡ refusal.NoLevel level (last_level design)))
 Refuses inputs (lines_formed level) r =
-    (design : tree.Design) × (text : List ℕ) × (line : ℕ) × DesignIs inputs design
-    × (inputs.file Case ≡ Some text) × (case_of level design text ≡ Err line)
-    × (r ≡ refusal.Line Case line)
+    OfDesign inputs (λ _ design. OfText inputs Case (λ text. (line : ℕ)
+    × (case_of level design text ≡ Err line) × (r ≡ refusal.Line Case line)))
 Refuses inputs (bundle_reads out) r =
     (fault : ReadFault) × ContentFault inputs.content out fault × (r ≡ unread_as fault)
     × IsOfFiles r
 Refuses inputs (packets_judged out) r =
-    (net : NetData) × (text : List ℕ) × (fault : PacketFault) × BundleIs inputs out net
-    × (inputs.file Packets ≡ Some text) × (packets_in (host_numbers net.hosts) text ≡ Err fault)
-    × (packets_refusal fault ≡ Some r)
+    OfBundle inputs out (λ net. OfText inputs Packets (λ text. (fault : PacketFault)
+    × (packets_in (host_numbers net.hosts) text ≡ Err fault) × (packets_refusal fault ≡ Some r)))
 Refuses inputs (copies_within out hops) r =
-    (net : NetData) × (packets : List Packet) × BundleIs inputs out net
-    × PacketsAre inputs net packets × SomeOver net hops packets
-    × (r ≡ refusal.OverLimit Copies (suc most_runs))
+    OfPackets inputs out (λ net packets.
+    SomeOver net hops packets × (r ≡ refusal.OverLimit Copies (suc most_runs)))
 Refuses inputs bundle_within r =
-    (files : List MadeFile) × (file : BundleFile) × MakesFiles inputs files × FirstOver files file
-    × (r ≡ refusal.TooLong (Bundle file) (most_of file))
+    OfFiles inputs (λ files. (file : BundleFile) × FirstOver files file
+    × (r ≡ refusal.TooLong (Bundle file) (most_of file)))
 Refuses inputs bundle_written r = ⊥
 
 -- ---- how a step may end a command

@@ -1,65 +1,15 @@
 //! The top call: the words are read, the command is performed, and one report is printed.
 ghost use Rattle.std.specs.Prelude.{◌≡◌, map, string_bytes};
 ghost use Rattle.cocoon_cli.specs.Headline.{Headline};
-ghost use Rattle.cocoon_cli.specs.Report.{Prints, Puts, ending_of, no_memory};
 ghost use Rattle.cocoon_cli.specs.Run.{Keeps, count};
-ghost use Rattle.command_line.specs.Stands.{stands_for};
-ghost use Rattle.cocoon_io.specs.Calls.{Rose};
 
-use crate::answer::Report;
 use crate::laws::one_outcome;
-use crate::refusal::Refusal;
-use crate::report::{refusal_line, status};
-use crate::shell::perform;
-use crate::status::Status;
-use cocoon_io::{Folder, Sink, SinkFault};
+use crate::shell::{names_of, perform};
+use cocoon_io::{Folder, Sink};
 use cocoon_num::NoMemory;
-use command_line::{Command, parse_command};
+use command_line::parse_command;
+use command_reports::{Status, print, tell_no_memory, tell_usage};
 use std::alloc::Global;
-
-/// The line of words that are no command.
-const USAGE: &[u8] = b"usage cocoon check compile update forward step live gen\n";
-
-/// Gives the bytes to the sink; where that fails, the status says so.
-fn put<S: Sink>(alloc: Global, out: &mut S, bytes: &[u8], status: Status) -> Status
-    ensures { Puts (Rose S.last_fault (S.faults out.old) (S.faults out.new))
-        (record { status = status; report = bytes.now })
-        (S.output out.old) (S.output out.new) result }
-{
-    match out.put(alloc, bytes) {
-        Ok(()) => status,
-        Err(SinkFault::Failed) => Status::WriteFault,
-        Err(SinkFault::NoMemory) => Status::NoMemory,
-    }
-}
-
-/// Says that there was no memory.
-pub fn tell_no_memory<S: Sink>(alloc: Global, out: &mut S) -> Status
-    ensures { Puts (Rose S.last_fault (S.faults out.old) (S.faults out.new))
-        no_memory (S.output out.old) (S.output out.new) result }
-{
-    put(alloc, out, b"no memory\n", Status::NoMemory)
-}
-
-/// Prints the outcome of a command.
-fn print<S: Sink>(
-    alloc: Global,
-    out: &mut S,
-    command: &Command<'_>,
-    outcome: &Result<Report, Refusal>,
-) -> Status
-    ensures { Prints (Rose S.last_fault (S.faults out.old) (S.faults out.new))
-        (ending_of (stands_for command.now) outcome.now)
-        (S.output out.old) (S.output out.new) result }
-{
-    match outcome {
-        Ok(report) => put(alloc, out, report.lines.items(), status(outcome)),
-        Err(refusal) => match refusal_line(alloc, command, refusal) {
-            Ok(line) => put(alloc, out, &line, status(outcome)),
-            Err(NoMemory) => tell_no_memory(alloc, out),
-        },
-    }
-}
 
 /// Performs the command of the words, the program's name first, and gives the sink one report of
 /// it.
@@ -93,9 +43,9 @@ pub fn run<F: Folder, S: Sink>(
     match parse_command(alloc, words) {
         Ok(Some(command)) => {
             let outcome = perform(alloc, &command, folder);
-            print(alloc, out, &command, &outcome)
+            print(alloc, out, &names_of(&command), &outcome)
         }
-        Ok(None) => put(alloc, out, USAGE, Status::Usage),
+        Ok(None) => tell_usage(alloc, out),
         Err(NoMemory) => tell_no_memory(alloc, out),
     }
 }

@@ -1,5 +1,6 @@
 //! `forward`: the packets of a file are run through the network of a bundle.
 ghost use Rattle.std.specs.Prelude.{◌≡◌, IfErr, IfOk, map, Ok, Some};
+ghost use Rattle.bundle_reader.specs.Readings.{ContentReads};
 ghost use Rattle.command_line.specs.Command as spec;
 ghost use Rattle.loaded_net.specs.Nets.{net_in};
 ghost use Rattle.p4_ir.specs.Wiring.{host_numbers};
@@ -7,16 +8,15 @@ ghost use Rattle.packet_file.specs.Judging.{packet_in};
 ghost use Rattle.packet_file.specs.Packets.{AllKnown, packets_in};
 ghost use Rattle.cocoon_cli.specs.Forwarding.{NotRun, NotSaid, RunsPackets};
 ghost use Rattle.cocoon_cli.specs.Shell.{Asked, IsQuiet};
-ghost use Rattle.cocoon_cli.specs.Steps.{BundleIs, Inputs};
+ghost use Rattle.cocoon_cli.specs.Steps.{Inputs};
 ghost use Rattle.cocoon_cli.specs.declared.answer.Writing.TheVariants.{Nothing};
-ghost use Rattle.cocoon_cli.specs.declared.files.CommandFile.TheVariants.{Packets};
+ghost use Rattle.command_reports.specs.declared.files.CommandFile.TheVariants.{Packets};
 
-use crate::answer::{Answer, Report, Writing};
-use crate::files::CommandFile;
-use crate::refusal::Refusal;
+use crate::answer::{Answer, Writing};
 use bundle_reader::Net;
 use cocoon_num::LimitName;
 use command_line::Forward;
+use command_reports::{CommandFile, Refusal, Report};
 use packet_file::{Packet, PacketFault, read_packets};
 use packet_runs::{PacketsFault, run_packets};
 use std::alloc::Global;
@@ -60,7 +60,7 @@ pub fn forward<'w>(
     text: &[u8],
 ) -> Result<Answer<'w>, Refusal>
     ensures asked { (inputs : Inputs) → inputs.file Packets ≡ Some text.now
-        → BundleIs inputs asked.now.out.now (net_in net.now) → Asked
+        → ContentReads inputs.content asked.now.out.now (net_in net.now) → Asked
         (spec.forward asked.now.out.now asked.now.packets.now asked.now.hops) inputs result }
     ensures nothing { IfOk result (λ a. a.writing ≡ Nothing) }
     ensures quiet { IfErr result IsQuiet }

@@ -16,8 +16,8 @@ ghost use Rattle.cocoon_cli.specs.Outcomes.{HasOutcome};
 ghost use Rattle.command_line.specs.Words.{command};
 ghost use Rattle.cocoon_cli.specs.Run.{Call, CauseOf, IsOnly, KeepsMore};
 ghost use Rattle.cocoon_cli.specs.Steps.{Inputs};
-ghost use Rattle.cocoon_cli.specs.declared.answer.Report.{Report};
-ghost use Rattle.cocoon_cli.specs.declared.refusal.Refusal.{Refusal};
+ghost use Rattle.command_reports.specs.declared.report.Report.{Report};
+ghost use Rattle.command_reports.specs.declared.refusal.Refusal.{Refusal};
 
 use bundle_reader::laws::one_reading;
 use case_runs::laws::one_step;

@@ -6,18 +6,12 @@
 
 pub mod answer;
 pub mod compile;
-pub mod design_texts;
 pub mod driver;
-pub mod files;
 pub mod forward;
 pub mod laws;
 pub mod reading;
-pub mod refusal;
-pub mod report;
 pub mod shell;
-pub mod status;
 pub mod step;
 pub mod writing;
 
-pub use driver::{run, tell_no_memory};
-pub use status::Status;
+pub use driver::run;

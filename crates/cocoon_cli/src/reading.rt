@@ -1,19 +1,16 @@
-//! What a command reads: its files, each within its limit, and a bundle.
+//! What is read for a command: its files, each within its limit, and a bundle.
 ghost use Rattle.std.specs.Prelude.{◌≡◌, ◌≤◌, ◌<◌, ◌^◌, IfErr, IfOk, length};
-ghost use Rattle.command_line.specs.Stands.{stands_for};
-ghost use Rattle.cocoon_cli.specs.FileNames.{bundle_in, most_in, name_in};
+ghost use Rattle.command_reports.specs.FileNames.{bundle_in, names_in, wanted};
 ghost use Rattle.cocoon_cli.specs.Reading.{FileNotRead, HasFile, IsRead, IsUnread, NamesBundleFailure, NamesReadFailure, ReadFaultRose};
 ghost use Rattle.cocoon_cli.specs.Run.{count};
 ghost use Rattle.cocoon_cli.specs.Shell.{Called, HasNet, HasWanted, IsShort, LacksNet, LacksWanted, ReadsAll, ReadsNot};
 
-use crate::files::{CommandFile, Wanted, bundle_of};
-use crate::refusal::{Refusal, unread};
 use bundle_reader::{Net, read_bundle};
 use cocoon_io::{Folder, FolderFault};
-use command_line::Command;
+use command_reports::{CommandFile, FileNames, Refusal, Wanted, unread};
 use std::alloc::Global;
 
-/// What a command has read: the bytes of each file that it reads, and the network of its bundle.
+/// What was read for a command: the bytes of each file that it reads, and the network of its bundle.
 #[derive(Drop)]
 pub struct Read {
     pub design: Vec<u8>,
@@ -83,72 +80,72 @@ fn read_network<F: Folder>(alloc: Global, folder: &mut F, out: &str) -> Result<N
     }
 }
 
-/// The bytes of a file, if the command reads one of this kind; else none.
+/// The bytes of a file, if one of this kind is read; else none.
 fn read_text<F: Folder>(
     alloc: Global,
     folder: &mut F,
-    command: &Command<'_>,
+    names: &FileNames<'_>,
     file: CommandFile,
 ) -> Result<Vec<u8>, Refusal>
     ensures read { IfOk result (λ v. HasWanted (F.content folder.old)
-        (name_in (stands_for command.now) file) (most_in (stands_for command.now) file) v.items) }
+        (wanted (names_in names.now) file) v.items) }
     ensures short { IfOk result (λ v. length v.items < 2 ^ 31) }
     ensures refused { IfErr result (LacksWanted (F.content folder.old)
-        (name_in (stands_for command.now) file) file (most_in (stands_for command.now) file)) }
+        file (wanted (names_in names.now) file)) }
     ensures same { F.content folder.new ≡ F.content folder.old }
-    ensures called { Called (F.last_failure folder.new) (stands_for command.now)
+    ensures called { Called (F.last_failure folder.new) (names_in names.now)
         (count F.last_read_fault (F.read_faults folder.old) (F.read_faults folder.new))
         (count F.last_write_fault (F.write_faults folder.old) (F.write_faults folder.new))
         result }
 {
-    match file.wanted(command) {
+    match names.wanted(file) {
         Some(Wanted { name, most }) => read_file(alloc, folder, name, file, most),
         None => Ok(Vec::new(alloc)),
     }
 }
 
-/// The network of a bundle, if the command reads one.
+/// The network of a bundle, if one is read.
 fn read_net<F: Folder>(
     alloc: Global,
     folder: &mut F,
-    command: &Command<'_>,
+    names: &FileNames<'_>,
 ) -> Result<Option<Net>, Refusal>
     ensures read { IfOk result
-        (HasNet (F.content folder.old) (bundle_in (stands_for command.now))) }
+        (HasNet (F.content folder.old) (bundle_in (names_in names.now))) }
     ensures refused { IfErr result
-        (LacksNet (F.content folder.old) (bundle_in (stands_for command.now))) }
+        (LacksNet (F.content folder.old) (bundle_in (names_in names.now))) }
     ensures same { F.content folder.new ≡ F.content folder.old }
-    ensures called { Called (F.last_failure folder.new) (stands_for command.now)
+    ensures called { Called (F.last_failure folder.new) (names_in names.now)
         (count F.last_read_fault (F.read_faults folder.old) (F.read_faults folder.new))
         (count F.last_write_fault (F.write_faults folder.old) (F.write_faults folder.new))
         result }
 {
-    match bundle_of(command) {
+    match names.bundle_read() {
         Some(out) => Ok(Some(read_network(alloc, folder, out)?)),
         None => Ok(None),
     }
 }
 
-/// All that a command reads, in the order of the fields.
+/// All that is read of the files with these names, in the order of the fields.
 pub fn read_all<F: Folder>(
     alloc: Global,
     folder: &mut F,
-    command: &Command<'_>,
+    names: &FileNames<'_>,
 ) -> Result<Read, Refusal>
-    ensures all { IfOk result (ReadsAll (stands_for command.now) (F.content folder.old)) }
+    ensures all { IfOk result (ReadsAll (names_in names.now) (F.content folder.old)) }
     ensures short { IfOk result IsShort }
-    ensures refused { IfErr result (ReadsNot (stands_for command.now) (F.content folder.old)) }
+    ensures refused { IfErr result (ReadsNot (names_in names.now) (F.content folder.old)) }
     ensures same { F.content folder.new ≡ F.content folder.old }
-    ensures called { Called (F.last_failure folder.new) (stands_for command.now)
+    ensures called { Called (F.last_failure folder.new) (names_in names.now)
         (count F.last_read_fault (F.read_faults folder.old) (F.read_faults folder.new))
         (count F.last_write_fault (F.write_faults folder.old) (F.write_faults folder.new))
         result }
 {
-    let design = read_text(alloc, folder, command, CommandFile::Design)?;
-    let definitions = read_text(alloc, folder, command, CommandFile::Definitions)?;
-    let case = read_text(alloc, folder, command, CommandFile::Case)?;
-    let packets = read_text(alloc, folder, command, CommandFile::Packets)?;
-    let net = read_net(alloc, folder, command)?;
+    let design = read_text(alloc, folder, names, CommandFile::Design)?;
+    let definitions = read_text(alloc, folder, names, CommandFile::Definitions)?;
+    let case = read_text(alloc, folder, names, CommandFile::Case)?;
+    let packets = read_text(alloc, folder, names, CommandFile::Packets)?;
+    let net = read_net(alloc, folder, names)?;
     Ok(Read {
         design,
         definitions,

@@ -1,28 +1,62 @@
 //! One call of a command: all that it reads is read, the command is asked for its answer over what
 //! was read, and what it answers is written. A command has no folder, so it can read and write nothing
 //! else.
-ghost use Rattle.std.specs.Prelude.{IfErr, IfOk, Some};
-ghost use Rattle.command_line.specs.Stands.{stands_for};
+ghost use Rattle.std.specs.Prelude.{◌≡◌, IfErr, IfOk, Some};
+ghost use Rattle.command_line.specs.Command.{stands_for};
+ghost use Rattle.command_reports.specs.FileNames.{names_in};
+ghost use Rattle.cocoon_cli.specs.Commands.{Plans, files_of};
 ghost use Rattle.cocoon_cli.specs.Headline.{CompiledOf};
 ghost use Rattle.cocoon_cli.specs.Run.{count};
-ghost use Rattle.cocoon_cli.specs.Shell.{Acts, Asked, IsGiven, IsQuiet, IsShort, Plans};
+ghost use Rattle.cocoon_cli.specs.Shell.{Acts, Asked, IsGiven, IsQuiet, IsShort};
 ghost use Rattle.cocoon_cli.specs.Steps.{Inputs};
 
-use crate::answer::{Answer, Report};
+use crate::answer::Answer;
 use crate::compile::compile;
 use crate::forward::forward;
 use crate::reading::{Read, read_all};
-use crate::refusal::Refusal;
 use crate::step::step;
 use crate::writing::write_all;
 use cocoon_io::Folder;
 use command_line::Command;
+use command_reports::{FileNames, Refusal, Report};
 use std::alloc::Global;
+
+/// The files that a command has. All are read, but a bundle that it writes.
+pub fn names_of<'w>(command: &Command<'w>) -> FileNames<'w>
+    ensures { names_in result ≡ files_of (stands_for command.now) }
+{
+    match command {
+        Command::Compile(names) => FileNames {
+            design: Some(names.design),
+            definitions: Some(names.defs),
+            case: None,
+            packets: None,
+            bundle: Some(names.out),
+            reads_bundle: false,
+        },
+        Command::Step(asked) => FileNames {
+            design: Some(asked.design),
+            definitions: Some(asked.defs),
+            case: Some(asked.file),
+            packets: None,
+            bundle: None,
+            reads_bundle: false,
+        },
+        Command::Forward(asked) => FileNames {
+            design: None,
+            definitions: None,
+            case: None,
+            packets: Some(asked.packets),
+            bundle: Some(asked.out),
+            reads_bundle: true,
+        },
+    }
+}
 
 /// What a command answers over what was read.
 fn ask<'w>(alloc: Global, command: &Command<'w>, read: &Read) -> Result<Answer<'w>, Refusal>
     requires short { IsShort read.now }
-    ensures asked { (inputs : Inputs) → IsGiven (stands_for command.now) inputs read.now
+    ensures asked { (inputs : Inputs) → IsGiven (files_of (stands_for command.now)) inputs read.now
         → Asked (stands_for command.now) inputs result }
     ensures plans { IfOk result (λ a. Plans (stands_for command.now) read.now a.writing) }
     ensures quiet { IfErr result IsQuiet }
@@ -51,8 +85,9 @@ pub fn perform<F: Folder>(
     ensures headline { IfOk result (λ report.
         CompiledOf (Some (stands_for command.now)) (F.content folder.old) (F.content folder.new)) }
 {
-    let read = read_all(alloc, folder, command)?;
+    let names = names_of(command);
+    let read = read_all(alloc, folder, &names)?;
     let answer = ask(alloc, command, &read)?;
-    write_all(alloc, folder, command, &read, &answer.writing)?;
+    write_all(alloc, folder, &names, &read, &answer.writing)?;
     Ok(answer.report)
 }

@@ -9,17 +9,16 @@ ghost use Rattle.cocoon_cli.specs.Shell.{Asked, IsQuiet};
 ghost use Rattle.cocoon_cli.specs.Stepping.{NotCase, NotStepped, StepsTexts};
 ghost use Rattle.cocoon_cli.specs.Steps.{Inputs};
 ghost use Rattle.cocoon_cli.specs.declared.answer.Writing.TheVariants.{Nothing};
-ghost use Rattle.cocoon_cli.specs.declared.files.CommandFile.TheVariants.{Case as CaseFile, Definitions, Design};
+ghost use Rattle.command_reports.specs.declared.files.CommandFile.TheVariants.{Case as CaseFile, Definitions, Design};
 
-use crate::answer::{Answer, Report, Writing};
-use crate::design_texts::{Bound, bound_texts};
-use crate::files::CommandFile;
-use crate::refusal::Refusal;
+use crate::answer::{Answer, Writing};
 use case_file::{Case, CaseFault, read_case};
 use case_runs::{Sent, run_case};
 use cocoon_num::NoMemory;
 use cocoon_resolve::Checked;
 use command_line::Step;
+use command_reports::{CommandFile, Refusal, Report};
+use design_texts::{Bound, bound_texts};
 use std::alloc::Global;
 
 /// The case of a text, at a level that the design has.

@@ -9,8 +9,9 @@ use Rattle.clap.specs.Walk.{Row, Text}
 use Rattle.clap.specs.Words.{fault_of, subcommand_of}
 use Rattle.cocoon_num.specs.Names.{same_name}
 use Rattle.command_line.specs.Command.{Command, compile}
-use Rattle.command_line.specs.Syntax.{app_with, cocoon_app, compile_app, step_app}
-use Rattle.command_line.specs.Words.{command, command_by, command_of, compile_of, forward_of, step_of, subcommand_by, unless_refused}
+use Rattle.command_line.specs.Subcommands.{cocoon_app, command_of, compile_app, compile_of, forward_of, step_app, step_of}
+use Rattle.command_line.specs.Syntax.{app_with}
+use Rattle.command_line.specs.Words.{command, command_by, subcommand_by, unless_refused}
 use Rattle.command_line.proofs.Staying.{Grows, stays}
 
 -- ---- the command lines as they are built

@@ -10,8 +10,10 @@ use Rattle.clap.specs.declared.error.ErrorKind.TheVariants.{OutOfMemory}
 use Rattle.clap.specs.declared.parser.ArgMatches.{ArgMatches}
 use Rattle.clap.proofs.WalkLemmas.{first_value-rows}
 use Rattle.command_line.specs.Names.{is_file_name}
-use Rattle.command_line.specs.Syntax.{cocoon_app, required_argument, with_arguments}
-use Rattle.command_line.specs.Words.{argument_name, word_name, subcommand, subcommand_by, unless_refused}
+use Rattle.command_line.specs.Arguments.{argument_name, word_name}
+use Rattle.command_line.specs.Subcommands.{cocoon_app}
+use Rattle.command_line.specs.Syntax.{required_argument, with_arguments}
+use Rattle.command_line.specs.Words.{subcommand, subcommand_by, unless_refused}
 
 -- ---- the command line
 

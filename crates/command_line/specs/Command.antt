@@ -1,8 +1,17 @@
--- What the words ask for: a command with its names. It follows the section "Commands" of README.md.
+-- What the words ask for: a command with its names. `parse_command` cites it, and so do the clauses of
+-- cocoon_cli that take a command. It follows the section "Commands" of README.md.
 use Rattle.std.specs.Prelude.{ℕ, List}
+use Rattle.command_line.specs.declared.command.Command.{Command as Asked}
+use Rattle.command_line.specs.declared.command.Command.TheVariants.{Compile, Step, Forward}
 
 -- what a command asks for
 pub data Command : Type 0 where
   compile : (design defs out : List ℕ) → Command
   step : (design defs : List ℕ) (level : ℕ) (file : List ℕ) → Command
   forward : (out packets : List ℕ) (hops : ℕ) → Command
+
+-- the one that a value of the code stands for
+abbrev pub stands_for : Asked → Command
+stands_for (Compile names) = compile names.design.now names.defs.now names.out.now
+stands_for (Step asked) = step asked.design.now asked.defs.now asked.level asked.file.now
+stands_for (Forward asked) = forward asked.out.now asked.packets.now asked.hops

@@ -1,5 +1,5 @@
--- The command line as `clap` states one: subcommands, each with its arguments. It follows the
--- section "Commands" of README.md.
+-- The parts of a command line as `clap` states one: arguments, and what has them. Cited by the clauses
+-- of syntax.rt. It follows the section "Commands" of README.md.
 use Rattle.std.specs.Prelude.{List, [], ◌∷◌, Some, true, codes}
 use Rattle.clap.specs.Words.{App, Rule, Text, new_app, new_rule, with_rule, with_subcommand}
 use Rattle.clap.specs.declared.builder.ArgAction.TheVariants.{Set}
@@ -50,27 +50,6 @@ abbrev pub with_subcommands : App → List App → App
 with_subcommands app [] = app
 with_subcommands app (sub ∷ subs) = with_subcommands (with_subcommand app sub.top) subs
 
--- the subcommand `compile`
-abbrev pub compile_app : App
-compile_app =
-    with_arguments (new_app (codes "compile")) (design_argument ∷ defs_argument ∷ out_argument ∷ [])
-
--- the subcommand `step`
-abbrev pub step_app : App
-step_app =
-    with_arguments (new_app (codes "step"))
-    (design_argument ∷ defs_argument ∷ level_argument ∷ case_argument ∷ [])
-
--- the subcommand `forward`
-abbrev pub forward_app : App
-forward_app =
-    with_rule (with_arguments (new_app (codes "forward")) (out_argument ∷ packets_argument ∷ []))
-    (option_argument hops_argument)
-
 -- the command line with these subcommands
 abbrev pub app_with : List App → App
 app_with subs = with_subcommands (new_app (codes "cocoon")) subs
-
--- the whole command line
-abbrev pub cocoon_app : App
-cocoon_app = app_with (compile_app ∷ step_app ∷ forward_app ∷ [])

@@ -1,7 +1,8 @@
 //! What further subcommands leave as it was. The function does nothing; its contract is the law.
 ghost use Rattle.std.specs.Prelude.{◌≡◌, ℕ, List, [], ◌∷◌, Some};
 ghost use Rattle.command_line.specs.Command.{Command, compile};
-ghost use Rattle.command_line.specs.Syntax.{app_with, compile_app, step_app};
+ghost use Rattle.command_line.specs.Subcommands.{compile_app, step_app};
+ghost use Rattle.command_line.specs.Syntax.{app_with};
 ghost use Rattle.command_line.specs.Words.{command, command_by};
 
 /// The words that are a `compile` by the command line that has that subcommand alone are the same

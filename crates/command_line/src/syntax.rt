@@ -1,8 +1,8 @@
-//! The command line as `clap` states one: subcommands, each with its arguments.
+//! The parts of a command line as `clap` states one: arguments, and what has them.
 ghost use Rattle.std.specs.Prelude.{◌≡◌, IfOk, false, map};
 ghost use Rattle.clap.specs.Words.{app_of, rule_of, with_rule, with_subcommand};
 ghost use Rattle.clap.specs.declared.builder.Command.TheViews.{out-Command};
-ghost use Rattle.command_line.specs.Syntax.{cocoon_app, compile_app, forward_app, option_argument, required_argument, step_app, with_arguments};
+ghost use Rattle.command_line.specs.Syntax.{option_argument, required_argument, with_arguments};
 
 use clap::{Arg, ArgAction, Command};
 use cocoon_num::NoMemory;
@@ -46,7 +46,7 @@ fn option_argument<'w>(alloc: Global, name: &'w str) -> Arg<'w>
 }
 
 /// The command with these arguments, in their order.
-fn with_arguments<'w>(
+pub fn with_arguments<'w>(
     alloc: Global,
     command: Command<'w>,
     ids: &[&'w str],
@@ -63,28 +63,8 @@ fn with_arguments<'w>(
     Ok(command)
 }
 
-/// The subcommand `compile`.
-fn compile_app<'w>(alloc: Global) -> Result<Command<'w>, NoMemory>
-    ensures app { IfOk result (λ c. app_of c ≡ compile_app) }
-    ensures local { IfOk result (λ c. (out-Command c).has_globals ≡ false) }
-{
-    with_arguments(alloc, Command::new(alloc, "compile"), &[DESIGN, DEFS, OUT])
-}
-
-/// The subcommand `step`.
-fn step_app<'w>(alloc: Global) -> Result<Command<'w>, NoMemory>
-    ensures app { IfOk result (λ c. app_of c ≡ step_app) }
-    ensures local { IfOk result (λ c. (out-Command c).has_globals ≡ false) }
-{
-    with_arguments(
-        alloc,
-        Command::new(alloc, "step"),
-        &[DESIGN, DEFS, LEVEL, CASE],
-    )
-}
-
 /// The command with one more option.
-fn with_option<'w>(
+pub fn with_option<'w>(
     alloc: Global,
     command: Command<'w>,
     name: &'w str,
@@ -97,30 +77,11 @@ fn with_option<'w>(
     Ok(command.arg(option_argument(alloc, name))?)
 }
 
-/// The subcommand `forward`.
-fn forward_app<'w>(alloc: Global) -> Result<Command<'w>, NoMemory>
-    ensures app { IfOk result (λ c. app_of c ≡ forward_app) }
-    ensures local { IfOk result (λ c. (out-Command c).has_globals ≡ false) }
-{
-    let command = with_arguments(alloc, Command::new(alloc, "forward"), &[OUT, PACKETS])?;
-    with_option(alloc, command, HOPS)
-}
-
 /// The command with one more subcommand.
-fn with_subcommand<'w>(command: Command<'w>, sub: Command<'w>) -> Result<Command<'w>, NoMemory>
+pub fn with_subcommand<'w>(command: Command<'w>, sub: Command<'w>) -> Result<Command<'w>, NoMemory>
     requires { (out-Command sub).has_globals ≡ false }
     ensures { IfOk result (λ c. app_of c
         ≡ with_subcommand (app_of command.entry) (app_of sub.entry).top) }
 {
     Ok(command.subcommand(sub)?)
-}
-
-/// The whole command line.
-pub fn cocoon_app<'w>(alloc: Global) -> Result<Command<'w>, NoMemory>
-    ensures { IfOk result (λ c. app_of c ≡ cocoon_app) }
-{
-    let command = Command::new(alloc, "cocoon");
-    let command = with_subcommand(command, compile_app(alloc)?)?;
-    let command = with_subcommand(command, step_app(alloc)?)?;
-    with_subcommand(command, forward_app(alloc)?)
 }

@@ -10,9 +10,9 @@ use Rattle.p4_ir.specs.Wiring.{host_numbers}
 use Rattle.packet_file.specs.Packets.{Packet, packets_in}
 use Rattle.packet_runs.specs.Reports.{IsReport}
 use Rattle.net_bundle.specs.Network.{Network}
-use Rattle.cocoon_cli.specs.Outcomes.{Reports}
+use Rattle.cocoon_cli.specs.Commands.{Reports, files_of}
 use Rattle.cocoon_cli.specs.Run.{Call, CauseOf, DoneOf, InputsAre, KeepsMore, inputs_of}
-use Rattle.cocoon_cli.specs.declared.answer.Report.{Report}
+use Rattle.command_reports.specs.declared.report.Report.{Report}
 use Rattle.forward_laws.specs.ForwardsCompiled.{ForwardsCompiled}
 use Rattle.forward_laws.proofs.SameBundle.{still_network}
 
@@ -34,17 +34,18 @@ pub record Reported (files : Files) (out packets_name : List ℕ) (hops : ℕ) (
   pub say : packets_in (host_numbers net.hosts) text ≡ Ok packets
   pub report_is : IsReport net hops packets report
 
-of_inputs : (files : Files) (out packets : List ℕ) (hops : ℕ) (report : Report) → Reports (forward out packets hops) (inputs_of (forward out packets hops) files) report
+of_inputs : (files : Files) (out packets : List ℕ) (hops : ℕ) (report : Report) → Reports (forward out packets hops) (inputs_of (files_of (forward out packets hops)) files) report
     → Reported files out packets hops report.lines
-of_inputs files out packets hops report (net, list, lines, reads, says, are, told) = record {
-  net = net;
-  packets = list;
-  text = says.text;
-  network = reads.0;
-  text_is = says.are;
-  say = says.say;
-  report_is = subst (IsReport net hops list) (sym (ap (λ (r : Report). r.lines) told)) are;
-}
+of_inputs files out packets hops report h =
+    let (list, say, (lines, are, told)) = h.holds.holds in record {
+      net = h.net;
+      packets = list;
+      text = h.holds.text;
+      network = h.reads.0;
+      text_is = h.holds.is;
+      say = say;
+      report_is = subst (IsReport h.net hops list) (sym (ap (λ (r : Report). r.lines) told)) are;
+    }
 
 -- what a `forward` over known files has done
 pub record HasReported (call : Call) (files : Files) (out packets_name : List ℕ) (hops : ℕ) : Type 0 where
@@ -56,7 +57,7 @@ has_reported : (call : Call) (files : Files) (out packets : List ℕ) (hops : �
     → HasReported call files out packets hops
 has_reported call files out packets hops content (inputs, report, are, reports, leaves, printed) =
     let c : Command = forward out packets hops in
-    let is : inputs ≡ inputs_of c files = subst (λ content. InputsAre c content inputs) content are in
+    let is : inputs ≡ inputs_of (files_of c) files = subst (λ content. InputsAre (files_of c) content inputs) content are in
     record {
       report = report.lines;
       of = of_inputs files out packets hops report (subst (λ i. Reports c i report) is reports);

@@ -8,7 +8,7 @@ use Rattle.command_line.specs.Command.{forward}
 use Rattle.command_line.specs.Words.{command}
 use Rattle.cocoon_cli.specs.Headline.{Compiled, none_besides}
 use Rattle.cocoon_cli.specs.Run.{Call, CauseOf}
-use Rattle.cocoon_cli.specs.declared.status.Status.TheVariants.{Done}
+use Rattle.command_reports.specs.declared.status.Status.TheVariants.{Done}
 
 pub record ForwardsCompiled : Type 0 where
   -- what the clause `headline` of `run` says after the `compile`

@@ -5,7 +5,13 @@ use Rattle.cocoon_types.specs.Tables.{defs_of}
 use Rattle.p4_ir.specs.NetOf.{net_of}
 use Rattle.lower_p4.specs.Lowering.{NotLowered, StartsFull, StartsLong}
 use Rattle.lower_net.specs.declared.lowering.LowerFault.TheVariants.{Limit, LongProgram, ManyRows}
-use Rattle.p4_ir.specs.NetTree.{SwitchFiles}
+use Rattle.cocoon_num.specs.Tree.{Design}
+use Rattle.lower_p4.specs.LowerLimits.{IsWithin}
+use Rattle.lower_p4.specs.Lowers.{Lowers}
+use Rattle.runtime_defs.specs.Places.{Places}
+use Rattle.net_bundle.specs.declared.file.BundleFile.{BundleFile}
+use Rattle.p4_ir.specs.NetTree.{NetData, SwitchFiles}
+use Rattle.design_texts.specs.DesignTexts.{BindsTables}
 use Rattle.p4_ir.specs.P4Tree.{RowsFile, TableRows}
 use Rattle.net_bundle.specs.Bundle.{all_switch_files, rows_text}
 use Rattle.net_bundle.specs.Writing.{FirstOver, most_of}
@@ -13,7 +19,7 @@ use Rattle.net_bundle.specs.declared.file.BundleFile.TheVariants.{Program, Rows}
 use Rattle.cocoon_cli.specs.Built.{IsBuilt}
 use Rattle.cocoon_cli.specs.Compiling as lowered
 use Rattle.cocoon_cli.specs.Compiling.{LongFile}
-use Rattle.cocoon_cli.specs.declared.files.CommandFile.TheVariants.{Bundle}
+use Rattle.command_reports.specs.declared.files.CommandFile.TheVariants.{Bundle}
 use Rattle.cocoon_cli.proofs.compile.lower_bound.Goals as goal
 
 pub returns-in-Ok-clause-lowers : goal.returns-in-Ok-clause-lowers
@@ -57,40 +63,32 @@ rows_over law switch (s ∷ ss) h =
     let many = h.2 in
     inr (h.1, inl (ap Rows h.0, omega (arith, long, many)))
 
+-- that file is the first that is too long
+long_file : {design defs : List ℕ} {d : Design} {tables : Places} (binds : BindsTables design defs d tables) (first : BundleFile) (net : NetData) → Lowers d binds.entries net → IsWithin d binds.entries
+    → FirstOver (all_switch_files net.switches) first → LongFile design defs (Bundle first) (most_of first)
+long_file binds first net lowers within long = record {
+  tree = _;
+  tables = _;
+  binds = binds;
+  first = first;
+  names = refl;
+  limit = refl;
+  net = net;
+  lowers = lowers;
+  within = within;
+  long = long;
+}
+
 pub returns-in-Err-LongProgram-clause-refused : goal.returns-in-Err-LongProgram-clause-refused
 returns-in-Err-LongProgram-clause-refused c = λ design defs binds.
     let switch = c.in-Err-LongProgram.switch in
-    let told : NotLowered (design_of c.args.bound.now.checked) binds.entries (LongProgram switch) =
-    subst (NotLowered (design_of c.args.bound.now.checked) binds.entries) c.in-Err-LongProgram.field-0-is (c.in-Err-LongProgram.ensures.refused binds.entries binds.are) in
-    let long : LongFile design defs (Bundle (Program switch)) (most_of (Program switch)) = record {
-      tree = _;
-      tables = _;
-      binds = binds;
-      first = Program switch;
-      names = refl;
-      limit = refl;
-      net = told.net;
-      lowers = told.lowers;
-      within = told.within;
-      long = program_over switch told.net.switches told.starts;
-    } in
-    subst (lowered.NotLowered design defs) (sym c.from.ensures) long
+    let d = design_of c.args.bound.now.checked in
+    let told : NotLowered d binds.entries (LongProgram switch) = subst (NotLowered d binds.entries) c.in-Err-LongProgram.field-0-is (c.in-Err-LongProgram.ensures.refused binds.entries binds.are) in
+    subst (lowered.NotLowered design defs) (sym c.from.ensures) (long_file binds (Program switch) told.net told.lowers told.within (program_over switch told.net.switches told.starts))
 
 pub returns-in-Err-ManyRows-clause-refused : goal.returns-in-Err-ManyRows-clause-refused
 returns-in-Err-ManyRows-clause-refused c = λ design defs binds.
     let switch = c.in-Err-ManyRows.switch in
-    let told : NotLowered (design_of c.args.bound.now.checked) binds.entries (ManyRows switch) =
-    subst (NotLowered (design_of c.args.bound.now.checked) binds.entries) c.in-Err-ManyRows.field-0-is (c.in-Err-ManyRows.ensures.refused binds.entries binds.are) in
-    let long : LongFile design defs (Bundle (Rows switch)) (most_of (Rows switch)) = record {
-      tree = _;
-      tables = _;
-      binds = binds;
-      first = Rows switch;
-      names = refl;
-      limit = refl;
-      net = told.net;
-      lowers = told.lowers;
-      within = told.within;
-      long = rows_over c.rows_are_long.ensures switch told.net.switches told.starts;
-    } in
-    subst (lowered.NotLowered design defs) (sym c.from-in-Err-ManyRows.ensures) long
+    let d = design_of c.args.bound.now.checked in
+    let told : NotLowered d binds.entries (ManyRows switch) = subst (NotLowered d binds.entries) c.in-Err-ManyRows.field-0-is (c.in-Err-ManyRows.ensures.refused binds.entries binds.are) in
+    subst (lowered.NotLowered design defs) (sym c.from-in-Err-ManyRows.ensures) (long_file binds (Rows switch) told.net told.lowers told.within (rows_over c.rows_are_long.ensures switch told.net.switches told.starts))

@@ -1,6 +1,6 @@
 use Rattle.std.proofs.Common.{ap, ◌∙◌}
 use Rattle.command_line.specs.Command.{step as command}
-use Rattle.cocoon_cli.specs.Outcomes as outcomes
+use Rattle.command_reports.specs.Report.{success}
 use Rattle.cocoon_cli.specs.Shell.{Asked}
 use Rattle.cocoon_cli.proofs.Counted.{passed}
 use Rattle.cocoon_cli.proofs.Stepped.{asks_good, not_stepped, reports}
@@ -21,5 +21,5 @@ returns-clause-asked c = λ inputs design defs case.
     let steps = c.in_ok-sent.ensures.steps in (
       asks_good asked.design.now asked.defs.now asked.level asked.file.now inputs c.args.design.now c.args.defs.now c.args.text.now sent (record { design = design; defs = defs }) case steps,
       reports asked.design.now asked.defs.now asked.level asked.file.now inputs c.args.design.now c.args.defs.now c.args.text.now sent _ (record { design = design; defs = defs }) case steps
-          (c.success.ensures ∙ ap outcomes.success c.in_ok-lines.ensures),
+          (c.success.ensures ∙ ap success c.in_ok-lines.ensures),
     )

@@ -1,5 +1,5 @@
 use Rattle.std.proofs.Common.{sym, ap, ◌∙◌, option_and_then}
-use Rattle.command_line.specs.Words.{command_of}
+use Rattle.command_line.specs.Subcommands.{command_of}
 use Rattle.command_line.proofs.Matching.{met_subcommand, no_subcommand}
 use Rattle.command_line.proofs.parse.asked.Goals as goal
 

@@ -1,0 +1,235 @@
+-- By what is read of the files, a step is good, or it refuses in one way.
+use Rattle.std.proofs.Common.{◌≡◌, ◌⊎◌, ◌≤◌, ◌<◌, ℕ, Bool, true, false, refl, List, [], ◌∷◌, length, Option, Some, None, Result, Ok, Err, sym, ap, ap₂, subst, ◌∙◌, inl, inr, arith}
+use Rattle.cocoon_num.specs.Lists.{first_of}
+use Rattle.cocoon_num.specs.Tree as tree
+use Rattle.cocoon_num.specs.declared.limit_name.LimitName.{LimitName}
+use Rattle.cocoon_num.specs.Reads.{Reads, ReadsDefs}
+use Rattle.cocoon_num.specs.FirstFaults.{BeginsDesign, BeginsDefs}
+use Rattle.cocoon_text.specs.Positions.{token_position}
+use Rattle.cocoon_text.specs.TextFaults.{FirstFault}
+use Rattle.cocoon_text.specs.declared.fault.TextFault.{TextFault}
+use Rattle.cocoon_types.specs.DefsRules.{DefsFault, defs_faults}
+use Rattle.cocoon_types.specs.FirstFault as rules
+use Rattle.cocoon_types.specs.Limits.{WithinLimits, FirstOver as LimitOver, reported}
+use Rattle.cocoon_types.specs.RuleNames.{fault_at}
+use Rattle.cocoon_types.specs.Rules.{WellFormed}
+use Rattle.cocoon_types.specs.declared.fault.TypeRule.{TypeRule}
+use Rattle.cocoon_io.specs.Files.{Files}
+use Rattle.p4_ir.specs.NetTree.{NetData}
+use Rattle.p4_ir.specs.Wiring.{host_numbers}
+use Rattle.bundle_reader.specs.OneReading as reading
+use Rattle.bundle_reader.specs.OneReading.{OneReading}
+use Rattle.bundle_reader.specs.Readings.{ContentFault, ContentReads}
+use Rattle.bundle_reader.specs.declared.fault.ReadFault.{ReadFault}
+use Rattle.bundle_reader.specs.declared.fault.ReadFault.TheVariants as read
+use Rattle.cocoon_io.specs.declared.folder.FolderFault.TheVariants.{Failed, TooLong, NoMemory as Wanting}
+use Rattle.net_run.specs.RunCounts.{most_runs, runs}
+use Rattle.packet_file.specs.Packets.{Packet, packets_in}
+use Rattle.packet_file.specs.declared.packet.PacketFault.{PacketFault}
+use Rattle.packet_runs.specs.Reports.{IsReport}
+use Rattle.packet_runs.specs.Stopping.{AllWithin, SomeOver}
+use Rattle.net_bundle.specs.Bundle.{MadeFile, bundle}
+use Rattle.net_bundle.specs.Writing.{AllFit, FirstOver, most_of}
+use Rattle.net_bundle.specs.declared.file.BundleFile.{BundleFile}
+use Rattle.runtime_defs.specs.Bound.{most_rows, row_count}
+use Rattle.lower_p4.specs.Lowers.{Lowers}
+use Rattle.lower_p4.specs.LowerLimits.{IsOver, IsWithin}
+use Rattle.case_file.specs.Cases.{Case, case_of}
+use Rattle.case_runs.specs.Stepping.{Steps}
+use Rattle.case_runs.specs.declared.sent.Sent.{Sent}
+use Rattle.cocoon_types.specs.Design.{last_level}
+use Rattle.cocoon_types.specs.Tables as tables
+use Rattle.command_reports.specs.Refusals.{IsOfFiles, unread_as}
+use Rattle.command_reports.specs.declared.files.CommandFile.{CommandFile}
+use Rattle.command_reports.specs.declared.files.CommandFile.TheVariants.{Design, Definitions, Bundle, Case as CaseFile, Packets as PacketsFile}
+use Rattle.command_reports.specs.declared.refusal.InputFault.TheVariants.{NoTree, Rule}
+use Rattle.command_reports.specs.declared.refusal.DefinitionsFault.TheVariants as definitions
+use Rattle.command_reports.specs.declared.refusal.Refusal.{Refusal}
+use Rattle.command_reports.specs.declared.refusal.Refusal.TheVariants as refusal
+use Rattle.design_texts.specs.DesignTexts.{told}
+use Rattle.cocoon_cli.specs.Steps.{Inputs, OfBundle, OfDefinitions, OfDesign, OfPackets, OfText, Step, is_there, is_within, design_reads, design_well_formed, design_within, definitions_read, definitions_fit, definitions_within, design_accepted, lowering_within, level_there, lines_formed, bundle_reads, packets_judged, copies_within, bundle_within, bundle_written, packets_refusal, IsGood, Refuses}
+use Rattle.cocoon_cli.proofs.RuleValues.{same_rule}
+
+-- that texts have one tree or one first fault, that a design keeps the rules or breaks one first and so with the limits, that
+-- the compiler makes one network of two trees, or is over one limit first, and that the files of a bundle are read in one way
+pub record Laws : Type 0 where
+  pub one_tree : (text : List ℕ) (x y : tree.Design) → Reads text x → Reads text y → x ≡ y
+  pub one_defs_tree : (text : List ℕ) (x y : tree.DefsText) → ReadsDefs text x → ReadsDefs text y → x ≡ y
+  pub one_fault : (text : List ℕ) (f g : TextFault) → FirstFault BeginsDesign text f → FirstFault BeginsDesign text g → f ≡ g
+  pub one_defs_fault : (text : List ℕ) (f g : TextFault) → FirstFault BeginsDefs text f → FirstFault BeginsDefs text g → f ≡ g
+  pub no_fault : (text : List ℕ) (d : tree.Design) (f : TextFault) → Reads text d → ¬ FirstFault BeginsDesign text f
+  pub no_defs_fault : (text : List ℕ) (d : tree.DefsText) (f : TextFault) → ReadsDefs text d → ¬ FirstFault BeginsDefs text f
+  pub one_rule : (d : tree.Design) (f g : rules.Fault) → rules.FirstFault d f → rules.FirstFault d g → f ≡ g
+  pub no_rule : (d : tree.Design) (f : rules.Fault) → WellFormed d → ¬ rules.FirstFault d f
+  pub one_limit : (d : tree.Design) (x y : LimitName) (m n : ℕ) → LimitOver d x m → LimitOver d y n → (x ≡ y) × (m ≡ n)
+  pub no_limit : (d : tree.Design) (x : LimitName) (n : ℕ) → WithinLimits d → LimitOver d x n → ⊥
+  pub one_net : (d : tree.Design) (e : tree.DefsText) (m n : NetData) → Lowers d e m → Lowers d e n → m ≡ n
+  pub one_over : (d : tree.Design) (e : tree.DefsText) (x y : LimitName) (m n : ℕ) → IsOver d e x m → IsOver d e y n → (x ≡ y) × (m ≡ n)
+  pub one_step : (level : ℕ) (d : tree.Design) (defs : tables.Defs) (case : Case) (told other : Option Sent) → Steps level d defs case told → Steps level d defs case other → other ≡ told
+  pub one_reading : (files : Files) (out : List ℕ) → OneReading files out
+  pub same_report : (net : NetData) (hops : ℕ) (ps : List Packet) (lines other : List ℕ) → IsReport net hops ps lines → IsReport net hops ps other → lines ≡ other
+  pub no_over : (d : tree.Design) (e : tree.DefsText) (x : LimitName) (n : ℕ) → IsWithin d e → IsOver d e x n → ⊥
+
+-- ---- what is read
+
+same_some : {A : Type 0} (o : Option A) (x y : A) → o ≡ Some x → o ≡ Some y → x ≡ y
+same_some {A = A} o x y p q = let e : ◌≡◌ {A = Option A} (Some x) (Some y) = sym p ∙ q in cc
+
+pub same_ok : {A B : Type 0} (r : Result A B) (x y : A) → r ≡ Ok x → r ≡ Ok y → x ≡ y
+same_ok {A = A} {B = B} r x y p q = let e : ◌≡◌ {A = Result A B} (Ok x) (Ok y) = sym p ∙ q in cc
+
+same_err : {A B : Type 0} (r : Result A B) (x y : B) → r ≡ Err x → r ≡ Err y → x ≡ y
+same_err {A = A} {B = B} r x y p q = let e : ◌≡◌ {A = Result A B} (Err x) (Err y) = sym p ∙ q in cc
+
+ok_or_err : {A B : Type 0} (r : Result A B) (x : A) (y : B) → r ≡ Ok x → r ≡ Err y → ⊥
+ok_or_err {A = A} {B = B} r x y p q = let e : ◌≡◌ {A = Result A B} (Ok x) (Err y) = sym p ∙ q in cc
+
+-- Of what two say of the files, each on a reading of its own, follows what follows where the readings are the same.
+pub on_text : {P Q : List ℕ → Type 0} {R : Type 0} (i : Inputs) (file : CommandFile) → ((t : List ℕ) → P t → Q t → R) → OfText i file P → OfText i file Q → R
+on_text {P = P} i file f h k = f k.text (subst P (same_some (i.file file) h.text k.text h.is k.is) h.holds) k.holds
+
+pub on_design : {P Q : List ℕ → tree.Design → Type 0} {R : Type 0} → Laws → (i : Inputs) → ((t : List ℕ) (d : tree.Design) → P t d → Q t d → R) → OfDesign i P → OfDesign i Q → R
+on_design {P = P} laws i f h k =
+    let same = same_some (i.file Design) h.text k.text h.is k.is in
+    let one = laws.one_tree k.text h.design k.design (subst (λ (t : List ℕ). Reads t h.design) same h.reads) k.reads in
+    f k.text k.design (subst (P k.text) one (subst (λ (t : List ℕ). P t h.design) same h.holds)) k.holds
+
+on_defs : {P Q : List ℕ → tree.DefsText → Type 0} {R : Type 0} → Laws → (i : Inputs) → ((t : List ℕ) (e : tree.DefsText) → P t e → Q t e → R) → OfDefinitions i P → OfDefinitions i Q → R
+on_defs {P = P} laws i f h k =
+    let same = same_some (i.file Definitions) h.text k.text h.are k.are in
+    let one = laws.one_defs_tree k.text h.defs k.defs (subst (λ (t : List ℕ). ReadsDefs t h.defs) same h.read) k.read in
+    f k.text k.defs (subst (P k.text) one (subst (λ (t : List ℕ). P t h.defs) same h.holds)) k.holds
+
+pub on_both : {P Q : List ℕ → tree.Design → List ℕ → tree.DefsText → Type 0} {R : Type 0} → Laws → (i : Inputs) → ((t : List ℕ) (d : tree.Design) (u : List ℕ) (e : tree.DefsText) → P t d u e → Q t d u e → R)
+    → OfDesign i (λ t d. OfDefinitions i (P t d)) → OfDesign i (λ t d. OfDefinitions i (Q t d)) → R
+on_both laws i f h k = on_design laws i (λ t d x y. on_defs laws i (f t d) x y) h k
+
+-- the network that is made of both
+on_net : {P Q : List ℕ → NetData → Type 0} {R : Type 0} → Laws → (i : Inputs) → ((t : List ℕ) (net : NetData) → P t net → Q t net → R)
+    → OfDesign i (λ t d. OfDefinitions i (λ _ e. (n : NetData) × Lowers d e n × P t n)) → OfDesign i (λ t d. OfDefinitions i (λ _ e. (n : NetData) × Lowers d e n × Q t n)) → R
+on_net {P = P} laws i f h k = on_both laws i (λ t d u e (m, low, p) (n, lows, q). f t n (subst (P t) (laws.one_net d e m n low lows) p) q) h k
+
+-- a bundle whose content is known has one reading
+abbrev pub HasReading : Inputs → (out : List ℕ) → Type 0
+HasReading i out = (files : Files) × (i.content ≡ Some files) × OneReading files out
+
+on_bundle : {P Q : NetData → Type 0} {R : Type 0} (i : Inputs) (out : List ℕ) → HasReading i out → ((net : NetData) → P net → Q net → R) → OfBundle i out P → OfBundle i out Q → R
+on_bundle {P = P} i out (files, is, one) f h k =
+    let same = one.one_network h.net k.net (subst (λ content. ContentReads content out h.net) is h.reads) (subst (λ content. ContentReads content out k.net) is k.reads) in
+    f k.net (subst P same h.holds) k.holds
+
+abbrev judged_by : NetData → List ℕ → Result (List Packet) PacketFault
+judged_by net text = packets_in (host_numbers net.hosts) text
+
+pub on_packets : {P Q : NetData → List Packet → Type 0} {R : Type 0} (i : Inputs) (out : List ℕ) → HasReading i out → ((net : NetData) (ps : List Packet) → P net ps → Q net ps → R) → OfPackets i out P → OfPackets i out Q → R
+on_packets {P = P} i out r f h k =
+    on_bundle i out r (λ net x y. on_text i PacketsFile (λ t (ps, say, p) (qs, says, q). f net qs (subst (P net) (same_ok (judged_by net t) ps qs say says) p) q) x y) h k
+
+abbrev pub Decided : Inputs → Step → Type 0
+Decided i (bundle_reads out) = HasReading i out
+Decided i (packets_judged out) = HasReading i out
+Decided i (copies_within out hops) = HasReading i out
+Decided i s = Unit {0}
+
+abbrev pub AllDecided : Inputs → List Step → Type 0
+AllDecided i [] = Unit {0}
+AllDecided i (s ∷ ss) = Decided i s × AllDecided i ss
+
+-- what is told of the files is a fault of them
+of_files : (f : ReadFault) → IsOfFiles (unread_as f) → reading.IsOfFiles f
+of_files (read.Folder file Failed) h = absurd h
+of_files (read.Folder file Wanting) h = absurd h
+of_files read.NoMemory h = absurd h
+of_files f h = tt
+
+all_or_over : (net : NetData) (hops : ℕ) (ps : List Packet) → AllWithin net hops ps → SomeOver net hops ps → ⊥
+all_or_over net hops [] a h = h
+all_or_over net hops (p ∷ ps) a (inl h) = let b : runs net p.host p.bytes hops ≤ most_runs = a.0 in let c : most_runs < runs net p.host p.bytes hops = h in omega arith
+all_or_over net hops (p ∷ ps) a (inr h) = all_or_over net hops ps a.1 h
+
+-- ---- refusals
+
+rule_at : (t : List ℕ) (x y : TypeRule) (m n : ℕ) → fault_at x m ≡ fault_at y n → refusal.Language (Rule x (token_position t m)) ≡ refusal.Language (Rule y (token_position t n))
+rule_at t x y m n e =
+    ap₂ (λ (r : TypeRule) (k : ℕ). refusal.Language (Rule r (token_position t k))) (same_rule x y (ap (λ (z : rules.Fault). z.rule) e)) (ap (λ (z : rules.Fault). z.at) e)
+
+over_by : (x y : LimitName) (m n : ℕ) → x ≡ y → m ≡ n → refusal.OverLimit x m ≡ refusal.OverLimit y n
+over_by x y m n e f = ap₂ (λ (l : LimitName) (k : ℕ). refusal.OverLimit l k) e f
+
+one_over : (fs : List MadeFile) (f g : BundleFile) → FirstOver fs f → FirstOver fs g → f ≡ g
+one_over [] f g h k = absurd h
+one_over (x ∷ fs) f g (inl h) (inl k) = sym h.0 ∙ k.0
+one_over (x ∷ fs) f g (inl h) (inr k) = let a : most_of x.file < length x.bytes = h.1 in let b : length x.bytes ≤ most_of x.file = k.0 in let no : ⊥ = omega arith in absurd no
+one_over (x ∷ fs) f g (inr h) (inl k) = let a : most_of x.file < length x.bytes = k.1 in let b : length x.bytes ≤ most_of x.file = h.0 in let no : ⊥ = omega arith in absurd no
+one_over (x ∷ fs) f g (inr h) (inr k) = one_over fs f g h.1 k.1
+
+none_over : (fs : List MadeFile) (f : BundleFile) → AllFit fs → FirstOver fs f → ⊥
+none_over [] f a h = h
+none_over (x ∷ fs) f a (inl h) = let b : most_of x.file < length x.bytes = h.1 in let c : length x.bytes ≤ most_of x.file = a.0 in omega arith
+none_over (x ∷ fs) f a (inr h) = none_over fs f a.1 h.1
+
+-- ---- one step
+
+pub refuses_once : Laws → (i : Inputs) (s : Step) (r q : Refusal) → Decided i s → Refuses i s r → Refuses i s q → r ≡ q
+refuses_once laws i (is_there file) r q b h k = h.1 ∙ sym k.1
+refuses_once laws i (is_within file most) r q b h k = on_text i file (λ t (_, x) (_, y). x ∙ sym y) h k
+refuses_once laws i design_reads r q b h k =
+    on_text i Design (λ t (f, first, x) (g, one, y). x ∙ ap (λ f. refusal.Language (NoTree f)) (laws.one_fault t f g first one) ∙ sym y) h k
+refuses_once laws i design_well_formed r q b h k =
+    on_design laws i (λ t d (f, m, first, x) (g, n, one, y). x ∙ rule_at t f g m n (laws.one_rule d (fault_at f m) (fault_at g n) first one) ∙ sym y) h k
+refuses_once laws i design_within r q b h k =
+    on_design laws i (λ t d (l, m, over, x) (o, n, one, y).
+    let same = laws.one_limit d l o over.0 one.0 over.1 one.1 in
+    x ∙ over_by l o m n same.0 (over.2 ∙ ap reported same.1 ∙ sym one.2) ∙ sym y) h k
+refuses_once laws i design_accepted r q b h k = on_design laws i (λ t d (_, x) (_, y). x ∙ sym y) h k
+refuses_once laws i definitions_read r q b h k =
+    on_text i Definitions (λ t (f, first, x) (g, one, y). x ∙ ap (λ f. refusal.Definitions (definitions.NoTree f)) (laws.one_defs_fault t f g first one) ∙ sym y) h k
+refuses_once laws i definitions_fit r q b h k =
+    on_both laws i (λ _ d u e (f, first, x) (g, one, y).
+    x ∙ ap (λ f. refusal.Definitions (told u f)) (same_some (first_of (defs_faults d e)) f g first one) ∙ sym y) h k
+refuses_once laws i definitions_within r q b h k = on_defs laws i (λ _ e (_, x) (_, y). x ∙ sym y) h k
+refuses_once laws i lowering_within r q b h k =
+    on_both laws i (λ _ d _ e (l, m, over, x) (o, n, one, y).
+    let same = laws.one_over d e l o m n over one in
+    x ∙ over_by l o m n same.0 same.1 ∙ sym y) h k
+refuses_once laws i (level_there level) r q b h k = on_design laws i (λ _ d (_, x) (_, y). x ∙ sym y) h k
+refuses_once laws i (lines_formed level) r q b h k =
+    on_design laws i (λ _ d u v. on_text i CaseFile (λ t (m, says, x) (n, said, y). x ∙ ap (refusal.Line CaseFile) (same_err (case_of level d t) m n says said) ∙ sym y) u v) h k
+refuses_once laws i (bundle_reads out) r q b h k =
+    h.2
+    ∙ ap unread_as (b.2.one_fault h.0 k.0 (of_files h.0 (subst IsOfFiles h.2 h.3)) (of_files k.0 (subst IsOfFiles k.2 k.3))
+    (subst (λ content. ContentFault content out h.0) b.1 h.1) (subst (λ content. ContentFault content out k.0) b.1 k.1))
+    ∙ sym k.2
+refuses_once laws i (packets_judged out) r q b h k =
+    on_bundle i out b (λ net u v. on_text i PacketsFile (λ t (f, says, x) (g, said, y).
+    same_some (packets_refusal g) r q (ap packets_refusal (sym (same_err (judged_by net t) f g says said)) ∙ x) y) u v) h k
+refuses_once laws i (copies_within out hops) r q b h k = on_packets i out b (λ net ps (_, x) (_, y). x ∙ sym y) h k
+refuses_once laws i bundle_within r q b h k =
+    on_net laws i (λ t n (f, over, x) (g, one, y). x ∙ ap (λ (f : BundleFile). refusal.TooLong (Bundle f) (most_of f)) (one_over (bundle t n None) f g over one) ∙ sym y) h k
+refuses_once laws i bundle_written r q b h k = absurd h
+
+pub good_or_refused : Laws → (i : Inputs) (s : Step) (r : Refusal) → Decided i s → IsGood i s → Refuses i s r → ⊥
+good_or_refused laws i (is_there file) r b g h = let no : ◌≡◌ {A = Option (List ℕ)} (Some g.text) None = sym g.is ∙ h.0 in cc
+good_or_refused laws i (is_within file most) r b g h = on_text i file (λ t short (long, _). let few : length t ≤ most = short in let many : most < length t = long in omega arith) g h
+good_or_refused laws i design_reads r b g h =
+    on_text {P = λ t. (d : tree.Design) × Reads t d} i Design (λ t (d, reads) (f, first, _). laws.no_fault t d f reads first) (record { text = g.text; is = g.is; holds = (g.design, g.reads) }) h
+good_or_refused laws i design_well_formed r b g h = on_design laws i (λ t d x (f, m, first, _). laws.no_rule d (fault_at f m) x first) g h
+good_or_refused laws i design_within r b g h = on_design laws i (λ t d x (l, m, over, _). laws.no_limit d l over.0 x over.1) g h
+good_or_refused laws i design_accepted r b g h = on_design laws i (λ t d x (not, _). not x) g h
+good_or_refused laws i definitions_read r b g h =
+    on_text {P = λ t. (e : tree.DefsText) × ReadsDefs t e} i Definitions (λ t (e, read) (f, first, _). laws.no_defs_fault t e f read first) (record { text = g.text; is = g.are; holds = (g.defs, g.read) }) h
+good_or_refused laws i definitions_fit r b g h =
+    on_both laws i (λ _ d _ e fit (f, first, _). let no : ◌≡◌ {A = Option DefsFault} None (Some f) = sym (ap first_of fit) ∙ first in cc) g h
+good_or_refused laws i definitions_within r b g h =
+    on_defs laws i (λ _ e few (many, _). let x : row_count e ≤ most_rows = few in let y : most_rows < row_count e = many in omega arith) g h
+good_or_refused laws i lowering_within r b g h = on_both laws i (λ _ d _ e (_, _, within) (l, n, over, _). laws.no_over d e l n within over) g h
+good_or_refused laws i (level_there level) r b g h =
+    on_design laws i (λ _ d there (over, _). let x : level ≤ last_level d = there in let y : last_level d < level = over in omega arith) g h
+good_or_refused laws i (lines_formed level) r b g h = on_design laws i (λ _ d u v. on_text i CaseFile (λ t (c, says) (n, not, _). ok_or_err (case_of level d t) c n says not) u v) g h
+good_or_refused laws i (bundle_reads out) r b g h =
+    b.2.no_fault g.net h.0 (of_files h.0 (subst IsOfFiles h.2 h.3)) (subst (λ content. ContentReads content out g.net) b.1 g.reads) (subst (λ content. ContentFault content out h.0) b.1 h.1)
+good_or_refused laws i (packets_judged out) r b g h =
+    on_bundle i out b (λ net u v. on_text i PacketsFile (λ t (ps, says, _) (f, not, _). ok_or_err (judged_by net t) ps f says not) u v) g h
+good_or_refused laws i (copies_within out hops) r b g h = on_packets i out b (λ net ps within (over, _). all_or_over net hops ps within over) g h
+good_or_refused laws i bundle_within r b g h = on_net laws i (λ t n fit (f, over, _). none_over (bundle t n None) f fit over) g h
+good_or_refused laws i bundle_written r b g h = h

@@ -1,0 +1,95 @@
+-- Cited by the clauses of shell.rt and of the commands, and through Outcomes.antt and Leaves.antt by
+-- `keeps` of `run`. What each command is: the files that it has, what it asks of them, what it reports
+-- where all of that is good, and what it writes. A new command is a case of each. It follows the section
+-- "Commands" of README.md, and "Statuses" and "Reports" in docs/FORMATS.md.
+use Rattle.std.specs.Prelude.{◌≡◌, ℕ, Bool, true, false, List, [], ◌∷◌, ◌++◌, Option, Some, None, Ok}
+use Rattle.cocoon_types.specs.Tables.{defs_of}
+use Rattle.case_file.specs.Cases as cases
+use Rattle.case_file.specs.Cases.{case_of}
+use Rattle.case_runs.specs.Stepping.{Steps}
+use Rattle.case_runs.specs.declared.sent.Sent.{Sent}
+use Rattle.net_bundle.specs.Writing.{AllFit}
+use Rattle.packet_runs.specs.Reports.{IsReport}
+use Rattle.command_line.specs.Command.{Command, compile, step, forward}
+use Rattle.command_reports.specs.FileNames.{FileNames}
+use Rattle.command_reports.specs.Report.{success}
+use Rattle.command_reports.specs.declared.files.CommandFile.TheVariants.{Case}
+use Rattle.command_reports.specs.declared.report.Report.{Report}
+use Rattle.cocoon_cli.specs.Compiling.{Compiles}
+use Rattle.cocoon_cli.specs.ReportLines.{sent_text, totals_line, totals_of}
+use Rattle.cocoon_cli.specs.Steps.{Inputs, OfBoth, OfDesign, OfDefinitions, OfFiles, OfNetwork, OfPackets, OfText, Step, design_reads, design_well_formed, design_within, design_accepted, definitions_read, definitions_fit, definitions_within, lowering_within, level_there, lines_formed, packets_judged, copies_within, bundle_within, bundle_written}
+use Rattle.cocoon_cli.specs.Writing.{Writing, nothing, bundle}
+use Rattle.cocoon_cli.specs.declared.answer.Writing.{Writing as Written}
+use Rattle.cocoon_cli.specs.declared.answer.Writing.TheVariants as written
+use Rattle.cocoon_cli.specs.declared.reading.Read.{Read}
+
+-- the files that it has; all but a bundle that it writes are read
+abbrev pub files_of : Command → FileNames
+files_of (compile design defs out) = record {
+  design = Some design;
+  definitions = Some defs;
+  case = None;
+  packets = None;
+  bundle = Some out;
+  reads_bundle = false;
+}
+files_of (step design defs level file) = record {
+  design = Some design;
+  definitions = Some defs;
+  case = Some file;
+  packets = None;
+  bundle = None;
+  reads_bundle = false;
+}
+files_of (forward out packets hops) = record {
+  design = None;
+  definitions = None;
+  case = None;
+  packets = Some packets;
+  bundle = Some out;
+  reads_bundle = true;
+}
+
+-- the steps on a design, whether the compiler takes it if that is asked, and on definitions that fit it
+abbrev pub text_steps : (taken : List Step) → List Step → List Step
+text_steps taken rest =
+    design_reads ∷ design_well_formed ∷ design_within ∷ (taken
+    ++ (definitions_read ∷ definitions_fit ∷ definitions_within ∷ rest))
+
+-- what it asks of what was read
+abbrev pub asks : Command → List Step
+asks (compile design defs out) =
+    text_steps (design_accepted ∷ []) (lowering_within ∷ [])
+asks (step design defs level file) = text_steps [] (level_there level ∷ lines_formed level ∷ [])
+asks (forward out packets hops) = packets_judged out ∷ copies_within out hops ∷ []
+
+-- its steps of writing
+abbrev pub writes : Command → List Step
+writes (compile design defs out) = bundle_within ∷ bundle_written ∷ []
+writes (step design defs level file) = []
+writes (forward out packets hops) = []
+
+-- its report, where all steps are good
+abbrev pub Reports : Command → Inputs → Report → Type 0
+Reports (compile design defs out) inputs report =
+    OfNetwork inputs (λ net. report ≡ success (totals_line (totals_of net)))
+Reports (step design defs level file) inputs report =
+    OfBoth inputs (λ d entries. OfText inputs Case (λ text.
+    (case : cases.Case) × (sent : Option Sent) × (case_of level d text ≡ Ok case)
+    × Steps level d (defs_of d entries) case sent × (report ≡ success (sent_text sent))))
+Reports (forward out file hops) inputs report =
+    OfPackets inputs out (λ net packets.
+    (lines : List ℕ) × IsReport net hops packets lines × (report ≡ success lines))
+
+-- what it writes, where all steps are good
+abbrev pub Writes : Command → Inputs → Writing → Type 0
+Writes (compile design defs out) inputs w =
+    OfFiles inputs (λ files. AllFit files × (w ≡ bundle out files))
+Writes (step design defs level file) inputs w = w ≡ nothing
+Writes (forward out packets hops) inputs w = w ≡ nothing
+
+-- what its answer says is written, of what was read
+abbrev pub Plans : Command → Read → Written → Type 0
+Plans (compile design defs out) read w = Compiles out read.design.items read.definitions.items w
+Plans (step design defs level file) read w = w ≡ written.Nothing
+Plans (forward out packets hops) read w = w ≡ written.Nothing

@@ -1,0 +1,103 @@
+-- Each subcommand: as `clap` states it, and what it asks for by its matches. A new one is a part of its
+-- own here, with a member of `cocoon_app` and a branch of `command_of`. Cited by the clauses of
+-- subcommands.rt. It follows the section "Commands" of README.md.
+use Rattle.std.specs.Prelude.{ℕ, List, [], ◌∷◌, if◌then◌else◌, Option, Some, None, option_and_then, codes}
+use Rattle.clap.specs.Words.{App, Row, Text, first_of, new_app, with_rule}
+use Rattle.cocoon_num.specs.Names.{same_name}
+use Rattle.command_line.specs.Arguments.{argument_name, number_between, number_up_to}
+use Rattle.command_line.specs.Command.{Command, compile, step, forward}
+use Rattle.command_line.specs.Syntax.{app_with, case_argument, design_argument, defs_argument, hops_argument, level_argument, option_argument, out_argument, packets_argument, with_arguments}
+
+-- ---- compile
+
+-- the subcommand `compile`
+abbrev pub compile_app : App
+compile_app =
+    with_arguments (new_app (codes "compile")) (design_argument ∷ defs_argument ∷ out_argument ∷ [])
+
+-- `compile` with names that are all there
+abbrev pub with_names : Option (List ℕ) → Option (List ℕ) → Option (List ℕ) → Option Command
+with_names (Some design) (Some defs) (Some out) = Some (compile design defs out)
+with_names _ _ _ = None
+
+-- what `compile` asks for, by its matches
+abbrev pub compile_of : List Row → Option Command
+compile_of rows =
+    with_names (argument_name design_argument rows) (argument_name defs_argument rows)
+    (argument_name out_argument rows)
+
+-- ---- step
+
+-- the subcommand `step`
+abbrev pub step_app : App
+step_app =
+    with_arguments (new_app (codes "step"))
+    (design_argument ∷ defs_argument ∷ level_argument ∷ case_argument ∷ [])
+
+-- the number of the highest level
+abbrev pub highest_level : ℕ
+highest_level = 16
+
+-- the number of a level, by what `clap` matched
+abbrev pub level_in : List Row → Option ℕ
+level_in rows = option_and_then (number_up_to highest_level) (first_of level_argument rows)
+
+-- `step` with names and a number that are all there
+abbrev pub with_level : Option (List ℕ) → Option (List ℕ) → Option ℕ → Option (List ℕ) → Option Command
+with_level (Some design) (Some defs) (Some level) (Some file) = Some (step design defs level file)
+with_level _ _ _ _ = None
+
+-- what `step` asks for, by its matches
+abbrev pub step_of : List Row → Option Command
+step_of rows =
+    with_level (argument_name design_argument rows) (argument_name defs_argument rows)
+    (level_in rows) (argument_name case_argument rows)
+
+-- ---- forward
+
+-- the subcommand `forward`
+abbrev pub forward_app : App
+forward_app =
+    with_rule (with_arguments (new_app (codes "forward")) (out_argument ∷ packets_argument ∷ []))
+    (option_argument hops_argument)
+
+-- the most visits of a packet that may be asked for
+abbrev pub most_hops : ℕ
+most_hops = 64
+
+-- how many are asked for where no word says it
+abbrev pub usual_hops : ℕ
+usual_hops = 16
+
+-- the number of visits that a word asks for, if there is one
+abbrev pub hops_by : Option Text → Option ℕ
+hops_by None = Some usual_hops
+hops_by (Some word) = number_between 1 most_hops word
+
+-- the number of visits, by what `clap` matched
+abbrev pub hops_in : List Row → Option ℕ
+hops_in rows = hops_by (first_of hops_argument rows)
+
+-- `forward` with names and a number that are all there
+abbrev pub with_hops : Option (List ℕ) → Option (List ℕ) → Option ℕ → Option Command
+with_hops (Some out) (Some packets) (Some hops) = Some (forward out packets hops)
+with_hops _ _ _ = None
+
+-- what `forward` asks for, by its matches
+abbrev pub forward_of : List Row → Option Command
+forward_of rows =
+    with_hops (argument_name out_argument rows) (argument_name packets_argument rows) (hops_in rows)
+
+-- ---- all of them
+
+-- the whole command line
+abbrev pub cocoon_app : App
+cocoon_app = app_with (compile_app ∷ step_app ∷ forward_app ∷ [])
+
+-- what a subcommand asks for, by its name and its matches
+abbrev pub command_of : Text × List Row → Option Command
+command_of met =
+    if same_name met.0 (codes "compile") then compile_of met.1
+    else if same_name met.0 (codes "step") then step_of met.1
+    else if same_name met.0 (codes "forward") then forward_of met.1
+    else None

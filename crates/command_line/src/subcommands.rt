@@ -1,0 +1,152 @@
+//! Each subcommand: as `clap` states it, and what it asks for by its matches. A new one is a part of its
+//! own here, with a call in `cocoon_app` and a branch in `command_of`.
+ghost use Rattle.std.specs.Prelude.{◌≡◌, IfOk, false, option_map};
+ghost use Rattle.clap.specs.Words.{app_of, found_of, rows_of};
+ghost use Rattle.clap.specs.declared.builder.Command.TheViews.{out-Command};
+ghost use Rattle.command_line.specs.Command as spec;
+ghost use Rattle.command_line.specs.Command.{stands_for};
+ghost use Rattle.command_line.specs.Subcommands.{cocoon_app, command_of, compile_app, compile_of, forward_app, forward_of, hops_in, level_in, step_app, step_of};
+
+use crate::arguments::{argument_name, number_between, number_up_to};
+use crate::command::{Command, Compile, Forward, Step};
+use crate::syntax::{
+    CASE, DEFS, DESIGN, HOPS, LEVEL, OUT, PACKETS, with_arguments, with_option, with_subcommand,
+};
+use clap::ArgMatches;
+use cocoon_num::NoMemory;
+use std::alloc::Global;
+
+// ---- compile
+
+/// The subcommand `compile`.
+fn compile_app<'w>(alloc: Global) -> Result<clap::Command<'w>, NoMemory>
+    ensures app { IfOk result (λ c. app_of c ≡ compile_app) }
+    ensures local { IfOk result (λ c. (out-Command c).has_globals ≡ false) }
+{
+    with_arguments(
+        alloc,
+        clap::Command::new(alloc, "compile"),
+        &[DESIGN, DEFS, OUT],
+    )
+}
+
+/// The names of a `compile`, where each has its form.
+fn compile_of<'w>(matches: &ArgMatches<'w>) -> Option<Compile<'w>>
+    ensures { option_map (λ c. spec.compile c.design.now c.defs.now c.out.now) result
+        ≡ compile_of (rows_of (found_of matches.now)) }
+{
+    let design = argument_name(matches, DESIGN)?;
+    let defs = argument_name(matches, DEFS)?;
+    let out = argument_name(matches, OUT)?;
+    Some(Compile { design, defs, out })
+}
+
+// ---- step
+
+const HIGHEST_LEVEL: u32 = 16;
+
+/// The subcommand `step`.
+fn step_app<'w>(alloc: Global) -> Result<clap::Command<'w>, NoMemory>
+    ensures app { IfOk result (λ c. app_of c ≡ step_app) }
+    ensures local { IfOk result (λ c. (out-Command c).has_globals ≡ false) }
+{
+    with_arguments(
+        alloc,
+        clap::Command::new(alloc, "step"),
+        &[DESIGN, DEFS, LEVEL, CASE],
+    )
+}
+
+/// The word for the level, where it is the number of one.
+fn level<'w>(matches: &ArgMatches<'w>) -> Option<u32>
+    ensures { result ≡ level_in (rows_of (found_of matches.now)) }
+{
+    match matches.get_str(LEVEL) {
+        Some(word) => number_up_to(HIGHEST_LEVEL, word),
+        None => None,
+    }
+}
+
+/// What a `step` is given, where each part has its form.
+fn step_of<'w>(matches: &ArgMatches<'w>) -> Option<Step<'w>>
+    ensures { option_map (λ s. spec.step s.design.now s.defs.now s.level s.file.now) result
+        ≡ step_of (rows_of (found_of matches.now)) }
+{
+    let design = argument_name(matches, DESIGN)?;
+    let defs = argument_name(matches, DEFS)?;
+    let level = level(matches)?;
+    let file = argument_name(matches, CASE)?;
+    Some(Step {
+        design,
+        defs,
+        level,
+        file,
+    })
+}
+
+// ---- forward
+
+/// The most visits of a packet that may be asked for.
+const MOST_HOPS: u32 = 64;
+
+/// How many are asked for where no word says it.
+const USUAL_HOPS: u32 = 16;
+
+/// The subcommand `forward`.
+fn forward_app<'w>(alloc: Global) -> Result<clap::Command<'w>, NoMemory>
+    ensures app { IfOk result (λ c. app_of c ≡ forward_app) }
+    ensures local { IfOk result (λ c. (out-Command c).has_globals ≡ false) }
+{
+    let command = with_arguments(alloc, clap::Command::new(alloc, "forward"), &[OUT, PACKETS])?;
+    with_option(alloc, command, HOPS)
+}
+
+/// The number of visits: that of the word for it, or the usual one where there is no word.
+fn hops<'w>(matches: &ArgMatches<'w>) -> Option<u32>
+    ensures { result ≡ hops_in (rows_of (found_of matches.now)) }
+{
+    match matches.get_str(HOPS) {
+        Some(word) => number_between(1, MOST_HOPS, word),
+        None => Some(USUAL_HOPS),
+    }
+}
+
+/// What a `forward` is given, where each part has its form.
+fn forward_of<'w>(matches: &ArgMatches<'w>) -> Option<Forward<'w>>
+    ensures { option_map (λ f. spec.forward f.out.now f.packets.now f.hops) result
+        ≡ forward_of (rows_of (found_of matches.now)) }
+{
+    let out = argument_name(matches, OUT)?;
+    let packets = argument_name(matches, PACKETS)?;
+    let hops = hops(matches)?;
+    Some(Forward { out, packets, hops })
+}
+
+// ---- all of them
+
+/// The whole command line.
+pub fn cocoon_app<'w>(alloc: Global) -> Result<clap::Command<'w>, NoMemory>
+    ensures { IfOk result (λ c. app_of c ≡ cocoon_app) }
+{
+    let command = clap::Command::new(alloc, "cocoon");
+    let command = with_subcommand(command, compile_app(alloc)?)?;
+    let command = with_subcommand(command, step_app(alloc)?)?;
+    let command = with_subcommand(command, forward_app(alloc)?)?;
+    Ok(command)
+}
+
+/// What a subcommand asks for, by its name and its matches.
+pub fn command_of<'w>(name: &str, matches: &ArgMatches<'w>) -> Option<Command<'w>>
+    ensures { option_map stands_for result
+        ≡ command_of (name.now, rows_of (found_of matches.now)) }
+{
+    if name == "compile" {
+        compile_of(matches).map(Command::Compile)
+    } else if name == "step" {
+        step_of(matches).map(Command::Step)
+    } else if name == "forward" {
+        forward_of(matches).map(Command::Forward)
+    } else {
+        None
+    }
+}

@@ -1,0 +1,16 @@
+//! What a command can answer, and how that is printed: the files of a command and their names, why a
+//! command stops, how it ends, and the line of each refusal. No command is known here by its name.
+#![tactic(auto)]
+
+pub mod ending;
+pub mod files;
+pub mod printing;
+pub mod refusal;
+pub mod report;
+pub mod status;
+
+pub use files::{CommandFile, FileNames, Wanted};
+pub use printing::{print, tell_no_memory, tell_usage};
+pub use refusal::{BundleCause, DefinitionsFault, EntryRule, InputFault, Refusal, unread};
+pub use report::{Report, Verdict};
+pub use status::Status;
