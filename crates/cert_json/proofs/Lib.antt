@@ -1,2 +1,3 @@
 mod CertsExact
 mod CertsValue
+mod Scanned

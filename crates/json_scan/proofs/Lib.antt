@@ -1,0 +1,6 @@
+mod Fuel
+mod Turns
+mod Parts
+mod Lists
+mod Pairs
+mod TwoItems

@@ -1,0 +1,23 @@
+use Rattle.std.proofs.Common.{option_map, refl, sym, ap}
+use Rattle.std.proofs.lemmas.Result.{IfOk-weaker}
+use Rattle.json_forms.specs.Forms.{all_form, list_form}
+use Rattle.json_scan.proofs.Parts.{array_is, passed_object, array_refused, object_refused}
+use Rattle.json_scan.proofs.scan.VecScanJson.scan.Goals as goal
+
+pub returns-in-Array-clause-ok : goal.returns-in-Array-clause-ok
+returns-in-Array-clause-ok g c =
+    IfOk-weaker c.list_items.result _ _ (λ read r.
+    array_is c.args.depth c.in-Array.within c.args.reader.now c.begin.new.reader c.in_ok-start.start c.in_ok-start.ensures.ok (list_form g.T.ScanJson.form) _ c.list_items.new.reader (all_form g.T.ScanJson.form) _ (λ x. x) c.in-Array.is r
+    (λ ds. refl) refl) c.list_items.ensures.ok
+
+pub returns-in-Array-clause-err : goal.returns-in-Array-clause-err
+returns-in-Array-clause-err g c e = array_refused c.args.depth c.in-Array.within c.args.reader.now c.begin.new.reader c.in_ok-start.start c.in_ok-start.ensures.ok c.in-Array.is (c.list_items.ensures.err e)
+
+pub returns-in-Object-clause-ok : goal.returns-in-Object-clause-ok
+returns-in-Object-clause-ok g c =
+    IfOk-weaker c.no_members.result _ _ (λ read h.
+    passed_object c.args.depth c.in-Object.within c.args.reader.now c.begin.new.reader c.in_ok-start.start c.in_ok-start.ensures.ok (list_form g.T.ScanJson.form) _ c.no_members.new.reader c.in-Object.is h.1
+    (λ _. ap (option_map _) (sym h.0))) c.no_members.ensures.ok
+
+pub returns-in-Object-clause-err : goal.returns-in-Object-clause-err
+returns-in-Object-clause-err g c e = object_refused c.args.depth c.in-Object.within c.args.reader.now c.begin.new.reader c.in_ok-start.start c.in_ok-start.ensures.ok c.in-Object.is (c.no_members.ensures.err e)
