@@ -1,0 +1,9 @@
+pub mod Growing
+pub mod Places
+pub mod Changes
+pub mod Fitting
+pub mod Standing
+pub mod Stepping
+pub mod Lists
+pub mod FromPlaces
+pub mod Sizes
