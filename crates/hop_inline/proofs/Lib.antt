@@ -1,0 +1,6 @@
+mod Growing
+mod NewInputs
+mod Names
+mod Bodies
+mod Ends
+mod Roots
