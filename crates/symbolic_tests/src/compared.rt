@@ -47,7 +47,7 @@ fn with_choices(
     }
 }
 
-fn value(alloc: Global, terms: &Terms, term: TermId, env: &Env) -> Option<Bits> {
+pub(crate) fn value(alloc: Global, terms: &Terms, term: TermId, env: &Env) -> Option<Bits> {
     if covers(alloc, terms, env, term) {
         terms.eval(alloc, term, env).ok()
     } else {

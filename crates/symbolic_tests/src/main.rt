@@ -13,11 +13,13 @@ mod numbers;
 mod questions;
 mod random;
 mod tables;
+mod trees;
 
 use case_files::{Printer, Subject, first_word, try_words};
 use compared::{put_agreeing, put_same, put_values};
 use questions::put_term;
 use std::process::ExitCode;
+use trees::put_tree;
 
 /// The cases, with the machine that has their files of data.
 #[derive(Drop)]
@@ -37,6 +39,7 @@ impl<'r> Subject for Cases<'r> {
             "same" => put_same(self.rt.alloc(), above, rest, given),
             "term" => put_term(self.rt, above, rest, given),
             "values" => put_values(self.rt, above, rest, given),
+            "leaves" | "leaf" | "digest" => put_tree(self.rt, above, word, rest, given),
             "agreeing" => put_agreeing(self.rt, above, rest, given),
             _ => given.put("no case"),
         }

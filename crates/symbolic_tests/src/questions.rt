@@ -191,6 +191,10 @@ impl Question {
         Some(Question { checked, defs })
     }
 
+    pub(crate) fn checked(&self) -> &Checked {
+        &self.checked
+    }
+
     pub(crate) fn tables(&self) -> &[Option<FunTable>] {
         self.defs.tables()
     }
