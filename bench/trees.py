@@ -187,7 +187,7 @@ def measured(lines, tree, value):
         said = subprocess.run(["/usr/bin/time", "-f", "%U %M", program, "one.cases"], cwd=folder, capture_output=True, text=True)
     instructions = int(re.search(r"I +refs: +([0-9,]+)", counted.stderr)[1].replace(",", ""))
     found = re.search(r"found +(.*)", said.stdout)[1]
-    return found, instructions, said.stderr.split()
+    return found, instructions, said.stderr.split()[-2:]
 
 
 def print_times():
