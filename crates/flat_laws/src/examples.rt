@@ -12,8 +12,8 @@ pub fn plain_goals_stay()
 
 /// An application inside an argument comes first, and its input stands in the arguments.
 pub fn nested_applications()
-    ensures { flattened (binary Equal (apply 3 (arg (apply 3 (arg (input 0 8) no_args) 8) no_args) 8)
-        (input 1 8)) 2
+    ensures { flattened (binary Equal
+        (apply 3 (arg (apply 3 (arg (input 0 8) no_args) 8) no_args) 8) (input 1 8)) 2
         ≡ binary And (binary Equal (input 3 8) (input 1 8))
         (binary Or (not_ (binary Equal (input 0 8) (input 2 8)))
         (binary Equal (input 2 8) (input 3 8))) }
