@@ -6,14 +6,18 @@
     bench/search.py FOLDER LISTS     in place of it searches through this many small lists of clauses, made by chance
     bench/search.py FOLDER refused   in place of it refuses each allocation of some searches in turn
     bench/search.py FOLDER NAME..    in place of it searches through these lists alone: `made`, those that this script makes; `hostile`, those that ask
-                                     for much; or a file of DIMACS
+                                     for much; `goals`, those of terms; or a file of DIMACS
+    bench/search.py FOLDER hosts READING [COUNT..]
+                                     in place of it searches through the assumption of a design over so many hosts, 10 to 1,000 if no counts are
+                                     given, whose clauses another reading of designs in the folder READING makes
 
 It copies the crates that it needs, with the program `search.rt.txt`, and has `rt run` prove and build what is not kept on this machine. `cc` compiles
-`check_log.c` and `refuse.c`. MiniSat and CaDiCaL are asked if they are there.
+`check_log.c` and `refuse.c`. MiniSat and CaDiCaL are asked if they are there; GNU time tells the peaks of memory.
 """
 
 import collections
 import dataclasses
+import importlib
 import os
 import pathlib
 import random
@@ -40,9 +44,9 @@ SOLVERS = [
     ("cadical", ["cadical", "-n"]),
 ]
 MOST_SECONDS = 300
-# The least time of so many runs counts, of fewer where one takes long.
-RUNS, LONG_RUNS = 15, 2
-LONG_MILLIS = 300
+# The least time of so many runs counts, of fewer where all would take longer than this.
+RUNS, ALL_MILLIS = 15, 3000
+HOSTS = ["10", "40", "100", "200", "500", "1000"]
 # So many conflicts are allowed where a list is not hostile.
 CONFLICTS = 1_000_000
 
@@ -106,13 +110,15 @@ class Solved:
 
 
 def solved(program, text, conflicts=CONFLICTS):
-    with tempfile.TemporaryFile("w+") as file:
+    with tempfile.TemporaryFile("w+") as file, tempfile.NamedTemporaryFile("r") as peak:
         file.write(text)
         file.seek(0)
-        said, used = ended([program, str(conflicts)], file)
+        # What a process of this script's own has at its start would count as its peak.
+        said, used = ended(["/usr/bin/time", "-f", "%M", "-o", peak.name, program, str(conflicts)], file)
+        kibibytes = int(peak.read())
     head, _, log = said.partition("\n")
     _, answer, steps, micros = head.split(" ")
-    return Solved(answer, int(steps), int(micros), log, (used.ru_utime + used.ru_stime) * 1000, used.ru_maxrss)
+    return Solved(answer, int(steps), int(micros), log, (used.ru_utime + used.ru_stime) * 1000, kibibytes)
 
 
 def ended(words, given=None):
@@ -141,7 +147,7 @@ def in_turn(program, text, conflicts):
     with tempfile.NamedTemporaryFile("w", suffix=".cnf") as file:
         file.write(text)
         file.flush()
-        for _ in range(LONG_RUNS if ours.millis > LONG_MILLIS else RUNS):
+        for _ in range(max(1, min(RUNS, int(ALL_MILLIS / ours.millis)))):
             for name, words in [*asked]:
                 try:
                     said, millis = processor_time([*words, file.name])
@@ -384,9 +390,9 @@ def threes(variables, seed):
 
 def made():
     """Names and texts of lists that ask for a search."""
-    for holes in (6, 7, 8):
+    for holes in (6, 7, 8, 9):
         yield f"pigeonholes {holes}", pigeonholes(holes)
-    for variables in (100, 150, 200):
+    for variables in (100, 150, 200, 250):
         for seed in (1, 2):
             yield f"threes {variables} {seed}", threes(variables, seed)
 
@@ -404,6 +410,7 @@ def hostile():
     some = 100_000
     order = [1, 2, *range(some, 2, -1)]
     yield "a long clause whose last literals become false first", dimacs(some, [list(range(1, some + 1)), [-1], *([one, -next] for one, next in zip(order, order[1:]))]), CONFLICTS
+    yield "a long clause whose literals become false in their order", dimacs(long, [list(range(1, long + 1)), [-1], *([name, -name - 1] for name in range(1, long))]), CONFLICTS
     yield "units", dimacs(1 << 20, [[name] for name in range(1, (1 << 20) + 1)]), CONFLICTS
     yield "clauses that have one literal", dimacs(200_001, [[1, -2 * name, 2 * name + 1] for name in range(1, 100_001)]), CONFLICTS
 
@@ -436,11 +443,28 @@ def refuse_allocations(program, folder):
         print(f"{name}: {last} allocations, each refused, alone and with all after it: {dict(ends)}", flush=True)
 
 
-def time_searches(program, checker):
+def time_goals(program, checker):
     for kind, sizes in FORMULAS:
         for size in sizes:
             if not time_search(program, checker, f"{kind} {size}", run([program, "clauses"], f"{kind} {size}")):
                 break
+
+
+def time_hosts(program, checker, folder, reading, counts):
+    """Searches for a host that does not meet the assumption of the design that `refcli.py` of the reading makes, with its definitions."""
+    sys.path.insert(0, reading)
+    texts = importlib.import_module("refcli").gen_texts
+    for count in counts or HOSTS:
+        files = folder / "hosts.ccn", folder / "hosts.defs"
+        for path, text in zip(files, texts(int(count)), strict=True):
+            path.write_bytes(text)
+        asked = [sys.executable, f"{reading}/verify.py", "acnf", *files, "0", "--dimacs"]
+        clauses = subprocess.run(asked, stdout=subprocess.PIPE, text=True, check=True).stdout
+        time_search(program, checker, f"an assumption over {count} hosts", clauses)
+
+
+def time_searches(program, checker):
+    time_goals(program, checker)
     for file in ("searches", "random"):
         for case in (DATA / f"{file}.dimacs").read_text().split("\n\n"):
             head = case.partition("\n")[0].split(" ", 2)
@@ -453,6 +477,8 @@ def time_lists(program, checker, names):
         if name == "made":
             for title, text in made():
                 time_search(program, checker, title, text)
+        elif name == "goals":
+            time_goals(program, checker)
         elif name == "hostile":
             for title, text, conflicts in hostile():
                 time_search(program, checker, title, text, conflicts)
@@ -467,6 +493,8 @@ def measure(folder, *lists):
     subprocess.run(["cc", "-O2", "-o", checker, TOP / "bench" / "check_log.c"], check=True)
     if lists == ("refused",):
         refuse_allocations(program, folder)
+    elif lists[:1] == ("hosts",):
+        time_hosts(program, checker, folder, lists[1], lists[2:])
     elif len(lists) == 1 and lists[0].isdigit():
         try_lists(program, checker, int(lists[0]), folder)
     elif lists:

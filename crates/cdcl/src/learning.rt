@@ -188,7 +188,7 @@ fn asserting_pair(search: &Search, analysis: &Analysis, second: usize) -> Pair
         return Pair::twice(first);
     }
     let second = opposite_before(search, second);
-    Pair { first, second }
+    Pair::new(first, second, 0)
 }
 
 /// The opposite of the literal before this place.

@@ -16,7 +16,7 @@
 //! | `propagate`: the loop over `qhead` | `Search::propagate` |
 //! | its loop over the watchers of one literal | `Search::propagate_literal` |
 //! | its body for one watcher | `Search::propagate_clause`, by what `Search::visit` says of the clause |
-//! | "look for new watch" | `Search::replacement` |
+//! | "look for new watch" | `Search::replacement`, which begins where the last look ended (`Pair::resume`), as CaDiCaL's does |
 //! | `newDecisionLevel`, `pickBranchLit` | `Search::decide`, `Search::next_decision` |
 //! | `analyze`, up to the first unique implication point | `analyze` of `learning`, with `resolve` for one literal |
 //! | its `seen`, `pathC` | `Analysis`: `marks`, `count` |

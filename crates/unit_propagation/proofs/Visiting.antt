@@ -1,19 +1,19 @@
 -- What becomes of a clause where a literal that it watches is false.
-use Rattle.std.proofs.Common.{◌≡◌, ℕ, ◌<◌, ◌&&◌, ◌||◌, ℤ, pos, true, false, not, List, length, get_or, Some, sym, ap, ◌∙◌, subst, arith, inl, inr}
+use Rattle.std.proofs.Common.{◌≡◌, ℕ, ◌+◌, ◌<◌, ◌≤◌, ◌&&◌, ◌||◌, ℤ, pos, true, false, not, List, length, drop, get_or, take, Option, Some, None, sym, ap, ◌∙◌, subst, arith, inl, inr}
 use Rattle.std.specs.Prelude.{slice_get}
 use Rattle.std.proofs.lemmas.Bool.{and_from, not_from_false, or_cases}
-use Rattle.std.proofs.lemmas.List.{get_or-map, length-map}
+use Rattle.std.proofs.lemmas.List.{get_or-drop, get_or-map, get_or-take, length-drop, length-take-le, take-append-drop}
 use Rattle.std.proofs.lemmas.Option.{same_Some}
 use Rattle.cocoon_num.specs.Lists.{each}
 use Rattle.cnf_core.specs.Deriving.{forces, has_no_value, is_conflict, is_false}
 use Rattle.cnf_core.specs.Literals.{has_literal, same}
-use Rattle.cnf_core.specs.Trails.{numbers}
+use Rattle.cnf_core.specs.Trails.{literal_at, numbers}
 use Rattle.cnf_core.specs.TrailViews.{trues}
 use Rattle.cnf_core.specs.declared.clauses.Cnf.{Cnf}
 use Rattle.cnf_core.specs.declared.lit.Lit.{Lit}
-use Rattle.cnf_core.proofs.LiteralFacts.{has-at, same-is}
-use Rattle.cnf_core.proofs.ClauseStatuses.{each-weaker}
-use Rattle.unit_propagation.specs.States.{VisitsClause, VisitsNumber, clauses_of}
+use Rattle.cnf_core.proofs.LiteralFacts.{same-is}
+use Rattle.cnf_core.proofs.ClauseStatuses.{each-append, each-weaker}
+use Rattle.unit_propagation.specs.States.{ReplacesAt, VisitsClause, VisitsNumber, clauses_of}
 use Rattle.watched_literals.specs.Watching.{AreWatched}
 use Rattle.unit_propagation.specs.declared.propagation.Visit.{Visit}
 use Rattle.unit_propagation.specs.declared.propagation.Visit.TheVariants.{Conflict, Forces, Kept, Moved}
@@ -21,9 +21,29 @@ use Rattle.unit_propagation.specs.declared.search.Search.{Search}
 use Rattle.watched_literals.specs.declared.watches.Pair.{Pair}
 use Rattle.watched_literals.proofs.Watched.{same-other}
 
-pub has-item : (lits : List Lit) (i : ℕ) (x : Lit) → i < length lits → x ≡ get_or lits i x → has_literal (numbers lits) x.number ≡ true
-has-item lits i x lt e = ap (has_literal (numbers lits)) (ap (λ (l : Lit). l.number) e ∙ sym (get_or-map (λ (l : Lit). l.number) lits i x (pos 0) lt))
-    ∙ has-at (numbers lits) i (omega (arith, lt, length-map lits (λ (l : Lit). l.number)))
+pub item-literal : (lits : List Lit) (i : ℕ) (x : Lit) → i < length lits → x ≡ get_or lits i x → literal_at (numbers lits) i ≡ x.number
+item-literal lits i x lt e = get_or-map (λ (l : Lit). l.number) lits i x (pos 0) lt ∙ ap (λ (l : Lit). l.number) (sym e)
+
+-- a look from a place on, and one before it
+module _ (ts ls : List ℤ) (other : ℤ) (from : ℕ) (within : from ≤ length ls) where
+  pub replaces-after : (place before : ℕ) → before ≡ from → ReplacesAt ts (drop from ls) other (Some place) → ReplacesAt ts ls other (Some (before + place))
+  replaces-after place before at h =
+      let is : literal_at (drop from ls) place ≡ literal_at ls (before + place) = get_or-drop from ls place (pos 0) ∙ ap (λ n. literal_at ls (n + place)) (sym at) in (
+        omega (arith, h.0, length-drop from ls, at, within),
+        (λ e. h.1 (is ∙ e)),
+        ap (is_false ts) (sym is) ∙ h.2,
+      )
+
+  pub replaces-before : (r : Option ℕ) → ReplacesAt ts (drop from ls) other None → ReplacesAt ts (take from ls) other r → ReplacesAt ts ls other r
+  replaces-before (Some place) none h =
+      let lt : place < from = omega (arith, h.0, length-take-le from ls within) in
+      let is : literal_at (take from ls) place ≡ literal_at ls place = get_or-take from ls place (pos 0) lt in (
+        omega (arith, lt, within),
+        (λ e. h.1 (is ∙ e)),
+        ap (is_false ts) (sym is) ∙ h.2,
+      )
+  replaces-before None none h = subst (λ ms. each (λ m. same other m || is_false ts m) ms ≡ true) (take-append-drop from ls)
+      (each-append (λ m. same other m || is_false ts m) (take from ls) (drop from ls) h none)
 
 module _ (ts ls : List ℤ) (other : ℤ) where
   pub all-false : is_false ts other ≡ true → each (λ m. same other m || is_false ts m) ls ≡ true → is_conflict ts ls ≡ true

@@ -4,6 +4,7 @@ use Rattle.cnf_core.specs.Deriving.{EachDerived, forces, has_no_value, is_confli
 use Rattle.cnf_core.specs.Licensing.{BringsNew}
 use Rattle.cocoon_num.specs.Lists.{each}
 use Rattle.cnf_core.specs.Literals.{Names, has_literal, same}
+use Rattle.cnf_core.specs.Trails.{literal_at}
 use Rattle.cnf_core.specs.TrailViews.{not_true, room, trues}
 use Rattle.cnf_core.specs.declared.clauses.Cnf.{Cnf}
 use Rattle.cnf_core.specs.declared.lit.Lit.{Lit}
@@ -84,10 +85,10 @@ VisitsNumber cnf s number off (Moved pair) = IsVisit cnf s number off (Moved pai
 VisitsNumber cnf s number off (Forces lit) = IsVisit cnf s number off (Forces lit)
 VisitsNumber cnf s number off Conflict = IsVisit cnf s number off Conflict
 
--- a literal of the clause besides this one that is not false, or there is none
-abbrev pub Replaces : (trues clause : List ℤ) (other : ℤ) → Option Lit → Type 0
-Replaces trues clause other (Some lit) = (lit.number ≢ other) × IsTrue (has_literal clause lit.number) × IsFalse (is_false trues lit.number)
-Replaces trues clause other None = IsTrue (each (λ m. same other m || is_false trues m) clause)
+-- at this place is another literal than this one, which is not false; or there is none
+abbrev pub ReplacesAt : (trues lits : List ℤ) (other : ℤ) → Option ℕ → Type 0
+ReplacesAt trues lits other (Some place) = (place < length lits) × (literal_at lits place ≢ other) × IsFalse (is_false trues (literal_at lits place))
+ReplacesAt trues lits other None = IsTrue (each (λ m. same other m || is_false trues m) lits)
 
 -- more literals are true, after those of before
 pub record IsLonger (old new : Search) : Type 0 where

@@ -101,7 +101,7 @@ impl Search {
         ensures conflict { IfOk result (λ good. IsFalse good
             → IsTrue (is_conflict (trues self.new.trail) (literals clause.now))) }
     {
-        match self.visit_clause(clause, first) {
+        match self.visit_clause(clause, first, 0) {
             Visit::Kept => {
                 self.watch(cnf, Pair::twice(first))?;
                 Ok(true)

@@ -5,10 +5,10 @@ ghost use Rattle.cnf_core.specs.Clauses.{literals};
 ghost use Rattle.cnf_core.specs.Deriving.{has_no_value, is_false};
 ghost use Rattle.cnf_core.specs.Literals.{has_literal, Names, opposite, same, variable};
 ghost use Rattle.cnf_core.specs.Satisfying.{WellNamed};
-ghost use Rattle.cnf_core.specs.Trails.{literal_at};
+ghost use Rattle.cnf_core.specs.Trails.{literal_at, numbers};
 ghost use Rattle.cnf_core.specs.TrailViews.{not_true, room, trues};
 ghost use Rattle.search_laws.specs.Searching.{IsForcedBy};
-ghost use Rattle.unit_propagation.specs.States.{clauses_of, HasWatches, Inside, IsLonger, IsReady, IsSameButWatches, IsSound, PropagatesLiteral, Replaces, SameSteps, Settled, PropagatesClause, VisitsClause, VisitsNumber, WatchesNext};
+ghost use Rattle.unit_propagation.specs.States.{clauses_of, HasWatches, Inside, IsLonger, IsReady, IsSameButWatches, IsSound, PropagatesLiteral, ReplacesAt, SameSteps, Settled, PropagatesClause, VisitsClause, VisitsNumber, WatchesNext};
 ghost use Rattle.watched_literals.specs.Watching.{IsEntry, IsLookedAt, list_of};
 
 use crate::search::Search;
@@ -95,21 +95,36 @@ impl Search {
         other.is_same(lit) || self.trail.is_false(lit)
     }
 
-    /// A literal of a clause that is not false, besides this one.
-    fn replacement(&self, clause: &Clause, other: Lit) -> Option<Lit>
-        requires { All (Names (room self.now.trail)) (literals clause.now) }
-        ensures { Replaces (trues self.now.trail) (literals clause.now) other.number result }
+    /// The place of a literal that is not false, besides this one.
+    fn find_open(&self, lits: &[Lit], other: Lit) -> Option<usize>
+        requires { All (Names (room self.now.trail)) (numbers lits.now) }
+        ensures { ReplacesAt (trues self.now.trail) (numbers lits.now) other.number result }
     {
-        for lit in clause.lits.items() {
-            if !self.is_spent(*lit, other) {
-                return Some(*lit);
+        for place in 0..lits.len() {
+            if !self.is_spent(lits[place], other) {
+                return Some(place);
             }
         }
         None
     }
 
-    /// What becomes of a clause that watches this literal of its own besides one that is false.
-    pub(crate) fn visit_clause(&self, clause: &Clause, other: Lit) -> Visit
+    /// The place in a clause of a literal that is not false, besides this one. The look begins at the place `from`, and
+    /// goes on at the first one after the last.
+    fn replacement(&self, clause: &Clause, other: Lit, from: usize) -> Option<usize>
+        requires { All (Names (room self.now.trail)) (literals clause.now) }
+        ensures { ReplacesAt (trues self.now.trail) (literals clause.now) other.number result }
+    {
+        let lits = clause.lits.items();
+        let (before, after) = lits.split_at(from.min(lits.len()));
+        match self.find_open(after, other) {
+            Some(place) => Some(before.len() + place),
+            None => self.find_open(before, other),
+        }
+    }
+
+    /// What becomes of a clause that watches this literal of its own besides one that is false. The look for a literal to
+    /// watch begins at the place `from`.
+    pub(crate) fn visit_clause(&self, clause: &Clause, other: Lit, from: usize) -> Visit
         requires named { All (Names (room self.now.trail)) (literals clause.now) }
         requires inside { IsTrue (has_literal (literals clause.now) other.number) }
         ensures { VisitsClause (trues self.now.trail) (literals clause.now) other.number result }
@@ -117,11 +132,9 @@ impl Search {
         if self.trail.is_true(other) {
             return Visit::Kept;
         }
-        if let Some(second) = self.replacement(clause, other) {
-            return Visit::Moved(Pair {
-                first: other,
-                second,
-            });
+        if let Some(place) = self.replacement(clause, other, from) {
+            let second = clause.lits.items()[place];
+            return Visit::Moved(Pair::new(other, second, place));
         }
         if self.trail.is_false(other) {
             Visit::Conflict
@@ -139,7 +152,7 @@ impl Search {
             → VisitsClause (trues self.now.trail) clause other.number result }
     {
         match self.clause(cnf, number as usize) {
-            Some(clause) => self.visit_clause(clause, other),
+            Some(clause) => self.visit_clause(clause, other, self.watches.resume(number)),
             None => Visit::Kept,
         }
     }

@@ -13,13 +13,15 @@ use cocoon_num::NoMemory;
 use std::alloc::Global;
 
 /// At most so many numbers move at once in a list.
-const MOST_MOVED: usize = 1 << 10;
+const MOST_MOVED: usize = 1 << 12;
 
 /// The watched literals of a clause.
 #[derive(Clone, Copy)]
 pub struct Pair {
     pub first: Lit,
     pub second: Lit,
+    /// The place in the clause at which the next look for a literal to watch begins. Any place is right.
+    pub resume: u32,
 }
 
 /// What each clause watches, and where each literal is watched.
@@ -39,9 +41,18 @@ impl Pair {
         ensures first { result.first.number ≡ lit.number }
         ensures second { result.second.number ≡ lit.number }
     {
+        Pair::new(lit, lit, 0)
+    }
+
+    /// These two literals. The look for the second ended at this place of the clause.
+    pub fn new(first: Lit, second: Lit, place: usize) -> Pair
+        ensures first { result.first.number ≡ first.number }
+        ensures second { result.second.number ≡ second.number }
+    {
         Pair {
-            first: lit,
-            second: lit,
+            first,
+            second,
+            resume: u32::try_from(place).unwrap_or(0),
         }
     }
 
@@ -90,6 +101,14 @@ impl Watches {
         match self.pair(number) {
             Some(pair) => pair.other(lit),
             None => None,
+        }
+    }
+
+    /// The place in the clause of this number at which the next look for a literal to watch begins.
+    pub fn resume(&self, number: u32) -> usize {
+        match self.pair(number) {
+            Some(pair) => pair.resume as usize,
+            None => 0,
         }
     }
 

@@ -40,5 +40,5 @@ returns-clause-first c = λ p le lt on.
     let counted : count_from a.floor marks ≡ 1 = sym a.counted ∙ c.requires.one in
     let within : end ≤ length marks = omega (arith, c.last_before-end.ensures.within, c.len.ensures, sized) in
     let none : (p : ℕ) → end ≤ p → p < length marks → is_marked marks p ≡ false = λ p le lt. c.last_before-end.ensures.none p le (omega (arith, lt, c.len.ensures, sized)) in
-    c.opposite_before-first.ensures ∙ ap (λ q. opposite (literal_at ts q))
+    c.new.ensures.first ∙ c.opposite_before-first.ensures ∙ ap (λ q. opposite (literal_at ts q))
     (last-marked a.floor marks end counted within none c.last_before-end.ensures.marked p le (omega (arith, lt, sized)) on)

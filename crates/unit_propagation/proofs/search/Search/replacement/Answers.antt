@@ -1,40 +1,50 @@
-use Rattle.std.proofs.Common.{◌≡◌, ◌≢◌, ◌||◌, ◌∷◌, ◌∙◌, [], ap, refl, subst, sym, take, true}
+use Rattle.std.proofs.Common.{◌≤◌, ◌+◌, ◌∙◌, List, ap, arith, length, subst, sym, None, Some}
 use Rattle.std.specs.List.{All}
-use Rattle.std.proofs.lemmas.Bool.{and_from, both_ways, or_parts}
-use Rattle.cocoon_num.specs.Lists.{each}
-use Rattle.cnf_core.specs.Deriving.{is_false}
-use Rattle.cnf_core.specs.Literals.{Names, has_literal, same}
+use Rattle.std.proofs.lemmas.List.{drop-map, length-map, take-map}
+use Rattle.std.proofs.lemmas.List.Elements.{All-drop, All-take}
+use Rattle.cnf_core.specs.Literals.{Names}
 use Rattle.cnf_core.specs.Trails.{numbers}
 use Rattle.cnf_core.specs.TrailViews.{room, trues}
-use Rattle.cnf_core.proofs.LiteralFacts.{named-item, same-same, taken-numbers}
-use Rattle.cnf_core.proofs.ClauseStatuses.{each-append}
-use Rattle.unit_propagation.proofs.Visiting.{has-item}
+use Rattle.cnf_core.specs.declared.lit.Lit.{Lit}
+use Rattle.unit_propagation.specs.States.{ReplacesAt}
+use Rattle.unit_propagation.proofs.Visiting.{replaces-after, replaces-before}
 use Rattle.unit_propagation.proofs.search.Search.replacement.Goals as goal
 
-pub is_spent-requires : goal.is_spent-requires
-is_spent-requires c = (named-item (room c.args.self.now.trail) c.items-lit-items.result.now c.loop-lit.lit-index c.lit-item.result
-    (subst (λ ls. All (Names (room c.args.self.now.trail)) (numbers ls)) (sym c.items-lit-items.ensures) c.requires) c.loop-lit-test.true c.lit-item.is).1
+pub find_open-requires : goal.find_open-requires
+find_open-requires c =
+    let lits = c.items-lits.result.now in
+    let named = subst (λ (ls : List Lit). All (Names (room c.args.self.now.trail)) (numbers ls)) (sym c.items-lits.ensures) c.requires in
+    subst (All (Names (room c.args.self.now.trail))) (drop-map (λ (l : Lit). l.number) c.min.result lits ∙ ap numbers (sym c.split_at.ensures.back))
+    (All-drop (Names (room c.args.self.now.trail)) c.min.result (numbers lits) named)
 
-pub loop-lit-preserved : goal.loop-lit-preserved
-loop-lit-preserved c =
-    let ts = trues c.args.self.now.trail in
-    let other = c.args.other.number in
-    let i = c.loop-lit.lit-index in
-    let lits = c.items-lit-items.result.now in
-    let x = c.lit-item.result in
-    subst (λ ls. each (λ m. same other m || is_false ts m) ls ≡ true) (sym (taken-numbers lits i x c.loop-lit-test.true c.lit-item.is))
-    (each-append (λ m. same other m || is_false ts m) (numbers (take i lits)) (x.number ∷ []) c.loop-lit.invariant
-    (and_from (same other x.number || is_false ts x.number) true (sym c.is_spent.ensures ∙ c.if-not-is_spent.false) refl))
+pub find_open-requires-in-None : goal.find_open-requires-in-None
+find_open-requires-in-None c =
+    let lits = c.items-lits.result.now in
+    let named = subst (λ (ls : List Lit). All (Names (room c.args.self.now.trail)) (numbers ls)) (sym c.items-lits.ensures) c.requires in
+    subst (All (Names (room c.args.self.now.trail))) (take-map (λ (l : Lit). l.number) c.min.result lits ∙ ap numbers (sym c.split_at.ensures.front))
+    (All-take (Names (room c.args.self.now.trail)) c.min.result (numbers lits) named)
 
-pub returns-then-not-is_spent : goal.returns-then-not-is_spent
-returns-then-not-is_spent c =
+pub returns-in-Some : goal.returns-in-Some
+returns-in-Some c =
     let ts = trues c.args.self.now.trail in
+    let lits = c.items-lits.result.now in
     let other = c.args.other.number in
-    let lits = c.items-lit-items.result.now in
-    let x = c.lit-item.result in
-    let parts = or_parts (same other x.number) (is_false ts x.number) (sym c.is_spent.ensures ∙ c.if-not-is_spent.true) in
-    let differ : x.number ≢ other = λ e. both_ways (same other x.number) parts.0 (ap (same other) e ∙ same-same other) in (
-      differ,
-      subst (λ ls. has_literal (numbers ls) x.number ≡ true) c.items-lit-items.ensures (has-item lits c.loop-lit.lit-index x c.loop-lit-test.true c.lit-item.is),
-      parts.1,
-    )
+    let from = c.min.result in
+    let within : from ≤ length (numbers lits) = omega (arith, c.split_at.ensures.back_len, length-map lits (λ (l : Lit). l.number)) in
+    let found = subst (λ ls. ReplacesAt ts ls other (Some c.in-Some.place)) (ap numbers c.split_at.ensures.back ∙ sym (drop-map (λ (l : Lit). l.number) from lits))
+    (subst (ReplacesAt ts (numbers c.split_at.result.1.now) other) c.in-Some.is c.find_open.ensures) in
+    subst (λ (ls : List Lit). ReplacesAt ts (numbers ls) other (Some (length c.split_at.result.0.now + c.in-Some.place))) c.items-lits.ensures
+    (replaces-after ts (numbers lits) other from within c.in-Some.place (length c.split_at.result.0.now) c.split_at.ensures.front_len found)
+
+pub returns-in-None : goal.returns-in-None
+returns-in-None c =
+    let ts = trues c.args.self.now.trail in
+    let lits = c.items-lits.result.now in
+    let other = c.args.other.number in
+    let from = c.min.result in
+    let within : from ≤ length (numbers lits) = omega (arith, c.split_at.ensures.back_len, length-map lits (λ (l : Lit). l.number)) in
+    let none = subst (λ ls. ReplacesAt ts ls other None) (ap numbers c.split_at.ensures.back ∙ sym (drop-map (λ (l : Lit). l.number) from lits))
+    (subst (ReplacesAt ts (numbers c.split_at.result.1.now) other) c.in-None.is c.find_open.ensures) in
+    let found = subst (λ ls. ReplacesAt ts ls other c.find_open-in-None.result) (ap numbers c.split_at.ensures.front ∙ sym (take-map (λ (l : Lit). l.number) from lits)) c.find_open-in-None.ensures in
+    subst (λ (ls : List Lit). ReplacesAt ts (numbers ls) other c.find_open-in-None.result) c.items-lits.ensures
+    (replaces-before ts (numbers lits) other from within c.find_open-in-None.result none found)

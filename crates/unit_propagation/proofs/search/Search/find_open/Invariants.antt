@@ -4,7 +4,7 @@ use Rattle.cnf_core.specs.Deriving.{is_false}
 use Rattle.cnf_core.specs.Literals.{same}
 use Rattle.cnf_core.specs.Trails.{numbers}
 use Rattle.cnf_core.specs.TrailViews.{trues}
-use Rattle.unit_propagation.proofs.search.Search.replacement.Given as goal
+use Rattle.unit_propagation.proofs.search.Search.find_open.Given as goal
 
-abbrev pub invariant-loop-lit : goal.invariant-loop-lit
-invariant-loop-lit l = each (λ m. same l.other.number m || is_false (trues l.self.trail) m) (numbers (take l.lit-index l.lit-items)) ≡ true
+abbrev pub invariant-loop-place : goal.invariant-loop-place
+invariant-loop-place l = each (λ m. same l.other.number m || is_false (trues l.self.trail) m) (numbers (take l.place l.lits)) ≡ true
