@@ -8,7 +8,7 @@ use Rattle.lower_body.specs.Log.{tables_in}
 use Rattle.lower_body.specs.Lower.{Callees, Counts, FieldName, Lowered, Made, Variable, a_field, a_group, a_table, after_args, by_group, by_table, callees, closed, fields_from, params_before_last, key_name, var_name, lower_call, lower_expr, lower_exprs, lower_group, variables_from}
 use Rattle.lower_body.specs.LowerBlock.{Site, forked, fork_args, fork_function, in_block, lower_block, lower_stmt}
 use Rattle.lower_body.specs.LowerSites.{lower_site, lower_sites}
-use Rattle.lower_body.specs.Counting.{all_tables, block_count, call_count, expr_count, exprs_count, forks, group_count, printed_part, site_count, stmt_forks, stmt_site_count, stmt_count}
+use Rattle.lower_body.specs.Counting.{all_tables, block_count, call_count, closed_count, expr_count, exprs_count, forks, group_count, printed_part, site_count, stmt_forks, stmt_site_count, stmt_count}
 
 abbrev count : List Made → ℕ
 count ms = length (tables_in ms)
@@ -33,6 +33,9 @@ no_tables named j i (p ∷ ps) more = no_tables named (suc j) (suc i) ps more
 
 no_parts : (m n : ℕ) → m ≡ n → m ≡ 0 + n
 no_parts m n h = h ∙ omega arith
+
+no_call : (params m n : ℕ) → m ≡ n → m ≡ closed_count 0 params n
+no_call params m n h = h ∙ omega arith
 
 never_printed : (called : ℕ) → printed_part 0 called ≡ 0
 never_printed n = by (n == 0)
@@ -69,7 +72,7 @@ mutual
   exprs_counted c calls h vars n no_exprs = refl
   exprs_counted c calls h vars n (expr e es) =
       let k = (lower_expr c vars n e).next in
-      count_two (lower_expr c vars n e).made (lower_exprs c vars k es).made (expr_count 0 calls e) (exprs_count 0 calls es) (expr_counted c calls h vars n e) (exprs_counted c calls h vars k es)
+      no_parts _ _ (count_two (lower_expr c vars n e).made (lower_exprs c vars k es).made (expr_count 0 calls e) (exprs_count 0 calls es) (expr_counted c calls h vars n e) (exprs_counted c calls h vars k es))
 
 -- ---- calls
 
@@ -81,12 +84,12 @@ if_body headers earlier d body es n =
     ]
 
 body_counted : (headers : List HeaderDecl) (earlier : List FunctionDecl) (d : FunctionDecl) (body : Option Expr) (es : List P4Expr) (n : Counts) → Calls (callees headers earlier []) (call_count 0 earlier)
-    → count (if_body headers earlier d body es n).made ≡ elim body [ None ↦ 1 | Some e ↦ 0 + expr_count 0 (call_count 0 earlier) e ]
+    → count (if_body headers earlier d body es n).made ≡ elim body [ None ↦ 1 | Some e ↦ closed_count 0 (length d.params) (expr_count 0 (call_count 0 earlier) e) ]
 body_counted headers earlier d None es n h = no_tables (key_name n.app) 0 n.field d.params _
 body_counted headers earlier d (Some e) es n h =
     let r = lower_expr (callees headers earlier []) (variables_from n.field d.params) (after_args d n) e in
     no_tables var_name n.var n.field d.params _ ∙ count_more r.made (a_field _ _ _ ∷ []) ∙ omega arith
-    ∙ no_parts _ _ (expr_counted (callees headers earlier []) (call_count 0 earlier) h (variables_from n.field d.params) (after_args d n) e)
+    ∙ no_call (length d.params) _ _ (expr_counted (callees headers earlier []) (call_count 0 earlier) h (variables_from n.field d.params) (after_args d n) e)
 
 if_counted : (b : Bool) (x y : Lowered) (k m : ℕ) → count x.made ≡ k → count y.made ≡ m → count (if b then x else y).made ≡ (if b then k else m)
 if_counted true x y k m hx hy = hx

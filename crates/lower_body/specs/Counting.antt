@@ -1,23 +1,29 @@
 -- Cited by the clauses of counting in lower_code and lower_switch, and by the law of lowered_size: how many tables and forks the
 -- code of a body has, and how large it is at least. It follows "Lowering and the P4 text" in docs/FORMATS.md: an application of a
 -- function that is defined at run time is a table, and so is a fork.
-use Rattle.std.specs.Prelude.{ℕ, ◌+◌, ◌==◌, List, [], ◌∷◌, if◌then◌else◌, Some, None}
+use Rattle.std.specs.Prelude.{ℕ, ◌+◌, ◌*◌, ◌==◌, List, [], ◌∷◌, length, if◌then◌else◌, Some, None}
 use Rattle.cocoon_num.specs.Names.{same_name}
 use Rattle.cocoon_num.specs.Tree.{Expr, name, field, lit, true_or_false, call, unary, binary, slice, pick, Exprs, no_exprs, expr, FunctionDecl, Stmt, Block, let_, set_field, if_, filter, havoc_var, havoc_field, assume, fork, send, no_stmts, stmt}
-use Rattle.p4_ir.specs.P4Tree.{P4Stmt}
-use Rattle.lower_body.specs.Lower.{callees}
 use Rattle.lower_body.specs.LowerBlock.{fork_args, fork_function}
-use Rattle.lower_body.specs.LowerSites.{lower_sites}
-use Rattle.lower_body.specs.Whole.{SwitchRole, role_lowered}
+use Rattle.lower_body.specs.Whole.{SwitchRole}
 
 -- ---- tables, and parts of expressions
 
 -- Each table counts as one, and each part of an expression that is printed as so many: as none where tables alone are counted.
--- What is counted is no more than the bytes of the code's text.
+-- Where parts are counted, so are the meta fields of calls: where they are declared, and where they are set. A part then is two
+-- bytes, and what is counted is no more than the bytes of the program's text.
 
 -- the arguments of a call are printed where there is such a function, of which a call counts as one at least where parts are counted
 abbrev pub printed_part : (part called : ℕ) → ℕ
 printed_part part called = if called == 0 then 0 else part
+
+-- the line that sets an argument's field
+abbrev pub argument_parts : ℕ
+argument_parts = 3
+
+-- the lines that declare the fields of so many parameters and of the value, the line that sets the value's, and the read of it
+abbrev pub call_parts : (params : ℕ) → ℕ
+call_parts params = 9 + 5 * params
 
 abbrev mutual
   -- of an expression, by those of the calls of each function
@@ -34,17 +40,20 @@ abbrev mutual
 
   pub exprs_count : (part : ℕ) → (List ℕ → ℕ) → Exprs → ℕ
   exprs_count part calls no_exprs = 0
-  exprs_count part calls (expr e es) = expr_count part calls e + exprs_count part calls es
+  exprs_count part calls (expr e es) = part * argument_parts + (expr_count part calls e + exprs_count part calls es)
 
--- Of a call of the first of these functions of that name; its body sees those after it. The field that keeps the value of a body
--- is read, which is a part.
+-- of a call of a function with so many parameters, by the parts of its body
+abbrev pub closed_count : (part params body : ℕ) → ℕ
+closed_count part params body = part * call_parts params + body
+
+-- of a call of the first of these functions of that name; its body sees those after it
 abbrev pub call_count : (part : ℕ) → List FunctionDecl → List ℕ → ℕ
 call_count part [] f = 0
 call_count part (d ∷ earlier) f =
     if same_name f d.name.text then
     elim d.body [
       | None ↦ 1
-      | Some e ↦ part + expr_count part (call_count part earlier) e
+      | Some e ↦ closed_count part (length d.params) (expr_count part (call_count part earlier) e)
     ]
     else call_count part earlier f
 
@@ -92,17 +101,13 @@ all_count part fs b = block_count part fs b + site_count part fs b
 abbrev pub all_tables : List FunctionDecl → Block → ℕ
 all_tables fs b = all_count 0 fs b
 
--- the same, and the parts of expressions
+-- the same, and the parts of expressions and of calls, of which each is two bytes at least
 abbrev pub all_parts : List FunctionDecl → Block → ℕ
-all_parts fs b = all_count 1 fs b
+all_parts fs b = all_count 2 fs b
 
--- how large the code of a program is at least
+-- how large a program is at least
 abbrev pub role_size : SwitchRole → ℕ
 role_size r = all_parts r.functions r.body
-
--- the code of its egress control
-abbrev pub egress_code : SwitchRole → (switch : ℕ) → List P4Stmt
-egress_code r s = (lower_sites (callees r.headers r.functions r.port) (role_lowered r s).next (role_lowered r s).sites).code
 
 -- ---- forks
 

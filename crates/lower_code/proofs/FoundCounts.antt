@@ -4,7 +4,7 @@ use Rattle.std.proofs.Common.{◌≡◌, inl, inr, ℕ, ◌++◌, zero, suc, ◌
 use Rattle.cocoon_num.specs.Names.{same_name}
 use Rattle.cocoon_num.specs.Tree.{FunctionDecl, Design}
 use Rattle.cocoon_types.specs.Design.{functions}
-use Rattle.lower_body.specs.Counting.{call_count, expr_count, group_count}
+use Rattle.lower_body.specs.Counting.{call_count, closed_count, expr_count, group_count}
 use Rattle.lower_code.specs.Scopes.{function_count, functions_before, KnowsCounts, number_in}
 use Rattle.lower_code.proofs.Found.{before_count, before_more, plus_one, there}
 
@@ -62,7 +62,7 @@ past_one : (part : ℕ) (g : FunctionDecl) (fs : List FunctionDecl) (f : List �
 past_one part g fs f true e k inner = absurd (cc)
 past_one part g fs f false e k inner =
     let r = inner k in (
-      ap (λ b. if b then elim g.body [ None ↦ 1 | Some e ↦ part + expr_count part (call_count part fs) e ] else call_count part fs f) e ∙ r.0,
+      ap (λ b. if b then elim g.body [ None ↦ 1 | Some e ↦ closed_count part (length g.params) (expr_count part (call_count part fs) e) ] else call_count part fs f) e ∙ r.0,
       ap (λ b. if b then 1 else group_count fs f) e ∙ r.1,
     )
 

@@ -1,5 +1,5 @@
 -- Cited by the clauses of expressions, calls and blocks: in what they are lowered.
-use Rattle.std.specs.Prelude.{◌≡◌, ℕ, ◌+◌, Bool, ◌≤◌, List, [], ◌∷◌, length, reverse, slice_get, take, if◌then◌else◌, Option, Some, None}
+use Rattle.std.specs.Prelude.{◌≡◌, ℕ, Bool, ◌≤◌, List, [], ◌∷◌, length, reverse, slice_get, take, if◌then◌else◌, Option, Some, None}
 use Rattle.cocoon_num.specs.Names.{same_name}
 use Rattle.cocoon_num.specs.Tree.{Block, Expr, FunctionDecl, HeaderDecl, Design}
 use Rattle.cocoon_syntax.specs.TreeOf.{design_of}
@@ -8,7 +8,7 @@ use Rattle.cocoon_num.specs.Values.{BinaryOp, implies}
 use Rattle.p4_ir.specs.P4Tree.{P4Expr, p_binary}
 use Rattle.lower_body.specs.Lower.{Callees, Counts, Lowered, Variable, p_operation, after_args, by_table, callees, closed, lower_expr, variables_from}
 use Rattle.lower_body.specs.LowerBlock.{in_block}
-use Rattle.lower_body.specs.Counting.{call_count, expr_count}
+use Rattle.lower_body.specs.Counting.{call_count, closed_count, expr_count}
 use Rattle.lower_code.specs.declared.functions.Scope.{Scope}
 
 -- the first functions of a design, so many, the last first
@@ -72,7 +72,7 @@ abbrev pub function_count : (part : ℕ) → Design → ℕ → FunctionDecl →
 function_count part d number g =
     elim g.body [
       | None ↦ 1
-      | Some e ↦ part + expr_count part (call_count part (functions_before d number)) e
+      | Some e ↦ closed_count part (length g.params) (expr_count part (call_count part (functions_before d number)) e)
     ]
 
 -- the counts that are kept of calls of functions, by their numbers, are theirs

@@ -1,6 +1,6 @@
 //! How many tables and forks the code of a body has, and how large it is, without the code: functions with bodies can call one
 //! another so often that no memory would hold it.
-ghost use Rattle.std.specs.Prelude.{◌≡◌, ◌<◌, ◌+◌, IfOk, IfSome, map, slice_get, Some};
+ghost use Rattle.std.specs.Prelude.{◌≡◌, ◌<◌, ◌+◌, ◌*◌, IfOk, IfSome, map, slice_get, Some};
 ghost use Rattle.cocoon_num.specs.Tree.{FunctionDecl as Function};
 ghost use Rattle.cocoon_syntax.specs.TreeOf.{block_of, expr_of, exprs_of, stmt_of};
 ghost use Rattle.cocoon_types.specs.Design.{functions};
@@ -15,6 +15,17 @@ use cocoon_syntax::{Expr, ExprKind, Stmt, StmtKind};
 use declarations::FunId;
 use std::alloc::Global;
 
+/// How many bytes of a program's text a part of an expression has at least.
+const BYTES_OF_PART: u64 = 2;
+
+/// The parts of the line that sets the field of an argument.
+const ARGUMENT_PARTS: u64 = 3;
+
+/// Those of the lines of the value's field and the parameter's, in a call of a function with a body.
+const VALUE_PARTS: u64 = 9;
+
+const PARAMETER_PARTS: u64 = 5;
+
 fn plus(a: u64, b: u64) -> Result<u64, NoMemory>
     ensures { IfOk result (λ n. n ≡ a + b) }
 {
@@ -25,6 +36,12 @@ fn sum(a: u64, b: u64, c: u64) -> Result<u64, NoMemory>
     ensures { IfOk result (λ n. n ≡ a + (b + c)) }
 {
     plus(a, plus(b, c)?)
+}
+
+fn times(a: u64, b: u64) -> Result<u64, NoMemory>
+    ensures { IfOk result (λ n. n ≡ a * b) }
+{
+    a.checked_mul(b).ok_or(NoMemory)
 }
 
 /// What each part of the arguments of a call counts, where the call counts so much.
@@ -88,8 +105,10 @@ fn exprs_count(
         ≡ spec.exprs_count own (called_count part scope.now) (exprs_of (map expr_of exprs.now))) }
 {
     let mut count = 0;
+    let line = times(own, ARGUMENT_PARTS)?;
     for expr in exprs {
-        count = plus(count, expr_count(scope, known, part, own, expr)?)?;
+        let argument = plus(line, expr_count(scope, known, part, own, expr)?)?;
+        count = plus(count, argument)?;
     }
     Ok(count)
 }
@@ -133,32 +152,42 @@ fn function_count(scope: &Scope<'_>, known: &[Option<u64>], part: u64, number: F
     ensures { (g : Function) → slice_get (functions (design_in scope.now)) number ≡ Some g
         → IfSome result (λ n. n ≡ spec_count part (design_in scope.now) number g) }
 {
-    match &scope.checked.function(number).body {
-        Some(body) => body_count(scope, known, part, number, body).ok(),
+    let function = scope.checked.function(number);
+    match &function.body {
+        Some(body) => body_count(scope, known, part, number, function.params.len(), body).ok(),
         None => Some(1),
     }
 }
 
-/// Those of the body of the function of this number, which sees the functions before it.
+/// Those of a call of a function with so many parameters, by those of its body.
+fn closed_count(part: u64, params: usize, body: u64) -> Result<u64, NoMemory>
+    ensures { IfOk result (λ n. n ≡ spec.closed_count part params body) }
+{
+    let fields = plus(VALUE_PARTS, times(PARAMETER_PARTS, params as u64)?)?;
+    plus(times(part, fields)?, body)
+}
+
+/// Those of a call of the function of this number, which has this body over so many parameters and sees the functions before it.
 fn body_count(
     scope: &Scope<'_>,
     known: &[Option<u64>],
     part: u64,
     number: FunId,
+    params: usize,
     body: &Expr,
 ) -> Result<u64, NoMemory>
     requires functions { SeesFunctions scope.now }
     requires within { number < scope.now.before }
     requires known { KnowsCounts part (design_in scope.now) known.now }
-    ensures { IfOk result (λ n. n ≡ part + spec.expr_count part
-        (spec.call_count part (functions_in scope.now number)) (expr_of body.now)) }
+    ensures { IfOk result (λ n. n ≡ spec.closed_count part params (spec.expr_count part
+        (spec.call_count part (functions_in scope.now number)) (expr_of body.now))) }
 {
     let inner = Scope {
         before: number,
         port: &[],
         ..*scope
     };
-    plus(part, expr_count(&inner, known, part, part, body)?)
+    closed_count(part, params, expr_count(&inner, known, part, part, body)?)
 }
 
 /// Those of a call of each function that is seen. Each body is walked once, so the time is in proportion to the bodies.
@@ -331,14 +360,14 @@ pub fn count_tables(alloc: Global, scope: &Scope<'_>, stmts: &[Stmt]) -> Result<
     all_count(alloc, scope, 0, stmts)
 }
 
-/// How large the code of a body is at least: its tables and the parts of its expressions, of which the law of `lowered_size` says
-/// that the text of a program with this code has as many bytes. The time, and when there is no memory, are as of `count_tables`.
+/// How large the program of a body is at least: its tables, and the parts of its expressions and calls, each as two bytes. The law of
+/// `lowered_size` says that its text has as many bytes. The time, and when there is no memory, are as of `count_tables`.
 pub fn code_size(alloc: Global, scope: &Scope<'_>, stmts: &[Stmt]) -> Result<u64, NoMemory>
     requires { SeesFunctions scope.now }
     ensures { IfOk result (λ n. n ≡ spec.all_parts
         (functions_in scope.now scope.now.before) (block_of (map stmt_of stmts.now))) }
 {
-    all_count(alloc, scope, 1, stmts)
+    all_count(alloc, scope, BYTES_OF_PART, stmts)
 }
 
 #[cycle(fork)]

@@ -1,5 +1,5 @@
 -- Cited by the clauses of `lower` and of the laws on lengths in lower_p4: why no network is made.
-use Rattle.std.specs.Prelude.{◌≡◌, ℕ, Option, Some, None, Result, Ok, Err}
+use Rattle.std.specs.Prelude.{◌≡◌, ℕ, slice_get, Option, Some, None, Result, Ok, Err}
 use Rattle.cocoon_num.specs.Tree.{Design}
 use Rattle.lowered_net.specs.Counts.{FirstOver}
 use Rattle.lowered_net.specs.Network.{IsNetwork}
@@ -9,6 +9,11 @@ use Rattle.runtime_defs.specs.Places.{Places}
 use Rattle.lower_net.specs.declared.lowering.LowerFault.{LowerFault}
 use Rattle.lower_net.specs.declared.lowering.LowerFault.TheVariants.{Limit, LongProgram, ManyRows, NoMemory}
 use Rattle.lower_net.specs.Limits.{long_program, many_rows}
+
+-- No limit is exceeded, and this is the first switch, if there is one.
+pub record FirstSwitch (d : Design) (places : Places) (switch : Option ℕ) : Type 0 where
+  pub within : FirstOver d places None
+  pub first : switch ≡ slice_get within.switches 0
 
 -- No limit is exceeded. The code of the programs is so large that their texts are over the limit of a file, and this is the first
 -- switch; or it is not, and there is none.
@@ -27,6 +32,16 @@ IsRefused d places (Limit limit count) = FirstOver d places (Some (limit, count)
 IsRefused d places (LongProgram switch) = FirstLongProgram d places (Some switch)
 IsRefused d places (ManyRows switch) = FirstLongProgram d places None × FirstManyRows d places (Some switch)
 IsRefused d places NoMemory = Unit {0}
+
+-- why there is none, as far as that is known before anything is made
+abbrev pub IsRefusedFirst : Design → Places → LowerFault → Type 0
+IsRefusedFirst d places (ManyRows switch) = ⊥
+IsRefusedFirst d places fault = IsRefused d places fault
+
+-- the first switch, within all limits and with programs that are not known to be too long; or why there is no network
+abbrev pub IsJudged : Design → Places → Result (Option ℕ) LowerFault → Type 0
+IsJudged d places (Ok switch) = FirstSwitch d places switch × FirstLongProgram d places None
+IsJudged d places (Err fault) = IsRefusedFirst d places fault
 
 -- the network of the design, within all limits and with programs that are not too long and rows that are not too many; or why there is none
 abbrev pub Lowers : Design → Places → Result NetData LowerFault → Type 0

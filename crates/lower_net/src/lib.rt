@@ -12,4 +12,4 @@ mod links;
 pub mod lowering;
 mod switches;
 
-pub use lowering::{LowerFault, lower, program};
+pub use lowering::{LowerFault, first_switch, lower, program};

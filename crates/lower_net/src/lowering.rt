@@ -2,7 +2,7 @@
 ghost use Rattle.std.specs.Prelude.{◌≡◌, ℕ, IfErr, IfOk, None, Some, length, map};
 ghost use Rattle.cocoon_syntax.specs.TreeOf.{design_of};
 ghost use Rattle.cocoon_types.specs.Design as design;
-ghost use Rattle.lower_net.specs.Refused.{FirstLongProgram, FirstManyRows, IsRefused, Lowers};
+ghost use Rattle.lower_net.specs.Refused.{FirstLongProgram, FirstManyRows, FirstSwitch, IsJudged, IsRefused, IsRefusedFirst, Lowers};
 ghost use Rattle.lowered.specs.Roles.{NetParts, net_parts};
 ghost use Rattle.lowered.specs.SwitchProgram.{switch_program};
 ghost use Rattle.lower_rows.specs.AllGroups.{fork_group_of};
@@ -139,6 +139,33 @@ fn find_over(
     }
 }
 
+/// The first switch of these parts, or why there is no network.
+fn judge_parts(
+    alloc: Global,
+    checked: &Checked,
+    defs: &Defs,
+    parts: &Parts<'_>,
+) -> Result<Option<u16>, LowerFault>
+    requires fits { FitsDesign (design_of checked.now) defs.now }
+    requires parts { net_parts (design_of checked.now)
+        ≡ Some (parts_of (design_of checked.now) parts.now) }
+    ensures { IsJudged (design_of checked.now) defs.now result }
+{
+    let functions = count_functions(checked, defs)?;
+    let numbers = defs.switches(checked);
+    let hosts = defs.hosts(checked);
+    let groups = fork_groups(alloc, checked, defs)?;
+    if let Some((limit, count)) = find_over(
+        alloc, checked, functions, parts, &groups, numbers, hosts,
+    )? {
+        return Err(LowerFault::Limit(limit, count));
+    }
+    if let Some(switch) = find_long_program(alloc, checked, functions, parts, numbers)? {
+        return Err(LowerFault::LongProgram(switch));
+    }
+    Ok(numbers.first().copied())
+}
+
 /// The network of these parts, or why there is none.
 fn lower_parts(
     alloc: Global,
@@ -184,6 +211,27 @@ pub fn lower(alloc: Global, checked: &Checked, defs: &Defs) -> Result<NetData, L
     checked.design();
     let parts = find_parts(checked).unwrap();
     lower_parts(alloc, checked, defs, &parts)
+}
+
+/// The number of the first switch of the network, if there is one, where no limit is exceeded and the programs are not known to be too
+/// long. No program is made.
+pub fn first_switch(
+    alloc: Global,
+    checked: &Checked,
+    defs: &Defs,
+) -> Result<Option<u16>, LowerFault>
+    requires { FitsDesign (design_of checked.now) defs.now }
+    ensures first { IfOk result (λ switch. FirstSwitch
+        (design_of checked.now) defs.now switch) }
+    ensures short { IfOk result (λ switch. FirstLongProgram
+        (design_of checked.now) defs.now None) }
+    ensures refused { IfErr result (λ fault. IsRefusedFirst
+        (design_of checked.now) defs.now fault) }
+{
+    forks_are();
+    checked.design();
+    let parts = find_parts(checked).unwrap();
+    judge_parts(alloc, checked, defs, &parts)
 }
 
 /// The program that the switch of this number has, or would have.

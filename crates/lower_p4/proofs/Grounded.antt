@@ -1,5 +1,5 @@
 -- What is known of a design that was read, with definitions of a text, and of its network.
-use Rattle.std.proofs.Common.{◌≡◌, ◌+◌, ◌<◌, ◌≤◌, ◌^◌, ◌==◌, ◌&&◌, ◌||◌, ℕ, Bool, true, false, nat_lt, All, List, [], ◌∷◌, length, map, if◌then◌else◌, Some, None, arith, refl, sym, ap, ap₂, subst, ◌∙◌}
+use Rattle.std.proofs.Common.{◌≡◌, ◌+◌, ◌<◌, ◌≤◌, ◌^◌, ◌==◌, ◌&&◌, ◌||◌, ℕ, Bool, true, false, nat_lt, All, List, [], ◌∷◌, length, map, slice_get, if◌then◌else◌, Some, None, arith, refl, sym, ap, ap₂, subst, ◌∙◌}
 use Rattle.std.proofs.lemmas.Bool.{and_parts}
 use Rattle.std.proofs.lemmas.Bool.Decides.{nat_tests}
 use Rattle.std.proofs.lemmas.List.Elements.{All-cons, All-head, All-nil, All-tail}
@@ -26,8 +26,7 @@ use Rattle.lowered_rows.specs.Groups.{ForkGroup, fork_groups}
 use Rattle.lowered_net.specs.Network.{IsNetwork, switch_files}
 use Rattle.lowered.specs.Roles.{NetParts, net_parts}
 use Rattle.lowered.specs.SwitchProgram.{fields_in, switch_made, switch_program}
-use Rattle.lower_net.specs.Limits.{many_rows}
-use Rattle.lower_net.specs.Refused.{FirstManyRows}
+use Rattle.lower_net.specs.Refused.{FirstSwitch}
 use Rattle.lower_p4.specs.Grounds.{Grounds, HoldsFields}
 use Rattle.lower_p4.specs.Lowering.{RunPrograms}
 use Rattle.lower_p4.specs.Lowers.{RunsProgram}
@@ -138,31 +137,28 @@ few_made d places net n a s l f =
 
 -- ---- the first switch
 
-first_of : (b : Bool) (s switch : ℕ) → Some switch ≡ (if b then Some s else None) → s ≡ switch
-first_of true s switch h = cc
-first_of false s switch h = absurd cc
-
-pub few_first : (d : Design) (places : Places) (s : ℕ) (h : FirstManyRows d places (Some s)) → Few h.within.parts.role s
+pub few_first : (d : Design) (places : Places) (s : ℕ) (h : FirstSwitch d places (Some s)) → Few h.within.parts.role s
 few_first d places s h = by h.within.switches h.first (sym h.within.over_is)
   where
-    by : (switches : List ℕ) → Some s ≡ many_rows d places h.within.parts.role switches → first_over (counts d places h.within.parts.role switches h.within.hosts) ≡ None
+    by : (switches : List ℕ) → Some s ≡ slice_get switches 0 → first_over (counts d places h.within.parts.role switches h.within.hosts) ≡ None
         → Few h.within.parts.role s
     by [] k o = absurd cc
     by (t ∷ switches) k o =
-        subst (Few h.within.parts.role) (first_of _ t s k) (first_few d places h.within.parts.role t switches h.within.hosts o)
+        let is : t ≡ s = cc in
+        subst (Few h.within.parts.role) is (first_few d places h.within.parts.role t switches h.within.hosts o)
 
-has_first : (d : Design) (places : Places) (r : SwitchRole) (s : ℕ) (switches : List ℕ) → Some s ≡ many_rows d places r switches → has_number s switches ≡ true
-has_first d places r s [] k = absurd cc
-has_first d places r s (t ∷ switches) k =
-    let is : t ≡ s = first_of _ t s k in
+has_first : (s : ℕ) (switches : List ℕ) → Some s ≡ slice_get switches 0 → has_number s switches ≡ true
+has_first s [] k = absurd cc
+has_first s (t ∷ switches) k =
+    let is : t ≡ s = cc in
     let same : (s == t) ≡ true = grind (arith, nat_tests, is) in
     ap (λ b. b || has_number s switches) same
 
-pub short_first : (d : Design) (places : Places) (s : ℕ) → FirstManyRows d places (Some s) → s < 2 ^ 16
+pub short_first : (d : Design) (places : Places) (s : ℕ) → FirstSwitch d places (Some s) → s < 2 ^ 16
 short_first d places s h =
     let w = h.within in
     below_width 16 s (and_parts (fits_width 16 s) (is_true_at (switch_table d places) s)
-    (sym (w.numbers.switches_are.listed s) ∙ has_first d places w.parts.role s w.switches h.first)).0
+    (sym (w.numbers.switches_are.listed s) ∙ has_first s w.switches h.first)).0
 
 -- the program of a switch is that of its role
 pub program_of_role : (d : Design) (s : ℕ) (p : Program) (parts : NetParts) → net_parts d ≡ Some parts → RunsProgram d s p → p ≡ switch_program parts.role s

@@ -41,6 +41,11 @@ abbrev pub StartsLong : (switch : ℕ) → List SwitchFiles → Type 0
 StartsLong switch [] = ⊥
 StartsLong switch (s ∷ ss) = (s.number ≡ switch) × (most_file_bytes < length (printed s.program))
 
+-- the text of the program of the first switch, if there is one, fits its file
+abbrev pub StartsShort : List SwitchFiles → Type 0
+StartsShort [] = Unit {0}
+StartsShort (s ∷ ss) = length (printed s.program) ≤ most_file_bytes
+
 -- the first switch has this number, the text of its program fits its file, and it has more rows than a file can hold
 abbrev pub StartsFull : (switch : ℕ) → List SwitchFiles → Type 0
 StartsFull switch [] = ⊥

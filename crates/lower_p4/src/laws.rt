@@ -1,5 +1,5 @@
 //! What the network of a design is. The functions do nothing; their contracts are the laws.
-ghost use Rattle.std.specs.Prelude.{◌<◌, ◌≡◌, ◌^◌, All, false, IsTrue, length, nat_lt, None, Some, true, ℕ};
+ghost use Rattle.std.specs.Prelude.{◌<◌, ◌≡◌, ◌^◌, All, IsTrue, length, nat_lt, None, Some, true, ℕ};
 ghost use Rattle.cocoon_num.specs.Spelled.{is_spelled};
 ghost use Rattle.cocoon_num.specs.Tree.{DefsText, Design};
 ghost use Rattle.cocoon_num.specs.declared.limit_name.LimitName.{LimitName};
@@ -8,9 +8,9 @@ ghost use Rattle.cocoon_types.specs.Rules.{WellFormed};
 ghost use Rattle.cocoon_types.specs.Tables.{defs_of};
 ghost use Rattle.lower_p4.specs.Grounds.{Grounds, HoldsFields};
 ghost use Rattle.lower_p4.specs.LowerLimits.{IsOver, IsWithin};
-ghost use Rattle.lower_p4.specs.Lowering.{IsLowering, RunPrograms, StartsFull, StartsLong};
+ghost use Rattle.lower_p4.specs.Lowering.{IsLowering, RunPrograms, StartsLong};
 ghost use Rattle.lower_p4.specs.Lowers.{Lowers, RunsProgram};
-ghost use Rattle.lower_net.specs.Refused.{FirstLongProgram, FirstManyRows};
+ghost use Rattle.lower_net.specs.Refused.{FirstLongProgram, FirstSwitch};
 ghost use Rattle.lowered_net.specs.Counts.{FirstOver};
 ghost use Rattle.lowered.specs.Delivers.{DeliversExactly};
 ghost use Rattle.lowered_net.specs.Network.{IsNetwork};
@@ -70,20 +70,18 @@ pub fn large_programs_are_long()
     programs_are_long();
 }
 
-/// Where the first switch has more rows than a file can hold, the network starts with a program that is too long for its file, or
-/// else with these rows.
-pub fn first_files_are_long()
-    ensures { (d : Design) (places : Places) (switch : ℕ) → FirstManyRows d places (Some switch)
+/// Where the text of the program of the first switch is longer than its file may be, the network starts with it.
+pub fn first_texts_are_long()
+    ensures { (d : Design) (places : Places) (switch : ℕ) → FirstSwitch d places (Some switch)
         → (net : NetData) × (p : tree.Program) × IsNetwork d places net × FirstOver d places None
         × RunsProgram d switch p
-        × (IsTrue (nat_lt most_file_bytes (length (printed p))) → StartsLong switch net.switches)
-        × (nat_lt most_file_bytes (length (printed p)) ≡ false → StartsFull switch net.switches) }
+        × (IsTrue (nat_lt most_file_bytes (length (printed p))) → StartsLong switch net.switches) }
 {}
 
 /// The program of the first switch can be printed, where the network is within the limits.
 pub fn first_programs_are_kinded()
     ensures { (d : Design) (places : Places) (switch : ℕ) → WasRead d → is_spelled d ≡ true
-        → WellFormed d → DesignLiteralsFit d → FirstManyRows d places (Some switch)
+        → WellFormed d → DesignLiteralsFit d → FirstSwitch d places (Some switch)
         → (p : tree.Program) → RunsProgram d switch p → length p.meta < 2 ^ 63
         → is_well_kinded p ≡ true }
 {

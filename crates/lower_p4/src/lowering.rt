@@ -1,14 +1,14 @@
 //! The network that the compiler makes of a design.
-ghost use Rattle.std.specs.Prelude.{◌≡◌, ◌<◌, ◌^◌, All, IfErr, IfOk, length, nat_lt, Some};
+ghost use Rattle.std.specs.Prelude.{◌≡◌, ◌<◌, ◌^◌, All, IfErr, IfOk, length, nat_lt, OnOk, Some};
 ghost use Rattle.cocoon_num.specs.Tree.{DefsText};
 ghost use Rattle.cocoon_syntax.specs.TreeOf.{design_of};
 ghost use Rattle.p4_ir.specs.NetOf.{net_of, switch_of};
 ghost use Rattle.runtime_defs.specs.Fitting.{FitsDesign};
 ghost use Rattle.lowered_net.specs.Network.{IsNetwork};
-ghost use Rattle.lower_net.specs.Refused.{FirstManyRows, IsRefused};
-ghost use Rattle.lower_p4.specs.Grounds.{HoldsFields};
+ghost use Rattle.lower_net.specs.Refused.{FirstSwitch};
+ghost use Rattle.lower_p4.specs.Grounds.{FirstFits, HoldsFields};
 ghost use Rattle.lower_p4.specs.LowerLimits.{IsWithin};
-ghost use Rattle.lower_p4.specs.Lowering.{AreOfText, HasNoNetwork, IsLowering, NotLowered};
+ghost use Rattle.lower_p4.specs.Lowering.{AreOfText, HasNoNetwork, IsLowering, NotLowered, StartsShort};
 ghost use Rattle.lower_p4.specs.Lowers.{Lowers, RunsProgram};
 ghost use Rattle.p4_emit.specs.Printed.{printed};
 ghost use Rattle.p4_ir.specs.FileSizes.{most_file_bytes};
@@ -16,12 +16,12 @@ ghost use Rattle.p4_ir.specs.P4Tree as tree;
 ghost use Rattle.p4_ir.specs.Program.{program_of};
 
 use crate::laws::{
-    first_files_are_long, first_programs_are_kinded, large_programs_are_long,
+    first_programs_are_kinded, first_texts_are_long, large_programs_are_long,
     networks_are_writable, networks_deliver, switches_run_programs,
 };
 use cocoon_num::NoMemory;
 use cocoon_resolve::Checked;
-use lower_net::{LowerFault, program};
+use lower_net::{LowerFault, first_switch, program};
 use p4_emit::emit;
 use p4_ir::{MOST_FILE_BYTES, NetData, Program, SwitchFiles};
 use runtime_defs::Defs;
@@ -57,7 +57,7 @@ fn know_meta(program: &Program)
     let _count = program.meta.items().len();
 }
 
-/// Whether the text of the program of a switch that has too many rows is longer than its file may be.
+/// Whether the text of the program of the first switch is longer than its file may be.
 fn has_long_text(
     alloc: Global,
     checked: &Checked,
@@ -65,7 +65,7 @@ fn has_long_text(
     switch: u16,
 ) -> Result<bool, NoMemory>
     requires fits { FitsDesign (design_of checked.now) defs.now }
-    requires many { FirstManyRows (design_of checked.now) defs.now (Some switch) }
+    requires first { FirstSwitch (design_of checked.now) defs.now (Some switch) }
     ensures { (p : tree.Program) → RunsProgram (design_of checked.now) switch p
         → IfOk result (λ long. long ≡ nat_lt most_file_bytes (length (printed p))) }
 {
@@ -79,32 +79,22 @@ fn has_long_text(
     Ok(text.len() as u64 > MOST_FILE_BYTES)
 }
 
-/// Why there is no network, where this switch, which is the first, has too many rows: the file of its program comes before that of
-/// its rows.
-fn first_too_long(alloc: Global, checked: &Checked, defs: &Defs, switch: u16) -> LowerFault
-    requires fits { FitsDesign (design_of checked.now) defs.now }
-    requires many { FirstManyRows (design_of checked.now) defs.now (Some switch) }
-    ensures { HasNoNetwork (design_of checked.now) defs.now result }
-{
-    first_files_are_long();
-    match has_long_text(alloc, checked, defs, switch) {
-        Ok(true) => LowerFault::LongProgram(switch),
-        Ok(false) => LowerFault::ManyRows(switch),
-        Err(NoMemory) => LowerFault::NoMemory,
-    }
-}
-
-/// Why there is no network, where `lower_net` makes none for this fault.
-fn told(alloc: Global, checked: &Checked, defs: &Defs, fault: LowerFault) -> LowerFault
-    requires fits { FitsDesign (design_of checked.now) defs.now }
-    requires refused { IsRefused (design_of checked.now) defs.now fault }
-    ensures { HasNoNetwork (design_of checked.now) defs.now result }
+/// Why there is no network, where a limit is exceeded or the text of the program of the first switch is longer than its file may be.
+/// No other program is made.
+fn judge(alloc: Global, checked: &Checked, defs: &Defs) -> Result<(), LowerFault>
+    requires { FitsDesign (design_of checked.now) defs.now }
+    ensures fits { OnOk result (FirstFits (design_of checked.now) defs.now) }
+    ensures over { IfErr result (λ fault. HasNoNetwork (design_of checked.now) defs.now fault) }
 {
     large_programs_are_long();
-    match fault {
-        LowerFault::ManyRows(switch) => first_too_long(alloc, checked, defs, switch),
-        _ => fault,
+    first_texts_are_long();
+    let Some(switch) = first_switch(alloc, checked, defs)? else {
+        return Ok(());
+    };
+    if has_long_text(alloc, checked, defs, switch)? {
+        return Err(LowerFault::LongProgram(switch));
     }
+    Ok(())
 }
 
 /// The network of a design under its definitions, if they are within the limits: at its last level, whatever levels and
@@ -130,6 +120,7 @@ pub fn lower(alloc: Global, checked: &Checked, defs: &Defs) -> Result<NetData, L
 
     // of tables alone, also of such as no text has
     ensures network { IfOk result (λ net. IsNetwork (design_of checked.now) defs.now (net_of net)) }
+    ensures short { IfOk result (λ net. StartsShort (net_of net).switches) }
     ensures over { IfErr result (λ fault. HasNoNetwork (design_of checked.now) defs.now fault) }
 {
     networks_deliver();
@@ -138,10 +129,9 @@ pub fn lower(alloc: Global, checked: &Checked, defs: &Defs) -> Result<NetData, L
     code_literals_fit();
     checked.design();
     checked.know_reading();
-    let net = match lower_net::lower(alloc, checked, defs) {
-        Ok(net) => net,
-        Err(fault) => return Err(told(alloc, checked, defs, fault)),
-    };
+    large_programs_are_long();
+    judge(alloc, checked, defs)?;
+    let net = lower_net::lower(alloc, checked, defs)?;
     know_ports(&net);
     know_sizes(&net);
     Ok(net)
