@@ -34,13 +34,13 @@ place_on d a b role values fields name at h s = record {
   fields_ = makes_all_on a b fields (laws.end_fields at) h s.fields_;
 }
 
-end_on : (d : Design) (a b : List Node) (e : End) (of : laws.End) → KeepsTerms a b → ShowsEnd d a e of → ShowsEnd d b e of
+pub end_on : (d : Design) (a b : List Node) (e : End) (of : laws.End) → KeepsTerms a b → ShowsEnd d a e of → ShowsEnd d b e of
 end_on d a b (Sent role values fields) (sent_to r vs fs) h s = place_on d a b role values fields r (sent_to r vs fs) h s
 end_on d a b (Inside role values fields) (inside r vs fs) h s = place_on d a b role values fields r (inside r vs fs) h s
 end_on d a b (Sent role values fields) (inside r vs fs) h s = absurd s
 end_on d a b (Inside role values fields) (sent_to r vs fs) h s = absurd s
 
-leaf_on : (d : Design) (a b : List Node) (l : Leaf) (of : laws.Leaf) → KeepsTerms a b → ShowsLeaf d a l of → ShowsLeaf d b l of
+pub leaf_on : (d : Design) (a b : List Node) (l : Leaf) (of : laws.Leaf) → KeepsTerms a b → ShowsLeaf d a l of → ShowsLeaf d b l of
 leaf_on d a b l of h s = record {
   cond = makes_on a b l.cond of.cond h s.cond;
   choices = inputs_on a b l.choices of.choices h s.choices;

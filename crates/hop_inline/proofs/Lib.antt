@@ -1,6 +1,6 @@
-mod Growing
+pub mod Growing
 mod NewInputs
-mod Names
+pub mod Names
 mod Bodies
-mod Ends
+pub mod Ends
 mod Roots

@@ -1,0 +1,8 @@
+mod Results
+mod Names
+mod Inputs
+mod ReadBack
+mod PushedBack
+mod Chains
+mod Pairing
+mod Gathering

@@ -1,0 +1,4 @@
+pub mod Sent
+pub mod Replacing
+pub mod Compared
+pub mod Parts

@@ -1,0 +1,5 @@
+mod Counts
+mod Refinable
+mod Leaves
+mod Roles
+mod Treed
