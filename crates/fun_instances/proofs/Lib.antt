@@ -1,3 +1,4 @@
 pub mod AssumptionValues
 pub mod Assumed
 pub mod Numbers
+pub mod OwnInputs

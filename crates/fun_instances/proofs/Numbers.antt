@@ -1,7 +1,7 @@
 -- Numbers as terms, one by one.
 use Rattle.std.proofs.Common.{◌≡◌, ℕ, zero, suc, ◌+◌, ◌<◌, ◌≤◌, ◌^◌, List, [], ◌∷◌, ◌++◌, map, drop, length, get_or, true, Some, refl, sym, ap, subst, ◌∙◌, arith}
 use Rattle.std.specs.Prelude.{slice_get}
-use Rattle.std.specs.List.{AllZip}
+use Rattle.std.specs.List.{AllByRecursion, AllZip}
 use Rattle.std.proofs.lemmas.List.{append_assoc, append-nil, map-append}
 use Rattle.cocoon_num.specs.PacketForms.{FieldsFit}
 use Rattle.cocoon_num.specs.Sorts.{is_declared_width}
@@ -39,24 +39,33 @@ is_assumption (a_switch x) a h = absurd (cc)
 wide_to : (w : ℕ) → is_declared_width w ≡ true → (1 ≤ w) × (w ≤ 128)
 wide_to w h = grind (arith, h)
 
-constants : (ps : List Param) (ns : List ℕ) → wide_params ps ≡ [] → FieldsFit (widths_of ps) ns → AreConstants (widths_of ps) ns
-constants [] [] w h = tt
-constants [] (n ∷ ns) w h = absurd h
-constants (p ∷ ps) [] w h = absurd h
-constants (p ∷ ps) (n ∷ ns) w h = (
-  (wide_to p.width (passes (is_declared_width p.width) p.name.at (nil_left (unless_named (is_declared_width p.width) p.name) (wide_params ps) w)), h.0),
-  constants ps ns (nil_right (unless_named (is_declared_width p.width) p.name) (wide_params ps) w) h.1,
-)
-
--- the parameters of an assumption have widths of terms
-pub are_constants : (d : Design) → WellFormed d → (i : ℕ) (a : AssumeDecl) → slice_get (all_assumptions d) i ≡ Some a → (ns : List ℕ) → NumbersFit a ns → AreConstants (widths_of a.params) ns
-are_constants d w i a is ns fit =
+-- the parameters of an assumption have widths of declarations
+no_wide : (d : Design) → WellFormed d → (i : ℕ) (a : AssumeDecl) → slice_get (all_assumptions d) i ≡ Some a → wide_params a.params ≡ []
+no_wide d w i a is =
     let t = in_filter as_assumption (all_decls d) a (at_place (all_assumptions d) i a is) in
     let declared : In (an_assumption a) (all_decls d) = subst (λ x. In x (all_decls d)) (is_assumption t.0 a t.2) t.1 in
     let at = stands d (last_level d) (an_assumption a) declared in
-    constants a.params ns
-    (none_at (λ (x : DeclSite). wide_params (params_of x.decl)) (decl_sites d) (nil_right _ _ (nil_left _ _ (nil_left _ _ (nil_left _ _ (w too_wide))))) (site_at d at.level at.before (an_assumption a)) at.at)
-    fit
+    none_at (λ (x : DeclSite). wide_params (params_of x.decl)) (decl_sites d) (nil_right _ _ (nil_left _ _ (nil_left _ _ (nil_left _ _ (w too_wide))))) (site_at d at.level at.before (an_assumption a)) at.at
+
+widths_to : (ps : List Param) → wide_params ps ≡ [] → AllByRecursion IsWidth (widths_of ps)
+widths_to [] h = tt
+widths_to (p ∷ ps) h = (
+  wide_to p.width (passes (is_declared_width p.width) p.name.at (nil_left (unless_named (is_declared_width p.width) p.name) (wide_params ps) h)),
+  widths_to ps (nil_right (unless_named (is_declared_width p.width) p.name) (wide_params ps) h),
+)
+
+-- which are those of terms
+pub params_wide : (d : Design) → WellFormed d → (i : ℕ) (a : AssumeDecl) → slice_get (all_assumptions d) i ≡ Some a → AllByRecursion IsWidth (widths_of a.params)
+params_wide d w i a is = widths_to a.params (no_wide d w i a is)
+
+constants : (ws ns : List ℕ) → AllByRecursion IsWidth ws → FieldsFit ws ns → AreConstants ws ns
+constants [] [] w h = tt
+constants [] (n ∷ ns) w h = absurd h
+constants (v ∷ ws) [] w h = absurd h
+constants (v ∷ ws) (n ∷ ns) w h = ((w.0, h.0), constants ws ns w.1 h.1)
+
+pub are_constants : (d : Design) → WellFormed d → (i : ℕ) (a : AssumeDecl) → slice_get (all_assumptions d) i ≡ Some a → (ns : List ℕ) → NumbersFit a ns → AreConstants (widths_of a.params) ns
+are_constants d w i a is ns fit = constants (widths_of a.params) ns (params_wide d w i a is) fit
 
 -- ---- their terms
 

@@ -2,3 +2,4 @@ pub mod AssumptionTerms
 pub mod Taking
 pub mod Saying
 pub mod Numbers
+pub mod OwnInputs

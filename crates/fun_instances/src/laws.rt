@@ -12,6 +12,9 @@ ghost use Rattle.sound_types.specs.Defined.{HasDefinitions};
 ghost use Rattle.sound_types.specs.Literals.{DesignLiteralsFit};
 ghost use Rattle.expr_term_laws.specs.Shown.{HasWidth};
 ghost use Rattle.fun_instances.specs.AssumptionTerms.{assumption_term, value_term};
+ghost use Rattle.bv_terms.specs.declared.node.Node.{Node};
+ghost use Rattle.expr_terms.specs.Variables.{Keeps};
+ghost use Rattle.fun_instances.specs.OwnInputs.{HasInputsOf};
 ghost use Rattle.fun_instances.specs.Saying.{IsTrueUnder, SaysOf};
 ghost use Rattle.fun_instances.specs.Taking.{NumbersFit, OfAssumption, TermsFit};
 
@@ -63,3 +66,9 @@ pub fn met_assumptions_are_true()
     declarations_are_typed();
     expressions_have_values();
 }
+
+/// The inputs of an arena stay, and no other comes.
+pub fn inputs_stay()
+    ensures { (widths : List ℕ) (old new : List Node) → Keeps old new
+        → HasInputsOf widths old → HasInputsOf widths new }
+{}

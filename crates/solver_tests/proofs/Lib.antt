@@ -1,3 +1,4 @@
 pub mod Unapplied
 pub mod Covered
 pub mod Replacing
+pub mod Alike

@@ -1,6 +1,6 @@
 //! Terms, made by calls whose conditions are tried first.
-ghost use Rattle.std.specs.Prelude.{◌≡◌, ◌<◌, IfSome, IsFalse, IsTrue, length};
-ghost use Rattle.bv_terms.specs.Arenas.{inputs_in, term_at};
+ghost use Rattle.std.specs.Prelude.{◌≡◌, ◌<◌, ◌≤◌, All, IfSome, IsFalse, IsTrue, length};
+ghost use Rattle.bv_terms.specs.Arenas.{inputs_in, term_at, width_at};
 ghost use Rattle.bv_terms.specs.TermTrees.{OperandsFit};
 ghost use Rattle.solver_tests.specs.Plain.{CanBeGoal, NotApplied};
 ghost use Rattle.bit_blast.specs.Goals.{IsUnapplied};
@@ -80,21 +80,30 @@ pub(crate) fn pick(terms: &mut Terms, c: TermId, a: TermId, b: TermId) -> Option
     terms.pick(c, a, b).ok()
 }
 
-/// A function at two arguments, of a width.
+/// Whether there are such terms, and each can be an argument.
+fn are_args(terms: &Terms, args: &[TermId]) -> bool
+    ensures there { IsTrue result → All (λ a. a < length terms.now) args.now }
+    ensures narrow { IsTrue result → All (λ a. width_at terms.now a ≤ 64) args.now }
+{
+    for arg in args {
+        if *arg >= terms.count() || terms.width(*arg) > 64 {
+            return false;
+        }
+    }
+    true
+}
+
+/// A function at arguments, of a width.
 pub(crate) fn apply(
     terms: &mut Terms,
     function: u32,
-    a: TermId,
-    b: TermId,
+    args: &[TermId],
     width: u8,
 ) -> Option<TermId> {
-    if a >= terms.count() || b >= terms.count() || width < 1 || width > 128 {
+    if width < 1 || width > 128 || !are_args(terms, args) {
         return None;
     }
-    if terms.width(a) > 64 || terms.width(b) > 64 {
-        return None;
-    }
-    terms.apply(function, &[a, b], width).ok()
+    terms.apply(function, args, width).ok()
 }
 
 /// A term with another one in the place of an input.

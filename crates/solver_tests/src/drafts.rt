@@ -109,13 +109,23 @@ impl Draft {
         slice(&mut self.terms, part, small(high)?, small(low)?)
     }
 
-    /// `Apply.FUNCTION.WIDTH`: a function at the last two.
+    /// The last terms that wait, so many, in their order.
+    fn last(&mut self, count: u64) -> Option<Vec<TermId>> {
+        let mut last = Vec::new(*self.waiting.allocator());
+        for _ in 0..count {
+            last.push(self.waiting.pop()?).ok()?;
+        }
+        last.reverse();
+        Some(last)
+    }
+
+    /// `Apply.FUNCTION.WIDTH.COUNT`: a function at so many terms, the last ones; without a count at the last two.
     fn call(&mut self, said: &str) -> Option<TermId> {
-        let (function, width) = said.split_once('.')?;
-        let second = self.waiting.pop()?;
-        let first = self.waiting.pop()?;
+        let (function, rest) = said.split_once('.')?;
+        let (width, count) = rest.split_once('.').unwrap_or((rest, "2"));
+        let args = self.last(number(count)?)?;
         let function = u32::try_from(number(function)?).ok()?;
-        apply(&mut self.terms, function, first, second, small(width)?)
+        apply(&mut self.terms, function, &args, small(width)?)
     }
 
     /// `Put.INPUT`: the last but one with the last in the place of the input.

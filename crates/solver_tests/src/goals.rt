@@ -2,10 +2,10 @@
 use crate::building::{bits, blasted, is_goal, read};
 use crate::drafts::Draft;
 use crate::extending::holds;
-use bit_blast::{BlastFault, blast};
+use bit_blast::{BlastFault, InputMap, blast};
 use bv_terms::{TermId, Terms};
 use case_files::{Printer, first_word, number};
-use cnf_core::Assignment;
+use cnf_core::{Assignment, Cnf};
 use cocoon_num::{Bits, List};
 use std::alloc::Global;
 
@@ -15,11 +15,9 @@ fn put_number(number: Bits, given: &mut Printer) {
     given.put_debug(&number.value);
 }
 
-fn put_counts(alloc: Global, terms: &Terms, goal: TermId, given: &mut Printer) {
-    if !is_goal(terms, goal) {
-        return given.put("no goal");
-    }
-    match blast(alloc, terms, goal) {
+/// Puts how many clauses were made and over how many variables, or how many are refused.
+pub(crate) fn put_clauses_made(made: Result<(Cnf, InputMap), BlastFault>, given: &mut Printer) {
+    match made {
         Ok((cnf, _)) => {
             given.put_number(cnf.clauses.items().len() as u64);
             given.put(" over ");
@@ -31,6 +29,13 @@ fn put_counts(alloc: Global, terms: &Terms, goal: TermId, given: &mut Printer) {
         }
         Err(BlastFault::NoMemory) => given.lose(),
     }
+}
+
+fn put_counts(alloc: Global, terms: &Terms, goal: TermId, given: &mut Printer) {
+    if !is_goal(terms, goal) {
+        return given.put("no goal");
+    }
+    put_clauses_made(blast(alloc, terms, goal), given);
 }
 
 /// Puts how many clauses a goal has and over how many variables, or how many are refused.

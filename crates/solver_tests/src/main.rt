@@ -11,6 +11,7 @@ mod dimacs_texts;
 mod drafts;
 mod evaluating;
 mod extending;
+mod flattening;
 mod goals;
 mod known;
 mod lists;
@@ -22,6 +23,7 @@ mod values;
 use case_files::{Printer, Subject, first_word, try_words};
 use copies::put_copied;
 use dimacs_texts::{Kind, put_searches, put_texts};
+use flattening::{put_flat_applied, put_flat_clauses, put_flat_size};
 use goals::{put_inputs, put_size, put_solutions};
 use numbers::{put_needed, put_numbers, put_replaced, put_walk};
 use std::process::ExitCode;
@@ -44,6 +46,9 @@ impl<'r> Subject for Cases<'r> {
             "values" => put_values(self.rt.alloc(), above, rest, wanted, given),
             "solutions" => put_solutions(self.rt.alloc(), rest, given),
             "size" => put_size(self.rt.alloc(), rest, given),
+            "flat" => put_flat_clauses(self.rt.alloc(), rest, given),
+            "flat-size" => put_flat_size(self.rt.alloc(), rest, given),
+            "applied" => put_flat_applied(self.rt.alloc(), rest, given),
             "inputs" => put_inputs(self.rt.alloc(), rest, given),
             "terms" => put_numbers(self.rt.alloc(), rest, given),
             "copied" => put_copied(self.rt.alloc(), rest, given),

@@ -1,0 +1,4 @@
+pub mod Applied
+pub mod Reducing
+pub mod Groups
+pub mod Agreeing

@@ -1,0 +1,2 @@
+pub mod LeavesOver
+pub mod FormulasOver

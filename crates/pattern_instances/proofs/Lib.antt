@@ -1,0 +1,6 @@
+pub mod Ids
+pub mod Firsts
+pub mod Making
+pub mod Places
+pub mod Adding
+pub mod Taking

@@ -1,0 +1,5 @@
+pub mod Lists
+pub mod OverParts
+pub mod PatternFits
+pub mod TakenFits
+pub mod Instances

@@ -1,0 +1,3 @@
+pub mod InputNumbers
+pub mod Renaming
+pub mod Untrue

@@ -1,0 +1,3 @@
+pub mod OwnNames
+pub mod Queries
+pub mod Certified
