@@ -28,6 +28,7 @@ MEMORY_FOLDER = "/dev/shm" if os.access("/dev/shm", os.W_OK) else None
 BUNDLE = ("one.s1.p4", "one.s1.rows.json", "one.net.json")
 OLDER = b"older\n"
 JOB, FORWARD, STEP = "compile c.ccn c.defs one", "forward one p.txt", "step c.ccn c.defs 0 c.case"
+SPENT = "compile a.spent a.defs one --conflicts 1"
 WORDS = [
     JOB,
     "compile c.ccn c.defs",
@@ -37,6 +38,8 @@ WORDS = [
     "compile c.slip c.defs one",
     "compile m.ccn m.defs one",
     "compile c.ccn c.short one",
+    "compile a.broken a.defs one",
+    SPENT,
     FORWARD,
     STEP,
     "step m.ccn m.defs 1 m.case",
@@ -60,6 +63,8 @@ def inputs():
         "c.long": bytes(1048577),
         "c.short": files["c.defs"].split(b"\n")[0] + b"\n",
         "c.slip": files["c.ccn"].replace(b"send", b"sned", 1),
+        "a.broken": files["a.ccn"].replace(b"role", b"assume (t: bit<8>, p: bit<16>) pick(t, p) < 16w3;\nrole", 1),
+        "a.spent": files["a.ccn"].replace(b"role", b"assume (a: bit<8>, b: bit<8>) a + b == b + a;\nrole", 1),
         "c.case": b"SwIn 1 0\n1\n-\n",
         "line.case": b"SwIn 1\n1\n-\n",
         "long.case": bytes(65537),
@@ -83,7 +88,7 @@ class Room:
         """Puts an older bundle there, and for `forward` the one that is read."""
         for name in BUNDLE:
             (self.at / name).write_bytes(self.bundle[name] if words.startswith("forward") else OLDER)
-        for path in self.at.glob("*.new"):
+        for path in [*self.at.glob("*.new"), *self.at.glob("*.budget.json")]:
             path.unlink()
 
     def run(self, words, refused):
@@ -143,7 +148,7 @@ def refuse_memory(make_room):
 
 def refuse_files(make_room):
     room = make_room()
-    for words in (JOB, FORWARD, STEP):
+    for words in (JOB, SPENT, FORWARD, STEP):
         _, (_, calls) = room.tried(words, {})
         for fault in ("5", "28", "4"):
             print(f"one of {calls} calls on files of {words} fails with {fault}")

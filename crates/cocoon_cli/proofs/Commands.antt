@@ -15,20 +15,24 @@ use Rattle.net_bundle.specs.declared.fault.BundleFault.TheVariants as fault
 use Rattle.p4_ir.specs.NetOf.{net_of}
 use Rattle.p4_ir.specs.NetTree.{NetData}
 use Rattle.command_line.specs.Command.{Command, compile, step, forward}
-use Rattle.command_reports.specs.FileNames.{bundle_in}
+use Rattle.command_reports.specs.FileNames.{FileNames, budget_name, bundle_in}
 use Rattle.command_reports.specs.Refusals.{bundle_refusal}
 use Rattle.command_reports.specs.Report.{fault_of, success, verdict_status}
-use Rattle.command_reports.specs.declared.files.CommandFile.TheVariants.{Bundle, Case as CaseFile, Definitions, Design, Packets}
+use Rattle.command_reports.specs.declared.files.CommandFile.TheVariants.{Budget, Bundle, Case as CaseFile, Definitions, Design, Packets}
 use Rattle.command_reports.specs.declared.refusal.Refusal.{Refusal}
 use Rattle.command_reports.specs.declared.refusal.Refusal.TheVariants as refusal
 use Rattle.command_reports.specs.declared.report.Report.{Report}
+use Rattle.command_reports.specs.declared.report.Verdict.{Verdict}
+use Rattle.command_reports.specs.declared.report.Verdict.TheVariants as verdict
+use Rattle.cocoon_cli.specs.declared.answer.Answer.{Answer}
 use Rattle.cocoon_cli.specs.declared.answer.Writing.{Writing as Written}
 use Rattle.cocoon_cli.specs.declared.answer.Writing.TheVariants as written
 use Rattle.cocoon_cli.specs.declared.reading.Read.{Read}
-use Rattle.cocoon_cli.specs.Commands.{Plans, Reports, Writes, asks, files_of, writes}
+use Rattle.cocoon_cli.specs.Commands.{Plans, PlansDone, Reports, Writes, asks, files_of, writes}
+use Rattle.cocoon_cli.specs.Answering.{IsBudget, PlansBy}
 use Rattle.cocoon_cli.specs.Compiling.{LowersTexts}
 use Rattle.cocoon_cli.specs.Headline.{Compiled, CompiledOf, none_besides}
-use Rattle.cocoon_cli.specs.Leaves.{IsWritten, LeavesAll, LeavesFault}
+use Rattle.cocoon_cli.specs.Leaves.{IsWhole, LeavesFault, LeavesWhole}
 use Rattle.cocoon_cli.specs.Outcomes.{AllGood, none, good, Ends, no_memory, reads, steps}
 use Rattle.cocoon_cli.specs.ReportLines.{sent_text, totals_line, totals_of}
 use Rattle.cocoon_cli.specs.Run.{IsKnown, MayWrite, done, inputs_of}
@@ -45,7 +49,7 @@ use Rattle.cocoon_cli.proofs.TextSteps.{Texts}
 
 -- the steps of a command are decided where the content of a bundle that it reads is known
 pub steps_decided : Laws → (c : Command) (i : Inputs) → IsKnown (bundle_in (files_of c)) i → AllDecided i (steps c)
-steps_decided laws (compile d e o) i b = (tt, (tt, (tt, (tt, (tt, (tt, (tt, (tt, (tt, (tt, (tt, (tt, (tt, (tt, tt))))))))))))))
+steps_decided laws (compile d e o n) i b = (tt, (tt, (tt, (tt, (tt, (tt, (tt, (tt, (tt, (tt, (tt, (tt, (tt, (tt, (tt, tt)))))))))))))))
 steps_decided laws (step d e l f) i b = (tt, (tt, (tt, (tt, (tt, (tt, (tt, (tt, (tt, (tt, (tt, (tt, (tt, (tt, tt))))))))))))))
 steps_decided laws (forward o p n) i b =
     let r : HasReading i o = (b.0, b.1, laws.one_reading b.0 o) in
@@ -53,11 +57,12 @@ steps_decided laws (forward o p n) i b =
 
 -- each tells of a file that the command has
 pub all_tell : (c : Command) → AllTell (files_of c) (steps c)
-all_tell (compile d e o) =
-    let x : Named (files_of (compile d e o)) Design = (d, refl) in
-    let y : Named (files_of (compile d e o)) Definitions = (e, refl) in
-    let z : (file : BundleFile) → Named (files_of (compile d e o)) (Bundle file) = λ file. (whole_name o file, refl) in
-    (x, (x, (y, (y, (x, (x, (tt, (x, (y, (y, (tt, (tt, (z, (z, tt))))))))))))))
+all_tell (compile d e o n) =
+    let x : Named (files_of (compile d e o n)) Design = (d, refl) in
+    let y : Named (files_of (compile d e o n)) Definitions = (e, refl) in
+    let b : Named (files_of (compile d e o n)) Budget = (budget_name d, refl) in
+    let z : (file : BundleFile) → Named (files_of (compile d e o n)) (Bundle file) = λ file. (whole_name o file, refl) in
+    (x, (x, (y, (y, (x, (x, (tt, (x, (y, (y, (tt, (b, (tt, (z, (z, tt)))))))))))))))
 all_tell (step d e l f) =
     let x : Named (files_of (step d e l f)) Design = (d, refl) in
     let y : Named (files_of (step d e l f)) Definitions = (e, refl) in
@@ -69,8 +74,8 @@ all_tell (forward o p n) =
 
 -- it has one report
 pub one_report : Laws → (c : Command) (i : Inputs) (r q : Report) → IsKnown (bundle_in (files_of c)) i → Reports c i r → Reports c i q → r ≡ q
-one_report laws (compile d e o) i r q b h k =
-    on_both laws i (λ t d u e (m, low, x) (n, lows, y). x ∙ ap (λ (n : NetData). success (totals_line (totals_of n))) (laws.one_net d e m n low lows) ∙ sym y) h k
+one_report laws (compile d e o n) i r q b h k =
+    on_both laws i (λ t d u e (m, low, x) (p, lows, y). x ∙ ap (λ (n : NetData). success (totals_line (totals_of n))) (laws.one_net d e m p low lows) ∙ sym y) h k
 one_report laws (step d e l f) i r q b h k =
     on_both laws i (λ t d u e v w. on_text i CaseFile (λ z (c, s, says, does, x) (a, p, said, did, y).
     let same = same_ok (case_of l d z) c a says said in
@@ -82,41 +87,62 @@ one_report laws (forward o p n) i r q b h k =
 
 -- ---- what it writes
 
+-- where all steps are good, a command succeeds
+pub report_done : (c : Command) (i : Inputs) (report : Report) → Reports c i report → report.verdict ≡ verdict.Done
+report_done (compile d e o n) i report k = ap (λ (r : Report). r.verdict) k.holds.holds.2
+report_done (step d e l f) i report k =
+    let (case, sent, says, steps, said) = k.holds.holds.holds in ap (λ (r : Report). r.verdict) said
+report_done (forward o p n) i report k =
+    let (packets, say, (lines, are, said)) = k.holds.holds in ap (λ (r : Report). r.verdict) said
+
 -- what a command that reports this writes, and the status of its report
-pub report_writes : (c : Command) (i : Inputs) (before after : Option Files) (report : Report) → Reports c i report → LeavesAll c i before after → MayWrite (verdict_status report.verdict) ⊎ (after ≡ before)
-report_writes (compile d e o) i before after report k h = inl (done (ap (λ (r : Report). verdict_status r.verdict) k.holds.holds.2))
+pub report_writes : (c : Command) (i : Inputs) (before after : Option Files) (report : Report) → Reports c i report → LeavesWhole c i before after → MayWrite (verdict_status report.verdict) ⊎ (after ≡ before)
+report_writes (compile d e o n) i before after report k h = inl (done (ap verdict_status (report_done (compile d e o n) i report k)))
 report_writes (step d e l f) i before after report k (w, is, h) = inr (h ∙ ap (λ x. with_writing x before) is.1)
 report_writes (forward o p n) i before after report k (w, is, h) = inr (h ∙ ap (λ x. with_writing x before) is.1)
 
 -- the two texts of a `compile`
-texts : (d e o : List ℕ) (i : Inputs) (read : Read) → IsGiven (files_of (compile d e o)) i read → Texts i read.design.items read.definitions.items
-texts d e o i read g = record { design = g.design.0; defs = g.definitions.0 }
+texts : (d e o : List ℕ) (n : ℕ) (i : Inputs) (read : Read) → IsGiven (files_of (compile d e o n)) i read → Texts i read.design.items read.definitions.items
+texts d e o n i read g = record { design = g.design.0; defs = g.definitions.0 }
 
 -- the steps of writing are good where all of it fits
-pub writes_good : (c : Command) (i : Inputs) (read : Read) (w : Written) → IsGiven (files_of c) i read → Plans c read w → Fits (writing_of (files_of c) read w) → AllGood i (writes c)
-writes_good (compile d e o) i read (written.Bundle name net) g p fit = good (on_net i read.design.items read.definitions.items (net_of net) (texts d e o i read g) p.1 fit) (good tt none)
-writes_good (compile d e o) i read written.Nothing g p fit = absurd p
-writes_good (compile d e o) i read (written.Own file bytes) g p fit = absurd p
+pub writes_good : (c : Command) (i : Inputs) (read : Read) (w : Written) → IsGiven (files_of c) i read → PlansDone c read w → Fits (writing_of (files_of c) read w) → AllGood i (writes c)
+writes_good (compile d e o n) i read (written.Bundle name net) g p fit = good (on_net i read.design.items read.definitions.items (net_of net) (texts d e o n i read g) p.1 fit) (good tt none)
+writes_good (compile d e o n) i read written.Nothing g p fit = absurd p
+writes_good (compile d e o n) i read (written.Own file bytes) g p fit = absurd p
 writes_good (step d e l f) i read w g p fit = none
 writes_good (forward o p n) i read w g h fit = none
 
 -- and it is what the command writes
-pub writes_it : (c : Command) (i : Inputs) (read : Read) (w : Written) → IsGiven (files_of c) i read → Plans c read w → Fits (writing_of (files_of c) read w) → Writes c i (writing_of (files_of c) read w)
-writes_it (compile d e o) i read (written.Bundle name net) g p fit =
-    on_net i read.design.items read.definitions.items (net_of net) (texts d e o i read g) p.1
+pub writes_it : (c : Command) (i : Inputs) (read : Read) (w : Written) → IsGiven (files_of c) i read → PlansDone c read w → Fits (writing_of (files_of c) read w) → Writes c i (writing_of (files_of c) read w)
+writes_it (compile d e o n) i read (written.Bundle name net) g p fit =
+    on_net i read.design.items read.definitions.items (net_of net) (texts d e o n i read g) p.1
     (fit, ap (λ out. bundle out (bundle_of.bundle read.design.items (net_of net) None)) p.0)
-writes_it (compile d e o) i read written.Nothing g p fit = absurd p
-writes_it (compile d e o) i read (written.Own file bytes) g p fit = absurd p
+writes_it (compile d e o n) i read written.Nothing g p fit = absurd p
+writes_it (compile d e o n) i read (written.Own file bytes) g p fit = absurd p
 writes_it (step d e l f) i read w g p fit = ap (writing_of (files_of (step d e l f)) read) p
 writes_it (forward o q n) i read w g p fit = ap (writing_of (files_of (forward o q n)) read) p
 
 -- it may be written
-pub can_write : (c : Command) (read : Read) (w : Written) → Plans c read w → CanWrite (files_of c) w
-can_write (compile d e o) read (written.Bundle name net) p = (ap Some (sym p.0), p.1.lowering.writable)
-can_write (compile d e o) read written.Nothing p = absurd p
-can_write (compile d e o) read (written.Own file bytes) p = absurd p
-can_write (step d e l f) read w p = subst (CanWrite (files_of (step d e l f))) (sym p) tt
-can_write (forward o q n) read w p = subst (CanWrite (files_of (forward o q n))) (sym p) tt
+can_write_done : (c : Command) (read : Read) (w : Written) → PlansDone c read w → CanWrite (files_of c) w
+can_write_done (compile d e o n) read (written.Bundle name net) p = (ap Some (sym p.0), p.1.lowering.writable)
+can_write_done (compile d e o n) read written.Nothing p = absurd p
+can_write_done (compile d e o n) read (written.Own file bytes) p = absurd p
+can_write_done (step d e l f) read w p = subst (CanWrite (files_of (step d e l f))) (sym p) tt
+can_write_done (forward o q n) read w p = subst (CanWrite (files_of (forward o q n))) (sym p) tt
+
+-- the file of a search that was given up may be written
+budget_can : (names : FileNames) (w : Written) → IsBudget w → CanWrite names w
+budget_can names (written.Own Budget bytes) p = tt
+budget_can names w p = absurd p
+
+can_write_by : (c : Command) (read : Read) (v : Verdict) (w : Written) → PlansBy (λ x. PlansDone c read x) v w → CanWrite (files_of c) w
+can_write_by c read verdict.Done w p = can_write_done c read w p
+can_write_by c read verdict.Budget w p = budget_can (files_of c) w p
+can_write_by c read v w p = subst (CanWrite (files_of c)) (sym p) tt
+
+pub can_write : (c : Command) (read : Read) (answer : Answer) → Plans c read answer → CanWrite (files_of c) answer.writing
+can_write c read answer p = can_write_by c read answer.report.verdict answer.writing p
 
 -- why it was not written
 pub record Unwritten (c : Command) (i : Inputs) (before after : Option Files) (r : Refusal) : Type 0 where
@@ -124,28 +150,28 @@ pub record Unwritten (c : Command) (i : Inputs) (before after : Option Files) (r
   pub leaves : LeavesFault c i before after (fault_of r)
 
 -- where its files fit, a bundle is what `compile` writes
-bundle_written_by : (d e o : List ℕ) (i : Inputs) (read : Read) (net : NetData) → AllGood i (reads (files_of (compile d e o))) → AllGood i (asks (compile d e o)) → Texts i read.design.items read.definitions.items
-    → LowersTexts read.design.items read.definitions.items net → AllFit (bundle_of.bundle read.design.items net None) → IsWritten (compile d e o) i (bundle o (bundle_of.bundle read.design.items net None))
-bundle_written_by d e o i read net r a g l fit =
-    let c = compile d e o in (
+bundle_written_by : (d e o : List ℕ) (n : ℕ) (i : Inputs) (read : Read) (net : NetData) → AllGood i (reads (files_of (compile d e o n))) → AllGood i (asks (compile d e o n)) → Texts i read.design.items read.definitions.items
+    → LowersTexts read.design.items read.definitions.items net → AllFit (bundle_of.bundle read.design.items net None) → IsWhole (compile d e o n) i (bundle o (bundle_of.bundle read.design.items net None))
+bundle_written_by d e o n i read net r a g l fit =
+    let c = compile d e o n in (
       all_good i (reads (files_of c)) (asks c ++ writes c) r (all_good i (asks c) (writes c) a (good (on_net i read.design.items read.definitions.items net g l fit) (good tt none))),
       on_net i read.design.items read.definitions.items net g l (fit, refl),
     )
 
-bundle_unwritten : (d e o : List ℕ) (i : Inputs) (before after : Option Files) (read : Read) (net : NetData) (f : BundleFault) → AllGood i (reads (files_of (compile d e o))) → AllGood i (asks (compile d e o)) → Texts i read.design.items read.definitions.items
-    → LowersTexts read.design.items read.definitions.items net → NotWritten o (bundle_of.bundle read.design.items net None) before after f → Unwritten (compile d e o) i before after (bundle_refusal f)
-bundle_unwritten d e o i before after read net (fault.Folder file cause) r a g l n = record {
-  ends = next i _ bundle_within _ (on_net i read.design.items read.definitions.items net g l n.0) (stopped i _ bundle_written _ (file, refl));
-  leaves = (bundle o (bundle_of.bundle read.design.items net None), bundle_written_by d e o i read net r a g l n.0, n.2);
+bundle_unwritten : (d e o : List ℕ) (n : ℕ) (i : Inputs) (before after : Option Files) (read : Read) (net : NetData) (f : BundleFault) (report : Report) → Reports (compile d e o n) i report → AllGood i (reads (files_of (compile d e o n))) → AllGood i (asks (compile d e o n)) → Texts i read.design.items read.definitions.items
+    → LowersTexts read.design.items read.definitions.items net → NotWritten o (bundle_of.bundle read.design.items net None) before after f → Unwritten (compile d e o n) i before after (bundle_refusal f)
+bundle_unwritten d e o n i before after read net (fault.Folder file cause) report k r a g l h = record {
+  ends = next i _ bundle_within _ (on_net i read.design.items read.definitions.items net g l h.0) (stopped i _ bundle_written _ (file, refl));
+  leaves = (report, bundle o (bundle_of.bundle read.design.items net None), inl (bundle_written_by d e o n i read net r a g l h.0, k), h.2);
 }
-bundle_unwritten d e o i before after read net (fault.Limit file) r a g l n = record {
-  ends = refused i _ bundle_within _ (on_net i read.design.items read.definitions.items net g l (file, n.0, refl));
-  leaves = n.1;
+bundle_unwritten d e o n i before after read net (fault.Limit file) report k r a g l h = record {
+  ends = refused i _ bundle_within _ (on_net i read.design.items read.definitions.items net g l (file, h.0, refl));
+  leaves = h.1;
 }
-bundle_unwritten d e o i before after read net fault.NoMemory r a g l (inl n) = record { ends = no_memory refl; leaves = inl n }
-bundle_unwritten d e o i before after read net fault.NoMemory r a g l (inr n) = record {
+bundle_unwritten d e o n i before after read net fault.NoMemory report k r a g l (inl h) = record { ends = no_memory refl; leaves = inl h }
+bundle_unwritten d e o n i before after read net fault.NoMemory report k r a g l (inr h) = record {
   ends = no_memory refl;
-  leaves = inr (bundle o (bundle_of.bundle read.design.items net None), bundle_written_by d e o i read net r a g l n.0, n.1);
+  leaves = inr (report, bundle o (bundle_of.bundle read.design.items net None), inl (bundle_written_by d e o n i read net r a g l h.0, k), h.1);
 }
 
 -- of a command that writes nothing
@@ -154,21 +180,21 @@ nothing_unwritten c i before after read w r p h =
     let none = subst (λ (x : Written). NotAllWritten (writing_of (files_of c) read x) before after r) p h in
     subst (λ (x : Refusal). Unwritten c i before after x) (sym none.0) (record { ends = no_memory refl; leaves = inl none.1 })
 
-pub not_written : (c : Command) (i : Inputs) (before after : Option Files) (read : Read) (w : Written) (r : Refusal) → AllGood i (reads (files_of c)) → AllGood i (asks c) → IsGiven (files_of c) i read → Plans c read w
-    → NotAllWritten (writing_of (files_of c) read w) before after r → Unwritten c i before after r
-not_written (compile d e o) i before after read (written.Bundle name net) r rs ask g p h =
-    let n = subst (λ out. NotWritten out (bundle_of.bundle read.design.items (net_of net) None) before after h.0) p.0 h.1 in
-    subst (λ (x : Refusal). Unwritten (compile d e o) i before after x) (sym h.2) (bundle_unwritten d e o i before after read (net_of net) h.0 rs ask (texts d e o i read g) p.1 n)
-not_written (compile d e o) i before after read written.Nothing r rs ask g p h = absurd p
-not_written (compile d e o) i before after read (written.Own file bytes) r rs ask g p h = absurd p
-not_written (step d e l f) i before after read w r rs ask g p h = nothing_unwritten (step d e l f) i before after read w r p h
-not_written (forward o q n) i before after read w r rs ask g p h = nothing_unwritten (forward o q n) i before after read w r p h
+pub not_written : (c : Command) (i : Inputs) (before after : Option Files) (read : Read) (w : Written) (r : Refusal) (report : Report) → Reports c i report → AllGood i (reads (files_of c)) → AllGood i (asks c) → IsGiven (files_of c) i read
+    → PlansDone c read w → NotAllWritten (writing_of (files_of c) read w) before after r → Unwritten c i before after r
+not_written (compile d e o n) i before after read (written.Bundle name net) r report k rs ask g p h =
+    let m = subst (λ out. NotWritten out (bundle_of.bundle read.design.items (net_of net) None) before after h.0) p.0 h.1 in
+    subst (λ (x : Refusal). Unwritten (compile d e o n) i before after x) (sym h.2) (bundle_unwritten d e o n i before after read (net_of net) h.0 report k rs ask (texts d e o n i read g) p.1 m)
+not_written (compile d e o n) i before after read written.Nothing r report k rs ask g p h = absurd p
+not_written (compile d e o n) i before after read (written.Own file bytes) r report k rs ask g p h = absurd p
+not_written (step d e l f) i before after read w r report k rs ask g p h = nothing_unwritten (step d e l f) i before after read w r p h
+not_written (forward o q n) i before after read w r report k rs ask g p h = nothing_unwritten (forward o q n) i before after read w r p h
 
 -- ---- the main promise
 
-compiled : (before after : Files) (d e o : List ℕ) (read : Read) (net : NetData) → IsGiven (files_of (compile d e o)) (inputs_of (files_of (compile d e o)) before) read → LowersTexts read.design.items read.definitions.items net
+compiled : (before after : Files) (d e o : List ℕ) (n : ℕ) (read : Read) (net : NetData) → IsGiven (files_of (compile d e o n)) (inputs_of (files_of (compile d e o n)) before) read → LowersTexts read.design.items read.definitions.items net
     → Holds before after o read.design.items net None → Compiled before after d e o none_besides
-compiled before after d e o read net g l h = record {
+compiled before after d e o n read net g l h = record {
   design_text = read.design.items;
   defs_text = read.definitions.items;
   design = l.tree;
@@ -187,18 +213,27 @@ compiled before after d e o read net g l h = record {
   within = l.stays;
 }
 
-net_compiled : (before after : Option Files) (d e o : List ℕ) (read : Read) (net : NetData) → ReadsAll (files_of (compile d e o)) before read → LowersTexts read.design.items read.definitions.items net
-    → ContentHolds before after o read.design.items net None → CompiledOf (Some (compile d e o)) before after
-net_compiled None after d e o read net g l h = tt
-net_compiled (Some before) None d e o read net g l h = h
-net_compiled (Some before) (Some after) d e o read net g l h =
-    compiled before after d e o read net (subst (λ (i : Inputs). IsGiven (files_of (compile d e o)) i read) g.inputs_are g.given) l h
+net_compiled : (before after : Option Files) (d e o : List ℕ) (n : ℕ) (read : Read) (net : NetData) → ReadsAll (files_of (compile d e o n)) before read → LowersTexts read.design.items read.definitions.items net
+    → ContentHolds before after o read.design.items net None → CompiledOf (Some (compile d e o n)) before after
+net_compiled None after d e o n read net g l h = tt
+net_compiled (Some before) None d e o n read net g l h = h
+net_compiled (Some before) (Some after) d e o n read net g l h =
+    compiled before after d e o n read net (subst (λ (i : Inputs). IsGiven (files_of (compile d e o n)) i read) g.inputs_are g.given) l h
 
-pub headline : (c : Command) (before mid after : Option Files) (read : Read) (w : Written) → mid ≡ before → ReadsAll (files_of c) before read → Plans c read w → HoldsNet read w mid after → CompiledOf (Some c) before after
-headline (compile d e o) before mid after read (written.Bundle name net) same g p h =
-    net_compiled before after d e o read (net_of net) g p.1
+headline_done : (c : Command) (before mid after : Option Files) (read : Read) (w : Written) → mid ≡ before → ReadsAll (files_of c) before read → PlansDone c read w → HoldsNet read w mid after → CompiledOf (Some c) before after
+headline_done (compile d e o n) before mid after read (written.Bundle name net) same g p h =
+    net_compiled before after d e o n read (net_of net) g p.1
     (subst (λ out. ContentHolds before after out read.design.items (net_of net) None) p.0 (subst (λ content. ContentHolds content after name.now read.design.items (net_of net) None) same h))
-headline (compile d e o) before mid after read written.Nothing same g p h = absurd p
-headline (compile d e o) before mid after read (written.Own file bytes) same g p h = absurd p
-headline (step d e l f) before mid after read w same g p h = tt
-headline (forward o q n) before mid after read w same g p h = tt
+headline_done (compile d e o n) before mid after read written.Nothing same g p h = absurd p
+headline_done (compile d e o n) before mid after read (written.Own file bytes) same g p h = absurd p
+headline_done (step d e l f) before mid after read w same g p h = tt
+headline_done (forward o q n) before mid after read w same g p h = tt
+
+pub headline : (c : Command) (before mid after : Option Files) (read : Read) (answer : Answer) → mid ≡ before → ReadsAll (files_of c) before read → Plans c read answer → answer.report.verdict ≡ verdict.Done → HoldsNet read answer.writing mid after
+    → CompiledOf (Some c) before after
+headline c before mid after read answer same g p is h =
+    headline_done c before mid after read answer.writing same g (subst (λ (v : Verdict). PlansBy (λ w. PlansDone c read w) v answer.writing) is p) h
+
+-- the same of what is planned where all steps are good
+pub planned_done : (c : Command) (i : Inputs) (read : Read) (answer : Answer) → Reports c i answer.report → Plans c read answer → PlansDone c read answer.writing
+planned_done c i read answer k p = subst (λ (v : Verdict). PlansBy (λ w. PlansDone c read w) v answer.writing) (report_done c i answer.report k) p

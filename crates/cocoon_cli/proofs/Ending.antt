@@ -1,9 +1,9 @@
 -- Steps one after another: which are good, and which of them ends a command.
-use Rattle.std.proofs.Common.{List, [], ◌∷◌, ◌++◌, Result, Err, inl}
+use Rattle.std.proofs.Common.{List, [], ◌∷◌, ◌++◌, Result, Err, inl, inr}
 use Rattle.command_reports.specs.declared.report.Report.{Report}
 use Rattle.command_reports.specs.declared.refusal.Refusal.{Refusal}
 use Rattle.cocoon_cli.specs.Outcomes.{AllGood, none, good, FirstWith, here, later, Ends, no_memory, at_step, at_fault}
-use Rattle.cocoon_cli.specs.Steps.{Inputs, Step, IsGood, Refuses, Stops}
+use Rattle.cocoon_cli.specs.Steps.{Inputs, Step, GivesUp, IsGood, Refuses, Stops}
 
 pub all_good : (i : Inputs) (ss ts : List Step) → AllGood i ss → AllGood i ts → AllGood i (ss ++ ts)
 all_good i [] ts g h = h
@@ -24,6 +24,12 @@ first_gives i P f [] h = elim h [ ]
 first_gives i P f (s ∷ ss) (here p) = f s p
 first_gives i P f (s ∷ ss) (later g h) = first_gives i P f ss h
 
+-- what follows of each is what follows of one of them
+pub first_map : (i : Inputs) (P Q : Step → Type 0) → ((s : Step) → P s → Q s) → (ss : List Step) → FirstWith i P ss → FirstWith i Q ss
+first_map i P Q f [] h = elim h [ ]
+first_map i P Q f (s ∷ ss) (here p) = here (f s p)
+first_map i P Q f (s ∷ ss) (later g h) = later g (first_map i P Q f ss h)
+
 pub ends_before : (i : Inputs) (outcome : Result Report Refusal) (ss ts : List Step) → Ends i outcome ss → Ends i outcome (ss ++ ts)
 ends_before i outcome ss ts (no_memory m) = no_memory m
 ends_before i outcome ss ts (at_step h) = at_step (first_before i _ ss ts h)
@@ -39,6 +45,9 @@ next i outcome s ss g h = ends_after i outcome (s ∷ []) ss (good g none) h
 
 pub refused : (i : Inputs) (r : Refusal) (s : Step) (ss : List Step) → Refuses i s r → Ends i (Err r) (s ∷ ss)
 refused i r s ss h = at_step (here (inl h))
+
+pub given_up : (i : Inputs) (outcome : Result Report Refusal) (s : Step) (ss : List Step) → GivesUp i s outcome → Ends i outcome (s ∷ ss)
+given_up i outcome s ss h = at_step (here (inr h))
 
 pub stopped : (i : Inputs) (r : Refusal) (s : Step) (ss : List Step) → Stops i s r → Ends i (Err r) (s ∷ ss)
 stopped i r s ss h = at_fault (here h)

@@ -1,6 +1,7 @@
 pub mod Ending
 pub mod TextSteps
 pub mod Built
+pub mod Assuming
 pub mod Compiling
 pub mod Stepped
 pub mod Forwarded
@@ -10,6 +11,7 @@ pub mod RuleValues
 pub mod OneStep
 pub mod Telling
 pub mod Commands
+pub mod Finding
 pub mod OneOutcome
 pub mod Performing
 pub mod Running

@@ -1,5 +1,5 @@
 -- By what is read of its files, a command has one outcome at most, or such as agree.
-use Rattle.std.proofs.Common.{◌≡◌, ◌⊎◌, Bool, true, false, refl, List, [], ◌∷◌, Result, Ok, Err, ap, inl, inr}
+use Rattle.std.proofs.Common.{◌≡◌, ◌⊎◌, ◌||◌, Bool, true, false, refl, List, [], ◌∷◌, Result, Ok, Err, ap, inl, inr}
 use Rattle.command_line.specs.Command.{Command}
 use Rattle.command_reports.specs.FileNames.{bundle_in}
 use Rattle.command_reports.specs.declared.refusal.Refusal.{Refusal}
@@ -7,59 +7,82 @@ use Rattle.command_reports.specs.declared.report.Report.{Report}
 use Rattle.cocoon_cli.specs.Commands.{files_of}
 use Rattle.cocoon_cli.specs.Outcomes.{AllGood, good, FirstWith, here, later, EndsAt, Agree, Alike, equal, HasOutcome, IsGivenUp, ReportsOutcome, is_any_searched, steps}
 use Rattle.cocoon_cli.specs.Run.{IsKnown, IsOnly}
-use Rattle.cocoon_cli.specs.Steps.{Inputs, Step, Decides, GivesUp, IsGood}
+use Rattle.cocoon_cli.specs.Steps.{Inputs, Step, Decides, GivesUp, IsGood, assumptions_met, is_searched}
 use Rattle.cocoon_cli.proofs.Commands.{one_report, steps_decided}
-use Rattle.cocoon_cli.proofs.Ending.{first_gives}
-use Rattle.cocoon_cli.proofs.OneStep.{AllDecided, Decided, Laws, good_or_refused, refuses_once}
+use Rattle.cocoon_cli.proofs.OneStep.{AllDecided, Decided, Laws, Once, good_or_refused, refuses_once}
+
+-- of two outcomes of some steps: they are one, or one of the steps is decided by a search
+abbrev Two : (searched : Bool) → Inputs → List Step → (x y : Result Report Refusal) → Type 0
+Two searched i ss x y = (x ≡ y) ⊎ ((searched ≡ true) × (Alike x y ⊎ (IsGivenUp i ss x ⊎ IsGivenUp i ss y)))
+
+or_first : (a b : Bool) → a ≡ true → (a || b) ≡ true
+or_first true b e = refl
+or_first false b e = cc
+
+or_second : (a b : Bool) → b ≡ true → (a || b) ≡ true
+or_second true b e = refl
+or_second false b e = e
+
+-- a search that is given up is one
+searched : (i : Inputs) (s : Step) (x : Result Report Refusal) → GivesUp i s x → is_searched s ≡ true
+searched i (assumptions_met n) x h = refl
+searched i s (Ok r) h = absurd h.1
+searched i s (Err r) h = absurd h
 
 -- each of these steps is decided by the content that is known
-decides_once : Laws → (i : Inputs) (s : Step) (x y : Result Report Refusal) → Decided i s → Decides i s x → Decides i s y → x ≡ y
-decides_once laws i s (Ok r) y b h k = absurd h
-decides_once laws i s (Err r) (Ok q) b h k = absurd k
-decides_once laws i s (Err r) (Err q) b h k = ap Err (refuses_once laws i s r q b h k)
+once_two : (i : Inputs) (s : Step) (ss : List Step) (r q : Refusal) → Once s r q → Two (is_any_searched (s ∷ ss)) i (s ∷ ss) (Err r) (Err q)
+once_two i (assumptions_met n) ss r q h = inr (refl, inl h)
+once_two i s ss r q h = inl (ap Err h)
+
+decides_once : Laws → (i : Inputs) (s : Step) (ss : List Step) (x y : Result Report Refusal) → Decided i s → Decides i s x → Decides i s y → Two (is_any_searched (s ∷ ss)) i (s ∷ ss) x y
+decides_once laws i s ss (Ok r) y b h k = absurd h
+decides_once laws i s ss (Err r) (Ok q) b h k = absurd k
+decides_once laws i s ss (Err r) (Err q) b h k = once_two i s ss r q (refuses_once laws i s r q b h k)
 
 good_or_decides : Laws → (i : Inputs) (s : Step) (x : Result Report Refusal) → Decided i s → IsGood i s → Decides i s x → ⊥
 good_or_decides laws i s (Ok r) b g h = h
 good_or_decides laws i s (Err r) b g h = good_or_refused laws i s r b g h
 
 -- two outcomes of these steps that end at one
-two_ends : Laws → (i : Inputs) (ss : List Step) (x y : Result Report Refusal) → AllDecided i ss → FirstWith i (EndsAt i x) ss → FirstWith i (EndsAt i y) ss → Alike x y ⊎ (IsGivenUp i ss x ⊎ IsGivenUp i ss y)
+two_ends : Laws → (i : Inputs) (ss : List Step) (x y : Result Report Refusal) → AllDecided i ss → FirstWith i (EndsAt i x) ss → FirstWith i (EndsAt i y) ss → Two (is_any_searched ss) i ss x y
 two_ends laws i [] x y a h k = elim h [ ]
-two_ends laws i (s ∷ ss) x y a (here (inr h)) k = inr (inl (here h))
-two_ends laws i (s ∷ ss) x y a (here (inl h)) (here (inr k)) = inr (inr (here k))
-two_ends laws i (s ∷ ss) x y a (here (inl h)) (here (inl k)) = inl (equal (decides_once laws i s x y a.0 h k))
+two_ends laws i (s ∷ ss) x y a (here (inr h)) k = inr (or_first (is_searched s) (is_any_searched ss) (searched i s x h), inr (inl (here h)))
+two_ends laws i (s ∷ ss) x y a (here (inl h)) (here (inr k)) = inr (or_first (is_searched s) (is_any_searched ss) (searched i s y k), inr (inr (here k)))
+two_ends laws i (s ∷ ss) x y a (here (inl h)) (here (inl k)) = decides_once laws i s ss x y a.0 h k
 two_ends laws i (s ∷ ss) x y a (here (inl h)) (later g k) = absurd (good_or_decides laws i s x a.0 g h)
-two_ends laws i (s ∷ ss) x y a (later g h) (here (inr k)) = inr (inr (here k))
+two_ends laws i (s ∷ ss) x y a (later g h) (here (inr k)) = inr (or_first (is_searched s) (is_any_searched ss) (searched i s y k), inr (inr (here k)))
 two_ends laws i (s ∷ ss) x y a (later g h) (here (inl k)) = absurd (good_or_decides laws i s y a.0 g k)
 two_ends laws i (s ∷ ss) x y a (later g h) (later m k) = elim (two_ends laws i ss x y a.1 h k) [
   | inl e ↦ inl e
-  | inr (inl u) ↦ inr (inl (later g u))
-  | inr (inr u) ↦ inr (inr (later g u))
+  | inr (t, inl e) ↦ inr (or_second (is_searched s) (is_any_searched ss) t, inl e)
+  | inr (t, inr (inl u)) ↦ inr (or_second (is_searched s) (is_any_searched ss) t, inr (inl (later g u)))
+  | inr (t, inr (inr u)) ↦ inr (or_second (is_searched s) (is_any_searched ss) t, inr (inr (later g u)))
 ]
 
 -- where all are good, none ends the command but by giving up
-all_good_or_ends : Laws → (i : Inputs) (ss : List Step) (x : Result Report Refusal) → AllDecided i ss → AllGood i ss → FirstWith i (EndsAt i x) ss → IsGivenUp i ss x
+all_good_or_ends : Laws → (i : Inputs) (ss : List Step) (x : Result Report Refusal) → AllDecided i ss → AllGood i ss → FirstWith i (EndsAt i x) ss → (is_any_searched ss ≡ true) × IsGivenUp i ss x
 all_good_or_ends laws i [] x a g h = elim h [ ]
 all_good_or_ends laws i (s ∷ ss) x a (good g gs) (here (inl h)) = absurd (good_or_decides laws i s x a.0 g h)
-all_good_or_ends laws i (s ∷ ss) x a (good g gs) (here (inr h)) = here h
-all_good_or_ends laws i (s ∷ ss) x a (good g gs) (later m h) = later m (all_good_or_ends laws i ss x a.1 gs h)
+all_good_or_ends laws i (s ∷ ss) x a (good g gs) (here (inr h)) = (or_first (is_searched s) (is_any_searched ss) (searched i s x h), here h)
+all_good_or_ends laws i (s ∷ ss) x a (good g gs) (later m h) =
+    let rest = all_good_or_ends laws i ss x a.1 gs h in (or_second (is_searched s) (is_any_searched ss) rest.0, later m rest.1)
 
 two_reports : Laws → (c : Command) (i : Inputs) (x y : Result Report Refusal) → IsKnown (bundle_in (files_of c)) i → ReportsOutcome c i x → ReportsOutcome c i y → x ≡ y
 two_reports laws c i (Ok r) (Ok q) b h k = ap Ok (one_report laws c i r q b h k)
 two_reports laws c i (Ok r) (Err q) b h k = absurd k
 two_reports laws c i (Err r) y b h k = absurd h
 
-two : Laws → (c : Command) (i : Inputs) (x y : Result Report Refusal) → IsKnown (bundle_in (files_of c)) i → HasOutcome c i x → HasOutcome c i y → Alike x y ⊎ (IsGivenUp i (steps c) x ⊎ IsGivenUp i (steps c) y)
+two : Laws → (c : Command) (i : Inputs) (x y : Result Report Refusal) → IsKnown (bundle_in (files_of c)) i → HasOutcome c i x → HasOutcome c i y → Two (is_any_searched (steps c)) i (steps c) x y
 two laws c i x y b (inl h) (inl k) = two_ends laws i (steps c) x y (steps_decided laws c i b) h k
-two laws c i x y b (inl h) (inr k) = inr (inl (all_good_or_ends laws i (steps c) x (steps_decided laws c i b) k.0 h))
-two laws c i x y b (inr h) (inl k) = inr (inr (all_good_or_ends laws i (steps c) y (steps_decided laws c i b) h.0 k))
-two laws c i x y b (inr h) (inr k) = inl (equal (two_reports laws c i x y b h.1 k.1))
+two laws c i x y b (inl h) (inr k) = let u = all_good_or_ends laws i (steps c) x (steps_decided laws c i b) k.0 h in inr (u.0, inr (inl u.1))
+two laws c i x y b (inr h) (inl k) = let u = all_good_or_ends laws i (steps c) y (steps_decided laws c i b) h.0 k in inr (u.0, inr (inr u.1))
+two laws c i x y b (inr h) (inr k) = inl (two_reports laws c i x y b h.1 k.1)
 
-agree : (searched : Bool) (i : Inputs) (ss : List Step) (x y : Result Report Refusal) → is_any_searched ss ≡ searched → Alike x y ⊎ (IsGivenUp i ss x ⊎ IsGivenUp i ss y) → Agree searched i ss x y
-agree true i ss x y e h = h
-agree false i ss x y e (inl (equal h)) = h
-agree false i ss x y e (inr (inl h)) = absurd (first_gives i (λ s. GivesUp i s x) (λ s no. no) ss h)
-agree false i ss x y e (inr (inr h)) = absurd (first_gives i (λ s. GivesUp i s y) (λ s no. no) ss h)
+agree : (searched : Bool) (i : Inputs) (ss : List Step) (x y : Result Report Refusal) → Two searched i ss x y → Agree searched i ss x y
+agree true i ss x y (inl h) = inl (equal h)
+agree true i ss x y (inr h) = h.1
+agree false i ss x y (inl h) = h
+agree false i ss x y (inr h) = absurd (let no : false ≡ true = h.0 in cc)
 
 pub one : Laws → (c : Command) (i : Inputs) (outcome : Result Report Refusal) → HasOutcome c i outcome → IsOnly c i outcome
-one laws c i outcome h = λ known other k. agree (is_any_searched (steps c)) i (steps c) other outcome refl (two laws c i other outcome known k h)
+one laws c i outcome h = λ known other k. agree (is_any_searched (steps c)) i (steps c) other outcome (two laws c i other outcome known k h)

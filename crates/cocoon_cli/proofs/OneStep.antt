@@ -1,5 +1,7 @@
 -- By what is read of the files, a step is good, or it refuses in one way.
-use Rattle.std.proofs.Common.{◌≡◌, ◌⊎◌, ◌≤◌, ◌<◌, ℕ, Bool, true, false, refl, List, [], ◌∷◌, length, Option, Some, None, Result, Ok, Err, sym, ap, ap₂, subst, ◌∙◌, inl, inr, arith}
+use Rattle.std.proofs.Common.{◌≡◌, ◌⊎◌, ◌≤◌, ◌<◌, ℕ, zero, suc, Bool, true, false, All, refl, List, [], ◌∷◌, length, take, Option, Some, None, Result, Ok, Err, sym, ap, ap₂, subst, ◌∙◌, inl, inr, arith}
+use Rattle.std.specs.Prelude.{slice_get}
+use Rattle.std.proofs.lemmas.List.Elements.{All-head, All-tail}
 use Rattle.cocoon_num.specs.Lists.{first_of}
 use Rattle.cocoon_num.specs.Tree as tree
 use Rattle.cocoon_num.specs.declared.limit_name.LimitName.{LimitName}
@@ -39,6 +41,11 @@ use Rattle.case_runs.specs.Stepping.{Steps}
 use Rattle.case_runs.specs.declared.sent.Sent.{Sent}
 use Rattle.cocoon_types.specs.Design.{last_level}
 use Rattle.cocoon_types.specs.Tables as tables
+use Rattle.cocoon_types.specs.Tables.{defs_of}
+use Rattle.cocoon_num.specs.Values.{Value, truth}
+use Rattle.cocoon_resolve.specs.Readers.{all_assumptions}
+use Rattle.refinement.specs.Assumptions.{IsMet, Meets}
+use Rattle.discharge.specs.Meeting.{IsFalseAt}
 use Rattle.command_reports.specs.Refusals.{IsOfFiles, unread_as}
 use Rattle.command_reports.specs.declared.files.CommandFile.{CommandFile}
 use Rattle.command_reports.specs.declared.files.CommandFile.TheVariants.{Design, Definitions, Bundle, Case as CaseFile, Packets as PacketsFile}
@@ -47,7 +54,9 @@ use Rattle.command_reports.specs.declared.refusal.DefinitionsFault.TheVariants a
 use Rattle.command_reports.specs.declared.refusal.Refusal.{Refusal}
 use Rattle.command_reports.specs.declared.refusal.Refusal.TheVariants as refusal
 use Rattle.design_texts.specs.DesignTexts.{told}
-use Rattle.cocoon_cli.specs.Steps.{Inputs, OfBundle, OfDefinitions, OfDesign, OfPackets, OfText, Step, is_there, is_within, design_reads, design_well_formed, design_within, definitions_read, definitions_fit, definitions_within, design_accepted, lowering_within, level_there, lines_formed, bundle_reads, packets_judged, copies_within, bundle_within, bundle_written, packets_refusal, IsGood, Refuses}
+use Rattle.cocoon_cli.specs.Steps.{Inputs, OfBundle, OfDefinitions, OfDesign, OfPackets, OfText, Step, is_there, is_within, design_reads, design_well_formed, design_within, definitions_read, definitions_fit, definitions_within, design_accepted, assumptions_met, lowering_within, level_there, lines_formed, bundle_reads, packets_judged, copies_within, bundle_within, bundle_written, packets_refusal, IsGood, Refuses}
+use Rattle.cocoon_cli.specs.Assumed.{IsBroken}
+use Rattle.cocoon_cli.specs.Outcomes.{Alike, broken}
 use Rattle.cocoon_cli.proofs.RuleValues.{same_rule}
 
 -- that texts have one tree or one first fault, that a design keeps the rules or breaks one first and so with the limits, that
@@ -168,9 +177,62 @@ none_over [] f a h = h
 none_over (x ∷ fs) f a (inl h) = let b : most_of x.file < length x.bytes = h.1 in let c : length x.bytes ≤ most_of x.file = a.0 in omega arith
 none_over (x ∷ fs) f a (inr h) = none_over fs f a.1 h.1
 
+-- ---- assumptions
+
+-- each of the first items has what all of them have
+of_first : {A : Type 0} (P : A → Type 0) (xs : List A) (m n : ℕ) (x : A) → m < n → slice_get xs m ≡ Some x → All P (take n xs) → P x
+of_first P [] m n x h is all = absurd cc
+of_first P (y ∷ xs) m zero x h is all = absurd (omega (arith, h))
+of_first P (y ∷ xs) zero (suc n) x h is all = let same : y ≡ x = cc in subst P same (All-head P y (take n xs) all)
+of_first P (y ∷ xs) (suc m) (suc n) x h is all = of_first P xs m n x (omega (arith, h)) is (All-tail P y (take n xs) all)
+
+of_all : {A : Type 0} (P : A → Type 0) (xs : List A) (m : ℕ) (x : A) → slice_get xs m ≡ Some x → All P xs → P x
+of_all P [] m x is all = absurd cc
+of_all P (y ∷ xs) zero x is all = let same : y ≡ x = cc in subst P same (All-head P y xs all)
+of_all P (y ∷ xs) (suc m) x is all = of_all P xs m x is (All-tail P y xs all)
+
+-- an assumption that is met is false nowhere
+never_false : (d : tree.Design) (defs : tables.Defs) (a : tree.AssumeDecl) (ns : List ℕ) → IsMet d defs a → IsFalseAt d defs a ns → ⊥
+never_false d defs a ns met h =
+    let no : ◌≡◌ {A = Option Value} (Some (truth true)) (Some (truth false)) = sym (met ns h.env h.bound) ∙ h.is_false in
+    cc
+
+compared : (m n : ℕ) → (m < n) ⊎ ((m ≡ n) ⊎ (n < m))
+compared zero zero = inr (inl refl)
+compared zero (suc n) = inl (omega arith)
+compared (suc m) zero = inr (inr (omega arith))
+compared (suc m) (suc n) = elim (compared m n) [
+  | inl less ↦ inl (omega (arith, less))
+  | inr (inl same) ↦ inr (inl (ap suc same))
+  | inr (inr more) ↦ inr (inr (omega (arith, more)))
+]
+
+-- the first assumption that is broken is one
+not_earlier : (d : tree.Design) (defs : tables.Defs) (m n : ℕ) (v w : List ℕ) → IsBroken d defs m v → IsBroken d defs n w → m < n → ⊥
+not_earlier d defs m n v w h k less =
+    never_false d defs h.assumption v (of_first (IsMet d defs) (all_assumptions d) m n h.assumption less h.is k.earlier) h.says
+
+one_broken : (d : tree.Design) (defs : tables.Defs) (m n : ℕ) (v w : List ℕ) → IsBroken d defs m v → IsBroken d defs n w → m ≡ n
+one_broken d defs m n v w h k = elim (compared m n) [
+  | inl less ↦ absurd (not_earlier d defs m n v w h k less)
+  | inr (inl same) ↦ same
+  | inr (inr more) ↦ absurd (not_earlier d defs n m w v k h more)
+]
+
+none_broken : (d : tree.Design) (defs : tables.Defs) (n : ℕ) (v : List ℕ) → Meets (last_level d) d defs → IsBroken d defs n v → ⊥
+none_broken d defs n v met h = never_false d defs h.assumption v (of_all (IsMet d defs) (all_assumptions d) n h.assumption h.is met) h.says
+
+same_number : (r q : Refusal) (m n : ℕ) (v w : List ℕ) → m ≡ n → r ≡ refusal.Broken m v → q ≡ refusal.Broken n w → Alike (Err r) (Err q)
+same_number r q m n v w same x y = broken (ap Err x ∙ ap (λ (k : ℕ). Err (refusal.Broken k v)) same) (ap Err y)
+
 -- ---- one step
 
-pub refuses_once : Laws → (i : Inputs) (s : Step) (r q : Refusal) → Decided i s → Refuses i s r → Refuses i s q → r ≡ q
+-- of two refusals of a step: they are one, or are alike where the step is decided by a search
+abbrev pub Once : Step → (r q : Refusal) → Type 0
+Once (assumptions_met conflicts) r q = Alike (Err r) (Err q)
+Once s r q = r ≡ q
+
+pub refuses_once : Laws → (i : Inputs) (s : Step) (r q : Refusal) → Decided i s → Refuses i s r → Refuses i s q → Once s r q
 refuses_once laws i (is_there file) r q b h k = h.1 ∙ sym k.1
 refuses_once laws i (is_within file most) r q b h k = on_text i file (λ t (_, x) (_, y). x ∙ sym y) h k
 refuses_once laws i design_reads r q b h k =
@@ -188,6 +250,8 @@ refuses_once laws i definitions_fit r q b h k =
     on_both laws i (λ _ d u e (f, first, x) (g, one, y).
     x ∙ ap (λ f. refusal.Definitions (told u f)) (same_some (first_of (defs_faults d e)) f g first one) ∙ sym y) h k
 refuses_once laws i definitions_within r q b h k = on_defs laws i (λ _ e (_, x) (_, y). x ∙ sym y) h k
+refuses_once laws i (assumptions_met conflicts) r q b h k =
+    on_both laws i (λ _ d _ e (m, v, first, x) (n, w, other, y). same_number r q m n v w (one_broken d (defs_of d e) m n v w first other) x y) h k
 refuses_once laws i lowering_within r q b h k =
     on_both laws i (λ _ d _ e (l, m, over, x) (o, n, one, y).
     let same = laws.one_over d e l o m n over one in
@@ -222,6 +286,8 @@ good_or_refused laws i definitions_fit r b g h =
     on_both laws i (λ _ d _ e fit (f, first, _). let no : ◌≡◌ {A = Option DefsFault} None (Some f) = sym (ap first_of fit) ∙ first in cc) g h
 good_or_refused laws i definitions_within r b g h =
     on_defs laws i (λ _ e few (many, _). let x : row_count e ≤ most_rows = few in let y : most_rows < row_count e = many in omega arith) g h
+good_or_refused laws i (assumptions_met conflicts) r b g h =
+    on_both laws i (λ _ d _ e met (n, v, false_at, _). none_broken d (defs_of d e) n v met false_at) g h
 good_or_refused laws i lowering_within r b g h = on_both laws i (λ _ d _ e (_, _, within) (l, n, over, _). laws.no_over d e l n within over) g h
 good_or_refused laws i (level_there level) r b g h =
     on_design laws i (λ _ d there (over, _). let x : level ≤ last_level d = there in let y : last_level d < level = over in omega arith) g h

@@ -14,7 +14,7 @@ use Rattle.command_reports.specs.FileNames.{FileNames, bundle_in, name_of, wante
 use Rattle.command_reports.specs.Refusals.{IsOfFiles, unread_as}
 use Rattle.command_reports.specs.Report.{fault_of}
 use Rattle.command_reports.specs.declared.files.CommandFile.{CommandFile}
-use Rattle.command_reports.specs.declared.files.CommandFile.TheVariants.{Design, Definitions, Bundle, Case, Packets}
+use Rattle.command_reports.specs.declared.files.CommandFile.TheVariants.{Design, Definitions, Bundle, Case, Packets, Budget}
 use Rattle.command_reports.specs.declared.refusal.Refusal.{Refusal}
 use Rattle.command_reports.specs.declared.refusal.Refusal.TheVariants as refusal
 use Rattle.command_reports.specs.declared.report.Report.{Report}
@@ -35,6 +35,7 @@ by_kind x y z w Definitions = y
 by_kind x y z w (Bundle file) = None
 by_kind x y z w Case = z
 by_kind x y z w Packets = w
+by_kind x y z w Budget = None
 
 abbrev answered : (x y z w : Option (List ℕ)) → Inputs
 answered x y z w = record { file = by_kind x y z w; content = None }

@@ -11,24 +11,25 @@ use Rattle.command_line.specs.Words.{command}
 use Rattle.command_reports.specs.FileNames.{HasName, name_of}
 use Rattle.command_reports.specs.Report.{Ending, Fault, by_read, by_write, by_memory, no_fault, Puts, all, a_prefix, nothing, Prints, fault_in, fault_of, line_of, line_with, no_memory, status_of, usage, verdict_status}
 use Rattle.command_reports.specs.declared.files.CommandFile.{CommandFile}
-use Rattle.command_reports.specs.declared.files.CommandFile.TheVariants.{Bundle as BundleOf}
+use Rattle.command_reports.specs.declared.files.CommandFile.TheVariants.{Budget as BudgetFile, Bundle as BundleOf}
 use Rattle.command_reports.specs.declared.refusal.Refusal.{Refusal}
 use Rattle.command_reports.specs.declared.refusal.Refusal.TheVariants as refusal
 use Rattle.command_reports.specs.declared.report.Report.{Report}
 use Rattle.command_reports.specs.declared.report.Verdict.{Verdict}
 use Rattle.command_reports.specs.declared.report.Verdict.TheVariants as verdict
 use Rattle.command_reports.specs.declared.status.Status.{Status}
-use Rattle.command_reports.specs.declared.status.Status.TheVariants.{Done, Usage, ReadFault, WriteFault, NoMemory}
+use Rattle.command_reports.specs.declared.status.Status.TheVariants.{Budget as BudgetSpent, Done, Usage, ReadFault, WriteFault, NoMemory}
 use Rattle.cocoon_cli.specs.Commands.{Reports, files_of}
 use Rattle.cocoon_cli.specs.Headline.{CompiledOf}
-use Rattle.cocoon_cli.specs.Leaves.{Leaves, LeavesSome, LeavesFault}
-use Rattle.cocoon_cli.specs.Outcomes.{EndsAt, no_memory as out_of_memory, at_step, at_fault, StopsAt as StopsAtStep, Answers, HasOutcome, steps}
-use Rattle.cocoon_cli.specs.Run.{Call, Cause, Counted, CountsFault, Uncounted, MayCount, of_read, of_write, of_memory, Count, inputs_of, InputsAre, Performs, IsOnly, CauseOf, LineNames, NamesFault, EndsWith, Yields, to_read_fault, to_write_fault, to_no_memory, TheOutcome, OutcomeOf, DoneOf, LeavesOf, MayWrite, failed, UsageOf, Keeps, KeepsMore}
+use Rattle.cocoon_cli.specs.Leaves.{EndsWriting, IsWhole, IsWritten, Leaves, LeavesAll, LeavesSome, LeavesFault, LeavesWhole}
+use Rattle.cocoon_cli.specs.Outcomes.{EndsAt, FirstWith, no_memory as out_of_memory, at_step, at_fault, StopsAt as StopsAtStep, Answers, HasOutcome, steps}
+use Rattle.cocoon_cli.specs.Run.{Call, Cause, Counted, CountsFault, Uncounted, MayCount, of_read, of_write, of_memory, Count, inputs_of, InputsAre, Performs, IsOnly, CauseOf, LineNames, NamesFault, EndsWith, Yields, to_read_fault, to_write_fault, to_no_memory, TheOutcome, OutcomeOf, DoneOf, IsSpentAt, SpentOf, LeavesOf, MayWrite, failed, spent, UsageOf, Keeps, KeepsMore}
 use Rattle.cocoon_cli.specs.Run as run
-use Rattle.cocoon_cli.specs.Steps.{Inputs, Step, is_there, bundle_reads, bundle_written}
+use Rattle.cocoon_cli.specs.Steps.{Inputs, Step, assumptions_met, is_there, bundle_reads, bundle_written}
 use Rattle.cocoon_cli.specs.Writing.{Writing, nothing as nothing_written, bundle, own, SomeOf, StopsIn, with_writing}
-use Rattle.cocoon_cli.proofs.Commands.{report_writes}
-use Rattle.cocoon_cli.proofs.Ending.{first_gives}
+use Rattle.cocoon_cli.proofs.Commands.{report_done, report_writes}
+use Rattle.cocoon_cli.proofs.Ending.{first_gives, first_map}
+use Rattle.cocoon_cli.proofs.Finding.{spends_budget}
 
 -- ---- what is printed
 
@@ -68,17 +69,19 @@ or_sink call e is (lost c) = let no : ◌≡◌ {A = Status} NoMemory WriteFault
 -- what the status of an outcome says of it
 abbrev Speaks : Status → Result Report Refusal → Type 0
 Speaks Usage x = ⊥
-Speaks Done x = (report : Report) × (x ≡ Ok report)
+Speaks Done x = (report : Report) × (x ≡ Ok report) × (report.verdict ≡ verdict.Done)
+Speaks BudgetSpent x = (report : Report) × (x ≡ Ok report) × (report.verdict ≡ verdict.Budget)
 Speaks ReadFault x = (file : CommandFile) × (x ≡ Err (refusal.ReadFault file))
 Speaks WriteFault x = (file : CommandFile) × (x ≡ Err (refusal.WriteFault file))
 Speaks s x = Unit {0}
 
-verdict_speaks : (v : Verdict) (report : Report) → Speaks (verdict_status v) (Ok report)
-verdict_speaks verdict.Done report = (report, refl)
-verdict_speaks v report = tt
+verdict_speaks : (v : Verdict) (report : Report) → report.verdict ≡ v → Speaks (verdict_status v) (Ok report)
+verdict_speaks verdict.Done report e = (report, refl, e)
+verdict_speaks verdict.Budget report e = (report, refl, e)
+verdict_speaks v report e = tt
 
 speaks : (x : Result Report Refusal) → Speaks (status_of x) x
-speaks (Ok report) = verdict_speaks report.verdict report
+speaks (Ok report) = verdict_speaks report.verdict report refl
 speaks (Err (refusal.ReadFault file)) = (file, refl)
 speaks (Err (refusal.WriteFault file)) = (file, refl)
 speaks (Err r) = tt
@@ -104,6 +107,7 @@ stopped : (i : Inputs) (x : Result Report Refusal) (s : Step) → StopsAtStep i 
 stopped i (Ok report) s h = absurd h
 stopped i (Err r) (is_there file) h = (file, inl (ap Err h))
 stopped i (Err r) (bundle_reads out) (file, h) = (BundleOf file, inl (ap Err h))
+stopped i (Err r) (assumptions_met conflicts) h = (BudgetFile, inr (ap Err h.0))
 stopped i (Err r) bundle_written (file, h) = (BundleOf file, inr (ap Err h))
 stopped i (Err r) s h = absurd h
 
@@ -228,28 +232,57 @@ write_line_of last (Some c) call h k w = elim (or_sink call h.ending w (how call
 
 -- ---- what is left
 
--- a step of today gives no verdict
-no_verdict : (i : Inputs) (report : Report) (s : Step) → EndsAt i (Ok report) s → ⊥
-no_verdict i report s (inl h) = h
-no_verdict i report s (inr h) = h
+-- with a success all steps are good
+not_done : (c : Command) (i : Inputs) (report : Report) (w : Writing) → report.verdict ≡ verdict.Done → (s : Step) → EndsWriting (files_of c) i report w s → ⊥
+not_done c i report w done s (inl h) = h.0
+not_done c i report w done s (inr h) = let no : ◌≡◌ {A = Verdict} verdict.Done verdict.Budget = sym done ∙ spends_budget i s report h.0 h.1 in cc
 
-reports_of : (c : Command) (i : Inputs) (report : Report) → Answers c i (Ok report) → Reports c i report
-reports_of c i report (inl (out_of_memory e)) = cc
-reports_of c i report (inl (at_step h)) = absurd (first_gives i (EndsAt i (Ok report)) (no_verdict i report) (steps c) h)
-reports_of c i report (inl (at_fault h)) = absurd (first_gives i (StopsAtStep i (Ok report)) (λ s no. no) (steps c) h)
-reports_of c i report (inr h) = h.1
+whole_of : (c : Command) (i : Inputs) (report : Report) (w : Writing) → report.verdict ≡ verdict.Done → IsWritten c i report w → IsWhole c i w × Reports c i report
+whole_of c i report w done (inl h) = h
+whole_of c i report w done (inr h) = absurd (first_gives i (EndsWriting (files_of c) i report w) (not_done c i report w done) (steps c) h)
 
-done_by : (c : Command) (call : Call) (report : Report) (line : List ℕ) → Performs c call.content_before call.content_after (Ok report) → line_of (files_of c) (Ok report) ≡ Some line
+printed : (c : Command) (call : Call) (report : Report) (line : List ℕ) → line_of (files_of c) (Ok report) ≡ Some line → call.output_after ≡ appended call.output_before line → call.output_after ≡ appended call.output_before report.lines
+printed c call report line is out = out ∙ ap (appended call.output_before) (same_line _ line report.lines is refl)
+
+done_by : (c : Command) (call : Call) (report : Report) (line : List ℕ) → report.verdict ≡ verdict.Done → Performs c call.content_before call.content_after (Ok report) → line_of (files_of c) (Ok report) ≡ Some line
     → call.output_after ≡ appended call.output_before line → DoneOf (Some c) call
-done_by c call report line p is out =
-    (p.inputs, report, p.inputs_are, reports_of c p.inputs report p.answers, p.leaves, out ∙ ap (appended call.output_before) (same_line _ line report.lines is refl))
+done_by c call report line done p is out =
+    let (w, written, stands) = p.leaves in
+    let kept = whole_of c p.inputs report w done written in
+    (p.inputs, report, p.inputs_are, kept.1, (w, kept.0, stands), printed c call report line is out)
+
+-- with a search that was given up the file of that stands
+spent_at : (c : Command) (i : Inputs) (report : Report) (w : Writing) (before after : Option Files) → after ≡ with_writing w before → (s : Step) → EndsWriting (files_of c) i report w s → IsSpentAt c i report before after s
+spent_at c i report w before after stands s (inl h) = absurd h.0
+spent_at c i report w before after stands s (inr h) =
+    let (bytes, spends, (name, is, writes)) = h in
+    record { bytes = bytes; spends = spends; leaves = (name, is, stands ∙ ap (λ (x : Writing). with_writing x before) writes) }
+
+spent_of : (c : Command) (i : Inputs) (report : Report) (w : Writing) (before after : Option Files) → report.verdict ≡ verdict.Budget → after ≡ with_writing w before → IsWritten c i report w → FirstWith i (IsSpentAt c i report before after) (steps c)
+spent_of c i report w before after budget stands (inl h) = absurd (let no : ◌≡◌ {A = Verdict} verdict.Budget verdict.Done = sym budget ∙ report_done c i report h.1 in cc)
+spent_of c i report w before after budget stands (inr h) =
+    first_map i (EndsWriting (files_of c) i report w) (IsSpentAt c i report before after) (spent_at c i report w before after stands) (steps c) h
+
+spent_by : (c : Command) (call : Call) (report : Report) (line : List ℕ) → report.verdict ≡ verdict.Budget → Performs c call.content_before call.content_after (Ok report) → line_of (files_of c) (Ok report) ≡ Some line
+    → call.output_after ≡ appended call.output_before line → SpentOf (Some c) call
+spent_by c call report line budget p is out =
+    let (w, written, stands) = p.leaves in
+    (p.inputs, report, p.inputs_are, spent_of c p.inputs report w call.content_before call.content_after budget stands written, printed c call report line is out)
 
 writes_of : (c : Option Command) (call : Call) → CauseOf c call → call.status ≡ Done → DoneOf c call
 writes_of None call h d = let no : ◌≡◌ {A = Status} Done Usage = no_command call Done tt h d in cc
 writes_of (Some c) call h d =
     let w = plain call h.ending Done tt d (how call h.ending h.prints) in
     let f = told c call h Done d w in
-    done_by c call f.0 h.ending.report (subst (λ (x : Result Report Refusal). Performs c call.content_before call.content_after x) f.1 h.performs)
+    done_by c call f.0 h.ending.report f.2 (subst (λ (x : Result Report Refusal). Performs c call.content_before call.content_after x) f.1 h.performs)
+    (subst (λ (x : Result Report Refusal). line_of (files_of c) x ≡ Some h.ending.report) f.1 h.is_ending.line) w.1
+
+spends_of : (c : Option Command) (call : Call) → CauseOf c call → call.status ≡ BudgetSpent → SpentOf c call
+spends_of None call h b = let no : ◌≡◌ {A = Status} BudgetSpent Usage = no_command call BudgetSpent tt h b in cc
+spends_of (Some c) call h b =
+    let w = plain call h.ending BudgetSpent tt b (how call h.ending h.prints) in
+    let f = told c call h BudgetSpent b w in
+    spent_by c call f.0 h.ending.report f.2 (subst (λ (x : Result Report Refusal). Performs c call.content_before call.content_after x) f.1 h.performs)
     (subst (λ (x : Result Report Refusal). line_of (files_of c) x ≡ Some h.ending.report) f.1 h.is_ending.line) w.1
 
 -- what stands where all is written, or stops within it, is a part of it
@@ -276,21 +309,30 @@ stops_some (own f name bytes) file before after h = h.1
 
 leaves_fault : (c : Command) (i : Inputs) (before after : Option Files) (f : Fault) → LeavesFault c i before after f → LeavesSome c i before after
 leaves_fault c i before after (by_read file) h = inl h
-leaves_fault c i before after (by_write file) (w, may, h) = inr (w, may, stops_some w file before after h)
+leaves_fault c i before after (by_write file) (report, w, may, h) = inr (report, w, may, stops_some w file before after h)
 leaves_fault c i before after by_memory h = h
 leaves_fault c i before after no_fault h = inl h
 
 leaves_some : (c : Command) (i : Inputs) (before after : Option Files) (outcome : Result Report Refusal) → Leaves c i before after outcome → LeavesSome c i before after
-leaves_some c i before after (Ok report) (w, may, h) = inr (w, may, all_some w before after h)
+leaves_some c i before after (Ok report) (w, may, h) = inr (report, w, may, all_some w before after h)
 leaves_some c i before after (Err r) h = leaves_fault c i before after (fault_of r) h
 
 leaves_of : (c : Option Command) (call : Call) → CauseOf c call → LeavesOf c call
 leaves_of None call h = h.0.0
 leaves_of (Some c) call h = (h.performs.inputs, h.performs.inputs_are, leaves_some c h.performs.inputs call.content_before call.content_after h.outcome h.performs.leaves)
 
+-- what is written with a step that ends a command
+found_writes : (c : Command) (i : Inputs) (report : Report) (w : Writing) (before after : Option Files) → after ≡ with_writing w before → (s : Step) → EndsWriting (files_of c) i report w s → MayWrite (verdict_status report.verdict) ⊎ (after ≡ before)
+found_writes c i report w before after stands s (inl h) = absurd h.0
+found_writes c i report w before after stands s (inr h) = inl (spent (ap verdict_status (spends_budget i s report h.0 h.1)))
+
+writes_or_same : (c : Command) (i : Inputs) (before after : Option Files) (report : Report) → LeavesAll c i report before after → MayWrite (verdict_status report.verdict) ⊎ (after ≡ before)
+writes_or_same c i before after report (w, inl (are_good, reports), stands) = report_writes c i before after report reports (w, are_good, stands)
+writes_or_same c i before after report (w, inr h, stands) = first_gives i (EndsWriting (files_of c) i report w) (found_writes c i report w before after stands) (steps c) h
+
 -- nothing was written, or the status may have another folder
 same_or_writes : (c : Command) (before after : Option Files) (x : Result Report Refusal) → Performs c before after x → MayWrite (status_of x) ⊎ (after ≡ before)
-same_or_writes c before after (Ok report) p = report_writes c p.inputs before after report (reports_of c p.inputs report p.answers) p.leaves
+same_or_writes c before after (Ok report) p = writes_or_same c p.inputs before after report p.leaves
 same_or_writes c before after (Err (refusal.WriteFault file)) p = inl (failed refl)
 same_or_writes c before after (Err refusal.NoMemory) p = inl (run.no_memory refl)
 same_or_writes c before after (Err r) p = inr p.leaves
@@ -354,6 +396,7 @@ keeps_more call h = record {
   write_fault = write_fault_of (command call.words) call h;
   none_failed = none_failed_of (command call.words) call h;
   done_leaves = writes_of (command call.words) call h;
+  spent_leaves = spends_of (command call.words) call h;
   unchanged = same_of (command call.words) call h;
 }
 
@@ -370,8 +413,9 @@ keeps_memory one last call same r w p =
     keeps one last call m.0 m.1
 
 -- the main promise: status 0 comes only of a command that reported
-pub headline_of : (c : Command) (o : Option Command) (call : Call) (h : Cause c call) → Some c ≡ o → IfOk h.outcome (λ r. CompiledOf (Some c) call.content_before call.content_after) → call.status ≡ Done
+pub headline_of : (c : Command) (o : Option Command) (call : Call) (h : Cause c call) → Some c ≡ o → IfOk h.outcome (λ r. r.verdict ≡ verdict.Done → CompiledOf (Some c) call.content_before call.content_after) → call.status ≡ Done
     → CompiledOf o call.content_before call.content_after
 headline_of c o call h e headline d =
+    let f = plainly c call h Done tt d in
     subst (λ (d : Option Command). CompiledOf d call.content_before call.content_after) e
-    (subst (λ (x : Result Report Refusal). IfOk x (λ r. CompiledOf (Some c) call.content_before call.content_after)) (plainly c call h Done tt d).1 headline)
+    (subst (λ (x : Result Report Refusal). IfOk x (λ r. r.verdict ≡ verdict.Done → CompiledOf (Some c) call.content_before call.content_after)) f.1 headline f.2)

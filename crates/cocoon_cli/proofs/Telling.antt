@@ -11,12 +11,12 @@ use Rattle.command_reports.specs.FileNames.{FileNames, name_of}
 use Rattle.command_reports.specs.Refusals.{unread_as}
 use Rattle.command_reports.specs.Report.{no_memory_line, refusal_line}
 use Rattle.command_reports.specs.declared.files.CommandFile.{CommandFile}
-use Rattle.command_reports.specs.declared.files.CommandFile.TheVariants.{Design, Definitions, Bundle, Case, Packets}
+use Rattle.command_reports.specs.declared.files.CommandFile.TheVariants.{Design, Definitions, Bundle, Case, Packets, Budget}
 use Rattle.command_reports.specs.declared.refusal.Refusal.{Refusal}
 use Rattle.command_reports.specs.declared.refusal.Refusal.TheVariants as refusal
 use Rattle.command_reports.specs.declared.report.Report.{Report}
 use Rattle.cocoon_cli.specs.Outcomes.{Ends, no_memory, at_step, at_fault, EndsAt, FirstWith, here, later, StopsAt}
-use Rattle.cocoon_cli.specs.Steps.{Inputs, Refuses, Step, Stops, bundle_reads, bundle_within, bundle_written, copies_within, definitions_fit, definitions_read, definitions_within, design_accepted, design_reads, design_well_formed, design_within, is_there, is_within, level_there, lines_formed, lowering_within, packets_judged, packets_refusal}
+use Rattle.cocoon_cli.specs.Steps.{Inputs, IsTooLarge, Refuses, Step, Stops, assumptions_met, bundle_reads, bundle_within, bundle_written, copies_within, definitions_fit, definitions_read, definitions_within, design_accepted, design_reads, design_well_formed, design_within, is_there, is_within, level_there, lines_formed, lowering_within, packets_judged, packets_refusal}
 
 -- there is a file of this kind
 abbrev pub Named : FileNames → CommandFile → Type 0
@@ -31,6 +31,7 @@ Tells names design_well_formed = Named names Design
 Tells names design_accepted = Named names Design
 Tells names definitions_read = Named names Definitions
 Tells names definitions_fit = Named names Definitions
+Tells names (assumptions_met conflicts) = Named names Budget
 Tells names (lines_formed level) = Named names Case
 Tells names (packets_judged out) = Named names Packets
 Tells names (bundle_reads out) = (file : BundleFile) → Named names (Bundle file)
@@ -79,6 +80,7 @@ refused_has names i design_accepted r n h = same_has names r _ h.holds.1 (with_n
 refused_has names i definitions_read r n h = same_has names r _ h.holds.2 (with_name _ _ n)
 refused_has names i definitions_fit r n h = same_has names r _ h.holds.holds.2 (with_name _ _ n)
 refused_has names i definitions_within r n h = same_has names r _ h.holds.1 (_, refl)
+refused_has names i (assumptions_met conflicts) r n h = same_has names r _ h.holds.holds.3 (_, refl)
 refused_has names i lowering_within r n h = same_has names r _ h.holds.holds.3 (_, refl)
 refused_has names i (level_there level) r n h = same_has names r _ h.holds.1 (_, refl)
 refused_has names i (lines_formed level) r n h = same_has names r _ h.holds.holds.2 (with_name _ _ n)
@@ -93,13 +95,18 @@ refused_has names i bundle_written r n h = absurd h
 stopped_has : (names : FileNames) (i : Inputs) (s : Step) (r : Refusal) → Tells names s → Stops i s r → HasLine names r
 stopped_has names i (is_there file) r n h = same_has names r _ h (with_name _ _ n)
 stopped_has names i (bundle_reads out) r n (file, h) = same_has names r _ h (with_name _ _ (n file))
+stopped_has names i (assumptions_met conflicts) r n h = same_has names r _ h.0 (with_name _ _ n)
 stopped_has names i bundle_written r n (file, h) = same_has names r _ h (with_name _ _ (n file))
 stopped_has names i s r n h = absurd h
+
+large_has : (names : FileNames) (i : Inputs) (s : Step) (r : Refusal) → IsTooLarge i s r → HasLine names r
+large_has names i (assumptions_met conflicts) r h = same_has names r _ h.holds.holds.3 (_, refl)
+large_has names i s r h = absurd h
 
 first_has : (names : FileNames) (i : Inputs) (r : Refusal) (ss : List Step) → AllTell names ss → FirstWith i (EndsAt i (Err r)) ss → HasLine names r
 first_has names i r [] t h = elim h [ ]
 first_has names i r (s ∷ ss) t (here (inl h)) = refused_has names i s r t.0 h
-first_has names i r (s ∷ ss) t (here (inr h)) = absurd h
+first_has names i r (s ∷ ss) t (here (inr h)) = large_has names i s r h
 first_has names i r (s ∷ ss) t (later g h) = first_has names i r ss t.1 h
 
 fault_has : (names : FileNames) (i : Inputs) (r : Refusal) (ss : List Step) → AllTell names ss → FirstWith i (StopsAt i (Err r)) ss → HasLine names r

@@ -14,9 +14,9 @@ use Rattle.command_reports.specs.declared.refusal.Refusal.TheVariants as refusal
 use Rattle.command_reports.specs.declared.report.Report.{Report}
 use Rattle.cocoon_cli.specs.Commands.{text_steps}
 use Rattle.design_texts.specs.DesignTexts.{Binds, BindsTables, NotBound, NotChecked, NotMatched, NotRead, ReadsChecked}
-use Rattle.cocoon_cli.specs.Outcomes.{AllGood, none, good, Ends, no_memory}
+use Rattle.cocoon_cli.specs.Outcomes.{AllGood, none, good, Ends, FirstWith, later, no_memory}
 use Rattle.cocoon_cli.specs.Steps.{Inputs, OfDesign, OfDefinitions, Step, design_reads, design_well_formed, design_within, definitions_read, definitions_fit, definitions_within}
-use Rattle.cocoon_cli.proofs.Ending.{all_good, ends_after, next, refused}
+use Rattle.cocoon_cli.proofs.Ending.{all_good, ends_after, first_after, next, refused}
 
 -- the two texts of a command
 pub record Texts (i : Inputs) (x y : List ℕ) : Type 0 where
@@ -66,6 +66,14 @@ texts_good i x y taken rest t p g h a k =
     all_good i (design_reads ∷ design_well_formed ∷ design_within ∷ []) (taken ++ defs_steps rest) (design_good i x t g.design h.binds.checked)
     (all_good i taken (defs_steps rest) a
     (good (on_defs i x y es g h.binds.read tt) (good (on_both i x y t es g h.binds h.binds.fits) (good (on_defs i x y es g h.binds.read h.are.bound.few) k))))
+
+-- one of the steps after them, of which this holds
+pub texts_first : (i : Inputs) (x y : List ℕ) (taken rest : List Step) (t : tree.Design) (p : Places) (P : Step → Type 0) → Texts i x y → BindsTables x y t p → AllGood i taken → FirstWith i P rest → FirstWith i P (text_steps taken rest)
+texts_first i x y taken rest t p P g h a k =
+    let es = h.entries in
+    first_after i P (design_reads ∷ design_well_formed ∷ design_within ∷ []) (taken ++ defs_steps rest) (design_good i x t g.design h.binds.checked)
+    (first_after i P taken (defs_steps rest) a
+    (later (on_defs i x y es g h.binds.read tt) (later (on_both i x y t es g h.binds h.binds.fits) (later (on_defs i x y es g h.binds.read h.are.bound.few) k))))
 
 pub after_texts : (i : Inputs) (x y : List ℕ) (taken rest : List Step) (t : tree.Design) (p : Places) (outcome : Result Report Refusal) → Texts i x y → BindsTables x y t p → AllGood i taken
     → Ends i outcome rest → Ends i outcome (text_steps taken rest)

@@ -16,16 +16,18 @@ use Rattle.command_reports.specs.Report.{success}
 use Rattle.command_reports.specs.declared.files.CommandFile.TheVariants.{Case}
 use Rattle.command_reports.specs.declared.report.Report.{Report}
 use Rattle.cocoon_cli.specs.Compiling.{Compiles}
+use Rattle.cocoon_cli.specs.Answering.{PlansBy}
 use Rattle.cocoon_cli.specs.ReportLines.{sent_text, totals_line, totals_of}
-use Rattle.cocoon_cli.specs.Steps.{Inputs, OfBoth, OfDesign, OfDefinitions, OfFiles, OfNetwork, OfPackets, OfText, Step, design_reads, design_well_formed, design_within, design_accepted, definitions_read, definitions_fit, definitions_within, lowering_within, level_there, lines_formed, packets_judged, copies_within, bundle_within, bundle_written}
+use Rattle.cocoon_cli.specs.Steps.{Inputs, OfBoth, OfDesign, OfDefinitions, OfFiles, OfNetwork, OfPackets, OfText, Step, design_reads, design_well_formed, design_within, design_accepted, definitions_read, definitions_fit, definitions_within, lowering_within, assumptions_met, level_there, lines_formed, packets_judged, copies_within, bundle_within, bundle_written}
 use Rattle.cocoon_cli.specs.Writing.{Writing, nothing, bundle}
+use Rattle.cocoon_cli.specs.declared.answer.Answer.{Answer}
 use Rattle.cocoon_cli.specs.declared.answer.Writing.{Writing as Written}
 use Rattle.cocoon_cli.specs.declared.answer.Writing.TheVariants as written
 use Rattle.cocoon_cli.specs.declared.reading.Read.{Read}
 
 -- the files that it has; all but a bundle that it writes are read
 abbrev pub files_of : Command → FileNames
-files_of (compile design defs out) = record {
+files_of (compile design defs out conflicts) = record {
   design = Some design;
   definitions = Some defs;
   case = None;
@@ -58,20 +60,20 @@ text_steps taken rest =
 
 -- what it asks of what was read
 abbrev pub asks : Command → List Step
-asks (compile design defs out) =
-    text_steps (design_accepted ∷ []) (lowering_within ∷ [])
+asks (compile design defs out conflicts) =
+    text_steps (design_accepted ∷ []) (assumptions_met conflicts ∷ lowering_within ∷ [])
 asks (step design defs level file) = text_steps [] (level_there level ∷ lines_formed level ∷ [])
 asks (forward out packets hops) = packets_judged out ∷ copies_within out hops ∷ []
 
 -- its steps of writing
 abbrev pub writes : Command → List Step
-writes (compile design defs out) = bundle_within ∷ bundle_written ∷ []
+writes (compile design defs out conflicts) = bundle_within ∷ bundle_written ∷ []
 writes (step design defs level file) = []
 writes (forward out packets hops) = []
 
 -- its report, where all steps are good
 abbrev pub Reports : Command → Inputs → Report → Type 0
-Reports (compile design defs out) inputs report =
+Reports (compile design defs out conflicts) inputs report =
     OfNetwork inputs (λ net. report ≡ success (totals_line (totals_of net)))
 Reports (step design defs level file) inputs report =
     OfBoth inputs (λ d entries. OfText inputs Case (λ text.
@@ -83,13 +85,18 @@ Reports (forward out file hops) inputs report =
 
 -- what it writes, where all steps are good
 abbrev pub Writes : Command → Inputs → Writing → Type 0
-Writes (compile design defs out) inputs w =
+Writes (compile design defs out conflicts) inputs w =
     OfFiles inputs (λ files. AllFit files × (w ≡ bundle out files))
 Writes (step design defs level file) inputs w = w ≡ nothing
 Writes (forward out packets hops) inputs w = w ≡ nothing
 
--- what its answer says is written, of what was read
-abbrev pub Plans : Command → Read → Written → Type 0
-Plans (compile design defs out) read w = Compiles out read.design.items read.definitions.items w
-Plans (step design defs level file) read w = w ≡ written.Nothing
-Plans (forward out packets hops) read w = w ≡ written.Nothing
+-- what its answer says is written where all steps are good, of what was read
+abbrev pub PlansDone : Command → Read → Written → Type 0
+PlansDone (compile design defs out conflicts) read w =
+    Compiles out read.design.items read.definitions.items w
+PlansDone (step design defs level file) read w = w ≡ written.Nothing
+PlansDone (forward out packets hops) read w = w ≡ written.Nothing
+
+-- what its answer says is written
+abbrev pub Plans : Command → Read → Answer → Type 0
+Plans c read answer = PlansBy (λ w. PlansDone c read w) answer.report.verdict answer.writing

@@ -2,10 +2,12 @@
 -- there is none.
 use Rattle.std.specs.Prelude.{◌≡◌, ◌⊎◌, ℕ, List}
 use Rattle.cocoon_num.specs.Tree.{Design}
+use Rattle.cocoon_types.specs.Design.{last_level}
 use Rattle.cocoon_types.specs.Tables.{defs_of}
 use Rattle.lowered.specs.Delivers.{DeliversWithin}
 use Rattle.p4_ir.specs.NetOf.{net_of}
 use Rattle.p4_ir.specs.NetTree.{NetData}
+use Rattle.refinement.specs.Assumptions.{Meets}
 use Rattle.runtime_defs.specs.Places.{Places}
 use Rattle.lower_p4.specs.LowerLimits.{IsOver, IsWithin}
 use Rattle.lower_p4.specs.Lowering.{IsLowering}
@@ -23,13 +25,14 @@ use Rattle.command_reports.specs.declared.refusal.Refusal.TheVariants.{Language,
 use Rattle.cocoon_cli.specs.Built.{IsBuilt}
 use Rattle.design_texts.specs.DesignTexts.{BindsTables, NotBound, NotChecked, NotReadAfter, ReadsChecked}
 
--- `compile` takes the design, this is the network of both, and what it delivers the topmost
--- specification may make
+-- `compile` takes the design, the definitions meet its assumptions, this is the network of both, and
+-- what it delivers the topmost specification may make
 pub record LowersTexts (design defs : List ℕ) (net : NetData) : Type 0 where
   pub tree : Design
   pub tables : Places
   pub binds : BindsTables design defs tree tables
   pub built : IsBuilt tree
+  pub met : Meets (last_level tree) tree (defs_of tree binds.entries)
   pub within : IsWithin tree binds.entries
   pub lowers : Lowers tree binds.entries net
   pub lowering : IsLowering tree binds.entries net
@@ -76,10 +79,9 @@ NotLowered design defs _ = ⊥
 abbrev pub IsAccepted : (design : List ℕ) → Type 0
 IsAccepted design = (tree : Design) × ReadsChecked design tree × IsBuilt tree
 
--- why no network is made of two texts: of the definitions and the network only where `compile` takes
--- the design
-abbrev pub NotMade : (design defs : List ℕ) → Refusal → Type 0
-NotMade design defs refusal =
+-- why there are no two texts of which a network may be made: of the definitions only where `compile`
+-- takes the design
+abbrev pub NotAcceptedTexts : (design defs : List ℕ) → Refusal → Type 0
+NotAcceptedTexts design defs refusal =
     NotAccepted design refusal
-    ⊎ (IsAccepted design × (NotReadAfter design defs refusal
-    ⊎ (NotBound design defs refusal ⊎ NotLowered design defs refusal)))
+    ⊎ (IsAccepted design × (NotReadAfter design defs refusal ⊎ NotBound design defs refusal))

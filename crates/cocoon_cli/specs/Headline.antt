@@ -51,9 +51,9 @@ none_besides name = ⊥
 -- the same of a command; of one that compiles nothing there is nothing to say
 abbrev pub CompiledOf : Option Command → Option Files → Option Files → Type 0
 CompiledOf None before after = ⊥
-CompiledOf (Some (compile design defs out)) None after = Unit {0}
-CompiledOf (Some (compile design defs out)) (Some before) None = ⊥
-CompiledOf (Some (compile design defs out)) (Some before) (Some after) =
+CompiledOf (Some (compile design defs out conflicts)) None after = Unit {0}
+CompiledOf (Some (compile design defs out conflicts)) (Some before) None = ⊥
+CompiledOf (Some (compile design defs out conflicts)) (Some before) (Some after) =
     Compiled before after design defs out none_besides
 CompiledOf (Some (step design defs level file)) before after = Unit {0}
 CompiledOf (Some (forward out packets hops)) before after = Unit {0}

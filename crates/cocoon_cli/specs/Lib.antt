@@ -1,11 +1,14 @@
 pub mod ReportLines
+pub mod Assumed
 pub mod Built
 pub mod Compiling
 pub mod Stepping
+pub mod Deciding
 pub mod Forwarding
 pub mod Reading
 pub mod Steps
 pub mod Writing
+pub mod Answering
 pub mod Commands
 pub mod Outcomes
 pub mod Leaves

@@ -67,10 +67,12 @@ HasOutcome c inputs outcome =
 
 -- ---- of two outcomes over the same files
 
--- They are equal. What a search may answer in place of one another is alike, too: a step that is
--- decided by one adds a constructor.
+-- They are equal, or a search may answer one in place of the other.
 pub data Alike (x y : Result Report Refusal) : Type 0 where
   equal : x ≡ y → Alike x y
+  -- the same assumption is broken, at values that may be others
+  broken : {number : ℕ} {values other : List ℕ} → x ≡ Err (refusal.Broken number values)
+      → y ≡ Err (refusal.Broken number other) → Alike x y
 
 -- a search was given up
 abbrev pub IsGivenUp : Inputs → List Step → Result Report Refusal → Type 0

@@ -1,8 +1,9 @@
--- Cited by the clauses of compile.rt and step.rt, and through Outcomes.antt by `keeps` of `run`. The
--- reports of commands that succeed. It follows "Reports" in docs/FORMATS.md.
+-- Cited by the clauses of compile.rt, assumptions.rt and step.rt, and through Outcomes.antt by `keeps` of `run`. The
+-- reports of commands that succeed, and of searches that are given up. It follows "Reports" in docs/FORMATS.md.
 use Rattle.std.specs.Prelude.{ℕ, List, [], ◌∷◌, ◌++◌, length, Option, Some, None, codes, decimal}
 use Rattle.p4_ir.specs.NetTree.{NetData}
 use Rattle.case_runs.specs.declared.sent.Sent.{Sent}
+use Rattle.command_reports.specs.Report.{list_text}
 use Rattle.cocoon_cli.specs.declared.compile.Totals.{Totals}
 
 -- how many switches, hosts and links a network has
@@ -18,15 +19,11 @@ totals_line t =
     codes "compiled switches " ++ (decimal t.switches ++ (codes " hosts " ++ (decimal t.hosts
     ++ (codes " links " ++ (decimal t.links ++ codes " obligations 0\n")))))
 
--- some numbers, each behind a space
-abbrev pub spaced : List ℕ → List ℕ
-spaced [] = []
-spaced (n ∷ ns) = 32 ∷ (decimal n ++ spaced ns)
-
--- a list of numbers behind a space; `-` where it is empty
-abbrev pub list_text : List ℕ → List ℕ
-list_text [] = codes " -"
-list_text (n ∷ ns) = spaced (n ∷ ns)
+-- that of a search that was given up: the conflicts of one search, and what it was about, by its kind and number
+abbrev pub budget_line : (conflicts : ℕ) → (kind : List ℕ) → (number : ℕ) → List ℕ
+budget_line conflicts kind number =
+    codes "budget conflicts " ++ (decimal conflicts ++ (codes " " ++ (kind ++ (codes " "
+    ++ (decimal number ++ codes "\n")))))
 
 -- ROLE VALUES : FIELDS
 abbrev pub sent_line : Sent → List ℕ

@@ -3,20 +3,21 @@
 use Rattle.std.specs.Prelude.{◌≡◌, ◌⊎◌, ℕ, List, Option, Some, None, Result, codes, option_and_then}
 use Rattle.std.specs.FinMap.{get}
 use Rattle.cocoon_io.specs.Files.{Files}
-use Rattle.cocoon_io.specs.Calls.{Rose, appended}
+use Rattle.cocoon_io.specs.Calls.{Rose, appended, with_file}
 use Rattle.command_reports.specs.declared.files.CommandFile.{CommandFile}
+use Rattle.command_reports.specs.declared.files.CommandFile.TheVariants.{Budget}
 use Rattle.command_reports.specs.declared.refusal.Refusal.{Refusal}
 use Rattle.command_reports.specs.declared.report.Report.{Report}
 use Rattle.command_reports.specs.declared.status.Status.{Status}
-use Rattle.command_reports.specs.declared.status.Status.TheVariants.{Done, Refuted, Usage, Language, Broken, HopBound, Budget, Bundle, ReadFault, WriteFault, Limit, Lines, NoMemory, NoFile}
+use Rattle.command_reports.specs.declared.status.Status.TheVariants.{Done, Usage, ReadFault, WriteFault, NoMemory, Budget as BudgetSpent}
 use Rattle.command_line.specs.Command.{Command}
 use Rattle.command_line.specs.Words.{command}
 use Rattle.command_reports.specs.FileNames.{FileNames, HasName, bundle_in, name_of}
 use Rattle.cocoon_cli.specs.Commands.{Reports, files_of}
-use Rattle.cocoon_cli.specs.Leaves.{Leaves, LeavesAll, LeavesSome}
-use Rattle.cocoon_cli.specs.Outcomes.{Agree, Answers, HasOutcome, is_any_searched, steps}
+use Rattle.cocoon_cli.specs.Leaves.{Leaves, LeavesSome, LeavesWhole}
+use Rattle.cocoon_cli.specs.Outcomes.{Agree, Answers, FirstWith, HasOutcome, is_any_searched, steps}
 use Rattle.command_reports.specs.Report.{Ending, Fault, IsEnding, by_read, by_write, by_memory, no_fault, Prints, fault_in, line_with, usage}
-use Rattle.cocoon_cli.specs.Steps.{Inputs}
+use Rattle.cocoon_cli.specs.Steps.{Inputs, Spends, Step}
 
 -- ---- one call
 
@@ -147,12 +148,28 @@ OutcomeOf (Some c) (Some files) call =
 
 -- ---- what is left
 
--- all that the command writes stands, nothing else was touched, and the whole report was printed
+-- all steps are good, all that the command writes stands, nothing else was touched, and the whole report
+-- was printed
 abbrev pub DoneOf : Option Command → Call → Type 0
 DoneOf None call = ⊥
 DoneOf (Some c) call =
     (inputs : Inputs) × (report : Report) × InputsAre (files_of c) call.content_before inputs
-    × Reports c inputs report × LeavesAll c inputs call.content_before call.content_after
+    × Reports c inputs report × LeavesWhole c inputs call.content_before call.content_after
+    × (call.output_after ≡ appended call.output_before report.lines)
+
+-- a search spent what it may spend: the file of that stands, and nothing else was touched
+pub record IsSpentAt (c : Command) (inputs : Inputs) (report : Report) (before after : Option Files)
+    (s : Step) : Type 0 where
+  pub bytes : List ℕ
+  pub spends : Spends inputs s report bytes
+  pub leaves : HasName (files_of c) Budget (λ name. after ≡ with_file before name bytes)
+
+-- the same of a step before which all are good, and the whole report was printed
+abbrev pub SpentOf : Option Command → Call → Type 0
+SpentOf None call = ⊥
+SpentOf (Some c) call =
+    (inputs : Inputs) × (report : Report) × InputsAre (files_of c) call.content_before inputs
+    × FirstWith inputs (IsSpentAt c inputs report call.content_before call.content_after) (steps c)
     × (call.output_after ≡ appended call.output_before report.lines)
 
 -- the folder is as it was, or holds a part of what is written, or all
@@ -165,6 +182,7 @@ LeavesOf (Some c) call =
 -- only these statuses may leave another folder than there was
 pub data MayWrite : Status → Type 0 where
   done : {s : Status} → s ≡ Done → MayWrite s
+  spent : {s : Status} → s ≡ BudgetSpent → MayWrite s
   failed : {s : Status} → s ≡ WriteFault → MayWrite s
   no_memory : {s : Status} → s ≡ NoMemory → MayWrite s
 
@@ -209,4 +227,5 @@ pub record KeepsMore (call : Call) : Type 0 where
   pub none_failed : MayCount call.status ⊎ (Uncounted call.reads × Uncounted call.writes)
   -- what is left in the folder and in the sink
   pub done_leaves : call.status ≡ Done → DoneOf (command call.words) call
+  pub spent_leaves : call.status ≡ BudgetSpent → SpentOf (command call.words) call
   pub unchanged : MayWrite call.status ⊎ (call.content_after ≡ call.content_before)

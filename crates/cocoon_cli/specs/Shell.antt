@@ -25,8 +25,9 @@ use Rattle.cocoon_cli.specs.declared.answer.Answer.{Answer}
 use Rattle.cocoon_cli.specs.declared.answer.Writing.{Writing as Written}
 use Rattle.cocoon_cli.specs.declared.answer.Writing.TheVariants as written
 use Rattle.cocoon_cli.specs.declared.reading.Read.{Read}
+use Rattle.cocoon_cli.specs.Answering.{IsFound}
 use Rattle.cocoon_cli.specs.Commands.{Reports, asks, files_of, writes}
-use Rattle.cocoon_cli.specs.Outcomes.{AllGood, Ends, reads}
+use Rattle.cocoon_cli.specs.Outcomes.{AllGood, Ends, FirstWith, reads}
 use Rattle.cocoon_cli.specs.Reading.{FileNotRead, HasFile, IsRead, IsUnread}
 use Rattle.cocoon_cli.specs.Run.{Count, CountsFault, InputsAre, NamesFault, Performs}
 use Rattle.cocoon_cli.specs.Steps.{Inputs}
@@ -119,9 +120,11 @@ pub record ReadsNot (names : FileNames) (content : Option Files) (r : Refusal) :
 
 -- ---- answers
 
--- A command answers this, whatever its inputs are of which this was read.
+-- A command answers this, whatever its inputs are of which this was read: all is good, or a step ends it.
 abbrev pub Asked : Command → Inputs → Result Answer Refusal → Type 0
-Asked c inputs (Ok answer) = AllGood inputs (asks c) × Reports c inputs answer.report
+Asked c inputs (Ok answer) =
+    (AllGood inputs (asks c) × Reports c inputs answer.report)
+    ⊎ FirstWith inputs (IsFound inputs answer.report answer.writing) (asks c)
 Asked c inputs (Err r) = Ends inputs (Err r) (asks c ++ writes c)
 
 -- a refusal is about no fault of the folder

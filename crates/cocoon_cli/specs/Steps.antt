@@ -2,11 +2,11 @@
 -- `run`. The steps of commands, and how each may end one. A step looks at what is read of the
 -- command's files; each is a case of its own. A new rule or limit of designs adds none. It follows
 -- "Statuses" in docs/FORMATS.md.
-use Rattle.std.specs.Prelude.{◌≡◌, ◌≤◌, ◌<◌, ℕ, suc, Bool, false, List, [], ◌∷◌, length, Option, Some, None, Result, Ok, Err}
+use Rattle.std.specs.Prelude.{◌≡◌, ◌≤◌, ◌<◌, ℕ, suc, Bool, true, false, List, [], ◌∷◌, length, Option, Some, None, Result, Ok, Err, codes}
 use Rattle.cocoon_num.specs.Lists.{first_of}
 use Rattle.cocoon_num.specs.Tree as tree
 use Rattle.cocoon_num.specs.declared.limit_name.LimitName.{LimitName}
-use Rattle.cocoon_num.specs.declared.limit_name.LimitName.TheVariants.{Rows, Packet as PacketLimit, Copies}
+use Rattle.cocoon_num.specs.declared.limit_name.LimitName.TheVariants.{Rows, Packet as PacketLimit, Copies, Clauses}
 use Rattle.cocoon_num.specs.Reads.{Reads, ReadsDefs}
 use Rattle.cocoon_num.specs.FirstFaults.{BeginsDesign, BeginsDefs}
 use Rattle.cocoon_text.specs.Positions.{token_position}
@@ -32,21 +32,26 @@ use Rattle.packet_runs.specs.Stopping.{AllWithin, SomeOver}
 use Rattle.net_bundle.specs.Bundle.{MadeFile, bundle}
 use Rattle.net_bundle.specs.Writing.{AllFit, FirstOver, most_of}
 use Rattle.net_bundle.specs.declared.file.BundleFile.{BundleFile}
+use Rattle.refinement.specs.Assumptions.{Meets}
 use Rattle.runtime_defs.specs.Bound.{most_rows, row_count}
 use Rattle.lower_p4.specs.Lowers.{Lowers}
 use Rattle.lower_p4.specs.LowerLimits.{IsOver, IsWithin}
 use Rattle.command_reports.specs.declared.files.CommandFile.{CommandFile}
-use Rattle.command_reports.specs.declared.files.CommandFile.TheVariants.{Design, Definitions, Bundle, Case, Packets}
+use Rattle.command_reports.specs.declared.files.CommandFile.TheVariants.{Design, Definitions, Bundle, Case, Packets, Budget}
 use Rattle.command_reports.specs.declared.refusal.InputFault.TheVariants.{NoTree, Rule, NotYet}
 use Rattle.command_reports.specs.declared.refusal.DefinitionsFault.TheVariants as definitions
 use Rattle.command_reports.specs.declared.refusal.Refusal.{Refusal}
 use Rattle.command_reports.specs.declared.refusal.Refusal.TheVariants as refusal
 use Rattle.command_reports.specs.declared.report.Report.{Report}
 use Rattle.command_reports.specs.Refusals.{IsOfFiles, unread_as}
+use Rattle.command_reports.specs.Report.{given_up}
 use Rattle.case_file.specs.Cases as cases
 use Rattle.case_file.specs.Cases.{case_of}
 use Rattle.cocoon_types.specs.Design.{last_level}
+use Rattle.cocoon_types.specs.Tables.{defs_of}
+use Rattle.cocoon_cli.specs.Assumed.{IsBig, IsBroken, IsSpent}
 use Rattle.cocoon_cli.specs.Built.{IsBuilt}
+use Rattle.cocoon_cli.specs.ReportLines.{budget_line}
 use Rattle.design_texts.specs.DesignTexts.{told}
 
 -- What is read of each file of a command, nothing where it is not there; and the content in which the files of a bundle
@@ -64,6 +69,8 @@ pub data Step : Type 0 where
   design_reads design_well_formed design_within design_accepted : Step
   -- the definitions read as a tree, fit the design, and are within the limit on rows
   definitions_read definitions_fit definitions_within : Step
+  -- the definitions meet the assumptions of all levels, each decided by a search of so many conflicts
+  assumptions_met : (conflicts : ℕ) → Step
   -- the network is within the limits
   lowering_within : Step
   -- the level is one of the design
@@ -147,6 +154,8 @@ IsGood inputs design_accepted = OfDesign inputs (λ _ design. IsBuilt design)
 IsGood inputs definitions_read = OfDefinitions inputs (λ _ _. Unit {0})
 IsGood inputs definitions_fit = OfBoth inputs DefsFit
 IsGood inputs definitions_within = OfDefinitions inputs (λ _ defs. row_count defs ≤ most_rows)
+IsGood inputs (assumptions_met conflicts) =
+    OfBoth inputs (λ design defs. Meets (last_level design) design (defs_of design defs))
 IsGood inputs lowering_within =
     OfBoth inputs (λ design defs.
     (net : NetData) × Lowers design defs net × IsWithin design defs)
@@ -195,6 +204,9 @@ Refuses inputs definitions_fit r =
 Refuses inputs definitions_within r =
     OfDefinitions inputs (λ _ defs.
     (most_rows < row_count defs) × (r ≡ refusal.OverLimit Rows (row_count defs)))
+Refuses inputs (assumptions_met conflicts) r =
+    OfBoth inputs (λ design defs. (number : ℕ) × (values : List ℕ)
+    × IsBroken design (defs_of design defs) number values × (r ≡ refusal.Broken number values))
 Refuses inputs lowering_within r =
     OfBoth inputs (λ design defs. (limit : LimitName) × (count : ℕ)
     × IsOver design defs limit count × (r ≡ refusal.OverLimit limit count))
@@ -231,17 +243,36 @@ Decides inputs s (Ok report) = Judges inputs s report
 Decides inputs s (Err r) = Refuses inputs s r
 
 -- Whether the step is decided by a search. Such a step may be good, end the command in several ways
--- that are alike, or be given up. No step of today is one.
+-- that are alike, or be given up.
 abbrev pub is_searched : Step → Bool
+is_searched (assumptions_met conflicts) = true
 is_searched s = false
 
--- a search is given up, with what it found until then
+-- a search spent what it may spend: this is reported, and these are the bytes of the file of that
+abbrev pub Spends : Inputs → Step → Report → (bytes : List ℕ) → Type 0
+Spends inputs (assumptions_met conflicts) report bytes =
+    OfBoth inputs (λ design defs. (number : ℕ) × IsSpent design defs conflicts number bytes
+    × (report ≡ given_up (budget_line conflicts (codes "assumption") number)))
+Spends inputs s report bytes = ⊥
+
+-- a query is too large to be searched
+abbrev pub IsTooLarge : Inputs → Step → Refusal → Type 0
+IsTooLarge inputs (assumptions_met conflicts) r =
+    OfBoth inputs (λ design defs. (number : ℕ) × (count : ℕ) × IsBig design defs number count
+    × (r ≡ refusal.OverLimit Clauses count))
+IsTooLarge inputs s r = ⊥
+
+-- a search is given up
 abbrev pub GivesUp : Inputs → Step → Result Report Refusal → Type 0
-GivesUp inputs s outcome = ⊥
+GivesUp inputs s (Ok report) = (bytes : List ℕ) × Spends inputs s report bytes
+GivesUp inputs s (Err r) = IsTooLarge inputs s r
 
 -- a fault of the folder stops the step
 abbrev pub Stops : Inputs → Step → Refusal → Type 0
 Stops inputs (is_there file) r = r ≡ refusal.ReadFault file
 Stops inputs (bundle_reads out) r = (file : BundleFile) × (r ≡ refusal.ReadFault (Bundle file))
+Stops inputs (assumptions_met conflicts) r =
+    (r ≡ refusal.WriteFault Budget)
+    × ((report : Report) × (bytes : List ℕ) × Spends inputs (assumptions_met conflicts) report bytes)
 Stops inputs bundle_written r = (file : BundleFile) × (r ≡ refusal.WriteFault (Bundle file))
 Stops inputs s r = ⊥

@@ -1,11 +1,17 @@
-//! `compile`: a network is made of a design and its definitions, and its bundle is written.
-ghost use Rattle.std.specs.Prelude.{◌≡◌, ◌<◌, ◌↔◌, ◌^◌, ℕ, IfErr, IfOk, IsTrue, List, Some, length, string_bytes};
+//! `compile`: a network is made of a design and definitions that meet its assumptions, and its bundle is
+//! written.
+ghost use Rattle.std.specs.Prelude.{◌≡◌, ◌≤◌, ◌<◌, ◌↔◌, ◌^◌, ℕ, IfErr, IfOk, IsTrue, List, Some, length, string_bytes};
 ghost use Rattle.cocoon_syntax.specs.TreeOf.{design_of};
+ghost use Rattle.cocoon_types.specs.Design.{last_level};
 ghost use Rattle.command_line.specs.Command as spec;
+ghost use Rattle.command_line.specs.Subcommands.{most_conflicts};
+ghost use Rattle.discharge.specs.Meeting.{OfTables};
 ghost use Rattle.p4_ir.specs.NetOf.{net_of};
+ghost use Rattle.refinement.specs.Assumptions.{Meets};
 ghost use Rattle.runtime_defs.specs.Fitting.{FitsDesign};
+ghost use Rattle.cocoon_cli.specs.Answering.{PlansBy};
 ghost use Rattle.cocoon_cli.specs.Built.{IsBuilt};
-ghost use Rattle.cocoon_cli.specs.Compiling.{Compiles, LowersTexts, NotAccepted, NotLowered, NotMade};
+ghost use Rattle.cocoon_cli.specs.Compiling.{Compiles, LowersTexts, NotAccepted, NotAcceptedTexts, NotLowered};
 ghost use Rattle.design_texts.specs.DesignTexts.{BindsTables, ReadsChecked};
 ghost use Rattle.cocoon_cli.specs.ReportLines.{totals_line, totals_of};
 ghost use Rattle.cocoon_cli.specs.Shell.{Asked, IsQuiet};
@@ -13,6 +19,7 @@ ghost use Rattle.cocoon_cli.specs.Steps.{Inputs};
 ghost use Rattle.command_reports.specs.declared.files.CommandFile.TheVariants.{Definitions, Design};
 
 use crate::answer::{Answer, Writing};
+use crate::assumptions::unmet;
 use crate::laws::deliveries_stay_within;
 use cocoon_num::NoMemory;
 use cocoon_resolve::Checked;
@@ -27,12 +34,11 @@ use refinement::laws::one_level_owes_nothing;
 use sound_types::laws::code_literals_fit;
 use std::alloc::Global;
 
-/// Whether `compile` takes the design: it has one level and no assumption.
+/// Whether `compile` takes the design: it has one level.
 fn is_built(checked: &Checked) -> bool
     ensures { IsTrue result ↔ IsBuilt (design_of checked.now) }
 {
-    let last = checked.levels() - 1;
-    last == 0 && checked.assume_count(last) == 0
+    checked.levels() == 1
 }
 
 /// The design of a text, where `compile` takes it, too.
@@ -50,10 +56,27 @@ fn read_accepted(alloc: Global, text: &[u8]) -> Result<Checked, Refusal>
     }
 }
 
-/// The network of a design that `compile` takes, and its definitions.
+/// A design that `compile` takes, with definitions that fit it. The design is judged first, and whether
+/// `compile` takes it.
+fn accepted_texts(alloc: Global, design: &[u8], defs: &[u8]) -> Result<Bound, Refusal>
+    requires small { length design.now < 2 ^ 31 }
+    requires small_too { length defs.now < 2 ^ 31 }
+    ensures binds { IfOk result (λ b.
+        BindsTables design.now defs.now (design_of b.checked) b.defs) }
+    ensures built { IfOk result (λ b. IsBuilt (design_of b.checked)) }
+    ensures refused { IfErr result (NotAcceptedTexts design.now defs.now) }
+{
+    let checked = read_accepted(alloc, design)?;
+    let defs = bind_text(alloc, &checked, defs)?;
+    Ok(Bound { checked, defs })
+}
+
+/// The network of a design that `compile` takes, and definitions that meet its assumptions.
 fn lower_bound(alloc: Global, bound: &Bound) -> Result<NetData, Refusal>
     requires fit { FitsDesign (design_of bound.now.checked) bound.now.defs }
     requires built { IsBuilt (design_of bound.now.checked) }
+    requires met { OfTables (design_of bound.now.checked) bound.now.defs
+        (Meets (last_level (design_of bound.now.checked)) (design_of bound.now.checked)) }
     ensures lowers { IfOk result (λ net. (design defs : List ℕ)
         → BindsTables design defs (design_of bound.now.checked) bound.now.defs
         → LowersTexts design defs (net_of net)) }
@@ -78,19 +101,6 @@ fn lower_bound(alloc: Global, bound: &Bound) -> Result<NetData, Refusal>
         }
         Err(LowerFault::NoMemory) => Err(Refusal::NoMemory),
     }
-}
-
-/// The network of the two texts, or why there is none. The design is judged first, and whether
-/// `compile` takes it; then the definitions, and then the limits of the network.
-fn network(alloc: Global, design: &[u8], defs: &[u8]) -> Result<NetData, Refusal>
-    requires small { length design.now < 2 ^ 31 }
-    requires small_too { length defs.now < 2 ^ 31 }
-    ensures lowers { IfOk result (λ net. LowersTexts design.now defs.now (net_of net)) }
-    ensures refused { IfErr result (NotMade design.now defs.now) }
-{
-    let checked = read_accepted(alloc, design)?;
-    let defs = bind_text(alloc, &checked, defs)?;
-    lower_bound(alloc, &Bound { checked, defs })
 }
 
 /// How many of each thing a network has. Hosts at no port count, too.
@@ -126,26 +136,36 @@ fn totals_line(alloc: Global, totals: Totals) -> Result<String, NoMemory>
     )?)
 }
 
-/// Compiles the texts of a design and its definitions into the bundle of the command.
+/// Compiles the texts of a design and its definitions into the bundle of the command. The design is
+/// judged first, and whether `compile` takes it; then the definitions, then the assumptions, and then the
+/// limits of the network.
 pub fn compile<'w>(
     alloc: Global,
-    names: &Compile<'w>,
+    asked: &Compile<'w>,
     design: &[u8],
     defs: &[u8],
 ) -> Result<Answer<'w>, Refusal>
     requires small { length design.now < 2 ^ 31 }
     requires small_too { length defs.now < 2 ^ 31 }
+    requires some { 1 ≤ asked.now.conflicts }
+    requires few { asked.now.conflicts ≤ most_conflicts }
     ensures asked { (inputs : Inputs) → inputs.file Design ≡ Some design.now
-        → inputs.file Definitions ≡ Some defs.now
-        → Asked (spec.compile names.now.design.now names.now.defs.now names.now.out.now)
+        → inputs.file Definitions ≡ Some defs.now → Asked
+        (spec.compile asked.now.design.now asked.now.defs.now asked.now.out.now asked.now.conflicts)
         inputs result }
-    ensures plans { IfOk result (λ a. Compiles names.now.out.now design.now defs.now a.writing) }
+    ensures plans { IfOk result (λ a. PlansBy
+        (λ w. Compiles asked.now.out.now design.now defs.now w) a.report.verdict a.writing) }
     ensures quiet { IfErr result IsQuiet }
 {
-    let net = network(alloc, design, defs)?;
+    code_literals_fit();
+    let bound = accepted_texts(alloc, design, defs)?;
+    if let Some(answer) = unmet(alloc, &bound, asked.conflicts)? {
+        return Ok(answer);
+    }
+    let net = lower_bound(alloc, &bound)?;
     let line = totals_line(alloc, count_parts(&net))?;
     Ok(Answer {
         report: Report::success(line.into_bytes()),
-        writing: Writing::Bundle(names.out, net),
+        writing: Writing::Bundle(asked.out, net),
     })
 }

@@ -7,6 +7,7 @@ use crate::laws::one_outcome;
 use crate::shell::{names_of, perform};
 use cocoon_io::{Folder, Sink};
 use cocoon_num::NoMemory;
+use command_line::laws::numbers_are_in_range;
 use command_line::parse_command;
 use command_reports::{Status, print, tell_no_memory, tell_usage};
 use std::alloc::Global;
@@ -40,6 +41,7 @@ pub fn run<F: Folder, S: Sink>(
         → Headline (map string_bytes words.now) (F.content folder.old) (F.content folder.new) }
 {
     one_outcome();
+    numbers_are_in_range();
     match parse_command(alloc, words) {
         Ok(Some(command)) => {
             let outcome = perform(alloc, &command, folder);

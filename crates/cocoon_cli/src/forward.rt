@@ -7,6 +7,7 @@ ghost use Rattle.p4_ir.specs.Wiring.{host_numbers};
 ghost use Rattle.packet_file.specs.Judging.{packet_in};
 ghost use Rattle.packet_file.specs.Packets.{AllKnown, packets_in};
 ghost use Rattle.cocoon_cli.specs.Forwarding.{NotRun, NotSaid, RunsPackets};
+ghost use Rattle.cocoon_cli.specs.Answering.{PlansBy};
 ghost use Rattle.cocoon_cli.specs.Shell.{Asked, IsQuiet};
 ghost use Rattle.cocoon_cli.specs.Steps.{Inputs};
 ghost use Rattle.cocoon_cli.specs.declared.answer.Writing.TheVariants.{Nothing};
@@ -62,7 +63,8 @@ pub fn forward<'w>(
     ensures asked { (inputs : Inputs) → inputs.file Packets ≡ Some text.now
         → ContentReads inputs.content asked.now.out.now (net_in net.now) → Asked
         (spec.forward asked.now.out.now asked.now.packets.now asked.now.hops) inputs result }
-    ensures nothing { IfOk result (λ a. a.writing ≡ Nothing) }
+    ensures plans { IfOk result (λ a.
+        PlansBy (λ w. w ≡ Nothing) a.report.verdict a.writing) }
     ensures quiet { IfErr result IsQuiet }
 {
     let lines = run_text(alloc, net, asked.hops, text)?;

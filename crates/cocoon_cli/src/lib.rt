@@ -5,6 +5,7 @@
 #![tactic(auto)]
 
 pub mod answer;
+pub mod assumptions;
 pub mod compile;
 pub mod driver;
 pub mod forward;

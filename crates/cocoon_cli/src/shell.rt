@@ -3,7 +3,9 @@
 //! else.
 ghost use Rattle.std.specs.Prelude.{◌≡◌, IfErr, IfOk, Some};
 ghost use Rattle.command_line.specs.Command.{stands_for};
+ghost use Rattle.command_line.specs.Subcommands.{IsInRange};
 ghost use Rattle.command_reports.specs.FileNames.{names_in};
+ghost use Rattle.command_reports.specs.declared.report.Verdict.TheVariants.{Done};
 ghost use Rattle.cocoon_cli.specs.Commands.{Plans, files_of};
 ghost use Rattle.cocoon_cli.specs.Headline.{CompiledOf};
 ghost use Rattle.cocoon_cli.specs.Run.{count};
@@ -56,13 +58,14 @@ pub fn names_of<'w>(command: &Command<'w>) -> FileNames<'w>
 /// What a command answers over what was read.
 fn ask<'w>(alloc: Global, command: &Command<'w>, read: &Read) -> Result<Answer<'w>, Refusal>
     requires short { IsShort read.now }
+    requires range { IsInRange (stands_for command.now) }
     ensures asked { (inputs : Inputs) → IsGiven (files_of (stands_for command.now)) inputs read.now
         → Asked (stands_for command.now) inputs result }
-    ensures plans { IfOk result (λ a. Plans (stands_for command.now) read.now a.writing) }
+    ensures plans { IfOk result (Plans (stands_for command.now) read.now) }
     ensures quiet { IfErr result IsQuiet }
 {
     match command {
-        Command::Compile(names) => compile(alloc, names, &read.design, &read.definitions),
+        Command::Compile(asked) => compile(alloc, asked, &read.design, &read.definitions),
         Command::Step(asked) => { step(alloc, asked, &read.design, &read.definitions, &read.case) }
         Command::Forward(asked) => match &read.net {
             Some(net) => forward(alloc, asked, net, &read.packets),
@@ -77,13 +80,14 @@ pub fn perform<F: Folder>(
     command: &Command<'_>,
     folder: &mut F,
 ) -> Result<Report, Refusal>
+    requires { IsInRange (stands_for command.now) }
     ensures acts { Acts (F.last_failure folder.new) (stands_for command.now)
         (F.content folder.old) (F.content folder.new)
         (count F.last_read_fault (F.read_faults folder.old) (F.read_faults folder.new))
         (count F.last_write_fault (F.write_faults folder.old) (F.write_faults folder.new))
         result }
-    ensures headline { IfOk result (λ report.
-        CompiledOf (Some (stands_for command.now)) (F.content folder.old) (F.content folder.new)) }
+    ensures headline { IfOk result (λ report. report.verdict ≡ Done
+        → CompiledOf (Some (stands_for command.now)) (F.content folder.old) (F.content folder.new)) }
 {
     let names = names_of(command);
     let read = read_all(alloc, folder, &names)?;

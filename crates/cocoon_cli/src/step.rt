@@ -1,10 +1,11 @@
 //! `step`: the body of a role is run on a packet, at a level of a design under its definitions.
-ghost use Rattle.std.specs.Prelude.{◌≡◌, ◌≤◌, ◌<◌, ◌^◌, ◌++◌, IfErr, IfOk, OnOk, Some, length};
+ghost use Rattle.std.specs.Prelude.{◌≡◌, ◌≤◌, ◌<◌, ◌^◌, IfErr, IfOk, Some, length};
 ghost use Rattle.case_file.specs.Agrees.{CanRun, IsCaseOf};
 ghost use Rattle.cocoon_syntax.specs.TreeOf.{design_of};
 ghost use Rattle.cocoon_types.specs.Design.{last_level};
 ghost use Rattle.command_line.specs.Command as spec;
-ghost use Rattle.cocoon_cli.specs.ReportLines.{list_text, sent_line, sent_text, spaced};
+ghost use Rattle.cocoon_cli.specs.ReportLines.{sent_line, sent_text};
+ghost use Rattle.cocoon_cli.specs.Answering.{PlansBy};
 ghost use Rattle.cocoon_cli.specs.Shell.{Asked, IsQuiet};
 ghost use Rattle.cocoon_cli.specs.Stepping.{NotCase, NotStepped, StepsTexts};
 ghost use Rattle.cocoon_cli.specs.Steps.{Inputs};
@@ -17,7 +18,7 @@ use case_runs::{Sent, run_case};
 use cocoon_num::NoMemory;
 use cocoon_resolve::Checked;
 use command_line::Step;
-use command_reports::{CommandFile, Refusal, Report};
+use command_reports::{CommandFile, Refusal, Report, push_list};
 use design_texts::{Bound, bound_texts};
 use std::alloc::Global;
 
@@ -58,28 +59,6 @@ fn step_texts(
     Ok(run_case(alloc, &bound.checked, &bound.defs, level, case)?)
 }
 
-/// Some numbers, each behind a space.
-fn push_numbers(alloc: Global, line: &mut Vec<u8>, numbers: &[u64]) -> Result<(), NoMemory>
-    ensures { OnOk result (line.new.items ≡ line.old.items ++ spaced numbers.now) }
-{
-    for number in numbers {
-        line.push(b' ')?;
-        line.extend_from_slice(number.to_string(alloc)?.as_bytes())?;
-    }
-    Ok(())
-}
-
-/// A list of numbers behind a space.
-fn push_list(alloc: Global, line: &mut Vec<u8>, numbers: &[u64]) -> Result<(), NoMemory>
-    ensures { OnOk result (line.new.items ≡ line.old.items ++ list_text numbers.now) }
-{
-    if numbers.is_empty() {
-        line.extend_from_slice(b" -")?;
-        return Ok(());
-    }
-    push_numbers(alloc, line, numbers)
-}
-
 /// The line of what a body sends, and where.
 fn sent_line(alloc: Global, sent: &Sent) -> Result<Vec<u8>, NoMemory>
     ensures { IfOk result (λ line. line.items ≡ sent_line sent.now) }
@@ -117,7 +96,8 @@ pub fn step<'w>(
         → inputs.file Definitions ≡ Some defs.now → inputs.file CaseFile ≡ Some text.now → Asked
         (spec.step asked.now.design.now asked.now.defs.now asked.now.level asked.now.file.now)
         inputs result }
-    ensures nothing { IfOk result (λ a. a.writing ≡ Nothing) }
+    ensures plans { IfOk result (λ a.
+        PlansBy (λ w. w ≡ Nothing) a.report.verdict a.writing) }
     ensures quiet { IfErr result IsQuiet }
 {
     let sent = step_texts(alloc, asked.level, design, defs, text)?;

@@ -110,5 +110,5 @@ commands_stay words asked h =
     still (fault_of with_step words) (fault_of cocoon_app words) (subcommand_of with_step words) (subcommand_of cocoon_app words) asked
     (λ m n p q. stays top (compiles ∷ steps ∷ []) forwards helps forward_grows (argument_words with_step words) m n.name n.no_help n.is p q) h
 
-pub compile_stays : (words : List Text) (d e o : List ℕ) → command_by compile_alone words ≡ Some (compile d e o) → command words ≡ Some (compile d e o)
-compile_stays words d e o h = commands_stay words (compile d e o) (step_added words (compile d e o) h)
+pub compile_stays : (words : List Text) (d e o : List ℕ) (n : ℕ) → command_by compile_alone words ≡ Some (compile d e o n) → command words ≡ Some (compile d e o n)
+compile_stays words d e o n h = commands_stay words (compile d e o n) (step_added words (compile d e o n) h)

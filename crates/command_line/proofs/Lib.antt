@@ -1,3 +1,4 @@
 pub mod Matching
 pub mod Staying
 pub mod CommandsStay
+pub mod Ranges

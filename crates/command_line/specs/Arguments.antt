@@ -29,3 +29,12 @@ number_up_to most word = option_and_then (λ n. kept_if (nat_le n most) n) (word
 abbrev pub number_between : (least most : ℕ) → Text → Option ℕ
 number_between least most word =
     option_and_then (λ n. kept_if (nat_le least n) n) (number_up_to most word)
+
+-- the number of a word that may be missing: from 1 on, or the usual one if there is no word
+abbrev pub number_or : (usual most : ℕ) → Option Text → Option ℕ
+number_or usual most None = Some usual
+number_or usual most (Some word) = number_between 1 most word
+
+-- the number of an option, by what `clap` matched
+abbrev pub option_number : (name : Text) → (usual most : ℕ) → List Row → Option ℕ
+option_number name usual most rows = number_or usual most (first_of name rows)

@@ -1,30 +1,47 @@
 -- Each subcommand: as `clap` states it, and what it asks for by its matches. A new one is a part of its
 -- own here, with a member of `cocoon_app` and a branch of `command_of`. Cited by the clauses of
 -- subcommands.rt. It follows the section "Commands" of README.md.
-use Rattle.std.specs.Prelude.{ℕ, List, [], ◌∷◌, if◌then◌else◌, Option, Some, None, option_and_then, codes}
+use Rattle.std.specs.Prelude.{◌≤◌, ℕ, List, [], ◌∷◌, if◌then◌else◌, Option, Some, None, option_and_then, codes}
 use Rattle.clap.specs.Words.{App, Row, Text, first_of, new_app, with_rule}
 use Rattle.cocoon_num.specs.Names.{same_name}
-use Rattle.command_line.specs.Arguments.{argument_name, number_between, number_up_to}
+use Rattle.command_line.specs.Arguments.{argument_name, number_up_to, option_number}
 use Rattle.command_line.specs.Command.{Command, compile, step, forward}
-use Rattle.command_line.specs.Syntax.{app_with, case_argument, design_argument, defs_argument, hops_argument, level_argument, option_argument, out_argument, packets_argument, with_arguments}
+use Rattle.command_line.specs.Syntax.{app_with, case_argument, conflicts_argument, design_argument, defs_argument, hops_argument, level_argument, option_argument, out_argument, packets_argument, with_arguments}
+
+-- ---- searches
+
+-- the most conflicts of one search that may be asked for
+abbrev pub most_conflicts : ℕ
+most_conflicts = 200000
+
+-- how many are asked for if no word says it
+abbrev pub usual_conflicts : ℕ
+usual_conflicts = 20000
+
+-- the number of conflicts, by what `clap` matched
+abbrev pub conflicts_in : List Row → Option ℕ
+conflicts_in rows = option_number conflicts_argument usual_conflicts most_conflicts rows
 
 -- ---- compile
 
 -- the subcommand `compile`
 abbrev pub compile_app : App
 compile_app =
-    with_arguments (new_app (codes "compile")) (design_argument ∷ defs_argument ∷ out_argument ∷ [])
+    with_rule
+    (with_arguments (new_app (codes "compile")) (design_argument ∷ defs_argument ∷ out_argument ∷ []))
+    (option_argument conflicts_argument)
 
--- `compile` with names that are all there
-abbrev pub with_names : Option (List ℕ) → Option (List ℕ) → Option (List ℕ) → Option Command
-with_names (Some design) (Some defs) (Some out) = Some (compile design defs out)
-with_names _ _ _ = None
+-- `compile` with names and a number that are all there
+abbrev pub with_names : Option (List ℕ) → Option (List ℕ) → Option (List ℕ) → Option ℕ → Option Command
+with_names (Some design) (Some defs) (Some out) (Some conflicts) =
+    Some (compile design defs out conflicts)
+with_names _ _ _ _ = None
 
 -- what `compile` asks for, by its matches
 abbrev pub compile_of : List Row → Option Command
 compile_of rows =
     with_names (argument_name design_argument rows) (argument_name defs_argument rows)
-    (argument_name out_argument rows)
+    (argument_name out_argument rows) (conflicts_in rows)
 
 -- ---- step
 
@@ -65,18 +82,13 @@ forward_app =
 abbrev pub most_hops : ℕ
 most_hops = 64
 
--- how many are asked for where no word says it
+-- how many are asked for if no word says it
 abbrev pub usual_hops : ℕ
 usual_hops = 16
 
--- the number of visits that a word asks for, if there is one
-abbrev pub hops_by : Option Text → Option ℕ
-hops_by None = Some usual_hops
-hops_by (Some word) = number_between 1 most_hops word
-
 -- the number of visits, by what `clap` matched
 abbrev pub hops_in : List Row → Option ℕ
-hops_in rows = hops_by (first_of hops_argument rows)
+hops_in rows = option_number hops_argument usual_hops most_hops rows
 
 -- `forward` with names and a number that are all there
 abbrev pub with_hops : Option (List ℕ) → Option (List ℕ) → Option ℕ → Option Command
@@ -101,3 +113,8 @@ command_of met =
     else if same_name met.0 (codes "step") then step_of met.1
     else if same_name met.0 (codes "forward") then forward_of met.1
     else None
+
+-- the number of conflicts that a command asks for is one that may be asked for
+abbrev pub IsInRange : Command → Type 0
+IsInRange (compile design defs out conflicts) = (1 ≤ conflicts) × (conflicts ≤ most_conflicts)
+IsInRange asked = Unit {0}

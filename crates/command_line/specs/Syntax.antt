@@ -40,6 +40,10 @@ option_argument name = record (new_rule name) { long = Some name; action = Some 
 abbrev pub hops_argument : Text
 hops_argument = codes "hops"
 
+-- that for a number of conflicts
+abbrev pub conflicts_argument : Text
+conflicts_argument = codes "conflicts"
+
 -- a command with these arguments, in their order
 abbrev pub with_arguments : App → List Text → App
 with_arguments app [] = app

@@ -1,7 +1,7 @@
 //! What is taken of the words for an argument: a name in its form, or a number.
 ghost use Rattle.std.specs.Prelude.{◌≡◌, option_map};
 ghost use Rattle.clap.specs.Words.{found_of, rows_of};
-ghost use Rattle.command_line.specs.Arguments.{argument_name, number_between, word_number, number_up_to};
+ghost use Rattle.command_line.specs.Arguments.{argument_name, number_between, option_number, word_number, number_up_to};
 ghost use Rattle.command_line.specs.Names.{is_file_name, is_name_byte};
 
 use clap::ArgMatches;
@@ -63,9 +63,19 @@ pub fn number_up_to(most: u32, word: &str) -> Option<u32>
 }
 
 /// The number that a word is, if it is none below `least` and none above `most`.
-pub fn number_between(least: u32, most: u32, word: &str) -> Option<u32>
+fn number_between(least: u32, most: u32, word: &str) -> Option<u32>
     ensures { result ≡ number_between least most word.now }
 {
     let number = number_up_to(most, word)?;
     if least <= number { Some(number) } else { None }
+}
+
+/// The number of an option: that of its word, from 1 to `most`, or the usual one if there is no word.
+pub fn option_number<'w>(matches: &ArgMatches<'w>, name: &str, usual: u32, most: u32) -> Option<u32>
+    ensures { result ≡ option_number name.now usual most (rows_of (found_of matches.now)) }
+{
+    match matches.get_str(name) {
+        Some(word) => number_between(1, most, word),
+        None => Some(usual),
+    }
 }

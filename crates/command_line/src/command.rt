@@ -8,7 +8,7 @@ pub enum Command<'w> {
     Forward(Forward<'w>),
 }
 
-/// The names that `compile` is given.
+/// What `compile` is given.
 #[derive(Clone, Copy, Debug, Drop)]
 pub struct Compile<'w> {
     /// The file of the design.
@@ -17,6 +17,8 @@ pub struct Compile<'w> {
     pub defs: &'w str,
     /// The name of the bundle, with which the names of its files begin.
     pub out: &'w str,
+    /// The most conflicts of one search, from 1 to 200,000.
+    pub conflicts: u32,
 }
 
 /// What `step` is given.

@@ -5,16 +5,32 @@ ghost use Rattle.clap.specs.Words.{app_of, found_of, rows_of};
 ghost use Rattle.clap.specs.declared.builder.Command.TheViews.{out-Command};
 ghost use Rattle.command_line.specs.Command as spec;
 ghost use Rattle.command_line.specs.Command.{stands_for};
-ghost use Rattle.command_line.specs.Subcommands.{cocoon_app, command_of, compile_app, compile_of, forward_app, forward_of, hops_in, level_in, step_app, step_of};
+ghost use Rattle.command_line.specs.Subcommands.{cocoon_app, command_of, compile_app, compile_of, conflicts_in, forward_app, forward_of, hops_in, level_in, step_app, step_of};
 
-use crate::arguments::{argument_name, number_between, number_up_to};
+use crate::arguments::{argument_name, number_up_to, option_number};
 use crate::command::{Command, Compile, Forward, Step};
 use crate::syntax::{
-    CASE, DEFS, DESIGN, HOPS, LEVEL, OUT, PACKETS, with_arguments, with_option, with_subcommand,
+    CASE, CONFLICTS, DEFS, DESIGN, HOPS, LEVEL, OUT, PACKETS, with_arguments, with_option,
+    with_subcommand,
 };
 use clap::ArgMatches;
 use cocoon_num::NoMemory;
 use std::alloc::Global;
+
+// ---- searches
+
+/// The most conflicts of one search that may be asked for.
+const MOST_CONFLICTS: u32 = 200_000;
+
+/// How many are asked for if no word says it.
+const USUAL_CONFLICTS: u32 = 20_000;
+
+/// The number of conflicts of one search.
+fn conflicts<'w>(matches: &ArgMatches<'w>) -> Option<u32>
+    ensures { result ≡ conflicts_in (rows_of (found_of matches.now)) }
+{
+    option_number(matches, CONFLICTS, USUAL_CONFLICTS, MOST_CONFLICTS)
+}
 
 // ---- compile
 
@@ -23,22 +39,29 @@ fn compile_app<'w>(alloc: Global) -> Result<clap::Command<'w>, NoMemory>
     ensures app { IfOk result (λ c. app_of c ≡ compile_app) }
     ensures local { IfOk result (λ c. (out-Command c).has_globals ≡ false) }
 {
-    with_arguments(
+    let command = with_arguments(
         alloc,
         clap::Command::new(alloc, "compile"),
         &[DESIGN, DEFS, OUT],
-    )
+    )?;
+    with_option(alloc, command, CONFLICTS)
 }
 
-/// The names of a `compile`, where each has its form.
+/// What a `compile` is given, where each part has its form.
 fn compile_of<'w>(matches: &ArgMatches<'w>) -> Option<Compile<'w>>
-    ensures { option_map (λ c. spec.compile c.design.now c.defs.now c.out.now) result
+    ensures { option_map (λ c. spec.compile c.design.now c.defs.now c.out.now c.conflicts) result
         ≡ compile_of (rows_of (found_of matches.now)) }
 {
     let design = argument_name(matches, DESIGN)?;
     let defs = argument_name(matches, DEFS)?;
     let out = argument_name(matches, OUT)?;
-    Some(Compile { design, defs, out })
+    let conflicts = conflicts(matches)?;
+    Some(Compile {
+        design,
+        defs,
+        out,
+        conflicts,
+    })
 }
 
 // ---- step
@@ -89,7 +112,7 @@ fn step_of<'w>(matches: &ArgMatches<'w>) -> Option<Step<'w>>
 /// The most visits of a packet that may be asked for.
 const MOST_HOPS: u32 = 64;
 
-/// How many are asked for where no word says it.
+/// How many are asked for if no word says it.
 const USUAL_HOPS: u32 = 16;
 
 /// The subcommand `forward`.
@@ -101,14 +124,11 @@ fn forward_app<'w>(alloc: Global) -> Result<clap::Command<'w>, NoMemory>
     with_option(alloc, command, HOPS)
 }
 
-/// The number of visits: that of the word for it, or the usual one where there is no word.
+/// The number of visits.
 fn hops<'w>(matches: &ArgMatches<'w>) -> Option<u32>
     ensures { result ≡ hops_in (rows_of (found_of matches.now)) }
 {
-    match matches.get_str(HOPS) {
-        Some(word) => number_between(1, MOST_HOPS, word),
-        None => Some(USUAL_HOPS),
-    }
+    option_number(matches, HOPS, USUAL_HOPS, MOST_HOPS)
 }
 
 /// What a `forward` is given, where each part has its form.

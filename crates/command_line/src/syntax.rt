@@ -29,6 +29,9 @@ pub const PACKETS: &str = "PACKETS";
 /// The option for the number of visits.
 pub const HOPS: &str = "hops";
 
+/// That for the number of conflicts.
+pub const CONFLICTS: &str = "conflicts";
+
 /// An argument that has to be there.
 fn required_argument<'w>(alloc: Global, id: &'w str) -> Arg<'w>
     ensures rule { rule_of result ≡ required_argument id.entry.now }

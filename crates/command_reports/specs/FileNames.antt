@@ -1,10 +1,10 @@
 -- Cited by the clauses of files.rt, by the lines of ending.rt, and in cocoon_cli by `keeps` of `run`.
 -- The files of a command, by what they are to it: their names, and how long they may be. It follows
 -- the section "Commands" of README.md and "Bundle files" in docs/FORMATS.md.
-use Rattle.std.specs.Prelude.{◌≡◌, if◌then◌else◌, ℕ, Bool, List, Option, Some, None, option_map}
+use Rattle.std.specs.Prelude.{◌≡◌, ◌++◌, if◌then◌else◌, ℕ, Bool, List, Option, Some, None, codes, option_map}
 use Rattle.net_bundle.specs.Bundle.{whole_name}
 use Rattle.command_reports.specs.declared.files.CommandFile.{CommandFile}
-use Rattle.command_reports.specs.declared.files.CommandFile.TheVariants.{Design, Definitions, Bundle, Case, Packets}
+use Rattle.command_reports.specs.declared.files.CommandFile.TheVariants.{Design, Definitions, Bundle, Case, Packets, Budget}
 use Rattle.command_reports.specs.declared.files.FileNames.{FileNames as Names}
 use Rattle.command_reports.specs.declared.files.Wanted.{Wanted}
 
@@ -28,6 +28,10 @@ names_in names = record {
   reads_bundle = names.reads_bundle;
 }
 
+-- the name of the file of a spent budget, by that of the design
+abbrev pub budget_name : List ℕ → List ℕ
+budget_name design = design ++ codes ".budget.json"
+
 -- the name of a file
 abbrev pub name_of : FileNames → CommandFile → Option (List ℕ)
 name_of names Design = names.design
@@ -35,6 +39,7 @@ name_of names Definitions = names.definitions
 name_of names Case = names.case
 name_of names Packets = names.packets
 name_of names (Bundle file) = option_map (λ out. whole_name out file) names.bundle
+name_of names Budget = option_map budget_name names.design
 
 -- this holds of the name of a file, which there is
 abbrev pub HasName : FileNames → CommandFile → (List ℕ → Type 0) → Type 0
@@ -61,6 +66,7 @@ most_in Definitions = Some definitions_most
 most_in Case = Some case_most
 most_in Packets = Some packets_most
 most_in (Bundle file) = None
+most_in Budget = None
 
 abbrev pub with_most : Option ℕ → Option (List ℕ) → Option (List ℕ × ℕ)
 with_most (Some most) (Some name) = Some (name, most)

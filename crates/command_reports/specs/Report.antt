@@ -110,11 +110,24 @@ definitions_line file (definitions.Entry rule p) =
     fault_line (codes "definitions") file p.line p.column (entry_rule_name rule)
 definitions_line file (definitions.NoDefault name) = no_default_line file name
 
+-- ---- lists of numbers
+
+-- some numbers, each behind a space
+abbrev pub spaced : List ℕ → List ℕ
+spaced [] = []
+spaced (n ∷ ns) = 32 ∷ (decimal n ++ spaced ns)
+
+-- a list of numbers behind a space; `-` where it is empty
+abbrev pub list_text : List ℕ → List ℕ
+list_text [] = codes " -"
+list_text (n ∷ ns) = spaced (n ∷ ns)
+
 -- ---- refusals
 
 abbrev pub refusal_status : Refusal → Status
 refusal_status (refusal.Language fault) = status.Language
 refusal_status (refusal.Definitions fault) = status.Broken
+refusal_status (refusal.Broken number values) = status.Broken
 refusal_status (refusal.ReadFault file) = status.ReadFault
 refusal_status (refusal.WriteFault file) = status.WriteFault
 refusal_status (refusal.TooLong file most) = status.Limit
@@ -241,6 +254,12 @@ cause_text (cause.P4 fault) = codes "p4 " ++ p4_text fault
 cause_text (cause.Shape pointer) = codes "shape " ++ pointer_text pointer
 cause_text (cause.Load fault) = codes "load " ++ load_text fault
 
+-- that of an assumption that is false at these values
+abbrev pub broken_line : (number : ℕ) (values : List ℕ) → List ℕ
+broken_line number values =
+    codes "broken assumption " ++ (decimal number ++ (codes " at" ++ (list_text values
+    ++ codes "\n")))
+
 -- bundle FILE CAUSE
 abbrev pub bundle_line : (file : List ℕ) → BundleCause → List ℕ
 bundle_line file c = codes "bundle " ++ (file ++ (codes " " ++ (cause_text c ++ codes "\n")))
@@ -251,6 +270,7 @@ refusal_line names (refusal.Language fault) =
     option_map (λ name. language_line name fault) (name_of names Design)
 refusal_line names (refusal.Definitions fault) =
     option_map (λ name. definitions_line name fault) (name_of names Definitions)
+refusal_line names (refusal.Broken number values) = Some (broken_line number values)
 refusal_line names (refusal.ReadFault file) =
     option_map (line_with (codes "read fault ")) (name_of names file)
 refusal_line names (refusal.WriteFault file) =
@@ -281,6 +301,10 @@ HasBytes (Err e) (Ok bytes) = ⊥
 -- the whole report of a command that succeeds
 abbrev pub success : List ℕ → Report
 success lines = record { verdict = verdict.Done; lines = lines }
+
+-- that of a command that gave up a search
+abbrev pub given_up : List ℕ → Report
+given_up lines = record { verdict = verdict.Budget; lines = lines }
 
 abbrev pub verdict_status : Verdict → Status
 verdict_status verdict.Done = status.Done

@@ -3,9 +3,10 @@
 ghost use Rattle.std.specs.Prelude.{◌≡◌, ◌++◌, codes, IfOk, Some, option_map, string_bytes};
 ghost use Rattle.command_reports.specs.FileNames.{name_of, names_in};
 ghost use Rattle.command_reports.specs.declared.files.CommandFile.TheVariants.{Bundle};
-ghost use Rattle.command_reports.specs.Report.{HasBytes, bundle_line, cause_text, definitions_line, fault_line, form_line, host_line, language_line, level_line, limit_line, line_with, load_text, most_allowed, no_default_line, over_line, p4_text, pointer_text, refusal_line, stale_text, status_of};
+ghost use Rattle.command_reports.specs.Report.{HasBytes, broken_line, bundle_line, cause_text, definitions_line, fault_line, form_line, host_line, language_line, level_line, limit_line, line_with, load_text, most_allowed, no_default_line, over_line, p4_text, pointer_text, refusal_line, stale_text, status_of};
 
 use crate::files::{CommandFile, FileNames};
+use crate::numbers::push_list;
 use crate::refusal::{BundleCause, DefinitionsFault, InputFault, Refusal};
 use crate::report::Report;
 use crate::status::Status;
@@ -301,6 +302,16 @@ fn bundle_line(
     Ok(Some(line))
 }
 
+/// The line of an assumption that is false at these values.
+fn broken_line(alloc: Global, number: u32, values: &[u64]) -> Result<Vec<u8>, NoMemory>
+    ensures { IfOk result (λ line. line.items ≡ broken_line number values.now) }
+{
+    let mut line = format!(in alloc; "broken assumption {number} at")?.into_bytes();
+    push_list(alloc, &mut line, values)?;
+    line.push(b'\n')?;
+    Ok(line)
+}
+
 /// The bytes of a line that was made.
 fn bytes_of(line: Result<Option<String>, NoMemory>) -> Result<Option<Vec<u8>>, NoMemory>
     ensures { HasBytes line result }
@@ -323,6 +334,9 @@ pub fn refusal_line(
     match refusal {
         Refusal::Language(fault) => bytes_of(language_line(alloc, names, fault)),
         Refusal::Definitions(fault) => definitions_line(alloc, names, fault),
+        Refusal::Broken(number, values) => {
+            Ok(Some(broken_line(alloc, *number, values.items())?))
+        }
         Refusal::ReadFault(file) => bytes_of(line_with(alloc, "read fault ", names, *file)),
         Refusal::WriteFault(file) => bytes_of(line_with(alloc, "write fault ", names, *file)),
         Refusal::TooLong(file, most) => bytes_of(limit_line(alloc, names, *file, *most)),

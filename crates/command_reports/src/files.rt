@@ -1,6 +1,6 @@
 //! The files that a command reads and writes.
 ghost use Rattle.std.specs.Prelude.{◌≡◌, IfOk, Some, option_map, string_bytes};
-ghost use Rattle.command_reports.specs.FileNames.{IsWanted, bundle_in, most_in, name_of, names_in};
+ghost use Rattle.command_reports.specs.FileNames.{IsWanted, budget_name, bundle_in, most_in, name_of, names_in};
 
 use cocoon_num::NoMemory;
 use net_bundle::BundleFile;
@@ -26,6 +26,8 @@ pub enum CommandFile {
     Case,
     /// The packets that are forwarded.
     Packets,
+    /// On what a budget was spent.
+    Budget,
 }
 
 /// The name of a file that a command reads, and the most bytes that it may have.
@@ -63,6 +65,7 @@ impl<'w> FileNames<'w> {
                 Some(out) => Ok(Some(file.whole_name(alloc, out)?)),
                 None => Ok(None),
             },
+            CommandFile::Budget => budget_name(alloc, self.design),
         }
     }
 
@@ -75,7 +78,7 @@ impl<'w> FileNames<'w> {
             CommandFile::Definitions => with_most(DEFINITIONS_MOST, self.definitions),
             CommandFile::Case => with_most(CASE_MOST, self.case),
             CommandFile::Packets => with_most(PACKETS_MOST, self.packets),
-            CommandFile::Bundle(_) => None,
+            CommandFile::Bundle(_) | CommandFile::Budget => None,
         }
     }
 
@@ -94,6 +97,17 @@ fn owned(alloc: Global, name: Option<&str>) -> Result<Option<String>, NoMemory>
 {
     match name {
         Some(name) => Ok(Some(String::from_str(alloc, name)?)),
+        None => Ok(None),
+    }
+}
+
+/// The name of the file of a spent budget, by that of the design.
+fn budget_name(alloc: Global, design: Option<&str>) -> Result<Option<String>, NoMemory>
+    ensures { IfOk result (λ name. option_map string_bytes name
+        ≡ option_map budget_name (option_map (λ name. name.now) design.entry)) }
+{
+    match design {
+        Some(design) => Ok(Some(format!(in alloc; "{design}.budget.json")?)),
         None => Ok(None),
     }
 }

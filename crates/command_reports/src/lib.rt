@@ -4,12 +4,14 @@
 
 pub mod ending;
 pub mod files;
+pub mod numbers;
 pub mod printing;
 pub mod refusal;
 pub mod report;
 pub mod status;
 
 pub use files::{CommandFile, FileNames, Wanted};
+pub use numbers::push_list;
 pub use printing::{print, tell_no_memory, tell_usage};
 pub use refusal::{BundleCause, DefinitionsFault, EntryRule, InputFault, Refusal, unread};
 pub use report::{Report, Verdict};

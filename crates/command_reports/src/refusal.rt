@@ -8,7 +8,7 @@ use crate::files::CommandFile;
 use crate::status::Status;
 use bundle_reader::{LoadFault, P4Fault, ReadFault};
 use cocoon_io::FolderFault;
-use cocoon_num::{LimitName, NoMemory, Text};
+use cocoon_num::{LimitName, List, NoMemory, Text};
 use cocoon_resolve::rule_name;
 use cocoon_text::{Position, TextFault};
 use cocoon_types::TypeRule;
@@ -123,6 +123,8 @@ pub enum Refusal {
     Language(InputFault),
     /// The definitions have this fault.
     Definitions(DefinitionsFault),
+    /// The assumption of this number is false at these values, one for each of its parameters.
+    Broken(u32, List<u64>),
     ReadFault(CommandFile),
     WriteFault(CommandFile),
     /// The file has more bytes than this number.
@@ -215,6 +217,7 @@ impl Refusal {
         match self {
             Refusal::Language(_) => Status::Language,
             Refusal::Definitions(_) => Status::Broken,
+            Refusal::Broken(_, _) => Status::Broken,
             Refusal::ReadFault(_) => Status::ReadFault,
             Refusal::WriteFault(_) => Status::WriteFault,
             Refusal::TooLong(_, _) => Status::Limit,

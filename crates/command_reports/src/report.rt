@@ -1,6 +1,6 @@
 //! What a command reports that was not refused.
 ghost use Rattle.std.specs.Prelude.{◌≡◌};
-ghost use Rattle.command_reports.specs.Report.{success};
+ghost use Rattle.command_reports.specs.Report.{given_up, success};
 
 use cocoon_num::List;
 
@@ -30,6 +30,16 @@ impl Report {
     {
         Report {
             verdict: Verdict::Done,
+            lines: List::from(lines),
+        }
+    }
+
+    /// The report of a command that gave up a search.
+    pub fn given_up(lines: Vec<u8>) -> Report
+        ensures { result ≡ given_up lines.items }
+    {
+        Report {
+            verdict: Verdict::Budget,
             lines: List::from(lines),
         }
     }

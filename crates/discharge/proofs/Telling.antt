@@ -24,7 +24,8 @@ use Rattle.expr_term_laws.specs.Shown.{HasWidth}
 use Rattle.refinement.specs.Assumptions.{IsMet}
 use Rattle.table_terms.specs.WithRows.{Tables}
 use Rattle.discharge.specs.Answering.{Answers}
-use Rattle.discharge.specs.Asked.{HasInputs, IsQuery, Refuses, Says}
+use Rattle.fun_instances.specs.OwnInputs.{HasInputsOf}
+use Rattle.discharge.specs.Asked.{IsQuery, Refuses, Says}
 use Rattle.discharge.specs.Meeting.{EarlierAreMet, OfTables}
 use Rattle.discharge.specs.Queries.{assumption_query, own_term, values_read}
 use Rattle.discharge.proofs.Lists.{take_all, take_next}
@@ -70,17 +71,16 @@ last_told d tables conflicts i a is so_far (Big n count) last says = record {
 
 -- ---- the query
 
-pub is_query : (d : Design) (a : AssumeDecl) (tables : Tables) (q : Query) (nodes : List Node) (ids : List ℕ) (term : ℕ) → IsArena q.terms → term < length nodes → term_at nodes term ≡ own_term d a → KeepsTerms nodes q.terms
-    → q.goal < length q.terms → term_at q.terms q.goal ≡ assumption_query d a tables → HasInputs q.terms ids (widths_of a.params)
+pub is_query : (d : Design) (a : AssumeDecl) (tables : Tables) (q : Query) (nodes : List Node) (term : ℕ) → IsArena q.terms → term < length nodes → term_at nodes term ≡ own_term d a → KeepsTerms nodes q.terms
+    → q.goal < length q.terms → term_at q.terms q.goal ≡ assumption_query d a tables → HasInputsOf (widths_of a.params) q.terms
     → HasWidth 1 (own_term d a) → width (assumption_query d a tables) ≡ width (own_term d a) → IsUnapplied (assumption_query d a tables) → IsQuery d a tables q
-is_query d a tables q nodes ids term arena there is kept goal_there goal_is inputs wide same unapplied = record {
+is_query d a tables q nodes term arena there is kept goal_there goal_is inputs wide same unapplied = record {
   there = goal_there;
   term = goal_is;
   asked = record {
     own = subst IsTerm (kept.terms term there ∙ is) (arena.terms term (longer kept.grown));
     goal = record { term = subst IsTerm goal_is (arena.terms q.goal goal_there); truth = same ∙ wide; unapplied = unapplied };
   };
-  ids = ids;
   inputs = inputs;
 }
   where
@@ -92,7 +92,7 @@ is_query d a tables q nodes ids term arena there is kept goal_there goal_is inpu
 rows_asked : (d : Design) (a : AssumeDecl) (tables : Tables) (q : Query) → IsQuery d a tables q → (rows : List InputRow) → MapsInputs q.terms (term_at q.terms q.goal) rows
     → rows ≡ rows_from (assumption_query d a tables) 0 (widths_of a.params)
 rows_asked d a tables q h rows m =
-    rows_of_inputs q.terms (assumption_query d a tables) rows h.ids (widths_of a.params) (subst (λ g. MapsInputs q.terms g rows) h.term m) h.inputs
+    rows_of_inputs q.terms (assumption_query d a tables) rows h.inputs.ids (widths_of a.params) (subst (λ g. MapsInputs q.terms g rows) h.term m) h.inputs.inputs
 
 pub narrow_rows : (d : Design) → WellFormed d → (i : ℕ) (a : AssumeDecl) → slice_get (all_assumptions d) i ≡ Some a → (tables : Tables) (q : Query) → IsQuery d a tables q → (rows : List InputRow) → MapsInputs q.terms (term_at q.terms q.goal) rows
     → All (λ (row : InputRow). row.width ≤ 64) rows

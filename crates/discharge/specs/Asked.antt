@@ -1,13 +1,11 @@
--- Cited by private clauses: inputs in an arena, queries, and what is said of one assumption.
-use Rattle.std.specs.Prelude.{◌≡◌, ℕ, ◌<◌, ◌+◌, List, [], ◌∷◌, suc, Some, slice_get, length}
+-- Cited by private clauses: queries, and what is said of one assumption.
+use Rattle.std.specs.Prelude.{◌≡◌, ℕ, ◌<◌, length}
 use Rattle.cocoon_num.specs.Tree.{AssumeDecl, Design}
 use Rattle.cocoon_types.specs.Design.{widths_of}
 use Rattle.bit_blast.specs.declared.blasting.BlastFault.{BlastFault}
 use Rattle.bit_blast.specs.declared.blasting.BlastFault.TheVariants.{Clauses, NoMemory}
-use Rattle.bv_terms.specs.Arenas.{KeepsTerms, inputs_in, term_at}
-use Rattle.bv_terms.specs.TermTrees.{input}
-use Rattle.bv_terms.specs.declared.node.Node.{Node}
-use Rattle.bv_terms.specs.declared.node.Node.TheVariants.{Input}
+use Rattle.bv_terms.specs.Arenas.{term_at}
+use Rattle.fun_instances.specs.OwnInputs.{HasInputsOf}
 use Rattle.refinement.specs.Assumptions.{IsMet}
 use Rattle.table_terms.specs.WithRows.{Tables}
 use Rattle.discharge.specs.Answering.{IsSpentOn, IsTooBig}
@@ -17,31 +15,6 @@ use Rattle.discharge.specs.declared.asking.Query.{Query}
 use Rattle.discharge.specs.declared.meeting.Met.{Met}
 use Rattle.discharge.specs.declared.meeting.Met.TheVariants.{Yes, Broken, SpentConflicts, Big}
 
--- ---- inputs
-
--- the input of this number and width stands under this number
-pub record IsInputAt (nodes : List Node) (id i w : ℕ) : Type 0 where
-  pub there : id < length nodes
-  pub node_ : slice_get nodes id ≡ Some (Input i w)
-  pub term : term_at nodes id ≡ input i w
-
--- the inputs from this one on, of these widths, stand under these numbers
-abbrev pub InputsAre : List Node → ℕ → (ids widths : List ℕ) → Type 0
-InputsAre nodes i [] [] = Unit {0}
-InputsAre nodes i (id ∷ ids) (w ∷ ws) = IsInputAt nodes id i w × InputsAre nodes (suc i) ids ws
-InputsAre nodes i _ _ = ⊥
-
--- the arena has these inputs alone
-pub record HasInputs (nodes : List Node) (ids widths : List ℕ) : Type 0 where
-  pub are : InputsAre nodes 0 ids widths
-  pub count : inputs_in nodes ≡ length widths
-
--- one input more, of this width
-pub record IsNewInput (old new : List Node) (w id : ℕ) : Type 0 where
-  pub at : IsInputAt new id (inputs_in old) w
-  pub count : inputs_in new ≡ inputs_in old + 1
-  pub kept : KeepsTerms old new
-
 -- ---- queries
 
 -- the goal is the query of the assumption, and the inputs are its parameters
@@ -49,8 +22,7 @@ pub record IsQuery (d : Design) (a : AssumeDecl) (tables : Tables) (q : Query) :
   pub there : q.goal < length q.terms
   pub term : term_at q.terms q.goal ≡ assumption_query d a tables
   pub asked : CanBeAsked d a tables
-  pub ids : List ℕ
-  pub inputs : HasInputs q.terms ids (widths_of a.params)
+  pub inputs : HasInputsOf (widths_of a.params) q.terms
 
 -- ---- answers
 

@@ -5,18 +5,9 @@ use Rattle.cocoon_num.specs.Tree.{AssumeDecl, Design}
 use Rattle.cocoon_types.specs.Design.{widths_of}
 use Rattle.bit_blast.specs.Goals.{IsGoal}
 use Rattle.bit_blast.specs.Readings.{input_bits, number_read}
-use Rattle.bv_terms.specs.TermTrees.{IsTerm, Term, input, not_}
-use Rattle.fun_instances.specs.AssumptionTerms.{assumption_term}
+use Rattle.bv_terms.specs.TermTrees.{IsTerm, Term, not_}
+pub use Rattle.fun_instances.specs.AssumptionTerms.{inputs_from, own_term}
 use Rattle.table_terms.specs.WithRows.{Tables, with_rows}
-
--- inputs of these widths, by their numbers from this one on
-abbrev pub inputs_from : ℕ → (widths : List ℕ) → List Term
-inputs_from i [] = []
-inputs_from i (w ∷ ws) = input i w ∷ inputs_from (suc i) ws
-
--- the assumption, where its parameters are the inputs from 0 on
-abbrev pub own_term : Design → AssumeDecl → Term
-own_term d a = assumption_term d a (inputs_from 0 (widths_of a.params))
 
 -- that it is not true, with choices over the rows of the tables in the place of functions
 abbrev pub assumption_query : Design → AssumeDecl → Tables → Term

@@ -1,19 +1,17 @@
 //! The query of one assumption, and the search for its answer.
-ghost use Rattle.std.specs.Prelude.{◌≡◌, ◌^◌, ◌<◌, ◌≤◌, [], All, IfOk, Some, length, map, slice_get};
+ghost use Rattle.std.specs.Prelude.{◌≡◌, ◌^◌, ◌<◌, ◌≤◌, All, IfOk, Some, length, map, slice_get};
 ghost use Rattle.cnf_core.specs.Satisfying.{makes_true};
 ghost use Rattle.cocoon_resolve.specs.Readers.{all_assumptions};
-ghost use Rattle.cocoon_syntax.specs.TreeOf.{design_of, param_of};
-ghost use Rattle.cocoon_types.specs.Design.{widths_of};
+ghost use Rattle.cocoon_syntax.specs.TreeOf.{design_of};
 ghost use Rattle.bit_blast.specs.Blasting.{InputRow};
 ghost use Rattle.bit_blast.specs.Readings.{number_read};
 ghost use Rattle.bv_terms.specs.Arenas.{inputs_in, term_at};
-ghost use Rattle.bv_terms.specs.TermTrees.{IsWidth, not_};
+ghost use Rattle.bv_terms.specs.TermTrees.{not_};
 ghost use Rattle.expr_terms.specs.Sizes.{AreSizes};
 ghost use Rattle.expr_terms.specs.Variables.{Keeps, Makes};
 ghost use Rattle.fun_instances.specs.Taking.{OfAssumption};
 ghost use Rattle.runtime_defs.specs.Fitting.{FitsDesign};
-ghost use Rattle.runtime_defs.specs.Places.{AllDeclared};
-ghost use Rattle.discharge.specs.Asked.{HasInputs, IsNewInput, IsQuery, Refuses, Says};
+ghost use Rattle.discharge.specs.Asked.{IsQuery, Refuses, Says};
 
 use crate::laws::queries_decide_assumptions;
 use crate::meeting::Met;
@@ -25,10 +23,9 @@ use cnf_core::Assignment;
 use cnf_core::laws::derived_clauses_have_no_model;
 use cocoon_num::{List, NoMemory};
 use cocoon_resolve::Checked;
-use cocoon_syntax::Param;
 use expr_terms::CallSizes;
-use fun_instances::assumption_term;
-use fun_instances::laws::assumptions_have_width_1;
+use fun_instances::laws::{assumptions_have_width_1, inputs_stay};
+use fun_instances::own_term;
 use runtime_defs::Defs;
 use sound_types::laws::{code_literals_fit, declarations_are_typed};
 use std::alloc::Global;
@@ -40,32 +37,6 @@ use table_terms::with_defs;
 pub(crate) struct Query {
     pub terms: Terms,
     pub goal: TermId,
-}
-
-/// A new input of the width of a parameter.
-fn parameter_input(terms: &mut Terms, param: &Param) -> Result<TermId, NoMemory>
-    requires { IsWidth param.now.width }
-    ensures { IfOk result (λ id. IsNewInput terms.old terms.new param.now.width id) }
-{
-    terms.input(param.width as u8)
-}
-
-/// An input for each parameter, of its width.
-fn parameter_inputs(
-    alloc: Global,
-    params: &[Param],
-    terms: &mut Terms,
-) -> Result<Vec<TermId>, NoMemory>
-    requires fresh { terms.old ≡ [] }
-    requires widths { AllDeclared (widths_of (map param_of params.now)) }
-    ensures { IfOk result (λ ids.
-        HasInputs terms.new ids.items (widths_of (map param_of params.now))) }
-{
-    let mut inputs = Vec::new(alloc);
-    for param in params {
-        inputs.push(parameter_input(terms, param)?)?;
-    }
-    Ok(inputs)
 }
 
 /// The term that is true where this one is not.
@@ -97,11 +68,11 @@ pub(crate) fn assumption_query(
     assumptions_have_width_1();
     declarations_are_typed();
     code_literals_fit();
+    inputs_stay();
     let _design = checked.design();
-    let assumed = checked.assumption(number);
+    let _assumed = checked.assumption(number);
     let mut terms = Terms::new(alloc);
-    let inputs = parameter_inputs(alloc, &assumed.params, &mut terms)?;
-    let term = assumption_term(alloc, checked, sizes, number, &inputs, &mut terms)?;
+    let term = own_term(alloc, checked, sizes, number, &mut terms)?;
     let negated = negation(&mut terms, term)?;
     let goal = with_defs(alloc, negated, defs.tables(), &mut terms)?;
     prove!(goal < terms.count());

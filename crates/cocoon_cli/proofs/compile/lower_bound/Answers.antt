@@ -8,6 +8,7 @@ use Rattle.lower_net.specs.declared.lowering.LowerFault.TheVariants.{Limit, Long
 use Rattle.cocoon_num.specs.Tree.{Design}
 use Rattle.lower_p4.specs.LowerLimits.{IsWithin}
 use Rattle.lower_p4.specs.Lowers.{Lowers}
+use Rattle.refinement.specs.Assumptions.{Meets}
 use Rattle.runtime_defs.specs.Places.{Places}
 use Rattle.net_bundle.specs.declared.file.BundleFile.{BundleFile}
 use Rattle.p4_ir.specs.NetTree.{NetData, SwitchFiles}
@@ -20,6 +21,7 @@ use Rattle.cocoon_cli.specs.Built.{IsBuilt}
 use Rattle.cocoon_cli.specs.Compiling as lowered
 use Rattle.cocoon_cli.specs.Compiling.{LongFile}
 use Rattle.command_reports.specs.declared.files.CommandFile.TheVariants.{Bundle}
+use Rattle.cocoon_cli.proofs.Assuming.{of_text}
 use Rattle.cocoon_cli.proofs.compile.lower_bound.Goals as goal
 
 pub returns-in-Ok-clause-lowers : goal.returns-in-Ok-clause-lowers
@@ -28,16 +30,18 @@ returns-in-Ok-clause-lowers c = λ design defs binds.
     let checked = c.args.bound.now.checked in
     let d = design_of checked in
     let lowering = c.in-Ok.ensures.lowering binds.entries binds.are in
+    let met : Meets (last_level d) d (defs_of d binds.entries) = of_text (Meets (last_level d) d) (c.code_literals_fit.ensures.designs checked) binds c.requires.met in
     record {
       tree = _;
       tables = _;
       binds = binds;
       built = c.requires.built;
+      met = met;
       within = c.in-Ok.ensures.within binds.entries binds.are;
       lowers = c.in-Ok.ensures.lowers binds.entries binds.are;
       lowering = lowering;
       stays = c.deliveries_stay_within.ensures d binds.entries (net_of c.in-Ok.net) binds.binds.checked.resolves.rules (c.code_literals_fit.ensures.designs checked) binds.binds.fits binds.are.fit
-          (c.one_level_owes_nothing.ensures.refines d c.requires.built.0) (c.one_level_owes_nothing.ensures.meets d (last_level d) c.requires.built.1 (defs_of d binds.entries)) lowering.exact;
+          (c.one_level_owes_nothing.ensures.refines d c.requires.built) met lowering.exact;
     }
 
 pub returns-in-Err-Limit-clause-refused : goal.returns-in-Err-Limit-clause-refused

@@ -1,3 +1,4 @@
+use Rattle.std.proofs.Common.{inl}
 use Rattle.loaded_net.specs.Nets.{net_in}
 use Rattle.command_line.specs.Command.{forward as command}
 use Rattle.cocoon_cli.specs.Shell.{Asked}
@@ -17,7 +18,7 @@ returns-clause-asked c = λ inputs there bundle.
     let asked = c.args.asked.now in
     let net = net_in c.args.net.now in
     let lines = c.in_ok-lines.lines.items in
-    let ran = c.in_ok-lines.ensures.ran in (
+    let ran = c.in_ok-lines.ensures.ran in inl (
       asks_good asked.out.now asked.packets.now asked.hops inputs c.args.text.now net lines there bundle ran,
       reports asked.out.now asked.packets.now asked.hops inputs c.args.text.now net lines _ there bundle ran c.success.ensures,
     )

@@ -10,7 +10,7 @@ use Rattle.cocoon_cli.proofs.shell.perform.Goals as goal
 
 pub write_all-requires : goal.write_all-requires
 write_all-requires g c = record {
-  can = subst (λ names. CanWrite names c.in_ok-answer.answer.writing) (sym c.names_of-names.ensures) (can_write (stands_for c.args.command.now) c.in_ok-read.read c.in_ok-answer.answer.writing c.in_ok-answer.ensures.plans);
+  can = subst (λ names. CanWrite names c.in_ok-answer.answer.writing) (sym c.names_of-names.ensures) (can_write (stands_for c.args.command.now) c.in_ok-read.read c.in_ok-answer.answer c.in_ok-answer.ensures.plans);
 }
 
 pub returns-in_err-read-clause-acts : goal.returns-in_err-read-clause-acts
@@ -69,7 +69,7 @@ returns-clause-acts g c =
     }
 
 pub returns-clause-headline : goal.returns-clause-headline
-returns-clause-headline g c =
+returns-clause-headline g c done =
     let asked = stands_for c.args.command.now in
-    headline asked _ _ _ c.in_ok-read.read c.in_ok-answer.answer.writing c.in_ok-read.ensures.same
-    (subst (λ names. ReadsAll names (g.F.Folder.content c.args.folder.now) c.in_ok-read.read) c.names_of-names.ensures c.in_ok-read.ensures.all) c.in_ok-answer.ensures.plans c.in_ok-write_all.ensures.holds
+    headline asked _ _ _ c.in_ok-read.read c.in_ok-answer.answer c.in_ok-read.ensures.same
+    (subst (λ names. ReadsAll names (g.F.Folder.content c.args.folder.now) c.in_ok-read.read) c.names_of-names.ensures c.in_ok-read.ensures.all) c.in_ok-answer.ensures.plans done c.in_ok-write_all.ensures.holds

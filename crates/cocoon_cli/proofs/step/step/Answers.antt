@@ -1,4 +1,4 @@
-use Rattle.std.proofs.Common.{ap, ◌∙◌}
+use Rattle.std.proofs.Common.{ap, inl, ◌∙◌}
 use Rattle.command_line.specs.Command.{step as command}
 use Rattle.command_reports.specs.Report.{success}
 use Rattle.cocoon_cli.specs.Shell.{Asked}
@@ -18,7 +18,7 @@ pub returns-clause-asked : goal.returns-clause-asked
 returns-clause-asked c = λ inputs design defs case.
     let asked = c.args.asked.now in
     let sent = c.in_ok-sent.sent in
-    let steps = c.in_ok-sent.ensures.steps in (
+    let steps = c.in_ok-sent.ensures.steps in inl (
       asks_good asked.design.now asked.defs.now asked.level asked.file.now inputs c.args.design.now c.args.defs.now c.args.text.now sent (record { design = design; defs = defs }) case steps,
       reports asked.design.now asked.defs.now asked.level asked.file.now inputs c.args.design.now c.args.defs.now c.args.text.now sent _ (record { design = design; defs = defs }) case steps
           (c.success.ensures ∙ ap success c.in_ok-lines.ensures),

@@ -1,47 +1,20 @@
-use Rattle.std.proofs.Common.{◌≡◌, ℕ, map, true, refl, sym, ap, subst, ◌∙◌}
-use Rattle.std.specs.List.{AllZip}
+use Rattle.std.proofs.Common.{◌≡◌, ℕ, true, refl, sym, ap, subst, ◌∙◌}
 use Rattle.cocoon_num.specs.Tree.{AssumeDecl}
-use Rattle.cocoon_syntax.specs.TreeOf.{assume_of, design_of, param_of}
+use Rattle.cocoon_syntax.specs.TreeOf.{assume_of, design_of}
 use Rattle.cocoon_types.specs.Design.{last_level, widths_of}
-use Rattle.runtime_defs.specs.Places.{AllDeclared}
 use Rattle.bv_terms.specs.Arenas.{term_at}
 use Rattle.bv_terms.specs.TermTrees.{not_}
-use Rattle.expr_term_laws.specs.Shown.{HasWidth}
-use Rattle.expr_terms.specs.Scopes.{Takes}
-use Rattle.expr_terms.specs.Variables.{Keeps, terms_at}
+use Rattle.expr_terms.specs.Variables.{Keeps}
 use Rattle.expr_terms.proofs.Making.{keeps_on}
-use Rattle.fun_instances.specs.AssumptionTerms.{assumption_term}
 use Rattle.application_laws.specs.Over.{IsOver}
 use Rattle.table_terms.specs.Fitting.{TablesFit}
 use Rattle.table_terms.specs.WithRows.{with_rows}
-use Rattle.discharge.specs.Asked.{HasInputs, IsQuery}
+use Rattle.discharge.specs.Asked.{IsQuery}
 use Rattle.discharge.specs.Queries.{assumption_query, inputs_from, own_term}
-use Rattle.discharge.proofs.Inputs.{all_kept, inputs_terms, inputs_there, params_declared}
 use Rattle.discharge.proofs.Ranges.{inputs_wide}
 use Rattle.discharge.proofs.Deciding.{own_over}
 use Rattle.discharge.proofs.Telling.{is_query}
 use Rattle.discharge.proofs.asking.assumption_query.Goals as goal
-
-pub parameter_inputs-requires-clause-widths : goal.parameter_inputs-requires-clause-widths
-parameter_inputs-requires-clause-widths c =
-    let d = design_of c.args.checked.now in
-    let a = assume_of c.assumption-assumed.result.now in
-    subst (λ ps. AllDeclared (widths_of (map param_of ps))) (sym c.deref.ensures.value) (params_declared d c.design-design.ensures.resolves.rules c.args.number a c.assumption-assumed.ensures)
-
-pub assumption_term-requires-clause-takes : goal.assumption_term-requires-clause-takes
-assumption_term-requires-clause-takes c = λ b is.
-    let a = assume_of c.assumption-assumed.result.now in
-    let at = c.assumption-assumed.ensures in
-    let ws = widths_of a.params in
-    let m = c.parameter_inputs.new.terms in
-    let ids = c.in_ok-inputs.inputs.items in
-    let same : a ≡ b = cc in
-    let made : HasInputs m ids ws = subst (λ ps. HasInputs m ids (widths_of (map param_of ps))) c.deref.ensures.value c.in_ok-inputs.ensures in
-    let takes : Takes m a.params ids = record {
-      there = inputs_there m 0 ids ws made.are;
-      widths = subst (AllZip HasWidth ws) (sym (inputs_terms m 0 ids ws made.are)) (inputs_wide 0 ws);
-    } in
-    subst (λ xs. Takes m b.params xs) (sym c.deref-2.ensures.value) (subst (λ (x : AssumeDecl). Takes m x.params ids) same takes)
 
 pub with_defs-requires-clause-tables : goal.with_defs-requires-clause-tables
 with_defs-requires-clause-tables c =
@@ -49,13 +22,8 @@ with_defs-requires-clause-tables c =
     let tables = c.args.defs.now in
     let a = assume_of c.assumption-assumed.result.now in
     let at = c.assumption-assumed.ensures in
-    let ws = widths_of a.params in
-    let m = c.parameter_inputs.new.terms in
-    let ids = c.in_ok-inputs.inputs.items in
     let n = c.negation.new.terms in
-    let made : HasInputs m ids ws = subst (λ ps. HasInputs m ids (widths_of (map param_of ps))) c.deref.ensures.value c.in_ok-inputs.ensures in
-    let own_is : term_at c.assumption_term.new.terms c.in_ok-term.term ≡ own_term d a =
-    c.in_ok-term.ensures.term a at ∙ ap (λ xs. assumption_term d a (terms_at m xs)) c.deref-2.ensures.value ∙ ap (assumption_term d a) (inputs_terms m 0 ids ws made.are) in
+    let own_is : term_at c.own_term.new.terms c.in_ok-term.term ≡ own_term d a = c.in_ok-term.ensures.term a at in
     let turned : term_at n c.in_ok-negated.negated ≡ not_ (own_term d a) = c.in_ok-negated.ensures.made.term ∙ ap not_ own_is in
     let rules = c.design-design.ensures.resolves.rules in
     let literals = c.code_literals_fit.ensures.designs c.args.checked.now in
@@ -71,15 +39,11 @@ returns c = λ b is.
     let a = assume_of c.assumption-assumed.result.now in
     let at = c.assumption-assumed.ensures in
     let ws = widths_of a.params in
-    let m = c.parameter_inputs.new.terms in
-    let ids = c.in_ok-inputs.inputs.items in
-    let k = c.assumption_term.new.terms in
+    let k = c.own_term.new.terms in
     let n = c.negation.new.terms in
     let last = c.with_defs.new.terms in
     let same : a ≡ b = cc in
-    let made : HasInputs m ids ws = subst (λ ps. HasInputs m ids (widths_of (map param_of ps))) c.deref.ensures.value c.in_ok-inputs.ensures in
-    let own_is : term_at k c.in_ok-term.term ≡ own_term d a =
-    c.in_ok-term.ensures.term a at ∙ ap (λ xs. assumption_term d a (terms_at m xs)) c.deref-2.ensures.value ∙ ap (assumption_term d a) (inputs_terms m 0 ids ws made.are) in
+    let own_is : term_at k c.in_ok-term.term ≡ own_term d a = c.in_ok-term.ensures.term a at in
     let turned : term_at n c.in_ok-negated.negated ≡ not_ (own_term d a) = c.in_ok-negated.ensures.made.term ∙ ap not_ own_is in
     let rules = c.design-design.ensures.resolves.rules in
     let literals = c.code_literals_fit.ensures.designs c.args.checked.now in
@@ -87,13 +51,11 @@ returns c = λ b is.
     own_over d a (c.terms_apply_declared_functions.ensures d rules literals) (c.declarations_are_typed.ensures.assumptions d rules literals (last_level d) c.args.number a at) (λ i w. true) (λ k w e. refl) in
     let fit : TablesFit tables (not_ (own_term d a)) = c.tables_take_the_place.ensures.fit d tables c.requires.of (λ i w. true) (own_term d a) over in
     let goal_is : term_at last c.in_ok-goal.goal ≡ assumption_query d a tables = c.in_ok-goal.ensures.term ∙ (λ j. with_rows (c.tables.ensures.are j) (turned j)) in
-    let first : Keeps m k = record { kept = c.assumption_term.ensures.kept; inputs = c.assumption_term.ensures.inputs } in
     let third : Keeps n last = record { kept = c.with_defs.ensures.kept; inputs = c.with_defs.ensures.inputs } in
     let rest : Keeps k last = keeps_on k n last c.negation.ensures.kept third in
-    let all : Keeps m last = keeps_on m k last first rest in
     subst (λ (x : AssumeDecl). IsQuery d x tables (record { terms = last; goal = c.in_ok-goal.goal })) same
-    (is_query d a tables (record { terms = last; goal = c.in_ok-goal.goal }) k ids c.in_ok-term.term c.count.ensures.arena c.in_ok-term.ensures.there own_is rest.kept c.in_ok-goal.ensures.there goal_is
-    (all_kept m last all.kept all.inputs ids ws made)
+    (is_query d a tables (record { terms = last; goal = c.in_ok-goal.goal }) k c.in_ok-term.term c.count.ensures.arena c.in_ok-term.ensures.there own_is rest.kept c.in_ok-goal.ensures.there goal_is
+    (c.inputs_stay.ensures ws k last rest (c.in_ok-term.ensures.inputs a at))
     (c.assumptions_have_width_1.ensures.terms d rules literals c.args.number a at (inputs_from 0 ws) (inputs_wide 0 ws))
     (c.rows_keep_values.ensures.widths tables (not_ (own_term d a)) fit)
     (c.tables_take_the_place.ensures.unapplied d tables c.requires.of (λ i w. true) (not_ (own_term d a)) over))

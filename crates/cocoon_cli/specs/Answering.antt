@@ -1,0 +1,29 @@
+-- Cited by the clauses of shell.rt and of the commands. What a command answers where a step ends it that is no refusal: a verdict, or a search
+-- that was given up, with the file of that.
+use Rattle.std.specs.Prelude.{◌≡◌, List}
+use Rattle.command_reports.specs.declared.files.CommandFile.TheVariants.{Budget}
+use Rattle.command_reports.specs.declared.report.Report.{Report}
+use Rattle.command_reports.specs.declared.report.Verdict.{Verdict}
+use Rattle.command_reports.specs.declared.report.Verdict.TheVariants as verdict
+use Rattle.cocoon_cli.specs.Steps.{Inputs, Step, Judges, Spends}
+use Rattle.cocoon_cli.specs.declared.answer.Writing.{Writing as Written}
+use Rattle.cocoon_cli.specs.declared.answer.Writing.TheVariants as written
+
+-- what a step answers that ends its command: a verdict, with which nothing is written, or that a search
+-- was given up, with its file
+abbrev pub IsFound : Inputs → Report → Written → Step → Type 0
+IsFound inputs report written.Nothing s = Judges inputs s report
+IsFound inputs report (written.Own Budget bytes) s = Spends inputs s report bytes
+IsFound inputs report w s = ⊥
+
+-- the file of a search that was given up
+abbrev pub IsBudget : Written → Type 0
+IsBudget (written.Own Budget bytes) = Unit {0}
+IsBudget w = ⊥
+
+-- What is written with a verdict: with a success this, with a search that was given up its file, and
+-- with any other nothing.
+abbrev pub PlansBy : (Written → Type 0) → Verdict → Written → Type 0
+PlansBy Done verdict.Done w = Done w
+PlansBy Done verdict.Budget w = IsBudget w
+PlansBy Done v w = w ≡ written.Nothing
