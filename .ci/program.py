@@ -64,6 +64,8 @@ class Room:
         (at / "folder").mkdir()
         (at / "big.ccn").write_bytes(bytes(MIB + 1))
         (at / "one.case").write_text("SwIn 1\n1\n-\n")
+        assumption = "assume (a: bit<8>, b: bit<8>) a + b == b + a;\nrole"
+        (at / "sum.ccn").write_text((EXAMPLES / "c.ccn").read_text().replace("role", assumption, 1))
 
     def run(self, *words, **how):
         """The status and the standard output."""
@@ -102,6 +104,7 @@ CALLS = {
     2: ("", USAGE.rstrip("\n")),
     3: ("compile c.defs c.defs lab", "language c.defs 1:1 Unexpected"),
     4: ("compile c.ccn c.ccn lab", "definitions c.ccn 1:1 Unexpected"),
+    6: ("compile sum.ccn c.defs lab --conflicts 1", "budget conflicts 1 assumption 0"),
     7: ("forward none one.case", "bundle none.net.json missing"),
     8: ("compile folder c.defs lab", "read fault folder"),
     9: ("compile c.ccn c.defs none/lab", "write fault none/lab.s1.p4"),
