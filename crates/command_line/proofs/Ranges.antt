@@ -7,8 +7,8 @@ use Rattle.clap.specs.Words.{first_of}
 use Rattle.cocoon_num.specs.Names.{same_name}
 use Rattle.cocoon_num.specs.Tokens.{kept_if}
 use Rattle.command_line.specs.Arguments.{argument_name, number_between, number_or, number_up_to, word_number}
-use Rattle.command_line.specs.Command.{Command, compile, step, forward}
-use Rattle.command_line.specs.Subcommands.{IsInRange, command_of, compile_of, conflicts_in, forward_of, hops_in, level_in, most_conflicts, step_of, usual_conflicts, with_hops, with_level, with_names}
+use Rattle.command_line.specs.Command.{Command, check, compile, step, forward}
+use Rattle.command_line.specs.Subcommands.{IsInRange, check_of, command_of, compile_of, conflicts_in, forward_of, hops_in, level_in, most_conflicts, step_of, usual_conflicts, with_hops, with_level, with_name, with_names}
 use Rattle.command_line.specs.Syntax.{case_argument, conflicts_argument, design_argument, defs_argument, out_argument, packets_argument}
 use Rattle.command_line.specs.Words.{command, subcommand}
 
@@ -43,6 +43,11 @@ conflicts_by (Some word) n h = between 1 most_conflicts n (number_up_to most_con
 
 -- ---- commands
 
+checks : (d : Option (List ℕ)) (n : Option ℕ) (asked : Command) → ((m : ℕ) → n ≡ Some m → InRange m) → with_name d n ≡ Some asked → IsInRange asked
+checks (Some d) (Some n) asked few h = subst IsInRange (let same : check d n ≡ asked = cc in same) (few n refl)
+checks None n asked few h = cc
+checks (Some d) None asked few h = cc
+
 compiles : (d e o : Option (List ℕ)) (n : Option ℕ) (asked : Command) → ((m : ℕ) → n ≡ Some m → InRange m) → with_names d e o n ≡ Some asked → IsInRange asked
 compiles (Some d) (Some e) (Some o) (Some n) asked few h = subst IsInRange (let same : compile d e o n ≡ asked = cc in same) (few n refl)
 compiles None e o n asked few h = cc
@@ -63,16 +68,18 @@ forwards None p n asked h = cc
 forwards (Some o) None n asked h = cc
 forwards (Some o) (Some p) None asked h = cc
 
-by_name : (rows : List Row) (a b f : Bool) (asked : Command) → (if a then compile_of rows else if b then step_of rows else if f then forward_of rows else None) ≡ Some asked → IsInRange asked
-by_name rows true b f asked h =
+by_name : (rows : List Row) (k a b f : Bool) (asked : Command)
+    → (if k then check_of rows else if a then compile_of rows else if b then step_of rows else if f then forward_of rows else None) ≡ Some asked → IsInRange asked
+by_name rows true a b f asked h = checks (argument_name design_argument rows) (conflicts_in rows) asked (conflicts_by (first_of conflicts_argument rows)) h
+by_name rows false true b f asked h =
     compiles (argument_name design_argument rows) (argument_name defs_argument rows) (argument_name out_argument rows) (conflicts_in rows) asked (conflicts_by (first_of conflicts_argument rows)) h
-by_name rows false true f asked h = steps (argument_name design_argument rows) (argument_name defs_argument rows) (level_in rows) (argument_name case_argument rows) asked h
-by_name rows false false true asked h = forwards (argument_name out_argument rows) (argument_name packets_argument rows) (hops_in rows) asked h
-by_name rows false false false asked h = cc
+by_name rows false false true f asked h = steps (argument_name design_argument rows) (argument_name defs_argument rows) (level_in rows) (argument_name case_argument rows) asked h
+by_name rows false false false true asked h = forwards (argument_name out_argument rows) (argument_name packets_argument rows) (hops_in rows) asked h
+by_name rows false false false false asked h = cc
 
 of_met : (met : Option (Text × List Row)) (asked : Command) → option_and_then command_of met ≡ Some asked → IsInRange asked
 of_met None asked h = cc
-of_met (Some m) asked h = by_name m.1 (same_name m.0 (codes "compile")) (same_name m.0 (codes "step")) (same_name m.0 (codes "forward")) asked h
+of_met (Some m) asked h = by_name m.1 (same_name m.0 (codes "check")) (same_name m.0 (codes "compile")) (same_name m.0 (codes "step")) (same_name m.0 (codes "forward")) asked h
 
 pub in_range : (words : List Text) (asked : Command) → command words ≡ Some asked → IsInRange asked
 unfolding command

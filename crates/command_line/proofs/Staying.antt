@@ -1,4 +1,5 @@
--- Words that enter a subcommand of a command line enter it still where there is one more subcommand.
+-- Words that enter a subcommand of a command line enter it still where there is one more subcommand, at
+-- any place.
 use Rattle.std.proofs.Common.{◌≡◌, ◌++◌, List, [], ◌∷◌, Option, Some, None, option_map, Bool, true, false, if◌then◌else◌, refl, sym, ap, ◌∙◌}
 use Rattle.std.specs.Prelude.{cond, is_some, find, fold, map}
 use Rattle.std.specs.Option.{option_map_or}
@@ -6,7 +7,6 @@ use Rattle.clap.specs.Faults.{built_fault, check_fault, defaults_fault, entered_
 use Rattle.clap.specs.Kinds.{Kinds, or_else}
 use Rattle.clap.specs.Simple.{App, Shape, entered, label_of, rows_at}
 use Rattle.clap.specs.Walk.{Held, Names, Row, Rule, Step, Text, Waiting, Walk, idle, option, positional, value, after_step, answers_to, finished, nothing_held, settled, subcommand_met, subcommand_or_other, walk, walk_from, walked, walked_from}
-use Rattle.cocoon_num.specs.Names.{same_name}
 
 both_empty : (a b : Kinds) → or_else a b ≡ [] → (a ≡ []) × (b ≡ [])
 both_empty [] b e = (refl, e)
@@ -87,11 +87,11 @@ trailing_alike t old new w word e f =
 
 -- ---- one more name
 
--- The shapes of a command line and of its subcommands: those that are there, one that is new, and the one for help.
-pub record Grows (t : Shape) (cs : List Shape) (s h : Shape) : Type 0 where
+-- The shapes of a command line and of its subcommands: those before one that is new, that, and those behind it.
+pub record Grows (t : Shape) (cs : List Shape) (s : Shape) (ds : List Shape) : Type 0 where
   pub word : Text
   pub answers : (x : Text) → answers_to x (label_of s) ≡ true → x ≡ word
-  pub unknown : find (answers_to word) (map label_of (cs ++ h ∷ [])) ≡ None
+  pub unknown : find (answers_to word) (map label_of (cs ++ ds)) ≡ None
   pub plain : (w : Walk) → word_fault_by t false idle w word None ≡ stray_fault t
 
 -- a word that nothing takes is at fault
@@ -102,11 +102,11 @@ stray t e = leaf t.is_leaf refl
     leaf true f = let g : stray_fault t ≡ [] = e in cc
     leaf false f = let g : stray_fault t ≡ [] = e in cc
 
-abbrev before : List Shape → Shape → Names
-before cs h = map label_of (cs ++ h ∷ [])
+abbrev before : List Shape → List Shape → Names
+before cs ds = map label_of (cs ++ ds)
 
-abbrev after : List Shape → Shape → Shape → Names
-after cs s h = map label_of (cs ++ s ∷ h ∷ [])
+abbrev after : List Shape → Shape → List Shape → Names
+after cs s ds = map label_of (cs ++ s ∷ ds)
 
 -- what is not looked for is passed over
 passes : {A B : Type 0} (f : B → Bool) (g : A → B) (cs : List A) (s : A) (rest : List A) → f (g s) ≡ false → find f (map g (cs ++ s ∷ rest)) ≡ find f (map g (cs ++ rest))
@@ -114,58 +114,58 @@ passes f g [] s rest e = ap (λ b. cond b (Some (g s)) (find f (map g rest))) e
 passes f g (c ∷ cs) s rest e = ap (cond (f (g c)) (Some (g c))) (passes f g cs s rest e)
 
 -- where nothing waits for a value
-idle_alike : (t : Shape) (cs : List Shape) (s h : Shape) → Grows t cs s h → (w : Walk) (word : Text) (b : Bool) → answers_to word (label_of s) ≡ b → w.stopped ≡ None → w.is_trailing ≡ false → w.waiting ≡ idle
-    → turn_fault t (before cs h) w word ≡ [] → Same t (before cs h) (after cs s h) w word
-idle_alike t cs s h g w word true e p q r f =
+idle_alike : (t : Shape) (cs : List Shape) (s : Shape) (ds : List Shape) → Grows t cs s ds → (w : Walk) (word : Text) (b : Bool) → answers_to word (label_of s) ≡ b → w.stopped ≡ None → w.is_trailing ≡ false → w.waiting ≡ idle
+    → turn_fault t (before cs ds) w word ≡ [] → Same t (before cs ds) (after cs s ds) w word
+idle_alike t cs s ds g w word true e p q r f =
     let is : word ≡ g.word = g.answers word e in
-    let none : subcommand_met (before cs h) w.waiting word ≡ None =
-    ap (λ x. subcommand_met (before cs h) x word) r ∙ ap (λ x. subcommand_met (before cs h) idle x) is ∙ ap (option_map (λ (l : Text × List Text). l.0)) g.unknown in
-    let here : turn_fault t (before cs h) w word ≡ word_fault_by t false idle w g.word None =
+    let none : subcommand_met (before cs ds) w.waiting word ≡ None =
+    ap (λ x. subcommand_met (before cs ds) x word) r ∙ ap (λ x. subcommand_met (before cs ds) idle x) is ∙ ap (option_map (λ (l : Text × List Text). l.0)) g.unknown in
+    let here : turn_fault t (before cs ds) w word ≡ word_fault_by t false idle w g.word None =
     ap (fault_by t w.stopped w.is_trailing w.waiting w word) none
     ∙ ap (λ x. fault_by t x w.is_trailing w.waiting w word None) p
     ∙ ap (λ x. word_fault_by t x w.waiting w word None) q
     ∙ ap (λ x. word_fault_by t false x w word None) r
     ∙ ap (λ x. word_fault_by t false idle w x None) is in
     absurd (stray t (sym (g.plain w) ∙ sym here ∙ f))
-idle_alike t cs s h g w word false e p q r f =
+idle_alike t cs s ds g w word false e p q r f =
     let label = λ (l : Text × List Text). l.0 in
-    met_alike t (before cs h) (after cs s h) w word
-    (ap (λ x. subcommand_met (after cs s h) x word) r
-    ∙ ap (option_map label) (passes (answers_to word) label_of cs s (h ∷ []) e)
-    ∙ sym (ap (λ x. subcommand_met (before cs h) x word) r)) f
+    met_alike t (before cs ds) (after cs s ds) w word
+    (ap (λ x. subcommand_met (after cs s ds) x word) r
+    ∙ ap (option_map label) (passes (answers_to word) label_of cs s ds e)
+    ∙ sym (ap (λ x. subcommand_met (before cs ds) x word) r)) f
 
-word_alike : (t : Shape) (cs : List Shape) (s h : Shape) → Grows t cs s h → (w : Walk) (word : Text) (stopped : Option (Text × List Text)) (trailing : Bool) (waiting : Waiting)
-    → w.stopped ≡ stopped → w.is_trailing ≡ trailing → w.waiting ≡ waiting → turn_fault t (before cs h) w word ≡ [] → Same t (before cs h) (after cs s h) w word
-word_alike t cs s h g w word (Some p) trailing waiting e q r f = stopped_alike t (before cs h) (after cs s h) w word p e
-word_alike t cs s h g w word None true waiting e q r f = trailing_alike t (before cs h) (after cs s h) w word q f
-word_alike t cs s h g w word None false idle e q r f = idle_alike t cs s h g w word (answers_to word (label_of s)) refl e q r f
-word_alike t cs s h g w word None false (option id) e q r f =
-    met_alike t (before cs h) (after cs s h) w word (ap (λ x. subcommand_met (after cs s h) x word) r ∙ sym (ap (λ x. subcommand_met (before cs h) x word) r)) f
-word_alike t cs s h g w word None false positional e q r f =
-    met_alike t (before cs h) (after cs s h) w word (ap (λ x. subcommand_met (after cs s h) x word) r ∙ sym (ap (λ x. subcommand_met (before cs h) x word) r)) f
+word_alike : (t : Shape) (cs : List Shape) (s : Shape) (ds : List Shape) → Grows t cs s ds → (w : Walk) (word : Text) (stopped : Option (Text × List Text)) (trailing : Bool) (waiting : Waiting)
+    → w.stopped ≡ stopped → w.is_trailing ≡ trailing → w.waiting ≡ waiting → turn_fault t (before cs ds) w word ≡ [] → Same t (before cs ds) (after cs s ds) w word
+word_alike t cs s ds g w word (Some p) trailing waiting e q r f = stopped_alike t (before cs ds) (after cs s ds) w word p e
+word_alike t cs s ds g w word None true waiting e q r f = trailing_alike t (before cs ds) (after cs s ds) w word q f
+word_alike t cs s ds g w word None false idle e q r f = idle_alike t cs s ds g w word (answers_to word (label_of s)) refl e q r f
+word_alike t cs s ds g w word None false (option id) e q r f =
+    met_alike t (before cs ds) (after cs s ds) w word (ap (λ x. subcommand_met (after cs s ds) x word) r ∙ sym (ap (λ x. subcommand_met (before cs ds) x word) r)) f
+word_alike t cs s ds g w word None false positional e q r f =
+    met_alike t (before cs ds) (after cs s ds) w word (ap (λ x. subcommand_met (after cs s ds) x word) r ∙ sym (ap (λ x. subcommand_met (before cs ds) x word) r)) f
 
 -- ---- all words
 
-walks_alike : (t : Shape) (cs : List Shape) (s h : Shape) → Grows t cs s h → (words : List Text) (w : Walk) → walk_fault t (before cs h) w words ≡ []
-    → (fold (walked t.rules (after cs s h)) w words ≡ fold (walked t.rules (before cs h)) w words) × (walk_fault t (after cs s h) w words ≡ [])
+walks_alike : (t : Shape) (cs : List Shape) (s : Shape) (ds : List Shape) → Grows t cs s ds → (words : List Text) (w : Walk) → walk_fault t (before cs ds) w words ≡ []
+    → (fold (walked t.rules (after cs s ds)) w words ≡ fold (walked t.rules (before cs ds)) w words) × (walk_fault t (after cs s ds) w words ≡ [])
 unfolding walk_fault
-walks_alike t cs s h g [] w f = (refl, refl)
-walks_alike t cs s h g (word ∷ words) w f =
-    let parts = both_empty (turn_fault t (before cs h) w word) (walk_fault t (before cs h) (walked t.rules (before cs h) w word) words) f in
-    let same = word_alike t cs s h g w word w.stopped w.is_trailing w.waiting refl refl refl parts.0 in
-    let rest = walks_alike t cs s h g words (walked t.rules (before cs h) w word) parts.1 in (
-      ap (λ x. fold (walked t.rules (after cs s h)) x words) same.walk ∙ rest.0,
-      ap (λ k. or_else k (walk_fault t (after cs s h) (walked t.rules (after cs s h) w word) words)) same.fault
-          ∙ ap (λ x. walk_fault t (after cs s h) x words) same.walk ∙ rest.1,
+walks_alike t cs s ds g [] w f = (refl, refl)
+walks_alike t cs s ds g (word ∷ words) w f =
+    let parts = both_empty (turn_fault t (before cs ds) w word) (walk_fault t (before cs ds) (walked t.rules (before cs ds) w word) words) f in
+    let same = word_alike t cs s ds g w word w.stopped w.is_trailing w.waiting refl refl refl parts.0 in
+    let rest = walks_alike t cs s ds g words (walked t.rules (before cs ds) w word) parts.1 in (
+      ap (λ x. fold (walked t.rules (after cs s ds)) x words) same.walk ∙ rest.0,
+      ap (λ k. or_else k (walk_fault t (after cs s ds) (walked t.rules (after cs s ds) w word) words)) same.fault
+          ∙ ap (λ x. walk_fault t (after cs s ds) x words) same.walk ∙ rest.1,
     )
 
 -- ---- the subcommand
 
-abbrev pub old_app : Shape → List Shape → Shape → App
-old_app t cs h = record { top = t; subs = cs ++ h ∷ [] }
+abbrev pub old_app : Shape → List Shape → List Shape → App
+old_app t cs ds = record { top = t; subs = cs ++ ds }
 
-abbrev pub new_app : Shape → List Shape → Shape → Shape → App
-new_app t cs s h = record { top = t; subs = cs ++ s ∷ h ∷ [] }
+abbrev pub new_app : Shape → List Shape → Shape → List Shape → App
+new_app t cs s ds = record { top = t; subs = cs ++ s ∷ ds }
 
 abbrev found : List Text → Option Shape → Option (Text × List Row)
 found words shape = option_map (λ s. rows_at s words) shape
@@ -176,32 +176,36 @@ fault_in words shape = option_map_or (λ s. level_fault s [] nothing_held words 
 abbrev answering : Text → Shape → Bool
 answering word x = answers_to word (label_of x)
 
--- the subcommand for help is none that was met
-by_help : (h : Shape) (words : List Text) (met : Text × List Row) (name : Text) (b : Bool) → same_name h.name name ≡ false → same_name met.0 name ≡ true → found words (cond b (Some h) None) ≡ Some met → ⊥
-by_help h words met name true k n r =
-    let same : h.name ≡ met.0 = ap (λ o. option_map_or (λ (x : Text × List Row). x.0) o []) r in
-    let not : same_name met.0 name ≡ false = ap (λ x. same_name x name) (sym same) ∙ k in
+-- a shape that does not answer is passed over
+passed : (word : Text) (cs : List Shape) (s : Shape) (ds : List Shape) → answering word s ≡ false → find (answering word) (cs ++ s ∷ ds) ≡ find (answering word) (cs ++ ds)
+passed word [] s ds e = ap (λ b. cond b (Some s) (find (answering word) ds)) e
+passed word (c ∷ cs) s ds e = ap (cond (answering word c) (Some c)) (passed word cs s ds e)
+
+-- no shape answers where no label does
+none_by : (word : Text) (c : Shape) (b : Bool) (labels : Option (Text × List Text)) (shapes : Option Shape) → (labels ≡ None → shapes ≡ None) → cond b (Some (label_of c)) labels ≡ None
+    → cond b (Some c) shapes ≡ None
+none_by word c true labels shapes f e = cc
+none_by word c false labels shapes f e = f e
+
+none_answers : (word : Text) (cs : List Shape) → find (answers_to word) (map label_of cs) ≡ None → find (answering word) cs ≡ None
+none_answers word [] e = refl
+none_answers word (c ∷ cs) e = none_by word c (answering word c) (find (answers_to word) (map label_of cs)) (find (answering word) cs) (none_answers word cs) e
+
+-- a subcommand that was met is met still
+same_met : (t : Shape) (cs : List Shape) (s : Shape) (ds : List Shape) → Grows t cs s ds → (p : Text × List Text) (met : Text × List Row) (b : Bool) → answering p.0 s ≡ b
+    → found p.1 (find (answering p.0) (cs ++ ds)) ≡ Some met → find (answering p.0) (cs ++ s ∷ ds) ≡ find (answering p.0) (cs ++ ds)
+same_met t cs s ds g p met true e f =
+    let none : find (answering p.0) (cs ++ ds) ≡ None = ap (λ x. find (answering x) (cs ++ ds)) (g.answers p.0 e) ∙ none_answers g.word (cs ++ ds) g.unknown in
+    let met : None ≡ Some met = sym (ap (found p.1) none) ∙ f in
     cc
-by_help h words met name false k n r = cc
+same_met t cs s ds g p met false e f = passed p.0 cs s ds e
 
--- one more before another that is not looked at
-one_met : (c : Shape) (more less : Option Shape) (words : List Text) (met : Text × List Row) (b : Bool) → (found words less ≡ Some met → more ≡ less) → found words (cond b (Some c) less) ≡ Some met → cond b (Some c) more ≡ cond b (Some c) less
-one_met c more less words met true g f = refl
-one_met c more less words met false g f = g f
-
--- a subcommand that is no help is met still
-same_met : (cs : List Shape) (s h : Shape) (p : Text × List Text) (met : Text × List Row) (name : Text) → same_name h.name name ≡ false → same_name met.0 name ≡ true
-    → found p.1 (find (answering p.0) (cs ++ h ∷ [])) ≡ Some met → find (answering p.0) (cs ++ s ∷ h ∷ []) ≡ find (answering p.0) (cs ++ h ∷ [])
-same_met [] s h p met name k n f = absurd (by_help h p.1 met name (answering p.0 h) k n f)
-same_met (c ∷ cs) s h p met name k n f =
-    one_met c (find (answering p.0) (cs ++ s ∷ h ∷ [])) (find (answering p.0) (cs ++ h ∷ [])) p.1 met (answering p.0 c) (same_met cs s h p met name k n) f
-
-enters : (t : Shape) (cs : List Shape) (s h : Shape) (stop : Option (Text × List Text)) (met : Text × List Row) (name : Text) → same_name h.name name ≡ false → same_name met.0 name ≡ true
-    → entered (old_app t cs h) stop ≡ Some met
-    → (entered (new_app t cs s h) stop ≡ entered (old_app t cs h) stop) × (entered_fault (new_app t cs s h) stop ≡ entered_fault (old_app t cs h) stop)
-enters t cs s h None met name k n f = (refl, refl)
-enters t cs s h (Some p) met name k n f =
-    let same = same_met cs s h p met name k n f in (ap (found p.1) same, ap (fault_in p.1) same)
+enters : (t : Shape) (cs : List Shape) (s : Shape) (ds : List Shape) → Grows t cs s ds → (stop : Option (Text × List Text)) (met : Text × List Row)
+    → entered (old_app t cs ds) stop ≡ Some met
+    → (entered (new_app t cs s ds) stop ≡ entered (old_app t cs ds) stop) × (entered_fault (new_app t cs s ds) stop ≡ entered_fault (old_app t cs ds) stop)
+enters t cs s ds g None met f = (refl, refl)
+enters t cs s ds g (Some p) met f =
+    let same = same_met t cs s ds g p met (answering p.0 s) refl f in (ap (found p.1) same, ap (fault_in p.1) same)
 
 -- ---- whole words
 
@@ -215,19 +219,19 @@ abbrev later_in : App → Walk → Kinds
 later_in a w = later a.top w.held (is_some (entered a w.stopped)) (entered_fault a w.stopped)
 
 -- words that a command line takes are taken still, with the same matches
-pub stays : (t : Shape) (cs : List Shape) (s h : Shape) → Grows t cs s h → (words : List Text) (met : Text × List Row) (name : Text) → same_name h.name name ≡ false → same_name met.0 name ≡ true
-    → built_fault (old_app t cs h) nothing_held words ≡ [] → entered (old_app t cs h) (walk t.rules (before cs h) nothing_held words).stopped ≡ Some met
-    → (built_fault (new_app t cs s h) nothing_held words ≡ []) × (entered (new_app t cs s h) (walk t.rules (after cs s h) nothing_held words).stopped ≡ Some met)
-stays t cs s h g words met name k n f e =
-    let w = walk t.rules (before cs h) nothing_held words in
-    let v = walk t.rules (after cs s h) nothing_held words in
-    let parts = both_empty (walk_fault t (before cs h) (walk_from nothing_held) words) (later_in (old_app t cs h) w) f in
-    let same = walks_alike t cs s h g words (walk_from nothing_held) parts.0 in
-    let sub = enters t cs s h w.stopped met name k n e in (
-      ap (λ x. or_else x (later_in (new_app t cs s h) v)) same.1
-          ∙ ap (later_in (new_app t cs s h)) same.0
-          ∙ ap (λ x. later t w.held (is_some x) (entered_fault (new_app t cs s h) w.stopped)) sub.0
-          ∙ ap (λ x. later t w.held (is_some (entered (old_app t cs h) w.stopped)) x) sub.1
+pub stays : (t : Shape) (cs : List Shape) (s : Shape) (ds : List Shape) → Grows t cs s ds → (words : List Text) (met : Text × List Row)
+    → built_fault (old_app t cs ds) nothing_held words ≡ [] → entered (old_app t cs ds) (walk t.rules (before cs ds) nothing_held words).stopped ≡ Some met
+    → (built_fault (new_app t cs s ds) nothing_held words ≡ []) × (entered (new_app t cs s ds) (walk t.rules (after cs s ds) nothing_held words).stopped ≡ Some met)
+stays t cs s ds g words met f e =
+    let w = walk t.rules (before cs ds) nothing_held words in
+    let v = walk t.rules (after cs s ds) nothing_held words in
+    let parts = both_empty (walk_fault t (before cs ds) (walk_from nothing_held) words) (later_in (old_app t cs ds) w) f in
+    let same = walks_alike t cs s ds g words (walk_from nothing_held) parts.0 in
+    let sub = enters t cs s ds g w.stopped met e in (
+      ap (λ x. or_else x (later_in (new_app t cs s ds) v)) same.1
+          ∙ ap (later_in (new_app t cs s ds)) same.0
+          ∙ ap (λ x. later t w.held (is_some x) (entered_fault (new_app t cs s ds) w.stopped)) sub.0
+          ∙ ap (λ x. later t w.held (is_some (entered (old_app t cs ds) w.stopped)) x) sub.1
           ∙ parts.1,
-      ap (λ (x : Walk). entered (new_app t cs s h) x.stopped) same.0 ∙ sub.0 ∙ e,
+      ap (λ (x : Walk). entered (new_app t cs s ds) x.stopped) same.0 ∙ sub.0 ∙ e,
     )

@@ -5,7 +5,7 @@ use Rattle.std.specs.Prelude.{◌≤◌, ℕ, List, [], ◌∷◌, if◌then◌e
 use Rattle.clap.specs.Words.{App, Row, Text, first_of, new_app, with_rule}
 use Rattle.cocoon_num.specs.Names.{same_name}
 use Rattle.command_line.specs.Arguments.{argument_name, number_up_to, option_number}
-use Rattle.command_line.specs.Command.{Command, compile, step, forward}
+use Rattle.command_line.specs.Command.{Command, check, compile, step, forward}
 use Rattle.command_line.specs.Syntax.{app_with, case_argument, conflicts_argument, design_argument, defs_argument, hops_argument, level_argument, option_argument, out_argument, packets_argument, with_arguments}
 
 -- ---- searches
@@ -21,6 +21,23 @@ usual_conflicts = 20000
 -- the number of conflicts, by what `clap` matched
 abbrev pub conflicts_in : List Row → Option ℕ
 conflicts_in rows = option_number conflicts_argument usual_conflicts most_conflicts rows
+
+-- ---- check
+
+-- the subcommand `check`
+abbrev pub check_app : App
+check_app =
+    with_rule (with_arguments (new_app (codes "check")) (design_argument ∷ []))
+    (option_argument conflicts_argument)
+
+-- `check` with a name and a number that are both there
+abbrev pub with_name : Option (List ℕ) → Option ℕ → Option Command
+with_name (Some design) (Some conflicts) = Some (check design conflicts)
+with_name _ _ = None
+
+-- what `check` asks for, by its matches
+abbrev pub check_of : List Row → Option Command
+check_of rows = with_name (argument_name design_argument rows) (conflicts_in rows)
 
 -- ---- compile
 
@@ -104,17 +121,19 @@ forward_of rows =
 
 -- the whole command line
 abbrev pub cocoon_app : App
-cocoon_app = app_with (compile_app ∷ step_app ∷ forward_app ∷ [])
+cocoon_app = app_with (check_app ∷ compile_app ∷ step_app ∷ forward_app ∷ [])
 
 -- what a subcommand asks for, by its name and its matches
 abbrev pub command_of : Text × List Row → Option Command
 command_of met =
-    if same_name met.0 (codes "compile") then compile_of met.1
+    if same_name met.0 (codes "check") then check_of met.1
+    else if same_name met.0 (codes "compile") then compile_of met.1
     else if same_name met.0 (codes "step") then step_of met.1
     else if same_name met.0 (codes "forward") then forward_of met.1
     else None
 
 -- the number of conflicts that a command asks for is one that may be asked for
 abbrev pub IsInRange : Command → Type 0
+IsInRange (check design conflicts) = (1 ≤ conflicts) × (conflicts ≤ most_conflicts)
 IsInRange (compile design defs out conflicts) = (1 ≤ conflicts) × (conflicts ≤ most_conflicts)
 IsInRange asked = Unit {0}

@@ -3,9 +3,19 @@
 /// A command with what it is given.
 #[derive(Clone, Copy, Debug, Drop)]
 pub enum Command<'w> {
+    Check(Check<'w>),
     Compile(Compile<'w>),
     Step(Step<'w>),
     Forward(Forward<'w>),
+}
+
+/// What `check` is given.
+#[derive(Clone, Copy, Debug, Drop)]
+pub struct Check<'w> {
+    /// The file of the design.
+    pub design: &'w str,
+    /// The most conflicts of one search, from 1 to 200,000.
+    pub conflicts: u32,
 }
 
 /// What `compile` is given.

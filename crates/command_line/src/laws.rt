@@ -1,7 +1,7 @@
 //! What further subcommands leave as it was, and the numbers of commands. The functions do nothing; their contracts are the laws.
 ghost use Rattle.std.specs.Prelude.{◌≡◌, ℕ, List, [], ◌∷◌, Some};
 ghost use Rattle.command_line.specs.Command.{Command, compile};
-ghost use Rattle.command_line.specs.Subcommands.{IsInRange, compile_app, step_app};
+ghost use Rattle.command_line.specs.Subcommands.{IsInRange, compile_app, forward_app, step_app};
 ghost use Rattle.command_line.specs.Syntax.{app_with};
 ghost use Rattle.command_line.specs.Words.{command, command_by};
 
@@ -14,10 +14,19 @@ pub fn compile_stays()
         → command words ≡ Some (compile design defs out conflicts) }
 {}
 
-/// The words that are a command by the command line that has `compile` and `step` alone are the same command.
-pub fn commands_stay()
+/// The words that are a command by the command line that has `compile` and `step` alone are the same
+/// command.
+pub fn compile_and_step_stay()
     ensures { (words : List (List ℕ)) (asked : Command)
         → command_by (app_with (compile_app ∷ step_app ∷ [])) words ≡ Some asked
+        → command words ≡ Some asked }
+{}
+
+/// The words that are a command by the command line that has `compile`, `step` and `forward` alone are
+/// the same command.
+pub fn commands_stay()
+    ensures { (words : List (List ℕ)) (asked : Command)
+        → command_by (app_with (compile_app ∷ step_app ∷ forward_app ∷ [])) words ≡ Some asked
         → command words ≡ Some asked }
 {}
 

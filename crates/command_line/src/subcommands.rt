@@ -5,10 +5,10 @@ ghost use Rattle.clap.specs.Words.{app_of, found_of, rows_of};
 ghost use Rattle.clap.specs.declared.builder.Command.TheViews.{out-Command};
 ghost use Rattle.command_line.specs.Command as spec;
 ghost use Rattle.command_line.specs.Command.{stands_for};
-ghost use Rattle.command_line.specs.Subcommands.{cocoon_app, command_of, compile_app, compile_of, conflicts_in, forward_app, forward_of, hops_in, level_in, step_app, step_of};
+ghost use Rattle.command_line.specs.Subcommands.{check_app, check_of, cocoon_app, command_of, compile_app, compile_of, conflicts_in, forward_app, forward_of, hops_in, level_in, step_app, step_of};
 
 use crate::arguments::{argument_name, number_up_to, option_number};
-use crate::command::{Command, Compile, Forward, Step};
+use crate::command::{Check, Command, Compile, Forward, Step};
 use crate::syntax::{
     CASE, CONFLICTS, DEFS, DESIGN, HOPS, LEVEL, OUT, PACKETS, with_arguments, with_option,
     with_subcommand,
@@ -30,6 +30,27 @@ fn conflicts<'w>(matches: &ArgMatches<'w>) -> Option<u32>
     ensures { result ≡ conflicts_in (rows_of (found_of matches.now)) }
 {
     option_number(matches, CONFLICTS, USUAL_CONFLICTS, MOST_CONFLICTS)
+}
+
+// ---- check
+
+/// The subcommand `check`.
+fn check_app<'w>(alloc: Global) -> Result<clap::Command<'w>, NoMemory>
+    ensures app { IfOk result (λ c. app_of c ≡ check_app) }
+    ensures local { IfOk result (λ c. (out-Command c).has_globals ≡ false) }
+{
+    let command = with_arguments(alloc, clap::Command::new(alloc, "check"), &[DESIGN])?;
+    with_option(alloc, command, CONFLICTS)
+}
+
+/// What a `check` is given, where each part has its form.
+fn check_of<'w>(matches: &ArgMatches<'w>) -> Option<Check<'w>>
+    ensures { option_map (λ c. spec.check c.design.now c.conflicts) result
+        ≡ check_of (rows_of (found_of matches.now)) }
+{
+    let design = argument_name(matches, DESIGN)?;
+    let conflicts = conflicts(matches)?;
+    Some(Check { design, conflicts })
 }
 
 // ---- compile
@@ -149,6 +170,7 @@ pub fn cocoon_app<'w>(alloc: Global) -> Result<clap::Command<'w>, NoMemory>
     ensures { IfOk result (λ c. app_of c ≡ cocoon_app) }
 {
     let command = clap::Command::new(alloc, "cocoon");
+    let command = with_subcommand(command, check_app(alloc)?)?;
     let command = with_subcommand(command, compile_app(alloc)?)?;
     let command = with_subcommand(command, step_app(alloc)?)?;
     let command = with_subcommand(command, forward_app(alloc)?)?;
@@ -160,7 +182,9 @@ pub fn command_of<'w>(name: &str, matches: &ArgMatches<'w>) -> Option<Command<'w
     ensures { option_map stands_for result
         ≡ command_of (name.now, rows_of (found_of matches.now)) }
 {
-    if name == "compile" {
+    if name == "check" {
+        check_of(matches).map(Command::Check)
+    } else if name == "compile" {
         compile_of(matches).map(Command::Compile)
     } else if name == "step" {
         step_of(matches).map(Command::Step)
