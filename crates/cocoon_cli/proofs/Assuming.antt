@@ -20,7 +20,7 @@ use Rattle.cocoon_cli.specs.Answering.{IsFound}
 use Rattle.cocoon_cli.specs.Assumed.{IsBig, IsBroken, IsSpent, OfAssumption}
 use Rattle.cocoon_cli.specs.Commands.{text_steps}
 use Rattle.cocoon_cli.specs.Deciding.{AnswersSpent, AnswersUnmet, NotMet}
-use Rattle.cocoon_cli.specs.Outcomes.{AllGood, Ends, FirstWith, here, no_memory}
+use Rattle.cocoon_cli.specs.Outcomes.{Ends, FirstWith, here, no_memory}
 use Rattle.cocoon_cli.specs.Steps.{Inputs, Step, IsGood, Spends, assumptions_met}
 use Rattle.cocoon_cli.specs.declared.answer.Answer.{Answer}
 use Rattle.cocoon_cli.specs.declared.answer.Writing.{Writing as Written}
@@ -45,17 +45,17 @@ pub met_good : (i : Inputs) (x y : List ℕ) (n : ℕ) (t : Design) (p : Places)
 met_good i x y n t p g b met = on_both i x y t b.entries g b.binds met
 
 -- why `compile` stops
-pub not_met : (i : Inputs) (x y : List ℕ) (taken rest : List Step) (n : ℕ) (t : Design) (p : Places) (r : Refusal) → Texts i x y → BindsTables x y t p → DesignLiteralsFit t → AllGood i taken → NotMet t p n r
-    → Ends i (Err r) (text_steps taken (assumptions_met n ∷ rest))
-not_met i x y taken rest n t p (refusal.Broken number values) g b l a h =
+pub not_met : (i : Inputs) (x y : List ℕ) (rest : List Step) (n : ℕ) (t : Design) (p : Places) (r : Refusal) → Texts i x y → BindsTables x y t p → DesignLiteralsFit t → NotMet t p n r
+    → Ends i (Err r) (text_steps (assumptions_met n ∷ rest))
+not_met i x y rest n t p (refusal.Broken number values) g b l h =
     let broken : IsBroken t (defs_of t b.entries) number values = said number l b (λ a k. of_text (λ defs. IsFalseAt t defs a values) l b k) h in
-    after_texts i x y taken (assumptions_met n ∷ rest) t p _ g b a (refused i _ (assumptions_met n) rest (on_both i x y t b.entries g b.binds (number, values, broken, refl)))
-not_met i x y taken rest n t p (refusal.OverLimit limit count) g b l a h =
+    after_texts i x y (assumptions_met n ∷ rest) t p _ g b (refused i _ (assumptions_met n) rest (on_both i x y t b.entries g b.binds (number, values, broken, refl)))
+not_met i x y rest n t p (refusal.OverLimit limit count) g b l h =
     let big : IsBig t b.entries h.0 count = record { tables = p; are = b.are; big = said h.0 l b (λ a k. k) h.2 } in
-    after_texts i x y taken (assumptions_met n ∷ rest) t p _ g b a
+    after_texts i x y (assumptions_met n ∷ rest) t p _ g b
     (given_up i _ (assumptions_met n) rest (on_both i x y t b.entries g b.binds (h.0, count, big, ap (λ (z : LimitName). refusal.OverLimit z count) h.1)))
-not_met i x y taken rest n t p refusal.NoMemory g b l a h = no_memory refl
-not_met i x y taken rest n t p r g b l a h = absurd h
+not_met i x y rest n t p refusal.NoMemory g b l h = no_memory refl
+not_met i x y rest n t p r g b l h = absurd h
 
 -- a search that was given up
 pub spends : (i : Inputs) (x y : List ℕ) (n : ℕ) (t : Design) (p : Places) (answer : Answer) → Texts i x y → BindsTables x y t p → DesignLiteralsFit t → (h : AnswersSpent t p n answer) → Spends i (assumptions_met n) answer.report h.tells.bytes
@@ -70,12 +70,12 @@ spends i x y n t p answer g b l h =
     } in
     on_both i x y t b.entries g b.binds (h.number, spent, h.tells.told)
 
-pub is_found : (i : Inputs) (x y : List ℕ) (taken rest : List Step) (n : ℕ) (t : Design) (p : Places) (answer : Answer) → Texts i x y → BindsTables x y t p → DesignLiteralsFit t → AllGood i taken → AnswersSpent t p n answer
-    → FirstWith i (IsFound i answer.report answer.writing) (text_steps taken (assumptions_met n ∷ rest))
-is_found i x y taken rest n t p answer g b l a h =
+pub is_found : (i : Inputs) (x y : List ℕ) (rest : List Step) (n : ℕ) (t : Design) (p : Places) (answer : Answer) → Texts i x y → BindsTables x y t p → DesignLiteralsFit t → AnswersSpent t p n answer
+    → FirstWith i (IsFound i answer.report answer.writing) (text_steps (assumptions_met n ∷ rest))
+is_found i x y rest n t p answer g b l h =
     let found : IsFound i answer.report answer.writing (assumptions_met n) =
     subst (λ (w : Written). IsFound i answer.report w (assumptions_met n)) (sym h.tells.written) (spends i x y n t p answer g b l h) in
-    texts_first i x y taken (assumptions_met n ∷ rest) t p (IsFound i answer.report answer.writing) g b a (here found)
+    texts_first i x y (assumptions_met n ∷ rest) t p (IsFound i answer.report answer.writing) g b (here found)
 
 pub is_none : {A : Type 0} (o : Option A) → ((a : A) → o ≡ Some a → ⊥) → o ≡ None
 is_none None h = refl

@@ -1,6 +1,6 @@
 -- What is proved of each command by its case: which steps a bundle decides, which files its steps tell of, that its report
 -- is one, and what it writes.
-use Rattle.std.proofs.Common.{◌≡◌, ◌⊎◌, ℕ, List, ◌++◌, Option, Some, None, Result, Ok, Err, refl, sym, ap, subst, ◌∙◌, inl, inr}
+use Rattle.std.proofs.Common.{◌≡◌, ◌⊎◌, ℕ, List, ◌++◌, length, Option, Some, None, Result, Ok, Err, refl, sym, ap, subst, ◌∙◌, inl, inr}
 use Rattle.cocoon_io.specs.Files.{Files}
 use Rattle.cocoon_types.specs.Tables.{defs_of}
 use Rattle.case_file.specs.Cases.{case_of}
@@ -12,9 +12,10 @@ use Rattle.net_bundle.specs.Writing.{AllFit, ContentHolds, Holds, NotWritten}
 use Rattle.net_bundle.specs.declared.fault.BundleFault.{BundleFault}
 use Rattle.net_bundle.specs.declared.file.BundleFile.{BundleFile}
 use Rattle.net_bundle.specs.declared.fault.BundleFault.TheVariants as fault
+use Rattle.obligation_laws.specs.Obligations.{all_obligations}
 use Rattle.p4_ir.specs.NetOf.{net_of}
 use Rattle.p4_ir.specs.NetTree.{NetData}
-use Rattle.command_line.specs.Command.{Command, compile, step, forward}
+use Rattle.command_line.specs.Command.{Command, check, compile, step, forward}
 use Rattle.command_reports.specs.FileNames.{FileNames, budget_name, bundle_in}
 use Rattle.command_reports.specs.Refusals.{bundle_refusal}
 use Rattle.command_reports.specs.Report.{fault_of, success, verdict_status}
@@ -41,7 +42,7 @@ use Rattle.cocoon_cli.specs.Steps.{Inputs, bundle_within, bundle_written}
 use Rattle.cocoon_cli.specs.Writing.{with_writing, bundle}
 use Rattle.cocoon_cli.proofs.Compiling.{on_net}
 use Rattle.cocoon_cli.proofs.Ending.{all_good, next, refused, stopped}
-use Rattle.cocoon_cli.proofs.OneStep.{AllDecided, HasReading, Laws, on_both, on_packets, on_text, same_ok}
+use Rattle.cocoon_cli.proofs.OneStep.{AllDecided, HasReading, Laws, on_both, on_design, on_packets, on_text, same_ok}
 use Rattle.cocoon_cli.proofs.Telling.{AllTell, Named}
 use Rattle.cocoon_cli.proofs.TextSteps.{Texts}
 
@@ -49,7 +50,8 @@ use Rattle.cocoon_cli.proofs.TextSteps.{Texts}
 
 -- the steps of a command are decided where the content of a bundle that it reads is known
 pub steps_decided : Laws → (c : Command) (i : Inputs) → IsKnown (bundle_in (files_of c)) i → AllDecided i (steps c)
-steps_decided laws (compile d e o n) i b = (tt, (tt, (tt, (tt, (tt, (tt, (tt, (tt, (tt, (tt, (tt, (tt, (tt, (tt, (tt, tt)))))))))))))))
+steps_decided laws (check d n) i b = (tt, (tt, (tt, (tt, (tt, (tt, (tt, tt)))))))
+steps_decided laws (compile d e o n) i b = (tt, (tt, (tt, (tt, (tt, (tt, (tt, (tt, (tt, (tt, (tt, (tt, (tt, (tt, (tt, (tt, tt))))))))))))))))
 steps_decided laws (step d e l f) i b = (tt, (tt, (tt, (tt, (tt, (tt, (tt, (tt, (tt, (tt, (tt, (tt, (tt, (tt, tt))))))))))))))
 steps_decided laws (forward o p n) i b =
     let r : HasReading i o = (b.0, b.1, laws.one_reading b.0 o) in
@@ -57,12 +59,16 @@ steps_decided laws (forward o p n) i b =
 
 -- each tells of a file that the command has
 pub all_tell : (c : Command) → AllTell (files_of c) (steps c)
+all_tell (check d n) =
+    let x : Named (files_of (check d n)) Design = (d, refl) in
+    let b : Named (files_of (check d n)) Budget = (budget_name d, refl) in
+    (x, (x, (x, (x, (tt, (tt, (b, tt)))))))
 all_tell (compile d e o n) =
     let x : Named (files_of (compile d e o n)) Design = (d, refl) in
     let y : Named (files_of (compile d e o n)) Definitions = (e, refl) in
     let b : Named (files_of (compile d e o n)) Budget = (budget_name d, refl) in
     let z : (file : BundleFile) → Named (files_of (compile d e o n)) (Bundle file) = λ file. (whole_name o file, refl) in
-    (x, (x, (y, (y, (x, (x, (tt, (x, (y, (y, (tt, (b, (tt, (z, (z, tt)))))))))))))))
+    (x, (x, (y, (y, (x, (x, (tt, (y, (y, (tt, (b, (tt, (b, (tt, (z, (z, tt))))))))))))))))
 all_tell (step d e l f) =
     let x : Named (files_of (step d e l f)) Design = (d, refl) in
     let y : Named (files_of (step d e l f)) Definitions = (e, refl) in
@@ -74,8 +80,10 @@ all_tell (forward o p n) =
 
 -- it has one report
 pub one_report : Laws → (c : Command) (i : Inputs) (r q : Report) → IsKnown (bundle_in (files_of c)) i → Reports c i r → Reports c i q → r ≡ q
+one_report laws (check d n) i r q b h k = on_design laws i (λ _ t x y. x ∙ sym y) h k
 one_report laws (compile d e o n) i r q b h k =
-    on_both laws i (λ t d u e (m, low, x) (p, lows, y). x ∙ ap (λ (n : NetData). success (totals_line (totals_of n))) (laws.one_net d e m p low lows) ∙ sym y) h k
+    on_both laws i (λ t d u e (m, low, x) (p, lows, y).
+    x ∙ ap (λ (n : NetData). success (totals_line (totals_of (length (all_obligations d)) n))) (laws.one_net d e m p low lows) ∙ sym y) h k
 one_report laws (step d e l f) i r q b h k =
     on_both laws i (λ t d u e v w. on_text i CaseFile (λ z (c, s, says, does, x) (a, p, said, did, y).
     let same = same_ok (case_of l d z) c a says said in
@@ -89,6 +97,7 @@ one_report laws (forward o p n) i r q b h k =
 
 -- where all steps are good, a command succeeds
 pub report_done : (c : Command) (i : Inputs) (report : Report) → Reports c i report → report.verdict ≡ verdict.Done
+report_done (check d n) i report k = ap (λ (r : Report). r.verdict) k.holds
 report_done (compile d e o n) i report k = ap (λ (r : Report). r.verdict) k.holds.holds.2
 report_done (step d e l f) i report k =
     let (case, sent, says, steps, said) = k.holds.holds.holds in ap (λ (r : Report). r.verdict) said
@@ -97,6 +106,7 @@ report_done (forward o p n) i report k =
 
 -- what a command that reports this writes, and the status of its report
 pub report_writes : (c : Command) (i : Inputs) (before after : Option Files) (report : Report) → Reports c i report → LeavesWhole c i before after → MayWrite (verdict_status report.verdict) ⊎ (after ≡ before)
+report_writes (check d n) i before after report k (w, is, h) = inr (h ∙ ap (λ x. with_writing x before) is.1)
 report_writes (compile d e o n) i before after report k h = inl (done (ap verdict_status (report_done (compile d e o n) i report k)))
 report_writes (step d e l f) i before after report k (w, is, h) = inr (h ∙ ap (λ x. with_writing x before) is.1)
 report_writes (forward o p n) i before after report k (w, is, h) = inr (h ∙ ap (λ x. with_writing x before) is.1)
@@ -110,6 +120,7 @@ pub writes_good : (c : Command) (i : Inputs) (read : Read) (w : Written) → IsG
 writes_good (compile d e o n) i read (written.Bundle name net) g p fit = good (on_net i read.design.items read.definitions.items (net_of net) (texts d e o n i read g) p.1 fit) (good tt none)
 writes_good (compile d e o n) i read written.Nothing g p fit = absurd p
 writes_good (compile d e o n) i read (written.Own file bytes) g p fit = absurd p
+writes_good (check d n) i read w g p fit = none
 writes_good (step d e l f) i read w g p fit = none
 writes_good (forward o p n) i read w g h fit = none
 
@@ -120,6 +131,7 @@ writes_it (compile d e o n) i read (written.Bundle name net) g p fit =
     (fit, ap (λ out. bundle out (bundle_of.bundle read.design.items (net_of net) None)) p.0)
 writes_it (compile d e o n) i read written.Nothing g p fit = absurd p
 writes_it (compile d e o n) i read (written.Own file bytes) g p fit = absurd p
+writes_it (check d n) i read w g p fit = ap (writing_of (files_of (check d n)) read) p
 writes_it (step d e l f) i read w g p fit = ap (writing_of (files_of (step d e l f)) read) p
 writes_it (forward o q n) i read w g p fit = ap (writing_of (files_of (forward o q n)) read) p
 
@@ -128,6 +140,7 @@ can_write_done : (c : Command) (read : Read) (w : Written) → PlansDone c read 
 can_write_done (compile d e o n) read (written.Bundle name net) p = (ap Some (sym p.0), p.1.lowering.writable)
 can_write_done (compile d e o n) read written.Nothing p = absurd p
 can_write_done (compile d e o n) read (written.Own file bytes) p = absurd p
+can_write_done (check d n) read w p = subst (CanWrite (files_of (check d n))) (sym p) tt
 can_write_done (step d e l f) read w p = subst (CanWrite (files_of (step d e l f))) (sym p) tt
 can_write_done (forward o q n) read w p = subst (CanWrite (files_of (forward o q n))) (sym p) tt
 
@@ -187,6 +200,7 @@ not_written (compile d e o n) i before after read (written.Bundle name net) r re
     subst (λ (x : Refusal). Unwritten (compile d e o n) i before after x) (sym h.2) (bundle_unwritten d e o n i before after read (net_of net) h.0 report k rs ask (texts d e o n i read g) p.1 m)
 not_written (compile d e o n) i before after read written.Nothing r report k rs ask g p h = absurd p
 not_written (compile d e o n) i before after read (written.Own file bytes) r report k rs ask g p h = absurd p
+not_written (check d n) i before after read w r report k rs ask g p h = nothing_unwritten (check d n) i before after read w r p h
 not_written (step d e l f) i before after read w r report k rs ask g p h = nothing_unwritten (step d e l f) i before after read w r p h
 not_written (forward o q n) i before after read w r report k rs ask g p h = nothing_unwritten (forward o q n) i before after read w r p h
 
@@ -226,6 +240,7 @@ headline_done (compile d e o n) before mid after read (written.Bundle name net) 
     (subst (λ out. ContentHolds before after out read.design.items (net_of net) None) p.0 (subst (λ content. ContentHolds content after name.now read.design.items (net_of net) None) same h))
 headline_done (compile d e o n) before mid after read written.Nothing same g p h = absurd p
 headline_done (compile d e o n) before mid after read (written.Own file bytes) same g p h = absurd p
+headline_done (check d n) before mid after read w same g p h = tt
 headline_done (step d e l f) before mid after read w same g p h = tt
 headline_done (forward o q n) before mid after read w same g p h = tt
 

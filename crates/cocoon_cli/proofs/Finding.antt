@@ -17,10 +17,11 @@ use Rattle.cocoon_cli.specs.Commands.{files_of}
 use Rattle.cocoon_cli.specs.Leaves.{EndsWriting, LeavesFault}
 use Rattle.cocoon_cli.specs.Outcomes.{Ends, EndsAt, FirstWith, StopsAt, here, later, no_memory, at_fault, steps}
 use Rattle.cocoon_cli.specs.Shell.{NotAllWritten, own_file, writing_of}
-use Rattle.cocoon_cli.specs.Steps.{Inputs, Step, Spends, Stops, assumptions_met}
+use Rattle.cocoon_cli.specs.Steps.{Inputs, Step, Spends, Stops, assumptions_met, obligations_hold}
 use Rattle.cocoon_cli.specs.Writing.{own}
 use Rattle.cocoon_cli.proofs.Commands.{all_tell}
 use Rattle.cocoon_cli.proofs.Ending.{first_gives, first_map}
+use Rattle.cocoon_cli.proofs.Owing.{owed_budget}
 use Rattle.cocoon_cli.proofs.Telling.{AllTell, Named, Tells}
 
 -- what follows of a step with its files
@@ -32,16 +33,19 @@ told_map names i P Q f (s ∷ ss) t (later g h) = later g (told_map names i P Q 
 -- the verdict of a search that was given up
 pub spends_budget : (i : Inputs) (s : Step) (report : Report) (bytes : List ℕ) → Spends i s report bytes → report.verdict ≡ verdict.Budget
 spends_budget i (assumptions_met n) report bytes h = ap (λ (r : Report). r.verdict) h.holds.holds.2
+spends_budget i (obligations_hold n) report bytes h = owed_budget h.design n report bytes h.holds
 spends_budget i s report bytes h = absurd h
 
 -- its file has a name
 spends_named : (names : FileNames) (i : Inputs) (s : Step) (report : Report) (bytes : List ℕ) → Tells names s → Spends i s report bytes → Named names Budget
 spends_named names i (assumptions_met n) report bytes t h = t
+spends_named names i (obligations_hold n) report bytes t h = t
 spends_named names i s report bytes t h = absurd h
 
 -- a fault of its write stops the step
 spends_stops : (i : Inputs) (s : Step) (report : Report) (bytes : List ℕ) → Spends i s report bytes → Stops i s (refusal.WriteFault Budget)
 spends_stops i (assumptions_met n) report bytes h = (refl, (report, bytes, h))
+spends_stops i (obligations_hold n) report bytes h = (refl, (report, bytes, h))
 spends_stops i s report bytes h = absurd h
 
 -- ---- one step

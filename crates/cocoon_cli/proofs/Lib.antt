@@ -1,7 +1,8 @@
 pub mod Ending
 pub mod TextSteps
-pub mod Built
 pub mod Assuming
+pub mod Owing
+pub mod Kept
 pub mod Compiling
 pub mod Stepped
 pub mod Forwarded
@@ -15,3 +16,4 @@ pub mod Finding
 pub mod OneOutcome
 pub mod Performing
 pub mod Running
+pub mod Refined

@@ -5,6 +5,7 @@ use Rattle.std.proofs.lemmas.List.Elements.{All-head, All-tail}
 use Rattle.cocoon_num.specs.Lists.{first_of}
 use Rattle.cocoon_num.specs.Tree as tree
 use Rattle.cocoon_num.specs.declared.limit_name.LimitName.{LimitName}
+use Rattle.cocoon_num.specs.declared.limit_name.LimitName.TheVariants.{Leaves}
 use Rattle.cocoon_num.specs.Reads.{Reads, ReadsDefs}
 use Rattle.cocoon_num.specs.FirstFaults.{BeginsDesign, BeginsDefs}
 use Rattle.cocoon_text.specs.Positions.{token_position}
@@ -12,7 +13,7 @@ use Rattle.cocoon_text.specs.TextFaults.{FirstFault}
 use Rattle.cocoon_text.specs.declared.fault.TextFault.{TextFault}
 use Rattle.cocoon_types.specs.DefsRules.{DefsFault, defs_faults}
 use Rattle.cocoon_types.specs.FirstFault as rules
-use Rattle.cocoon_types.specs.Limits.{WithinLimits, FirstOver as LimitOver, reported}
+use Rattle.cocoon_types.specs.Limits.{WithinLimits, FirstOver as LimitOver, first_above, reported}
 use Rattle.cocoon_types.specs.RuleNames.{fault_at}
 use Rattle.cocoon_types.specs.Rules.{WellFormed}
 use Rattle.cocoon_types.specs.declared.fault.TypeRule.{TypeRule}
@@ -44,6 +45,8 @@ use Rattle.cocoon_types.specs.Tables as tables
 use Rattle.cocoon_types.specs.Tables.{defs_of}
 use Rattle.cocoon_num.specs.Values.{Value, truth}
 use Rattle.cocoon_resolve.specs.Readers.{all_assumptions}
+use Rattle.hop_inline.specs.Counted.{most_leaves}
+use Rattle.obligation_gen.specs.Counted.{all_counts}
 use Rattle.refinement.specs.Assumptions.{IsMet, Meets}
 use Rattle.discharge.specs.Meeting.{IsFalseAt}
 use Rattle.command_reports.specs.Refusals.{IsOfFiles, unread_as}
@@ -54,7 +57,7 @@ use Rattle.command_reports.specs.declared.refusal.DefinitionsFault.TheVariants a
 use Rattle.command_reports.specs.declared.refusal.Refusal.{Refusal}
 use Rattle.command_reports.specs.declared.refusal.Refusal.TheVariants as refusal
 use Rattle.design_texts.specs.DesignTexts.{told}
-use Rattle.cocoon_cli.specs.Steps.{Inputs, OfBundle, OfDefinitions, OfDesign, OfPackets, OfText, Step, is_there, is_within, design_reads, design_well_formed, design_within, definitions_read, definitions_fit, definitions_within, design_accepted, assumptions_met, lowering_within, level_there, lines_formed, bundle_reads, packets_judged, copies_within, bundle_within, bundle_written, packets_refusal, IsGood, Refuses}
+use Rattle.cocoon_cli.specs.Steps.{Inputs, OfBundle, OfDefinitions, OfDesign, OfPackets, OfText, Step, is_there, is_within, design_reads, design_well_formed, design_within, definitions_read, definitions_fit, definitions_within, assumptions_met, trees_within, obligations_hold, lowering_within, level_there, lines_formed, bundle_reads, packets_judged, copies_within, bundle_within, bundle_written, packets_refusal, IsGood, Refuses}
 use Rattle.cocoon_cli.specs.Assumed.{IsBroken}
 use Rattle.cocoon_cli.specs.Outcomes.{Alike, broken}
 use Rattle.cocoon_cli.proofs.RuleValues.{same_rule}
@@ -81,7 +84,7 @@ pub record Laws : Type 0 where
 
 -- ---- what is read
 
-same_some : {A : Type 0} (o : Option A) (x y : A) → o ≡ Some x → o ≡ Some y → x ≡ y
+pub same_some : {A : Type 0} (o : Option A) (x y : A) → o ≡ Some x → o ≡ Some y → x ≡ y
 same_some {A = A} o x y p q = let e : ◌≡◌ {A = Option A} (Some x) (Some y) = sym p ∙ q in cc
 
 pub same_ok : {A B : Type 0} (r : Result A B) (x y : A) → r ≡ Ok x → r ≡ Ok y → x ≡ y
@@ -243,7 +246,6 @@ refuses_once laws i design_within r q b h k =
     on_design laws i (λ t d (l, m, over, x) (o, n, one, y).
     let same = laws.one_limit d l o over.0 one.0 over.1 one.1 in
     x ∙ over_by l o m n same.0 (over.2 ∙ ap reported same.1 ∙ sym one.2) ∙ sym y) h k
-refuses_once laws i design_accepted r q b h k = on_design laws i (λ t d (_, x) (_, y). x ∙ sym y) h k
 refuses_once laws i definitions_read r q b h k =
     on_text i Definitions (λ t (f, first, x) (g, one, y). x ∙ ap (λ f. refusal.Definitions (definitions.NoTree f)) (laws.one_defs_fault t f g first one) ∙ sym y) h k
 refuses_once laws i definitions_fit r q b h k =
@@ -252,6 +254,10 @@ refuses_once laws i definitions_fit r q b h k =
 refuses_once laws i definitions_within r q b h k = on_defs laws i (λ _ e (_, x) (_, y). x ∙ sym y) h k
 refuses_once laws i (assumptions_met conflicts) r q b h k =
     on_both laws i (λ _ d _ e (m, v, first, x) (n, w, other, y). same_number r q m n v w (one_broken d (defs_of d e) m n v w first other) x y) h k
+refuses_once laws i trees_within r q b h k =
+    on_design laws i (λ _ d (m, first, x) (n, other, y).
+    x ∙ ap (λ (c : ℕ). refusal.OverLimit Leaves (reported c)) (same_some (first_above most_leaves (all_counts d)) m n first other) ∙ sym y) h k
+refuses_once laws i (obligations_hold conflicts) r q b h k = absurd h
 refuses_once laws i lowering_within r q b h k =
     on_both laws i (λ _ d _ e (l, m, over, x) (o, n, one, y).
     let same = laws.one_over d e l o m n over one in
@@ -279,7 +285,6 @@ good_or_refused laws i design_reads r b g h =
     on_text {P = λ t. (d : tree.Design) × Reads t d} i Design (λ t (d, reads) (f, first, _). laws.no_fault t d f reads first) (record { text = g.text; is = g.is; holds = (g.design, g.reads) }) h
 good_or_refused laws i design_well_formed r b g h = on_design laws i (λ t d x (f, m, first, _). laws.no_rule d (fault_at f m) x first) g h
 good_or_refused laws i design_within r b g h = on_design laws i (λ t d x (l, m, over, _). laws.no_limit d l over.0 x over.1) g h
-good_or_refused laws i design_accepted r b g h = on_design laws i (λ t d x (not, _). not x) g h
 good_or_refused laws i definitions_read r b g h =
     on_text {P = λ t. (e : tree.DefsText) × ReadsDefs t e} i Definitions (λ t (e, read) (f, first, _). laws.no_defs_fault t e f read first) (record { text = g.text; is = g.are; holds = (g.defs, g.read) }) h
 good_or_refused laws i definitions_fit r b g h =
@@ -288,6 +293,9 @@ good_or_refused laws i definitions_within r b g h =
     on_defs laws i (λ _ e few (many, _). let x : row_count e ≤ most_rows = few in let y : most_rows < row_count e = many in omega arith) g h
 good_or_refused laws i (assumptions_met conflicts) r b g h =
     on_both laws i (λ _ d _ e met (n, v, false_at, _). none_broken d (defs_of d e) n v met false_at) g h
+good_or_refused laws i trees_within r b g h =
+    on_design laws i (λ _ d few (n, first, _). let no : ◌≡◌ {A = Option ℕ} None (Some n) = sym few ∙ first in cc) g h
+good_or_refused laws i (obligations_hold conflicts) r b g h = h
 good_or_refused laws i lowering_within r b g h = on_both laws i (λ _ d _ e (_, _, within) (l, n, over, _). laws.no_over d e l n within over) g h
 good_or_refused laws i (level_there level) r b g h =
     on_design laws i (λ _ d there (over, _). let x : level ≤ last_level d = there in let y : last_level d < level = over in omega arith) g h

@@ -25,7 +25,7 @@ use Rattle.cocoon_cli.specs.Leaves.{EndsWriting, IsWhole, IsWritten, Leaves, Lea
 use Rattle.cocoon_cli.specs.Outcomes.{EndsAt, FirstWith, no_memory as out_of_memory, at_step, at_fault, StopsAt as StopsAtStep, Answers, HasOutcome, steps}
 use Rattle.cocoon_cli.specs.Run.{Call, Cause, Counted, CountsFault, Uncounted, MayCount, of_read, of_write, of_memory, Count, inputs_of, InputsAre, Performs, IsOnly, CauseOf, LineNames, NamesFault, EndsWith, Yields, to_read_fault, to_write_fault, to_no_memory, TheOutcome, OutcomeOf, DoneOf, IsSpentAt, SpentOf, LeavesOf, MayWrite, failed, spent, UsageOf, Keeps, KeepsMore}
 use Rattle.cocoon_cli.specs.Run as run
-use Rattle.cocoon_cli.specs.Steps.{Inputs, Step, assumptions_met, is_there, bundle_reads, bundle_written}
+use Rattle.cocoon_cli.specs.Steps.{Inputs, Step, assumptions_met, obligations_hold, is_there, bundle_reads, bundle_written}
 use Rattle.cocoon_cli.specs.Writing.{Writing, nothing as nothing_written, bundle, own, SomeOf, StopsIn, with_writing}
 use Rattle.cocoon_cli.proofs.Commands.{report_done, report_writes}
 use Rattle.cocoon_cli.proofs.Ending.{first_gives, first_map}
@@ -94,7 +94,7 @@ plainly : (c : Command) (call : Call) (h : Cause c call) (s : Status) → IsPlai
 plainly c call h s p is = told c call h s is (plain call h.ending s p is (how call h.ending h.prints))
 
 -- words that are no command end with no such status but that of the usage line
-no_command : (call : Call) (s : Status) → IsPlain s → CauseOf None call → call.status ≡ s → s ≡ Usage
+pub no_command : (call : Call) (s : Status) → IsPlain s → CauseOf None call → call.status ≡ s → s ≡ Usage
 no_command call s p h is = sym is ∙ (plain call usage s p is (how call usage h.1)).0
 
 -- ---- the outcome
@@ -108,6 +108,7 @@ stopped i (Ok report) s h = absurd h
 stopped i (Err r) (is_there file) h = (file, inl (ap Err h))
 stopped i (Err r) (bundle_reads out) (file, h) = (BundleOf file, inl (ap Err h))
 stopped i (Err r) (assumptions_met conflicts) h = (BudgetFile, inr (ap Err h.0))
+stopped i (Err r) (obligations_hold conflicts) h = (BudgetFile, inr (ap Err h.0))
 stopped i (Err r) bundle_written (file, h) = (BundleOf file, inr (ap Err h))
 stopped i (Err r) s h = absurd h
 
@@ -269,9 +270,9 @@ spent_by c call report line budget p is out =
     let (w, written, stands) = p.leaves in
     (p.inputs, report, p.inputs_are, spent_of c p.inputs report w call.content_before call.content_after budget stands written, printed c call report line is out)
 
-writes_of : (c : Option Command) (call : Call) → CauseOf c call → call.status ≡ Done → DoneOf c call
-writes_of None call h d = let no : ◌≡◌ {A = Status} Done Usage = no_command call Done tt h d in cc
-writes_of (Some c) call h d =
+pub success_of : (c : Option Command) (call : Call) → CauseOf c call → call.status ≡ Done → DoneOf c call
+success_of None call h d = let no : ◌≡◌ {A = Status} Done Usage = no_command call Done tt h d in cc
+success_of (Some c) call h d =
     let w = plain call h.ending Done tt d (how call h.ending h.prints) in
     let f = told c call h Done d w in
     done_by c call f.0 h.ending.report f.2 (subst (λ (x : Result Report Refusal). Performs c call.content_before call.content_after x) f.1 h.performs)
@@ -395,7 +396,7 @@ keeps_more call h = record {
   read_fault = read_fault_of (command call.words) call h;
   write_fault = write_fault_of (command call.words) call h;
   none_failed = none_failed_of (command call.words) call h;
-  done_leaves = writes_of (command call.words) call h;
+  done_leaves = success_of (command call.words) call h;
   spent_leaves = spends_of (command call.words) call h;
   unchanged = same_of (command call.words) call h;
 }

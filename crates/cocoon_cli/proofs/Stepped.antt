@@ -34,14 +34,14 @@ pub not_stepped : (d e : List ℕ) (l : ℕ) (f : List ℕ) (i : Inputs) (x y z 
     → Ends i (Err r) (asks (step d e l f) ++ writes (step d e l f))
 not_stepped d e l f i x y z r g k (inl h) = not_matched i x y (level_steps l) r g h
 not_stepped d e l f i x y z r g k (inr h) =
-    after_texts i x y [] (level_steps l) h.tree h.tables _ g h.binds none (not_case i l h.tree x y z r g h.binds.binds.checked.reads k h.not)
+    after_texts i x y (level_steps l) h.tree h.tables _ g h.binds (not_case i l h.tree x y z r g h.binds.binds.checked.reads k h.not)
 
 -- ---- a step that is made
 
 pub asks_good : (d e : List ℕ) (l : ℕ) (f : List ℕ) (i : Inputs) (x y z : List ℕ) (sent : Option Sent) → Texts i x y → i.file Case ≡ Some z → StepsTexts l x y z sent → AllGood i (asks (step d e l f))
 asks_good d e l f i x y z sent g k h =
     let reads = h.binds.binds.checked.reads in
-    texts_good i x y [] (level_steps l) h.tree h.tables g h.binds none
+    texts_good i x y (level_steps l) h.tree h.tables g h.binds
     (good (on_design i x h.tree g.design reads h.there) (good (on_design i x h.tree g.design reads (record { text = z; is = k; holds = (h.case, h.says) })) none))
 
 pub reports : (d e : List ℕ) (l : ℕ) (f : List ℕ) (i : Inputs) (x y z : List ℕ) (sent : Option Sent) (report : Report) → Texts i x y → i.file Case ≡ Some z → StepsTexts l x y z sent

@@ -16,7 +16,7 @@ use Rattle.command_reports.specs.declared.refusal.Refusal.{Refusal}
 use Rattle.command_reports.specs.declared.refusal.Refusal.TheVariants as refusal
 use Rattle.command_reports.specs.declared.report.Report.{Report}
 use Rattle.cocoon_cli.specs.Outcomes.{Ends, no_memory, at_step, at_fault, EndsAt, FirstWith, here, later, StopsAt}
-use Rattle.cocoon_cli.specs.Steps.{Inputs, IsTooLarge, Refuses, Step, Stops, assumptions_met, bundle_reads, bundle_within, bundle_written, copies_within, definitions_fit, definitions_read, definitions_within, design_accepted, design_reads, design_well_formed, design_within, is_there, is_within, level_there, lines_formed, lowering_within, packets_judged, packets_refusal}
+use Rattle.cocoon_cli.specs.Steps.{Inputs, IsTooLarge, Refuses, Step, Stops, assumptions_met, bundle_reads, bundle_within, bundle_written, copies_within, definitions_fit, definitions_read, definitions_within, design_reads, design_well_formed, design_within, is_there, is_within, level_there, lines_formed, lowering_within, obligations_hold, packets_judged, packets_refusal, trees_within}
 
 -- there is a file of this kind
 abbrev pub Named : FileNames → CommandFile → Type 0
@@ -28,10 +28,10 @@ Tells names (is_there file) = Named names file
 Tells names (is_within file most) = Named names file
 Tells names design_reads = Named names Design
 Tells names design_well_formed = Named names Design
-Tells names design_accepted = Named names Design
 Tells names definitions_read = Named names Definitions
 Tells names definitions_fit = Named names Definitions
 Tells names (assumptions_met conflicts) = Named names Budget
+Tells names (obligations_hold conflicts) = Named names Budget
 Tells names (lines_formed level) = Named names Case
 Tells names (packets_judged out) = Named names Packets
 Tells names (bundle_reads out) = (file : BundleFile) → Named names (Bundle file)
@@ -76,11 +76,12 @@ refused_has names i (is_within file most) r n h = same_has names r _ h.holds.1 (
 refused_has names i design_reads r n h = same_has names r _ h.holds.2 (with_name _ _ n)
 refused_has names i design_well_formed r n h = same_has names r _ h.holds.3 (with_name _ _ n)
 refused_has names i design_within r n h = same_has names r _ h.holds.3 (_, refl)
-refused_has names i design_accepted r n h = same_has names r _ h.holds.1 (with_name _ _ n)
 refused_has names i definitions_read r n h = same_has names r _ h.holds.2 (with_name _ _ n)
 refused_has names i definitions_fit r n h = same_has names r _ h.holds.holds.2 (with_name _ _ n)
 refused_has names i definitions_within r n h = same_has names r _ h.holds.1 (_, refl)
 refused_has names i (assumptions_met conflicts) r n h = same_has names r _ h.holds.holds.3 (_, refl)
+refused_has names i trees_within r n h = same_has names r _ h.holds.2 (_, refl)
+refused_has names i (obligations_hold conflicts) r n h = absurd h
 refused_has names i lowering_within r n h = same_has names r _ h.holds.holds.3 (_, refl)
 refused_has names i (level_there level) r n h = same_has names r _ h.holds.1 (_, refl)
 refused_has names i (lines_formed level) r n h = same_has names r _ h.holds.holds.2 (with_name _ _ n)
@@ -96,11 +97,13 @@ stopped_has : (names : FileNames) (i : Inputs) (s : Step) (r : Refusal) → Tell
 stopped_has names i (is_there file) r n h = same_has names r _ h (with_name _ _ n)
 stopped_has names i (bundle_reads out) r n (file, h) = same_has names r _ h (with_name _ _ (n file))
 stopped_has names i (assumptions_met conflicts) r n h = same_has names r _ h.0 (with_name _ _ n)
+stopped_has names i (obligations_hold conflicts) r n h = same_has names r _ h.0 (with_name _ _ n)
 stopped_has names i bundle_written r n (file, h) = same_has names r _ h (with_name _ _ (n file))
 stopped_has names i s r n h = absurd h
 
 large_has : (names : FileNames) (i : Inputs) (s : Step) (r : Refusal) → IsTooLarge i s r → HasLine names r
 large_has names i (assumptions_met conflicts) r h = same_has names r _ h.holds.holds.3 (_, refl)
+large_has names i (obligations_hold conflicts) r h = same_has names r _ h.holds.3 (_, refl)
 large_has names i s r h = absurd h
 
 first_has : (names : FileNames) (i : Inputs) (r : Refusal) (ss : List Step) → AllTell names ss → FirstWith i (EndsAt i (Err r)) ss → HasLine names r

@@ -1,11 +1,15 @@
 -- Cited by the clauses of shell.rt and of the commands. What a command answers where a step ends it that is no refusal: a verdict, or a search
 -- that was given up, with the file of that.
-use Rattle.std.specs.Prelude.{◌≡◌, List}
+use Rattle.std.specs.Prelude.{◌≡◌, ℕ, List}
+use Rattle.budget_text.specs.BudgetJson.{IsBudgetFile}
+use Rattle.budget_text.specs.Spent.{Spent}
+use Rattle.command_reports.specs.Report.{given_up}
 use Rattle.command_reports.specs.declared.files.CommandFile.TheVariants.{Budget}
 use Rattle.command_reports.specs.declared.report.Report.{Report}
 use Rattle.command_reports.specs.declared.report.Verdict.{Verdict}
 use Rattle.command_reports.specs.declared.report.Verdict.TheVariants as verdict
 use Rattle.cocoon_cli.specs.Steps.{Inputs, Step, Judges, Spends}
+use Rattle.cocoon_cli.specs.declared.answer.Answer.{Answer}
 use Rattle.cocoon_cli.specs.declared.answer.Writing.{Writing as Written}
 use Rattle.cocoon_cli.specs.declared.answer.Writing.TheVariants as written
 
@@ -27,3 +31,10 @@ abbrev pub PlansBy : (Written → Type 0) → Verdict → Written → Type 0
 PlansBy Done verdict.Done w = Done w
 PlansBy Done verdict.Budget w = IsBudget w
 PlansBy Done v w = w ≡ written.Nothing
+
+-- the answer of a search that was given up: its line, and the file of what was spent
+pub record TellsSpent (line : List ℕ) (spent : Spent) (answer : Answer) : Type 0 where
+  pub told : answer.report ≡ given_up line
+  pub bytes : List ℕ
+  pub written : answer.writing ≡ written.Own Budget bytes
+  pub file : IsBudgetFile spent bytes

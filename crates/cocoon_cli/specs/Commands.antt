@@ -2,23 +2,25 @@
 -- `keeps` of `run`. What each command is: the files that it has, what it asks of them, what it reports
 -- where all of that is good, and what it writes. A new command is a case of each. It follows the section
 -- "Commands" of README.md, and "Statuses" and "Reports" in docs/FORMATS.md.
-use Rattle.std.specs.Prelude.{◌≡◌, ℕ, Bool, true, false, List, [], ◌∷◌, ◌++◌, Option, Some, None, Ok}
+use Rattle.std.specs.Prelude.{◌≡◌, ℕ, ◌+◌, true, false, List, [], ◌∷◌, length, Option, Some, None, Ok}
+use Rattle.cocoon_types.specs.Design.{last_level}
 use Rattle.cocoon_types.specs.Tables.{defs_of}
+use Rattle.obligation_laws.specs.Obligations.{all_obligations}
 use Rattle.case_file.specs.Cases as cases
 use Rattle.case_file.specs.Cases.{case_of}
 use Rattle.case_runs.specs.Stepping.{Steps}
 use Rattle.case_runs.specs.declared.sent.Sent.{Sent}
 use Rattle.net_bundle.specs.Writing.{AllFit}
 use Rattle.packet_runs.specs.Reports.{IsReport}
-use Rattle.command_line.specs.Command.{Command, compile, step, forward}
+use Rattle.command_line.specs.Command.{Command, check, compile, step, forward}
 use Rattle.command_reports.specs.FileNames.{FileNames}
 use Rattle.command_reports.specs.Report.{success}
 use Rattle.command_reports.specs.declared.files.CommandFile.TheVariants.{Case}
 use Rattle.command_reports.specs.declared.report.Report.{Report}
 use Rattle.cocoon_cli.specs.Compiling.{Compiles}
 use Rattle.cocoon_cli.specs.Answering.{PlansBy}
-use Rattle.cocoon_cli.specs.ReportLines.{sent_text, totals_line, totals_of}
-use Rattle.cocoon_cli.specs.Steps.{Inputs, OfBoth, OfDesign, OfDefinitions, OfFiles, OfNetwork, OfPackets, OfText, Step, design_reads, design_well_formed, design_within, design_accepted, definitions_read, definitions_fit, definitions_within, lowering_within, assumptions_met, level_there, lines_formed, packets_judged, copies_within, bundle_within, bundle_written}
+use Rattle.cocoon_cli.specs.ReportLines.{checked_line, sent_text, totals_line, totals_of}
+use Rattle.cocoon_cli.specs.Steps.{Inputs, OfBoth, OfDesign, OfDefinitions, OfFiles, OfNetwork, OfPackets, OfText, Step, design_reads, design_well_formed, design_within, definitions_read, definitions_fit, definitions_within, lowering_within, assumptions_met, trees_within, obligations_hold, level_there, lines_formed, packets_judged, copies_within, bundle_within, bundle_written}
 use Rattle.cocoon_cli.specs.Writing.{Writing, nothing, bundle}
 use Rattle.cocoon_cli.specs.declared.answer.Answer.{Answer}
 use Rattle.cocoon_cli.specs.declared.answer.Writing.{Writing as Written}
@@ -27,6 +29,14 @@ use Rattle.cocoon_cli.specs.declared.reading.Read.{Read}
 
 -- the files that it has; all but a bundle that it writes are read
 abbrev pub files_of : Command → FileNames
+files_of (check design conflicts) = record {
+  design = Some design;
+  definitions = None;
+  case = None;
+  packets = None;
+  bundle = None;
+  reads_bundle = false;
+}
 files_of (compile design defs out conflicts) = record {
   design = Some design;
   definitions = Some defs;
@@ -52,29 +62,42 @@ files_of (forward out packets hops) = record {
   reads_bundle = true;
 }
 
--- the steps on a design, whether the compiler takes it if that is asked, and on definitions that fit it
-abbrev pub text_steps : (taken : List Step) → List Step → List Step
-text_steps taken rest =
-    design_reads ∷ design_well_formed ∷ design_within ∷ (taken
-    ++ (definitions_read ∷ definitions_fit ∷ definitions_within ∷ rest))
+-- the steps on a design, and those after them
+abbrev pub design_steps : List Step → List Step
+design_steps rest = design_reads ∷ design_well_formed ∷ design_within ∷ rest
+
+-- the steps on a design and on definitions that fit it, and those after them
+abbrev pub text_steps : List Step → List Step
+text_steps rest =
+    design_steps (definitions_read ∷ definitions_fit ∷ definitions_within ∷ rest)
+
+-- the steps on what the blocks of a design owe, and those after them
+abbrev pub owed_steps : (conflicts : ℕ) → List Step → List Step
+owed_steps conflicts rest = trees_within ∷ obligations_hold conflicts ∷ rest
 
 -- what it asks of what was read
 abbrev pub asks : Command → List Step
+asks (check design conflicts) = design_steps (owed_steps conflicts [])
 asks (compile design defs out conflicts) =
-    text_steps (design_accepted ∷ []) (assumptions_met conflicts ∷ lowering_within ∷ [])
-asks (step design defs level file) = text_steps [] (level_there level ∷ lines_formed level ∷ [])
+    text_steps (assumptions_met conflicts ∷ owed_steps conflicts (lowering_within ∷ []))
+asks (step design defs level file) = text_steps (level_there level ∷ lines_formed level ∷ [])
 asks (forward out packets hops) = packets_judged out ∷ copies_within out hops ∷ []
 
 -- its steps of writing
 abbrev pub writes : Command → List Step
+writes (check design conflicts) = []
 writes (compile design defs out conflicts) = bundle_within ∷ bundle_written ∷ []
 writes (step design defs level file) = []
 writes (forward out packets hops) = []
 
 -- its report, where all steps are good
 abbrev pub Reports : Command → Inputs → Report → Type 0
-Reports (compile design defs out conflicts) inputs report =
-    OfNetwork inputs (λ net. report ≡ success (totals_line (totals_of net)))
+Reports (check name conflicts) inputs report =
+    OfDesign inputs (λ _ design. report
+    ≡ success (checked_line (last_level design + 1) (length (all_obligations design))))
+Reports (compile name defs_name out conflicts) inputs report =
+    OfNetwork inputs (λ design net.
+    report ≡ success (totals_line (totals_of (length (all_obligations design)) net)))
 Reports (step design defs level file) inputs report =
     OfBoth inputs (λ d entries. OfText inputs Case (λ text.
     (case : cases.Case) × (sent : Option Sent) × (case_of level d text ≡ Ok case)
@@ -85,6 +108,7 @@ Reports (forward out file hops) inputs report =
 
 -- what it writes, where all steps are good
 abbrev pub Writes : Command → Inputs → Writing → Type 0
+Writes (check design conflicts) inputs w = w ≡ nothing
 Writes (compile design defs out conflicts) inputs w =
     OfFiles inputs (λ files. AllFit files × (w ≡ bundle out files))
 Writes (step design defs level file) inputs w = w ≡ nothing
@@ -92,6 +116,7 @@ Writes (forward out packets hops) inputs w = w ≡ nothing
 
 -- what its answer says is written where all steps are good, of what was read
 abbrev pub PlansDone : Command → Read → Written → Type 0
+PlansDone (check design conflicts) read w = w ≡ written.Nothing
 PlansDone (compile design defs out conflicts) read w =
     Compiles out read.design.items read.definitions.items w
 PlansDone (step design defs level file) read w = w ≡ written.Nothing

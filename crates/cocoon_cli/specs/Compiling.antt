@@ -1,13 +1,15 @@
 -- Cited by the clauses of compile.rt. The network that is made of the two texts of a `compile`, or why
 -- there is none.
-use Rattle.std.specs.Prelude.{◌≡◌, ◌⊎◌, ℕ, List}
+use Rattle.std.specs.Prelude.{◌≡◌, ℕ, List}
 use Rattle.cocoon_num.specs.Tree.{Design}
 use Rattle.cocoon_types.specs.Design.{last_level}
 use Rattle.cocoon_types.specs.Tables.{defs_of}
 use Rattle.lowered.specs.Delivers.{DeliversWithin}
+use Rattle.obligation_gen.specs.Counted.{AreFew, all_counts}
 use Rattle.p4_ir.specs.NetOf.{net_of}
 use Rattle.p4_ir.specs.NetTree.{NetData}
 use Rattle.refinement.specs.Assumptions.{Meets}
+use Rattle.refinement.specs.Owed.{Refines}
 use Rattle.runtime_defs.specs.Places.{Places}
 use Rattle.lower_p4.specs.LowerLimits.{IsOver, IsWithin}
 use Rattle.lower_p4.specs.Lowering.{IsLowering}
@@ -19,39 +21,33 @@ use Rattle.cocoon_cli.specs.declared.answer.Writing.{Writing}
 use Rattle.cocoon_cli.specs.declared.answer.Writing.TheVariants as written
 use Rattle.command_reports.specs.declared.files.CommandFile.{CommandFile}
 use Rattle.command_reports.specs.declared.files.CommandFile.TheVariants.{Bundle}
-use Rattle.command_reports.specs.declared.refusal.InputFault.TheVariants.{NotYet}
 use Rattle.command_reports.specs.declared.refusal.Refusal.{Refusal}
-use Rattle.command_reports.specs.declared.refusal.Refusal.TheVariants.{Language, OverLimit, TooLong, NoMemory}
-use Rattle.cocoon_cli.specs.Built.{IsBuilt}
-use Rattle.design_texts.specs.DesignTexts.{BindsTables, NotBound, NotChecked, NotReadAfter, ReadsChecked}
+use Rattle.command_reports.specs.declared.refusal.Refusal.TheVariants.{OverLimit, TooLong, NoMemory}
+use Rattle.design_texts.specs.DesignTexts.{BindsTables}
 
--- `compile` takes the design, the definitions meet its assumptions, this is the network of both, and
--- what it delivers the topmost specification may make
+-- no tree of the design has too many leaves, each of its blocks keeps what it owes, the definitions meet
+-- its assumptions, this is the network of both, and what it delivers the topmost specification may make
 pub record LowersTexts (design defs : List ℕ) (net : NetData) : Type 0 where
   pub tree : Design
   pub tables : Places
   pub binds : BindsTables design defs tree tables
-  pub built : IsBuilt tree
+  pub few : AreFew (all_counts tree)
+  pub refines : Refines tree
   pub met : Meets (last_level tree) tree (defs_of tree binds.entries)
   pub within : IsWithin tree binds.entries
   pub lowers : Lowers tree binds.entries net
   pub lowering : IsLowering tree binds.entries net
   pub stays : DeliversWithin net tree (defs_of tree binds.entries)
 
+-- and of this design
+abbrev pub LowersDesign : (design defs : List ℕ) → Design → NetData → Type 0
+LowersDesign design defs tree net = (made : LowersTexts design defs net) × (made.tree ≡ tree)
+
 -- this is written: the bundle of that network under the given name
 abbrev pub Compiles : (out design defs : List ℕ) → Writing → Type 0
 Compiles out design defs (written.Bundle name net) =
     (name.now ≡ out) × LowersTexts design defs (net_of net)
 Compiles out design defs w = ⊥
-
--- why `compile` does not take a design that is read
-abbrev pub NotTaken : (design : List ℕ) → Refusal → Type 0
-NotTaken design (Language NotYet) = (tree : Design) × ReadsChecked design tree × (¬ IsBuilt tree)
-NotTaken design _ = ⊥
-
--- why there is no design that `compile` takes
-abbrev pub NotAccepted : (design : List ℕ) → Refusal → Type 0
-NotAccepted design refusal = NotChecked design refusal ⊎ NotTaken design refusal
 
 -- of the files of the switches of their network, this is the first that is over its limit
 pub record LongFile (design defs : List ℕ) (file : CommandFile) (most : ℕ) : Type 0 where
@@ -66,7 +62,7 @@ pub record LongFile (design defs : List ℕ) (file : CommandFile) (most : ℕ) :
   pub within : IsWithin tree binds.entries
   pub long : FirstOver (all_switch_files net.switches) first
 
--- why no network is made of a design that `compile` takes and definitions that fit it
+-- why no network is made of a design and definitions that fit it
 abbrev pub NotLowered : (design defs : List ℕ) → Refusal → Type 0
 NotLowered design defs (TooLong file most) = LongFile design defs file most
 NotLowered design defs (OverLimit limit count) =
@@ -74,14 +70,3 @@ NotLowered design defs (OverLimit limit count) =
     × IsOver tree binds.entries limit count
 NotLowered design defs NoMemory = Unit {0}
 NotLowered design defs _ = ⊥
-
--- `compile` takes the design of the text
-abbrev pub IsAccepted : (design : List ℕ) → Type 0
-IsAccepted design = (tree : Design) × ReadsChecked design tree × IsBuilt tree
-
--- why there are no two texts of which a network may be made: of the definitions only where `compile`
--- takes the design
-abbrev pub NotAcceptedTexts : (design defs : List ℕ) → Refusal → Type 0
-NotAcceptedTexts design defs refusal =
-    NotAccepted design refusal
-    ⊎ (IsAccepted design × (NotReadAfter design defs refusal ⊎ NotBound design defs refusal))

@@ -1,31 +1,26 @@
 -- Cited by the clauses of assumptions.rt and compile.rt. What is answered of the assumptions of a design under its
 -- tables: nothing where all are met, the answer of a search that was given up, or why `compile` stops.
-use Rattle.std.specs.Prelude.{◌≡◌, ℕ, List, Option, Some, None, codes}
+use Rattle.std.specs.Prelude.{◌≡◌, ℕ, Option, Some, None, codes}
 use Rattle.certificates.specs.CertsOf.{log_of}
 use Rattle.cnf_core.specs.declared.log.Log.{Log}
 use Rattle.cocoon_num.specs.Tree.{Design}
 use Rattle.cocoon_num.specs.declared.limit_name.LimitName.TheVariants.{Clauses}
 use Rattle.defs_text.specs.Places.{defs_text}
 use Rattle.runtime_defs.specs.Places.{Places}
-use Rattle.budget_text.specs.BudgetJson.{IsBudgetFile}
 use Rattle.budget_text.specs.Spent.{given}
 use Rattle.discharge.specs.Answering.{Answers}
 use Rattle.discharge.specs.declared.meeting.Met.TheVariants as met
-use Rattle.command_reports.specs.Report.{given_up}
-use Rattle.command_reports.specs.declared.files.CommandFile.TheVariants.{Budget}
 use Rattle.command_reports.specs.declared.refusal.Refusal.{Refusal}
 use Rattle.command_reports.specs.declared.refusal.Refusal.TheVariants.{Broken, OverLimit, NoMemory}
+use Rattle.cocoon_cli.specs.Answering.{TellsSpent}
 use Rattle.cocoon_cli.specs.ReportLines.{budget_line}
 use Rattle.cocoon_cli.specs.declared.answer.Answer.{Answer}
-use Rattle.cocoon_cli.specs.declared.answer.Writing.TheVariants as written
 
 -- the answer tells of conflicts that were spent on the assumption of this number, and writes the file of that
-pub record TellsSpent (d : Design) (tables : Places) (conflicts number : ℕ) (log : Log) (answer : Answer)
-    : Type 0 where
-  pub told : answer.report ≡ given_up (budget_line conflicts (codes "assumption") number)
-  pub bytes : List ℕ
-  pub written : answer.writing ≡ written.Own Budget bytes
-  pub file : IsBudgetFile (given number (defs_text d tables) (log_of log)) bytes
+abbrev pub TellsAssumption : Design → Places → (conflicts number : ℕ) → Log → Answer → Type 0
+TellsAssumption d tables conflicts number log answer =
+    TellsSpent (budget_line conflicts (codes "assumption") number)
+    (given number (defs_text d tables) (log_of log)) answer
 
 -- the search for one assumption was given up
 pub record AnswersSpent (d : Design) (tables : Places) (conflicts : ℕ) (answer : Answer) : Type 0 where
@@ -33,7 +28,7 @@ pub record AnswersSpent (d : Design) (tables : Places) (conflicts : ℕ) (answer
   pub vars : ℕ
   pub log : Log
   pub spent : Answers d tables conflicts (met.SpentConflicts number vars log)
-  pub tells : TellsSpent d tables conflicts number log answer
+  pub tells : TellsAssumption d tables conflicts number log answer
 
 -- nothing where the definitions meet all
 abbrev pub AnswersUnmet : Design → Places → (conflicts : ℕ) → Option Answer → Type 0

@@ -16,7 +16,7 @@ use Rattle.p4_ir.specs.NetTree.{NetData}
 use Rattle.net_bundle.specs.BundleNames.{digest_of}
 use Rattle.net_bundle.specs.Network.{Network, InBundle}
 use Rattle.lowered.specs.Delivers.{DeliversExactly, DeliversWithin}
-use Rattle.command_line.specs.Command.{Command, compile, step, forward}
+use Rattle.command_line.specs.Command.{Command, check, compile, step, forward}
 use Rattle.command_line.specs.Words.{command}
 
 -- What the files hold `after` a `compile` of the design and the definitions that stood in the files
@@ -51,6 +51,7 @@ none_besides name = ⊥
 -- the same of a command; of one that compiles nothing there is nothing to say
 abbrev pub CompiledOf : Option Command → Option Files → Option Files → Type 0
 CompiledOf None before after = ⊥
+CompiledOf (Some (check design conflicts)) before after = Unit {0}
 CompiledOf (Some (compile design defs out conflicts)) None after = Unit {0}
 CompiledOf (Some (compile design defs out conflicts)) (Some before) None = ⊥
 CompiledOf (Some (compile design defs out conflicts)) (Some before) (Some after) =

@@ -1,9 +1,10 @@
 pub mod ReportLines
 pub mod Assumed
-pub mod Built
+pub mod Owing
 pub mod Compiling
 pub mod Stepping
 pub mod Deciding
+pub mod Refining
 pub mod Forwarding
 pub mod Reading
 pub mod Steps
@@ -13,5 +14,6 @@ pub mod Commands
 pub mod Outcomes
 pub mod Leaves
 pub mod Headline
+pub mod Checked
 pub mod Run
 pub mod Shell

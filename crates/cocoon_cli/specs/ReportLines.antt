@@ -1,4 +1,4 @@
--- Cited by the clauses of compile.rt, assumptions.rt and step.rt, and through Outcomes.antt by `keeps` of `run`. The
+-- Cited by the clauses of the commands and of answer.rt, and through Outcomes.antt by `keeps` of `run`. The
 -- reports of commands that succeed, and of searches that are given up. It follows "Reports" in docs/FORMATS.md.
 use Rattle.std.specs.Prelude.{ℕ, List, [], ◌∷◌, ◌++◌, length, Option, Some, None, codes, decimal}
 use Rattle.p4_ir.specs.NetTree.{NetData}
@@ -6,24 +6,38 @@ use Rattle.case_runs.specs.declared.sent.Sent.{Sent}
 use Rattle.command_reports.specs.Report.{list_text}
 use Rattle.cocoon_cli.specs.declared.compile.Totals.{Totals}
 
--- how many switches, hosts and links a network has
-abbrev pub totals_of : NetData → Totals
-totals_of net = record {
+-- that of a design with so many levels whose obligations hold
+abbrev pub checked_line : (levels obligations : ℕ) → List ℕ
+checked_line levels obligations =
+    codes "ok levels " ++ (decimal levels ++ (codes " obligations " ++ (decimal obligations
+    ++ codes "\n")))
+
+-- how many switches, hosts and links a network has, whose design has so many obligations
+abbrev pub totals_of : (obligations : ℕ) → NetData → Totals
+totals_of obligations net = record {
   switches = length net.switches;
   hosts = length net.hosts;
   links = length net.links;
+  obligations = obligations;
 }
 
 abbrev pub totals_line : Totals → List ℕ
 totals_line t =
     codes "compiled switches " ++ (decimal t.switches ++ (codes " hosts " ++ (decimal t.hosts
-    ++ (codes " links " ++ (decimal t.links ++ codes " obligations 0\n")))))
+    ++ (codes " links " ++ (decimal t.links ++ (codes " obligations " ++ (decimal t.obligations
+    ++ codes "\n")))))))
 
--- that of a search that was given up: the conflicts of one search, and what it was about, by its kind and number
+-- that of a search on which conflicts were spent: the most of one search, and what it was about, by its kind and number
 abbrev pub budget_line : (conflicts : ℕ) → (kind : List ℕ) → (number : ℕ) → List ℕ
 budget_line conflicts kind number =
     codes "budget conflicts " ++ (decimal conflicts ++ (codes " " ++ (kind ++ (codes " "
     ++ (decimal number ++ codes "\n")))))
+
+-- that of an obligation on which rounds were spent, and how many
+abbrev pub rounds_line : (rounds number : ℕ) → List ℕ
+rounds_line rounds number =
+    codes "budget rounds " ++ (decimal rounds ++ (codes " obligation " ++ (decimal number
+    ++ codes "\n")))
 
 -- ROLE VALUES : FIELDS
 abbrev pub sent_line : Sent → List ℕ

@@ -6,7 +6,7 @@ use Rattle.std.specs.Prelude.{◌≡◌, ◌≤◌, ◌<◌, ℕ, suc, Bool, tru
 use Rattle.cocoon_num.specs.Lists.{first_of}
 use Rattle.cocoon_num.specs.Tree as tree
 use Rattle.cocoon_num.specs.declared.limit_name.LimitName.{LimitName}
-use Rattle.cocoon_num.specs.declared.limit_name.LimitName.TheVariants.{Rows, Packet as PacketLimit, Copies, Clauses}
+use Rattle.cocoon_num.specs.declared.limit_name.LimitName.TheVariants.{Rows, Packet as PacketLimit, Copies, Clauses, Leaves}
 use Rattle.cocoon_num.specs.Reads.{Reads, ReadsDefs}
 use Rattle.cocoon_num.specs.FirstFaults.{BeginsDesign, BeginsDefs}
 use Rattle.cocoon_text.specs.Positions.{token_position}
@@ -14,7 +14,7 @@ use Rattle.cocoon_text.specs.TextFaults.{FirstFault}
 use Rattle.cocoon_text.specs.declared.fault.TextFault.{TextFault}
 use Rattle.cocoon_types.specs.DefsRules.{DefsFault, DefsFit, defs_faults}
 use Rattle.cocoon_types.specs.FirstFault as rules
-use Rattle.cocoon_types.specs.Limits.{WithinLimits}
+use Rattle.cocoon_types.specs.Limits.{WithinLimits, first_above, reported}
 use Rattle.cocoon_types.specs.RuleNames.{fault_at}
 use Rattle.cocoon_types.specs.Rules.{WellFormed}
 use Rattle.cocoon_types.specs.declared.fault.TypeRule.{TypeRule}
@@ -32,13 +32,16 @@ use Rattle.packet_runs.specs.Stopping.{AllWithin, SomeOver}
 use Rattle.net_bundle.specs.Bundle.{MadeFile, bundle}
 use Rattle.net_bundle.specs.Writing.{AllFit, FirstOver, most_of}
 use Rattle.net_bundle.specs.declared.file.BundleFile.{BundleFile}
+use Rattle.hop_inline.specs.Counted.{most_leaves}
+use Rattle.obligation_gen.specs.Counted.{AreFew, all_counts}
 use Rattle.refinement.specs.Assumptions.{Meets}
+use Rattle.refinement.specs.Owed.{Refines}
 use Rattle.runtime_defs.specs.Bound.{most_rows, row_count}
 use Rattle.lower_p4.specs.Lowers.{Lowers}
 use Rattle.lower_p4.specs.LowerLimits.{IsOver, IsWithin}
 use Rattle.command_reports.specs.declared.files.CommandFile.{CommandFile}
 use Rattle.command_reports.specs.declared.files.CommandFile.TheVariants.{Design, Definitions, Bundle, Case, Packets, Budget}
-use Rattle.command_reports.specs.declared.refusal.InputFault.TheVariants.{NoTree, Rule, NotYet}
+use Rattle.command_reports.specs.declared.refusal.InputFault.TheVariants.{NoTree, Rule}
 use Rattle.command_reports.specs.declared.refusal.DefinitionsFault.TheVariants as definitions
 use Rattle.command_reports.specs.declared.refusal.Refusal.{Refusal}
 use Rattle.command_reports.specs.declared.refusal.Refusal.TheVariants as refusal
@@ -50,7 +53,8 @@ use Rattle.case_file.specs.Cases.{case_of}
 use Rattle.cocoon_types.specs.Design.{last_level}
 use Rattle.cocoon_types.specs.Tables.{defs_of}
 use Rattle.cocoon_cli.specs.Assumed.{IsBig, IsBroken, IsSpent}
-use Rattle.cocoon_cli.specs.Built.{IsBuilt}
+use Rattle.cocoon_cli.specs.Owing as owing
+use Rattle.cocoon_cli.specs.Owing.{IsGivenUpOn}
 use Rattle.cocoon_cli.specs.ReportLines.{budget_line}
 use Rattle.design_texts.specs.DesignTexts.{told}
 
@@ -65,12 +69,16 @@ pub data Step : Type 0 where
   is_there : (file : CommandFile) → Step
   -- it has at most so many bytes
   is_within : (file : CommandFile) (most : ℕ) → Step
-  -- the design reads as a tree, keeps the rules, is within the limits, and `compile` takes it
-  design_reads design_well_formed design_within design_accepted : Step
+  -- the design reads as a tree, keeps the rules, and is within the limits
+  design_reads design_well_formed design_within : Step
   -- the definitions read as a tree, fit the design, and are within the limit on rows
   definitions_read definitions_fit definitions_within : Step
   -- the definitions meet the assumptions of all levels, each decided by a search of so many conflicts
   assumptions_met : (conflicts : ℕ) → Step
+  -- no tree of the design has too many leaves
+  trees_within : Step
+  -- each block of the design keeps what it owes, decided for each obligation by a search of so many conflicts
+  obligations_hold : (conflicts : ℕ) → Step
   -- the network is within the limits
   lowering_within : Step
   -- the level is one of the design
@@ -117,10 +125,10 @@ abbrev pub OfBoth : Inputs → (tree.Design → tree.DefsText → Type 0) → Ty
 OfBoth inputs Holds =
     OfDesign inputs (λ _ design. OfDefinitions inputs (λ _ defs. Holds design defs))
 
--- this holds of the network that the compiler makes of both
-abbrev pub OfNetwork : Inputs → (NetData → Type 0) → Type 0
+-- this holds of the design, and of the network that the compiler makes of both
+abbrev pub OfNetwork : Inputs → (tree.Design → NetData → Type 0) → Type 0
 OfNetwork inputs Holds =
-    OfBoth inputs (λ design defs. (net : NetData) × Lowers design defs net × Holds net)
+    OfBoth inputs (λ design defs. (net : NetData) × Lowers design defs net × Holds design net)
 
 -- this holds of the files of its bundle
 abbrev pub OfFiles : Inputs → (List MadeFile → Type 0) → Type 0
@@ -150,12 +158,13 @@ IsGood inputs (is_within file most) = OfText inputs file (λ text. length text �
 IsGood inputs design_reads = OfDesign inputs (λ _ _. Unit {0})
 IsGood inputs design_well_formed = OfDesign inputs (λ _ design. WellFormed design)
 IsGood inputs design_within = OfDesign inputs (λ _ design. WithinLimits design)
-IsGood inputs design_accepted = OfDesign inputs (λ _ design. IsBuilt design)
 IsGood inputs definitions_read = OfDefinitions inputs (λ _ _. Unit {0})
 IsGood inputs definitions_fit = OfBoth inputs DefsFit
 IsGood inputs definitions_within = OfDefinitions inputs (λ _ defs. row_count defs ≤ most_rows)
 IsGood inputs (assumptions_met conflicts) =
     OfBoth inputs (λ design defs. Meets (last_level design) design (defs_of design defs))
+IsGood inputs trees_within = OfDesign inputs (λ _ design. AreFew (all_counts design))
+IsGood inputs (obligations_hold conflicts) = OfDesign inputs (λ _ design. Refines design)
 IsGood inputs lowering_within =
     OfBoth inputs (λ design defs.
     (net : NetData) × Lowers design defs net × IsWithin design defs)
@@ -192,8 +201,6 @@ Refuses inputs design_well_formed r =
 Refuses inputs design_within r =
     OfDesign inputs (λ _ design. (limit : LimitName) × (count : ℕ)
     × IsFirstOver design (Some (limit, count)) × (r ≡ refusal.OverLimit limit count))
-Refuses inputs design_accepted r =
-    OfDesign inputs (λ _ design. (¬ IsBuilt design) × (r ≡ refusal.Language NotYet))
 Refuses inputs definitions_read r =
     OfText inputs Definitions (λ text. (fault : TextFault) × FirstFault BeginsDefs text fault
     × (r ≡ refusal.Definitions (definitions.NoTree fault)))
@@ -207,6 +214,11 @@ Refuses inputs definitions_within r =
 Refuses inputs (assumptions_met conflicts) r =
     OfBoth inputs (λ design defs. (number : ℕ) × (values : List ℕ)
     × IsBroken design (defs_of design defs) number values × (r ≡ refusal.Broken number values))
+Refuses inputs trees_within r =
+    OfDesign inputs (λ _ design. (count : ℕ)
+    × (first_above most_leaves (all_counts design) ≡ Some count)
+    × (r ≡ refusal.OverLimit Leaves (reported count)))
+Refuses inputs (obligations_hold conflicts) r = ⊥
 Refuses inputs lowering_within r =
     OfBoth inputs (λ design defs. (limit : LimitName) × (count : ℕ)
     × IsOver design defs limit count × (r ≡ refusal.OverLimit limit count))
@@ -246,6 +258,7 @@ Decides inputs s (Err r) = Refuses inputs s r
 -- that are alike, or be given up.
 abbrev pub is_searched : Step → Bool
 is_searched (assumptions_met conflicts) = true
+is_searched (obligations_hold conflicts) = true
 is_searched s = false
 
 -- a search spent what it may spend: this is reported, and these are the bytes of the file of that
@@ -253,12 +266,17 @@ abbrev pub Spends : Inputs → Step → Report → (bytes : List ℕ) → Type 0
 Spends inputs (assumptions_met conflicts) report bytes =
     OfBoth inputs (λ design defs. (number : ℕ) × IsSpent design defs conflicts number bytes
     × (report ≡ given_up (budget_line conflicts (codes "assumption") number)))
+Spends inputs (obligations_hold conflicts) report bytes =
+    OfDesign inputs (λ _ design. IsGivenUpOn design conflicts report bytes)
 Spends inputs s report bytes = ⊥
 
 -- a query is too large to be searched
 abbrev pub IsTooLarge : Inputs → Step → Refusal → Type 0
 IsTooLarge inputs (assumptions_met conflicts) r =
     OfBoth inputs (λ design defs. (number : ℕ) × (count : ℕ) × IsBig design defs number count
+    × (r ≡ refusal.OverLimit Clauses count))
+IsTooLarge inputs (obligations_hold conflicts) r =
+    OfDesign inputs (λ _ design. (number : ℕ) × (count : ℕ) × owing.IsBig design number count
     × (r ≡ refusal.OverLimit Clauses count))
 IsTooLarge inputs s r = ⊥
 
@@ -274,5 +292,9 @@ Stops inputs (bundle_reads out) r = (file : BundleFile) × (r ≡ refusal.ReadFa
 Stops inputs (assumptions_met conflicts) r =
     (r ≡ refusal.WriteFault Budget)
     × ((report : Report) × (bytes : List ℕ) × Spends inputs (assumptions_met conflicts) report bytes)
+Stops inputs (obligations_hold conflicts) r =
+    (r ≡ refusal.WriteFault Budget)
+    × ((report : Report) × (bytes : List ℕ)
+    × Spends inputs (obligations_hold conflicts) report bytes)
 Stops inputs bundle_written r = (file : BundleFile) × (r ≡ refusal.WriteFault (Bundle file))
 Stops inputs s r = ⊥

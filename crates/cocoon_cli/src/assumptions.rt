@@ -1,27 +1,17 @@
 //! The assumptions of a design, each decided by a search under the definitions.
-ghost use Rattle.std.specs.Prelude.{◌≡◌, ◌≤◌, ◌<◌, ◌^◌, IfErr, IfOk, string_bytes};
+ghost use Rattle.std.specs.Prelude.{◌≤◌, ◌<◌, ◌^◌, IfErr, IfOk};
 ghost use Rattle.cocoon_syntax.specs.TreeOf.{design_of};
 ghost use Rattle.runtime_defs.specs.Fitting.{FitsDesign};
-ghost use Rattle.cocoon_cli.specs.Deciding.{AnswersUnmet, NotMet, TellsSpent};
-ghost use Rattle.cocoon_cli.specs.ReportLines.{budget_line};
+ghost use Rattle.cocoon_cli.specs.Deciding.{AnswersUnmet, NotMet, TellsAssumption};
 
-use crate::answer::{Answer, Writing};
+use crate::answer::{Answer, budget_line};
 use budget_text::given_file;
 use cnf_core::Log;
-use cocoon_num::{LimitName, List, NoMemory};
-use command_reports::{CommandFile, Refusal, Report};
+use cocoon_num::{LimitName, NoMemory};
+use command_reports::Refusal;
 use design_texts::Bound;
 use discharge::{Budget, Met, meets};
 use std::alloc::Global;
-
-/// The line of a search that was given up: the conflicts of one search, and what it was about, by its
-/// kind and number.
-fn budget_line(alloc: Global, conflicts: u32, kind: &str, number: u32) -> Result<String, NoMemory>
-    ensures { IfOk result (λ line.
-        string_bytes line ≡ budget_line conflicts kind.now number) }
-{
-    Ok(format!(in alloc; "budget conflicts {conflicts} {kind} {number}\n")?)
-}
 
 /// The answer where conflicts were spent on the assumption of this number.
 fn spent_answer<'w>(
@@ -32,15 +22,12 @@ fn spent_answer<'w>(
     log: &Log,
 ) -> Result<Answer<'w>, NoMemory>
     requires { FitsDesign (design_of bound.now.checked) bound.now.defs }
-    ensures { IfOk result (λ answer. TellsSpent (design_of bound.now.checked) bound.now.defs
+    ensures { IfOk result (λ answer. TellsAssumption (design_of bound.now.checked) bound.now.defs
         conflicts number log.now answer) }
 {
     let line = budget_line(alloc, conflicts, "assumption", number)?;
     let file = given_file(alloc, &bound.checked, number, &bound.defs, log)?;
-    Ok(Answer {
-        report: Report::given_up(line.into_bytes()),
-        writing: Writing::Own(CommandFile::Budget, List::from(file)),
-    })
+    Ok(Answer::given_up(line, file))
 }
 
 /// What is answered of the assumptions of all levels: nothing if the definitions meet them all. They are

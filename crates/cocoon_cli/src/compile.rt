@@ -1,18 +1,19 @@
-//! `compile`: a network is made of a design and definitions that meet its assumptions, and its bundle is
-//! written.
-ghost use Rattle.std.specs.Prelude.{◌≡◌, ◌≤◌, ◌<◌, ◌↔◌, ◌^◌, ℕ, IfErr, IfOk, IsTrue, List, Some, length, string_bytes};
+//! `compile`: a network is made of a design whose blocks keep what they owe, and definitions that meet
+//! its assumptions, and its bundle is written.
+ghost use Rattle.std.specs.Prelude.{◌≡◌, ◌≤◌, ◌<◌, ◌^◌, ℕ, IfErr, IfOk, List, Some, length, string_bytes};
 ghost use Rattle.cocoon_syntax.specs.TreeOf.{design_of};
 ghost use Rattle.cocoon_types.specs.Design.{last_level};
 ghost use Rattle.command_line.specs.Command as spec;
 ghost use Rattle.command_line.specs.Subcommands.{most_conflicts};
 ghost use Rattle.discharge.specs.Meeting.{OfTables};
+ghost use Rattle.obligation_gen.specs.Counted.{AreFew, all_counts};
 ghost use Rattle.p4_ir.specs.NetOf.{net_of};
 ghost use Rattle.refinement.specs.Assumptions.{Meets};
+ghost use Rattle.refinement.specs.Owed.{Refines};
 ghost use Rattle.runtime_defs.specs.Fitting.{FitsDesign};
 ghost use Rattle.cocoon_cli.specs.Answering.{PlansBy};
-ghost use Rattle.cocoon_cli.specs.Built.{IsBuilt};
-ghost use Rattle.cocoon_cli.specs.Compiling.{Compiles, LowersTexts, NotAccepted, NotAcceptedTexts, NotLowered};
-ghost use Rattle.design_texts.specs.DesignTexts.{BindsTables, ReadsChecked};
+ghost use Rattle.cocoon_cli.specs.Compiling.{Compiles, LowersDesign, NotLowered};
+ghost use Rattle.design_texts.specs.DesignTexts.{BindsTables};
 ghost use Rattle.cocoon_cli.specs.ReportLines.{totals_line, totals_of};
 ghost use Rattle.cocoon_cli.specs.Shell.{Asked, IsQuiet};
 ghost use Rattle.cocoon_cli.specs.Steps.{Inputs};
@@ -21,72 +22,34 @@ ghost use Rattle.command_reports.specs.declared.files.CommandFile.TheVariants.{D
 use crate::answer::{Answer, Writing};
 use crate::assumptions::unmet;
 use crate::laws::deliveries_stay_within;
+use crate::obligations::{Refined, decide_all};
 use cocoon_num::NoMemory;
-use cocoon_resolve::Checked;
 use command_line::Compile;
-use command_reports::{InputFault, Refusal, Report};
-use design_texts::{Bound, bind_text, read_checked};
+use command_reports::{Refusal, Report};
+use design_texts::{Bound, bound_texts};
 use lower_p4::{LowerFault, lower};
 use net_bundle::laws::rows_are_long;
 use net_bundle::{BundleFault, BundleFile};
 use p4_ir::NetData;
-use refinement::laws::one_level_owes_nothing;
 use sound_types::laws::code_literals_fit;
 use std::alloc::Global;
 
-/// Whether `compile` takes the design: it has one level.
-fn is_built(checked: &Checked) -> bool
-    ensures { IsTrue result ↔ IsBuilt (design_of checked.now) }
-{
-    checked.levels() == 1
-}
-
-/// The design of a text, where `compile` takes it, too.
-fn read_accepted(alloc: Global, text: &[u8]) -> Result<Checked, Refusal>
-    requires { length text.now < 2 ^ 31 }
-    ensures reads { IfOk result (λ c. ReadsChecked text.now (design_of c)) }
-    ensures built { IfOk result (λ c. IsBuilt (design_of c)) }
-    ensures refused { IfErr result (NotAccepted text.now) }
-{
-    let checked = read_checked(alloc, text)?;
-    if is_built(&checked) {
-        Ok(checked)
-    } else {
-        Err(Refusal::Language(InputFault::NotYet))
-    }
-}
-
-/// A design that `compile` takes, with definitions that fit it. The design is judged first, and whether
-/// `compile` takes it.
-fn accepted_texts(alloc: Global, design: &[u8], defs: &[u8]) -> Result<Bound, Refusal>
-    requires small { length design.now < 2 ^ 31 }
-    requires small_too { length defs.now < 2 ^ 31 }
-    ensures binds { IfOk result (λ b.
-        BindsTables design.now defs.now (design_of b.checked) b.defs) }
-    ensures built { IfOk result (λ b. IsBuilt (design_of b.checked)) }
-    ensures refused { IfErr result (NotAcceptedTexts design.now defs.now) }
-{
-    let checked = read_accepted(alloc, design)?;
-    let defs = bind_text(alloc, &checked, defs)?;
-    Ok(Bound { checked, defs })
-}
-
-/// The network of a design that `compile` takes, and definitions that meet its assumptions.
+/// The network of a design whose blocks keep what they owe, and definitions that meet its assumptions.
 fn lower_bound(alloc: Global, bound: &Bound) -> Result<NetData, Refusal>
     requires fit { FitsDesign (design_of bound.now.checked) bound.now.defs }
-    requires built { IsBuilt (design_of bound.now.checked) }
+    requires few { AreFew (all_counts (design_of bound.now.checked)) }
+    requires refines { Refines (design_of bound.now.checked) }
     requires met { OfTables (design_of bound.now.checked) bound.now.defs
         (Meets (last_level (design_of bound.now.checked)) (design_of bound.now.checked)) }
     ensures lowers { IfOk result (λ net. (design defs : List ℕ)
         → BindsTables design defs (design_of bound.now.checked) bound.now.defs
-        → LowersTexts design defs (net_of net)) }
+        → LowersDesign design defs (design_of bound.now.checked) (net_of net)) }
     ensures refused { IfErr result (λ refusal. (design defs : List ℕ)
         → BindsTables design defs (design_of bound.now.checked) bound.now.defs
         → NotLowered design defs refusal) }
 {
     code_literals_fit();
     deliveries_stay_within();
-    one_level_owes_nothing();
     rows_are_long();
     match lower(alloc, &bound.checked, &bound.defs) {
         Ok(net) => Ok(net),
@@ -109,16 +72,19 @@ pub struct Totals {
     pub switches: u64,
     pub hosts: u64,
     pub links: u64,
+    /// How many obligations of its design hold.
+    pub obligations: u64,
 }
 
-/// How many of each thing a network has.
-fn count_parts(net: &NetData) -> Totals
-    ensures { result ≡ totals_of (net_of net.now) }
+/// How many of each thing a network has whose design has so many obligations.
+fn count_parts(net: &NetData, obligations: u64) -> Totals
+    ensures { result ≡ totals_of obligations (net_of net.now) }
 {
     Totals {
         switches: net.switches.items().len() as u64,
         hosts: net.hosts.items().len() as u64,
         links: net.links.items().len() as u64,
+        obligations,
     }
 }
 
@@ -130,15 +96,16 @@ fn totals_line(alloc: Global, totals: Totals) -> Result<String, NoMemory>
         switches,
         hosts,
         links,
+        obligations,
     } = totals;
     Ok(format!(in alloc;
-        "compiled switches {switches} hosts {hosts} links {links} obligations 0\n"
+        "compiled switches {switches} hosts {hosts} links {links} obligations {obligations}\n"
     )?)
 }
 
 /// Compiles the texts of a design and its definitions into the bundle of the command. The design is
-/// judged first, and whether `compile` takes it; then the definitions, then the assumptions, and then the
-/// limits of the network.
+/// judged first, then the definitions and whether they meet the assumptions, then what the blocks of
+/// the design owe, and then the limits of the network.
 pub fn compile<'w>(
     alloc: Global,
     asked: &Compile<'w>,
@@ -158,14 +125,20 @@ pub fn compile<'w>(
     ensures quiet { IfErr result IsQuiet }
 {
     code_literals_fit();
-    let bound = accepted_texts(alloc, design, defs)?;
+    let bound = bound_texts(alloc, design, defs)?;
     if let Some(answer) = unmet(alloc, &bound, asked.conflicts)? {
         return Ok(answer);
     }
-    let net = lower_bound(alloc, &bound)?;
-    let line = totals_line(alloc, count_parts(&net))?;
-    Ok(Answer {
-        report: Report::success(line.into_bytes()),
-        writing: Writing::Bundle(asked.out, net),
-    })
+    let decided = decide_all(alloc, &bound.checked, asked.conflicts)?;
+    match decided {
+        Refined::GivenUp(answer) => Ok(answer),
+        Refined::Holds(obligations) => {
+            let net = lower_bound(alloc, &bound)?;
+            let line = totals_line(alloc, count_parts(&net, obligations))?;
+            Ok(Answer {
+                report: Report::success(line.into_bytes()),
+                writing: Writing::Bundle(asked.out, net),
+            })
+        }
+    }
 }

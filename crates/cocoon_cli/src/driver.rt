@@ -1,9 +1,11 @@
 //! The top call: the words are read, the command is performed, and one report is printed.
 ghost use Rattle.std.specs.Prelude.{◌≡◌, map, string_bytes};
+ghost use Rattle.command_line.specs.Words.{command};
+ghost use Rattle.cocoon_cli.specs.Checked.{RefinedOf};
 ghost use Rattle.cocoon_cli.specs.Headline.{Headline};
 ghost use Rattle.cocoon_cli.specs.Run.{Keeps, count};
 
-use crate::laws::one_outcome;
+use crate::laws::{checked_designs_are_refined, one_outcome};
 use crate::shell::{names_of, perform};
 use cocoon_io::{Folder, Sink};
 use cocoon_num::NoMemory;
@@ -39,8 +41,13 @@ pub fn run<F: Folder, S: Sink>(
     // topmost specification may make
     ensures headline { result ≡ Status.Done
         → Headline (map string_bytes words.now) (F.content folder.old) (F.content folder.new) }
+
+    // where a `check` or a `compile` succeeds, each block of the design is contained and bounded
+    ensures refined { result ≡ Status.Done
+        → RefinedOf (command (map string_bytes words.now)) (F.content folder.old) }
 {
     one_outcome();
+    checked_designs_are_refined();
     numbers_are_in_range();
     match parse_command(alloc, words) {
         Ok(Some(command)) => {

@@ -1,6 +1,6 @@
 //! What follows from the promises of this crate. The functions do nothing; their contracts are the
 //! laws.
-ghost use Rattle.std.specs.Prelude.{Result};
+ghost use Rattle.std.specs.Prelude.{Option, Result, ◌≡◌};
 ghost use Rattle.cocoon_num.specs.Tree.{DefsText, Design};
 ghost use Rattle.cocoon_types.specs.DefsRules.{DefsFit};
 ghost use Rattle.cocoon_types.specs.Design.{last_level};
@@ -12,11 +12,13 @@ ghost use Rattle.p4_ir.specs.NetTree.{NetData};
 ghost use Rattle.refinement.specs.Assumptions.{Meets};
 ghost use Rattle.refinement.specs.Owed.{Refines};
 ghost use Rattle.sound_types.specs.Literals.{DesignLiteralsFit, EntriesFit};
+ghost use Rattle.cocoon_cli.specs.Checked.{RefinedOf};
 ghost use Rattle.cocoon_cli.specs.Outcomes.{HasOutcome};
 ghost use Rattle.command_line.specs.Words.{command};
 ghost use Rattle.cocoon_cli.specs.Run.{Call, CauseOf, IsOnly, KeepsMore};
 ghost use Rattle.cocoon_cli.specs.Steps.{Inputs};
 ghost use Rattle.command_reports.specs.declared.report.Report.{Report};
+ghost use Rattle.command_reports.specs.declared.status.Status.TheVariants.{Done};
 ghost use Rattle.command_reports.specs.declared.refusal.Refusal.{Refusal};
 
 use bundle_reader::laws::one_reading;
@@ -56,6 +58,15 @@ pub fn one_outcome()
 pub fn calls_keep_more()
     ensures { (call : Call) → CauseOf (command call.words) call → KeepsMore call }
 {}
+
+/// Where a command that decides obligations succeeds, the design of its file keeps the rules, and each of
+/// its blocks what it owes.
+pub fn checked_designs_are_refined()
+    ensures { (c : Option spec.Command) (call : Call) → CauseOf c call → call.status ≡ Done
+        → RefinedOf c call.content_before }
+{
+    one_tree();
+}
 
 /// What a network delivers that delivers exactly what the last level does, the topmost specification
 /// may make, if each block of the design is contained and bounded, under definitions that meet all

@@ -6,10 +6,12 @@
 
 pub mod answer;
 pub mod assumptions;
+pub mod check;
 pub mod compile;
 pub mod driver;
 pub mod forward;
 pub mod laws;
+pub mod obligations;
 pub mod reading;
 pub mod shell;
 pub mod step;

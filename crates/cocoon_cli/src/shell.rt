@@ -13,6 +13,7 @@ ghost use Rattle.cocoon_cli.specs.Shell.{Acts, Asked, IsGiven, IsQuiet, IsShort}
 ghost use Rattle.cocoon_cli.specs.Steps.{Inputs};
 
 use crate::answer::Answer;
+use crate::check::check;
 use crate::compile::compile;
 use crate::forward::forward;
 use crate::reading::{Read, read_all};
@@ -28,6 +29,14 @@ pub fn names_of<'w>(command: &Command<'w>) -> FileNames<'w>
     ensures { names_in result ≡ files_of (stands_for command.now) }
 {
     match command {
+        Command::Check(asked) => FileNames {
+            design: Some(asked.design),
+            definitions: None,
+            case: None,
+            packets: None,
+            bundle: None,
+            reads_bundle: false,
+        },
         Command::Compile(names) => FileNames {
             design: Some(names.design),
             definitions: Some(names.defs),
@@ -65,6 +74,7 @@ fn ask<'w>(alloc: Global, command: &Command<'w>, read: &Read) -> Result<Answer<'
     ensures quiet { IfErr result IsQuiet }
 {
     match command {
+        Command::Check(asked) => check(alloc, asked, &read.design),
         Command::Compile(asked) => compile(alloc, asked, &read.design, &read.definitions),
         Command::Step(asked) => { step(alloc, asked, &read.design, &read.definitions, &read.case) }
         Command::Forward(asked) => match &read.net {

@@ -26,7 +26,7 @@ use Rattle.command_reports.specs.declared.files.CommandFile.TheVariants.{Design,
 use Rattle.command_reports.specs.declared.status.Status.{Status}
 use Rattle.command_reports.specs.declared.status.Status.TheVariants as status
 use Rattle.command_reports.specs.declared.refusal.InputFault.{InputFault}
-use Rattle.command_reports.specs.declared.refusal.InputFault.TheVariants.{NoTree, Rule, NotYet}
+use Rattle.command_reports.specs.declared.refusal.InputFault.TheVariants.{NoTree, Rule}
 use Rattle.command_reports.specs.declared.refusal.EntryRule.{EntryRule}
 use Rattle.command_reports.specs.declared.refusal.EntryRule.TheVariants.{UnknownFunction, WrongRow, TwoDefaults, GuardRows, ForkRows}
 use Rattle.command_reports.specs.declared.refusal.DefinitionsFault.{DefinitionsFault}
@@ -66,19 +66,16 @@ status_number status.NoFile = 13
 abbrev pub line_number : InputFault → ℕ
 line_number (NoTree f) = f.line
 line_number (Rule rule position) = position.line
-line_number NotYet = 1
 
 -- its column
 abbrev pub column_number : InputFault → ℕ
 column_number (NoTree f) = f.column
 column_number (Rule rule position) = position.column
-column_number NotYet = 1
 
 -- its name
 abbrev pub fault_name : InputFault → List ℕ
 fault_name (NoTree f) = kind_name f.kind
 fault_name (Rule rule position) = rule_text rule
-fault_name NotYet = codes "NotYet"
 
 -- the name of a rule of entries
 abbrev pub entry_rule_name : EntryRule → List ℕ

@@ -22,8 +22,6 @@ pub enum InputFault {
     NoTree(TextFault),
     /// It has a tree, and this is the first rule that it breaks, with the position of the fault.
     Rule(TypeRule, Position),
-    /// It has a tree, which the compiler does not take yet.
-    NotYet,
 }
 
 impl InputFault {
@@ -34,7 +32,6 @@ impl InputFault {
         match self {
             InputFault::NoTree(fault) => fault.line,
             InputFault::Rule(_, position) => position.line,
-            InputFault::NotYet => 1,
         }
     }
 
@@ -45,7 +42,6 @@ impl InputFault {
         match self {
             InputFault::NoTree(fault) => fault.column,
             InputFault::Rule(_, position) => position.column,
-            InputFault::NotYet => 1,
         }
     }
 
@@ -56,7 +52,6 @@ impl InputFault {
         match self {
             InputFault::NoTree(fault) => fault.kind.name(),
             InputFault::Rule(rule, _) => rule_name(*rule),
-            InputFault::NotYet => "NotYet",
         }
     }
 }

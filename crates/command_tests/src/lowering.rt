@@ -1,4 +1,4 @@
-//! Cases of designs that the command does not take yet: the bundle of the network that the compiler makes of their last level.
+//! Cases of the compiler alone: the bundle of the network that it makes of the last level of a design, whatever its blocks owe.
 ghost use Rattle.std.specs.Prelude.{◌<◌, ◌^◌, IfSome, IsTrue, length};
 ghost use Rattle.p4_ir.specs.NetFits.{net_fits};
 ghost use Rattle.p4_ir.specs.NetOf.{net_of};

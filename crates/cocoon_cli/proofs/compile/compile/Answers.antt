@@ -1,4 +1,4 @@
-use Rattle.std.proofs.Common.{ap, inl, inr, refl, subst, ◌∙◌}
+use Rattle.std.proofs.Common.{[], ◌∷◌, ap, inl, inr, refl, subst, ◌∙◌}
 use Rattle.std.specs.Prelude.{Vec, ℕ}
 use Rattle.std.specs.declared.alloc.Global.{Global}
 use Rattle.cocoon_syntax.specs.TreeOf.{design_of}
@@ -6,14 +6,19 @@ use Rattle.command_line.specs.Command.{compile as command}
 use Rattle.p4_ir.specs.NetOf.{net_of}
 use Rattle.command_reports.specs.Report.{success}
 use Rattle.command_reports.specs.declared.refusal.Refusal.TheVariants as refusal
+use Rattle.obligation_gen.specs.Counted.{AreFew, all_counts}
+use Rattle.cocoon_cli.specs.Commands.{owed_steps}
 use Rattle.cocoon_cli.specs.Deciding.{AnswersUnmet}
-use Rattle.cocoon_cli.specs.Outcomes.{no_memory}
+use Rattle.cocoon_cli.specs.Outcomes.{good, no_memory, none}
+use Rattle.cocoon_cli.specs.Refining.{AnswersGivenUp, IsRefined, KeepsAll}
 use Rattle.cocoon_cli.specs.ReportLines.{totals_line}
 use Rattle.cocoon_cli.specs.Shell.{Asked}
+use Rattle.cocoon_cli.specs.Steps.{lowering_within}
 use Rattle.cocoon_cli.proofs.Assuming.{all_met_good, is_found, is_none, not_met}
 use Rattle.cocoon_cli.proofs.Counted.{passed}
-use Rattle.cocoon_cli.proofs.TextSteps.{Texts}
-use Rattle.cocoon_cli.proofs.Compiling.{asks_good, lowering, not_accepted, not_lowered, reports, taken, taken_good}
+use Rattle.cocoon_cli.proofs.Owing.{refined_good}
+use Rattle.cocoon_cli.proofs.TextSteps.{Texts, not_matched}
+use Rattle.cocoon_cli.proofs.Compiling.{asks_good, assuming, given_up_found, lowering, not_lowered, reports, unrefined}
 use Rattle.cocoon_cli.proofs.compile.compile.Goals as goal
 
 pub returns-in_err-bound-clause-asked : goal.returns-in_err-bound-clause-asked
@@ -21,55 +26,78 @@ returns-in_err-bound-clause-asked c = λ inputs design defs.
     let asked = c.args.asked.now in
     let r = c.in_err-bound.field-0.0 in
     passed (Asked (command asked.design.now asked.defs.now asked.out.now asked.conflicts) inputs) _ r c.from_residual.ensures.1
-    (not_accepted inputs c.args.design.now c.args.defs.now _ r (record { design = design; defs = defs }) c.in_err-bound.ensures.refused)
+    (not_matched inputs c.args.design.now c.args.defs.now (assuming asked.conflicts) r (record { design = design; defs = defs }) c.in_err-bound.ensures.refused)
 
 pub returns-in_err-answer-clause-asked : goal.returns-in_err-answer-clause-asked
 returns-in_err-answer-clause-asked c = λ inputs design defs.
     let asked = c.args.asked.now in
     let d = design_of c.in_ok-bound.bound.checked in
     let g : Texts inputs c.args.design.now c.args.defs.now = record { design = design; defs = defs } in
-    let binds = c.in_ok-bound.ensures.binds in
     let r = c.in_err-answer.field-0.0 in
     passed (Asked (command asked.design.now asked.defs.now asked.out.now asked.conflicts) inputs) _ r c.from_residual-in_err-answer.ensures.1
-    (not_met inputs c.args.design.now c.args.defs.now taken lowering asked.conflicts d c.in_ok-bound.bound.defs r g binds (c.code_literals_fit.ensures.designs c.in_ok-bound.bound.checked)
-    (taken_good inputs c.args.design.now c.args.defs.now g (d, binds.binds.checked, c.in_ok-bound.ensures.built)) c.in_err-answer.ensures.refused)
+    (not_met inputs c.args.design.now c.args.defs.now (owed_steps asked.conflicts lowering) asked.conflicts d c.in_ok-bound.bound.defs r g c.in_ok-bound.ensures.binds (c.code_literals_fit.ensures.designs c.in_ok-bound.bound.checked)
+    c.in_err-answer.ensures.refused)
 
 pub returns-in-Some-clause-asked : goal.returns-in-Some-clause-asked
 returns-in-Some-clause-asked c = λ inputs design defs.
     let asked = c.args.asked.now in
     let d = design_of c.in_ok-bound.bound.checked in
     let g : Texts inputs c.args.design.now c.args.defs.now = record { design = design; defs = defs } in
-    let binds = c.in_ok-bound.ensures.binds in
-    inr (is_found inputs c.args.design.now c.args.defs.now taken _ asked.conflicts d c.in_ok-bound.bound.defs c.in-Some.answer g binds (c.code_literals_fit.ensures.designs c.in_ok-bound.bound.checked)
-    (taken_good inputs c.args.design.now c.args.defs.now g (d, binds.binds.checked, c.in_ok-bound.ensures.built))
+    inr (is_found inputs c.args.design.now c.args.defs.now _ asked.conflicts d c.in_ok-bound.bound.defs c.in-Some.answer g c.in_ok-bound.ensures.binds (c.code_literals_fit.ensures.designs c.in_ok-bound.bound.checked)
     (subst (AnswersUnmet d c.in_ok-bound.bound.defs asked.conflicts) c.in-Some.is c.in_ok-answer.ensures.decided))
 
-pub returns-in_err-net-clause-asked : goal.returns-in_err-net-clause-asked
-returns-in_err-net-clause-asked c = λ inputs design defs.
+pub returns-in_err-decided-clause-asked : goal.returns-in_err-decided-clause-asked
+returns-in_err-decided-clause-asked c = λ inputs design defs.
     let asked = c.args.asked.now in
     let d = design_of c.in_ok-bound.bound.checked in
     let g : Texts inputs c.args.design.now c.args.defs.now = record { design = design; defs = defs } in
     let binds = c.in_ok-bound.ensures.binds in
-    let literals = c.code_literals_fit.ensures.designs c.in_ok-bound.bound.checked in
-    let r = c.in_err-net.field-0.0 in
-    passed (Asked (command asked.design.now asked.defs.now asked.out.now asked.conflicts) inputs) _ r c.from_residual-in_err-net.ensures.1
-    (not_lowered inputs c.args.design.now c.args.defs.now asked.conflicts r g (taken_good inputs c.args.design.now c.args.defs.now g (d, binds.binds.checked, c.in_ok-bound.ensures.built))
-    (all_met_good inputs c.args.design.now c.args.defs.now asked.conflicts d c.in_ok-bound.bound.defs c.in_ok-answer.field-0 g binds literals (is_none c.in_ok-answer.field-0 c.in_default.not-Some) c.in_ok-answer.ensures.decided)
-    (c.in_err-net.ensures.refused c.args.design.now c.args.defs.now binds))
+    let r = c.in_err-decided.field-0.0 in
+    let met = all_met_good inputs c.args.design.now c.args.defs.now asked.conflicts d c.in_ok-bound.bound.defs c.in_ok-answer.field-0 g binds (c.code_literals_fit.ensures.designs c.in_ok-bound.bound.checked) (is_none c.in_ok-answer.field-0 c.in_default.not-Some) c.in_ok-answer.ensures.decided in
+    passed (Asked (command asked.design.now asked.defs.now asked.out.now asked.conflicts) inputs) _ r c.from_residual-in_err-decided.ensures.1
+    (unrefined inputs c.args.design.now c.args.defs.now asked.conflicts d c.in_ok-bound.bound.defs r g binds met c.in_err-decided.ensures.refused)
 
-pub returns-in_err-line-clause-asked : goal.returns-in_err-line-clause-asked
-returns-in_err-line-clause-asked c = λ inputs design defs.
+pub returns-in-GivenUp-clause-asked : goal.returns-in-GivenUp-clause-asked
+returns-in-GivenUp-clause-asked c = λ inputs design defs.
+    let n = c.args.asked.now.conflicts in
+    let d = design_of c.in_ok-bound.bound.checked in
+    let g : Texts inputs c.args.design.now c.args.defs.now = record { design = design; defs = defs } in
+    let binds = c.in_ok-bound.ensures.binds in
+    let answer = c.in-GivenUp.answer in
+    let met = all_met_good inputs c.args.design.now c.args.defs.now n d c.in_ok-bound.bound.defs c.in_ok-answer.field-0 g binds (c.code_literals_fit.ensures.designs c.in_ok-bound.bound.checked) (is_none c.in_ok-answer.field-0 c.in_default.not-Some) c.in_ok-answer.ensures.decided in
+    let is : AreFew (all_counts d) × AnswersGivenUp d n answer = subst (IsRefined d n) c.in-GivenUp.is c.in_ok-decided.ensures.decided in
+    inr (given_up_found inputs c.args.design.now c.args.defs.now n (lowering_within ∷ []) d c.in_ok-bound.bound.defs answer g binds met is.0 is.1)
+
+pub returns-in_err-net-in-Holds-clause-asked : goal.returns-in_err-net-in-Holds-clause-asked
+returns-in_err-net-in-Holds-clause-asked c = λ inputs design defs.
     let asked = c.args.asked.now in
-    passed (Asked (command asked.design.now asked.defs.now asked.out.now asked.conflicts) inputs) _ refusal.NoMemory c.from_residual-in_err-line.ensures.1 (no_memory refl)
+    let n = asked.conflicts in
+    let x = c.args.design.now in
+    let d = design_of c.in_ok-bound.bound.checked in
+    let g : Texts inputs x c.args.defs.now = record { design = design; defs = defs } in
+    let binds = c.in_ok-bound.ensures.binds in
+    let r = c.in_err-net-in-Holds.field-0.0 in
+    let met = all_met_good inputs x c.args.defs.now n d c.in_ok-bound.bound.defs c.in_ok-answer.field-0 g binds (c.code_literals_fit.ensures.designs c.in_ok-bound.bound.checked) (is_none c.in_ok-answer.field-0 c.in_default.not-Some) c.in_ok-answer.ensures.decided in
+    let kept : KeepsAll d c.in-Holds.obligations = subst (IsRefined d n) c.in-Holds.is c.in_ok-decided.ensures.decided in
+    passed (Asked (command asked.design.now asked.defs.now asked.out.now asked.conflicts) inputs) _ r c.from_residual-in_err-net-in-Holds.ensures.1
+    (not_lowered inputs x c.args.defs.now n r g (good met (refined_good inputs x n [] d design binds.binds.checked kept.few kept.refines none)) (c.in_err-net-in-Holds.ensures.refused x c.args.defs.now binds))
+
+pub returns-in_err-line-in-Holds-clause-asked : goal.returns-in_err-line-in-Holds-clause-asked
+returns-in_err-line-in-Holds-clause-asked c = λ inputs design defs.
+    let asked = c.args.asked.now in
+    passed (Asked (command asked.design.now asked.defs.now asked.out.now asked.conflicts) inputs) _ refusal.NoMemory c.from_residual-in_err-line-in-Holds.ensures.1 (no_memory refl)
 
 pub returns-clause-asked : goal.returns-clause-asked
 returns-clause-asked c = λ inputs design defs.
     let asked = c.args.asked.now in
-    let net = net_of c.in_ok-net.net in
+    let n = asked.conflicts in
+    let d = design_of c.in_ok-bound.bound.checked in
+    let net = net_of c.in_ok-net-in-Holds.net in
     let g : Texts inputs c.args.design.now c.args.defs.now = record { design = design; defs = defs } in
-    let lowers = c.in_ok-net.ensures.lowers c.args.design.now c.args.defs.now c.in_ok-bound.ensures.binds in
+    let lowers = c.in_ok-net-in-Holds.ensures.lowers c.args.design.now c.args.defs.now c.in_ok-bound.ensures.binds in
+    let kept : KeepsAll d c.in-Holds.obligations = subst (IsRefined d n) c.in-Holds.is c.in_ok-decided.ensures.decided in
     inl (
-      asks_good asked.design.now asked.defs.now asked.out.now asked.conflicts inputs c.args.design.now c.args.defs.now net g lowers,
-      reports asked.design.now asked.defs.now asked.out.now asked.conflicts inputs c.args.design.now c.args.defs.now net _ g lowers
-          (c.success.ensures ∙ ap success (ap (λ (v : Vec ℕ Global). v.items) c.into_bytes.ensures.value ∙ c.in_ok-line.ensures ∙ ap totals_line c.count_parts.ensures)),
+      asks_good asked.design.now asked.defs.now asked.out.now n inputs c.args.design.now c.args.defs.now net g lowers.0,
+      reports asked.design.now asked.defs.now asked.out.now n inputs c.args.design.now c.args.defs.now d c.in-Holds.obligations net _ g lowers kept.counted
+          (c.success.ensures ∙ ap success (ap (λ (v : Vec ℕ Global). v.items) c.into_bytes.ensures.value ∙ c.in_ok-line-in-Holds.ensures ∙ ap totals_line c.count_parts.ensures)),
     )

@@ -17,32 +17,32 @@ use Rattle.p4_ir.specs.P4Tree.{RowsFile, TableRows}
 use Rattle.net_bundle.specs.Bundle.{all_switch_files, rows_text}
 use Rattle.net_bundle.specs.Writing.{FirstOver, most_of}
 use Rattle.net_bundle.specs.declared.file.BundleFile.TheVariants.{Program, Rows}
-use Rattle.cocoon_cli.specs.Built.{IsBuilt}
 use Rattle.cocoon_cli.specs.Compiling as lowered
-use Rattle.cocoon_cli.specs.Compiling.{LongFile}
+use Rattle.cocoon_cli.specs.Compiling.{LongFile, LowersTexts}
 use Rattle.command_reports.specs.declared.files.CommandFile.TheVariants.{Bundle}
 use Rattle.cocoon_cli.proofs.Assuming.{of_text}
 use Rattle.cocoon_cli.proofs.compile.lower_bound.Goals as goal
 
 pub returns-in-Ok-clause-lowers : goal.returns-in-Ok-clause-lowers
-unfolding IsBuilt
 returns-in-Ok-clause-lowers c = λ design defs binds.
     let checked = c.args.bound.now.checked in
     let d = design_of checked in
     let lowering = c.in-Ok.ensures.lowering binds.entries binds.are in
     let met : Meets (last_level d) d (defs_of d binds.entries) = of_text (Meets (last_level d) d) (c.code_literals_fit.ensures.designs checked) binds c.requires.met in
-    record {
+    let made : LowersTexts design defs (net_of c.in-Ok.net) = record {
       tree = _;
       tables = _;
       binds = binds;
-      built = c.requires.built;
+      few = c.requires.few;
+      refines = c.requires.refines;
       met = met;
       within = c.in-Ok.ensures.within binds.entries binds.are;
       lowers = c.in-Ok.ensures.lowers binds.entries binds.are;
       lowering = lowering;
       stays = c.deliveries_stay_within.ensures d binds.entries (net_of c.in-Ok.net) binds.binds.checked.resolves.rules (c.code_literals_fit.ensures.designs checked) binds.binds.fits binds.are.fit
-          (c.one_level_owes_nothing.ensures.refines d c.requires.built) met lowering.exact;
-    }
+          c.requires.refines met lowering.exact;
+    } in
+    (made, refl)
 
 pub returns-in-Err-Limit-clause-refused : goal.returns-in-Err-Limit-clause-refused
 returns-in-Err-Limit-clause-refused c = λ design defs binds.

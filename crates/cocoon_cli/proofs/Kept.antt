@@ -1,0 +1,117 @@
+-- What is said of one obligation of a design, and then of all.
+use Rattle.std.proofs.Common.{◌≡◌, ℕ, zero, suc, ◌+◌, ◌<◌, ◌≤◌, get_or, List, [], ◌∷◌, length, take, Option, Some, None, All, refl, sym, ap, ap₂, subst, ◌∙◌, arith}
+use Rattle.std.specs.List.{AllZip}
+use Rattle.std.specs.Prelude.{codes, slice_get}
+use Rattle.std.proofs.lemmas.List.{take_all}
+use Rattle.std.proofs.lemmas.List.Elements.{All-append, All-cons, All-nil}
+use Rattle.bv_terms.specs.TermTrees.{Term}
+use Rattle.bv_terms.specs.declared.node.Node.{Node}
+use Rattle.cocoon_num.specs.Tree.{Design}
+use Rattle.obligation_gen.specs.Shown.{ShowsObligation, ShowsObligations}
+use Rattle.obligation_gen.specs.declared.obligation.Obligation.{Obligation}
+use Rattle.obligation_laws.specs.Failing.{NeverFails}
+use Rattle.obligation_laws.specs.Obligations as laws
+use Rattle.obligation_laws.specs.Obligations.{all_obligations}
+use Rattle.query_laws.specs.Certified.{HasTooMany, IsSatisfiable}
+use Rattle.query_laws.specs.Queries.{query}
+use Rattle.rechecks.specs.Owed.{IsOwed}
+use Rattle.discharge.specs.Answering.{IsSpentOn}
+use Rattle.discharge.proofs.Lists.{take_next}
+use Rattle.budget_text.specs.Spent.{asked}
+use Rattle.certificates.specs.CertsOf.{log_of}
+use Rattle.cnf_core.specs.declared.log.Log.{Log}
+use Rattle.verdicts.specs.Deciding.{Decides, own_query}
+use Rattle.verdicts.specs.declared.deciding.Query.{Query}
+use Rattle.verdicts.specs.declared.deciding.Verdict.TheVariants.{SpentConflicts}
+use Rattle.command_reports.specs.declared.refusal.Refusal.{Refusal}
+use Rattle.command_reports.specs.declared.refusal.Refusal.TheVariants as refusal
+use Rattle.cocoon_cli.specs.Answering.{TellsSpent}
+use Rattle.cocoon_cli.specs.ReportLines.{budget_line}
+use Rattle.cocoon_cli.specs.Owing.{OfObligation, by_conflicts, by_rounds, query_of}
+use Rattle.cocoon_cli.specs.Refining.{AnswersAll, AnswersGivenUp, AnswersOne, IsUnshown, spent, satisfied, NotAll, NotOne}
+use Rattle.cocoon_cli.specs.declared.answer.Answer.{Answer}
+
+-- ---- lists side by side
+
+zip_at : {A B : Type 0} (R : A → B → Type 0) (xs : List A) (ys : List B) (k : ℕ) (x : A) → AllZip R xs ys → slice_get xs k ≡ Some x → (y : B) × (slice_get ys k ≡ Some y) × R x y
+zip_at R [] ys k x h is = absurd cc
+zip_at R (a ∷ xs) [] k x h is = absurd h
+zip_at R (a ∷ xs) (b ∷ ys) zero x h is = let e : a ≡ x = cc in (b, refl, subst (λ z. R z b) e h.0)
+zip_at R (a ∷ xs) (b ∷ ys) (suc k) x h is = zip_at R xs ys k x h.1 is
+
+zip_length : {A B : Type 0} (R : A → B → Type 0) (xs : List A) (ys : List B) → AllZip R xs ys → length xs ≡ length ys
+zip_length R [] [] h = refl
+zip_length R [] (b ∷ ys) h = absurd h
+zip_length R (a ∷ xs) [] h = absurd h
+zip_length R (a ∷ xs) (b ∷ ys) h = ap suc (zip_length R xs ys h.1)
+
+at_index : {A : Type 0} (xs : List A) (k : ℕ) (x : A) → k < length xs → x ≡ get_or xs k x → slice_get xs k ≡ Some x
+at_index [] k x less e = absurd (omega (arith, less))
+at_index (y ∷ xs) zero x less e = ap Some (sym e)
+at_index (y ∷ xs) (suc k) x less e = at_index xs k x (omega (arith, less)) e
+
+-- ---- one obligation
+
+pub as_many : (d : Design) (nodes : List Node) (os : List Obligation) → ShowsObligations d nodes os (all_obligations d) → length os ≡ length (all_obligations d)
+as_many d nodes os h = zip_length (ShowsObligation d nodes) os (all_obligations d) h
+
+same_query : (d : Design) (nodes : List Node) (o : Obligation) (owed : laws.Obligation) → ShowsObligation d nodes o owed → own_query d nodes o ≡ query_of d owed
+same_query d nodes o owed h = ap₂ (λ (level : ℕ) (t : Term). query d level t []) h.level_ h.formula_.term
+
+-- it is the one of its number, where those before it never fail
+pub record IsNext (d : Design) (nodes : List Node) (o : Obligation) (k : ℕ) : Type 0 where
+  pub owed : laws.Obligation
+  pub there : slice_get (all_obligations d) k ≡ Some owed
+  pub shown : ShowsObligation d nodes o owed
+  pub earlier : All (NeverFails d) (take k (all_obligations d))
+
+pub next_at : (d : Design) (nodes : List Node) (os : List Obligation) (k : ℕ) (o : Obligation) → ShowsObligations d nodes os (all_obligations d) → k < length os → o ≡ get_or os k o → All (NeverFails d) (take k (all_obligations d)) → IsNext d nodes o k
+next_at d nodes os k o h less is earlier =
+    let at = zip_at (ShowsObligation d nodes) os (all_obligations d) k o h (at_index os k o less is) in
+    record { owed = at.0; there = at.1; shown = at.2; earlier = earlier }
+
+-- so it is owed
+pub is_owed : (d : Design) (nodes : List Node) (o : Obligation) (k : ℕ) → IsNext d nodes o k → IsOwed d nodes o
+is_owed d nodes o k n = record { number = k; owed = n.owed; there = n.there; shown = n.shown }
+
+-- this is said of it
+said : (P : Term → Type 0) (d : Design) (nodes : List Node) (o : Obligation) (k : ℕ) → IsNext d nodes o k → P (own_query d nodes o) → OfObligation d k (λ o. P (query_of d o))
+said P d nodes o k n p = record { obligation = n.owed; is = n.there; says = subst P (same_query d nodes o n.owed n.shown) p; earlier = n.earlier }
+
+pub not_shown : (d : Design) (nodes : List Node) (o : Obligation) (conflicts k : ℕ) (answer : Answer) → IsNext d nodes o k → IsUnshown d nodes o conflicts k answer → AnswersGivenUp d conflicts answer
+not_shown d nodes o conflicts k answer n (spent vars log h tells) = record {
+  bytes = tells.bytes;
+  is = by_conflicts k (record { vars = vars; log = log; spent = said (λ t. IsSpentOn t conflicts vars log) d nodes o k n h; file = tells.file }) tells.told;
+  written = tells.written;
+}
+not_shown d nodes o conflicts k answer n (satisfied h tells) = record {
+  bytes = tells.bytes;
+  is = by_rounds k (record { satisfied = said IsSatisfiable d nodes o k n h; file = tells.file }) tells.told;
+  written = tells.written;
+}
+
+-- the same by what the search says
+pub unshown : (d : Design) (nodes : List Node) (o : Obligation) (conflicts budget k : ℕ) (q : Query) (vars : ℕ) (log : Log) (answer : Answer) → budget ≡ conflicts → Decides d nodes o budget (SpentConflicts q vars log)
+    → TellsSpent (budget_line conflicts (codes "obligation") k) (asked k [] (log_of log)) answer → IsUnshown d nodes o conflicts k answer
+unshown d nodes o conflicts budget k q vars log answer same h tells = spent vars log (subst (λ (n : ℕ). IsSpentOn (own_query d nodes o) n vars log) same h.1) tells
+
+pub not_decided : (d : Design) (nodes : List Node) (o : Obligation) (k : ℕ) (r : Refusal) → IsNext d nodes o k → NotOne d nodes o r → NotAll d r
+not_decided d nodes o k (refusal.OverLimit limit count) n (l, big) = (k, l, said (λ t. HasTooMany t count) d nodes o k n big)
+not_decided d nodes o k refusal.NoMemory n h = tt
+not_decided d nodes o k r n h = absurd h
+
+-- ---- all of them
+
+pub none_yet : (d : Design) → All (NeverFails d) (take 0 (all_obligations d))
+none_yet d = All-nil (NeverFails d)
+
+pub one_more : (d : Design) (nodes : List Node) (o : Obligation) (conflicts k : ℕ) (answer : Option Answer) → IsNext d nodes o k → answer ≡ None → AnswersOne d nodes o conflicts k answer → All (NeverFails d) (take (k + 1) (all_obligations d))
+one_more d nodes o conflicts k answer n none h =
+    let never = subst (AnswersOne d nodes o conflicts k) none h in
+    subst (All (NeverFails d)) (sym (take_next (all_obligations d) k n.owed n.there))
+    (All-append (NeverFails d) (take k (all_obligations d)) (n.owed ∷ []) n.earlier (All-cons (NeverFails d) n.owed [] (never k n.owed n.there n.shown) (All-nil (NeverFails d))))
+
+pub all_kept : (d : Design) (nodes : List Node) (os : List Obligation) (k : ℕ) → ShowsObligations d nodes os (all_obligations d) → length os ≤ k → All (NeverFails d) (take k (all_obligations d)) → All (NeverFails d) (all_obligations d)
+all_kept d nodes os k h done kept =
+    let many = as_many d nodes os h in
+    subst (All (NeverFails d)) (take_all k (all_obligations d) (let e : length (all_obligations d) ≤ k = omega (arith, many, done) in e)) kept

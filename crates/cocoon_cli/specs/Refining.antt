@@ -1,0 +1,98 @@
+-- Cited by the clauses of obligations.rt. What is answered of the obligations of a design: that each holds, the answer of a
+-- search that was given up, or why they are not decided.
+use Rattle.std.specs.Prelude.{◌≡◌, ◌⊎◌, ℕ, List, [], Option, Some, None, All, codes, length}
+use Rattle.bv_terms.specs.declared.node.Node.{Node}
+use Rattle.certificates.specs.CertsOf.{log_of}
+use Rattle.cnf_core.specs.declared.log.Log.{Log}
+use Rattle.cocoon_num.specs.Tree.{Design}
+use Rattle.cocoon_num.specs.declared.limit_name.LimitName.TheVariants.{Clauses, Leaves}
+use Rattle.cocoon_types.specs.Limits.{first_above, reported}
+use Rattle.hop_inline.specs.Counted.{most_leaves}
+use Rattle.obligation_gen.specs.Counted.{AreFew, all_counts}
+use Rattle.obligation_gen.specs.declared.obligation.Obligation.{Obligation}
+use Rattle.obligation_laws.specs.Failing.{NeverFails}
+use Rattle.obligation_laws.specs.Obligations.{all_obligations}
+use Rattle.query_laws.specs.Certified.{HasTooMany, IsSatisfiable}
+use Rattle.refinement.specs.Owed.{Refines}
+use Rattle.rechecks.specs.Owed.{NeverFailsHere}
+use Rattle.discharge.specs.Answering.{IsSpentOn}
+use Rattle.verdicts.specs.Deciding.{own_query}
+use Rattle.budget_text.specs.Spent.{asked, rounds}
+use Rattle.command_reports.specs.declared.files.CommandFile.TheVariants.{Budget}
+use Rattle.command_reports.specs.declared.refusal.Refusal.{Refusal}
+use Rattle.command_reports.specs.declared.refusal.Refusal.TheVariants.{OverLimit, NoMemory}
+use Rattle.cocoon_cli.specs.Answering.{TellsSpent}
+use Rattle.cocoon_cli.specs.Owing.{IsBig, IsGivenUpOn}
+use Rattle.cocoon_cli.specs.ReportLines.{budget_line, rounds_line}
+use Rattle.cocoon_cli.specs.declared.answer.Answer.{Answer}
+use Rattle.cocoon_cli.specs.declared.answer.Writing.TheVariants.{Own}
+use Rattle.cocoon_cli.specs.declared.obligations.Refined.{Refined}
+use Rattle.cocoon_cli.specs.declared.obligations.Refined.TheVariants.{Holds, GivenUp}
+
+-- ---- trees
+
+-- why they are not made: the first that has too many leaves
+abbrev pub HasManyLeaves : Design → Refusal → Type 0
+HasManyLeaves d (OverLimit limit told) =
+    (count : ℕ) × (first_above most_leaves (all_counts d) ≡ Some count) × (limit ≡ Leaves)
+    × (told ≡ reported count)
+HasManyLeaves d NoMemory = Unit {0}
+HasManyLeaves d _ = ⊥
+
+-- ---- one obligation
+
+-- the search for it was given up
+pub data IsUnshown (d : Design) (nodes : List Node) (o : Obligation) (conflicts number : ℕ)
+    (answer : Answer) : Type 0 where
+  spent : (vars : ℕ) (log : Log) → IsSpentOn (own_query d nodes o) conflicts vars log
+      → TellsSpent (budget_line conflicts (codes "obligation") number)
+      (asked number [] (log_of log)) answer → IsUnshown d nodes o conflicts number answer
+  satisfied : IsSatisfiable (own_query d nodes o)
+      → TellsSpent (rounds_line 0 number) (rounds number []) answer
+      → IsUnshown d nodes o conflicts number answer
+
+-- nothing where it never fails
+abbrev pub AnswersOne : Design → List Node → Obligation → (conflicts number : ℕ) → Option Answer → Type 0
+AnswersOne d nodes o conflicts number None = NeverFailsHere d nodes o
+AnswersOne d nodes o conflicts number (Some answer) = IsUnshown d nodes o conflicts number answer
+
+-- why it is not decided
+abbrev pub NotOne : Design → List Node → Obligation → Refusal → Type 0
+NotOne d nodes o (OverLimit limit count) = (limit ≡ Clauses) × HasTooMany (own_query d nodes o) count
+NotOne d nodes o NoMemory = Unit {0}
+NotOne d nodes o _ = ⊥
+
+-- ---- all of them
+
+-- the search for one was given up, and the answer writes the file of that
+pub record AnswersGivenUp (d : Design) (conflicts : ℕ) (answer : Answer) : Type 0 where
+  pub bytes : List ℕ
+  pub is : IsGivenUpOn d conflicts answer.report bytes
+  pub written : answer.writing ≡ Own Budget bytes
+
+-- nothing where each never fails
+abbrev pub AnswersAll : Design → (conflicts : ℕ) → Option Answer → Type 0
+AnswersAll d conflicts None = All (NeverFails d) (all_obligations d)
+AnswersAll d conflicts (Some answer) = AnswersGivenUp d conflicts answer
+
+-- why they are not decided
+abbrev pub NotAll : Design → Refusal → Type 0
+NotAll d (OverLimit limit count) = (number : ℕ) × (limit ≡ Clauses) × IsBig d number count
+NotAll d NoMemory = Unit {0}
+NotAll d _ = ⊥
+
+-- ---- a design
+
+-- no tree has too many leaves, and each block keeps what it owes: so many obligations
+pub record KeepsAll (d : Design) (count : ℕ) : Type 0 where
+  pub few : AreFew (all_counts d)
+  pub refines : Refines d
+  pub counted : count ≡ length (all_obligations d)
+
+abbrev pub IsRefined : Design → (conflicts : ℕ) → Refined → Type 0
+IsRefined d conflicts (Holds count) = KeepsAll d count
+IsRefined d conflicts (GivenUp answer) = AreFew (all_counts d) × AnswersGivenUp d conflicts answer
+
+-- why that is not decided: of obligations only where no tree has too many leaves
+abbrev pub NotRefined : Design → Refusal → Type 0
+NotRefined d refusal = HasManyLeaves d refusal ⊎ (AreFew (all_counts d) × NotAll d refusal)

@@ -1,0 +1,178 @@
+//! The obligations of a design, each decided by a search for all definitions.
+ghost use Rattle.std.specs.Prelude.{[], ◌≡◌, ◌≤◌, ◌<◌, ◌^◌, IfErr, IfOk, OnOk, codes, string_bytes};
+ghost use Rattle.budget_text.specs.Spent as spent;
+ghost use Rattle.certificates.specs.CertsOf.{log_of};
+ghost use Rattle.cocoon_syntax.specs.TreeOf.{design_of};
+ghost use Rattle.obligation_gen.specs.Counted.{AreFew, all_counts};
+ghost use Rattle.obligation_gen.specs.Shown.{ShowsObligations};
+ghost use Rattle.obligation_laws.specs.Obligations as laws;
+ghost use Rattle.rechecks.specs.Owed.{IsOwed};
+ghost use Rattle.cocoon_cli.specs.Answering.{TellsSpent};
+ghost use Rattle.cocoon_cli.specs.Refining.{AnswersAll, AnswersOne, HasManyLeaves, IsRefined, NotAll, NotOne, NotRefined};
+ghost use Rattle.cocoon_cli.specs.ReportLines.{budget_line, rounds_line};
+
+use crate::answer::{Answer, budget_line};
+use budget_text::{obligation_file, rounds_file};
+use bv_terms::Terms;
+use cnf_core::Log;
+use cocoon_num::{LimitName, NoMemory};
+use cocoon_resolve::Checked;
+use command_reports::Refusal;
+use discharge::Budget;
+use hop_inline::InlineFault;
+use obligation_gen::{Obligation, all_obligations};
+use obligation_laws::laws::blocks_that_never_fail_are_refined;
+use sound_types::laws::code_literals_fit;
+use std::alloc::Global;
+use verdicts::{Verdict, decide};
+
+/// What a design owes, and the arena that holds its formulas.
+#[derive(Drop)]
+struct Owed {
+    terms: Terms,
+    obligations: Vec<Obligation>,
+}
+
+/// What a design owes, if each of its trees has few leaves.
+fn all_owed(alloc: Global, checked: &Checked) -> Result<Owed, Refusal>
+    ensures shows { IfOk result (λ o. ShowsObligations (design_of checked.now) o.terms
+        o.obligations.items (laws.all_obligations (design_of checked.now))) }
+    ensures few { OnOk result (AreFew (all_counts (design_of checked.now))) }
+    ensures refused { IfErr result (HasManyLeaves (design_of checked.now)) }
+{
+    let mut terms = Terms::new(alloc);
+    match all_obligations(alloc, checked, &mut terms) {
+        Ok(obligations) => Ok(Owed { terms, obligations }),
+        Err(InlineFault::Paths(count)) => Err(Refusal::OverLimit(LimitName::Leaves, count)),
+        Err(InlineFault::NoMemory) => Err(Refusal::NoMemory),
+    }
+}
+
+/// The line of an obligation on which so many rounds were spent.
+fn rounds_line(alloc: Global, rounds: u32, number: u32) -> Result<String, NoMemory>
+    ensures { IfOk result (λ line. string_bytes line ≡ rounds_line rounds number) }
+{
+    Ok(format!(in alloc; "budget rounds {rounds} obligation {number}\n")?)
+}
+
+/// The answer where conflicts were spent on the obligation of this number.
+fn spent_answer<'w>(
+    alloc: Global,
+    conflicts: u32,
+    number: u32,
+    log: &Log,
+) -> Result<Answer<'w>, NoMemory>
+    ensures { IfOk result (TellsSpent (budget_line conflicts (codes "obligation") number)
+        (spent.asked number [] (log_of log.now))) }
+{
+    let line = budget_line(alloc, conflicts, "obligation", number)?;
+    let file = obligation_file(alloc, number, &[], log)?;
+    Ok(Answer::given_up(line, file))
+}
+
+/// The answer where the query of the obligation of this number can be satisfied.
+fn open_answer<'w>(alloc: Global, number: u32) -> Result<Answer<'w>, NoMemory>
+    ensures { IfOk result (TellsSpent (rounds_line 0 number) (spent.rounds number [])) }
+{
+    let line = rounds_line(alloc, 0, number)?;
+    let file = rounds_file(alloc, number, &[])?;
+    Ok(Answer::given_up(line, file))
+}
+
+/// What is answered of the obligation of this number: nothing if it holds.
+fn unkept<'w>(
+    alloc: Global,
+    checked: &Checked,
+    terms: &Terms,
+    obligation: &Obligation,
+    number: u32,
+    conflicts: u32,
+) -> Result<Option<Answer<'w>>, Refusal>
+    requires owed { IsOwed (design_of checked.now) terms.now obligation.now }
+    requires some { 1 ≤ conflicts }
+    requires few { conflicts < 2 ^ 31 }
+    ensures decided { IfOk result (AnswersOne (design_of checked.now) terms.now obligation.now
+        conflicts number) }
+    ensures refused { IfErr result (NotOne (design_of checked.now) terms.now obligation.now) }
+{
+    let budget = Budget {
+        conflicts: u64::from(conflicts),
+        rounds: 0,
+    };
+    let verdict = decide(alloc, checked, terms, obligation, &budget)?;
+    match verdict {
+        Verdict::Holds(_) => Ok(None),
+        Verdict::SpentConflicts(_, _, log) => {
+            Ok(Some(spent_answer(alloc, conflicts, number, &log)?))
+        }
+        Verdict::SpentRounds(_) => Ok(Some(open_answer(alloc, number)?)),
+        Verdict::Big(_, count) => Err(Refusal::OverLimit(LimitName::Clauses, count)),
+    }
+}
+
+/// The number of an obligation; there is no memory for more.
+fn number_of(index: usize) -> Result<u32, NoMemory>
+    ensures { IfOk result (λ number. number ≡ index) }
+{
+    match u32::try_from(index) {
+        Ok(number) => Ok(number),
+        Err(_) => Err(NoMemory),
+    }
+}
+
+/// What is answered of all obligations: nothing if each holds. They are decided in order, and the
+/// first that is not shown to hold decides.
+fn first_unkept<'w>(
+    alloc: Global,
+    checked: &Checked,
+    terms: &Terms,
+    obligations: &[Obligation],
+    conflicts: u32,
+) -> Result<Option<Answer<'w>>, Refusal>
+    requires shown { ShowsObligations (design_of checked.now) terms.now obligations.now
+        (laws.all_obligations (design_of checked.now)) }
+    requires some { 1 ≤ conflicts }
+    requires few { conflicts < 2 ^ 31 }
+    ensures decided { IfOk result (AnswersAll (design_of checked.now) conflicts) }
+    ensures refused { IfErr result (NotAll (design_of checked.now)) }
+{
+    for (index, obligation) in obligations.iter().enumerate() {
+        let number = number_of(index)?;
+        if let Some(answer) = unkept(alloc, checked, terms, obligation, number, conflicts)? {
+            return Ok(Some(answer));
+        }
+    }
+    Ok(None)
+}
+
+/// What is said of all obligations of a design.
+#[derive(Drop)]
+pub enum Refined<'w> {
+    /// There are so many, and each holds.
+    Holds(u64),
+    /// The search for one was given up.
+    GivenUp(Answer<'w>),
+}
+
+/// Whether the blocks of a design keep what they owe, for all definitions that meet its assumptions.
+/// All trees are made first; then each obligation is decided by a search of at most so many conflicts.
+pub fn decide_all<'w>(
+    alloc: Global,
+    checked: &Checked,
+    conflicts: u32,
+) -> Result<Refined<'w>, Refusal>
+    requires some { 1 ≤ conflicts }
+    requires few { conflicts < 2 ^ 31 }
+    ensures decided { IfOk result (IsRefined (design_of checked.now) conflicts) }
+    ensures refused { IfErr result (NotRefined (design_of checked.now)) }
+{
+    blocks_that_never_fail_are_refined();
+    code_literals_fit();
+    let _design = checked.design();
+    let owed = all_owed(alloc, checked)?;
+    let answer = first_unkept(alloc, checked, &owed.terms, &owed.obligations, conflicts)?;
+    match answer {
+        Some(answer) => Ok(Refined::GivenUp(answer)),
+        None => Ok(Refined::Holds(owed.obligations.len() as u64)),
+    }
+}
