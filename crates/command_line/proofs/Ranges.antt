@@ -1,12 +1,12 @@
 -- The numbers that words ask for are in their ranges.
-use Rattle.std.proofs.Common.{◌≡◌, ◌≤◌, ℕ, List, Option, Some, None, option_and_then, Bool, true, false, nat_le, refl, sym, ap, subst, ◌∙◌, if◌then◌else◌, arith}
+use Rattle.std.proofs.Common.{◌≡◌, ◌≤◌, ℕ, List, Option, Some, None, option_and_then, Bool, true, false, nat_le, refl, subst, if◌then◌else◌, arith}
 use Rattle.std.proofs.lemmas.Bool.Decides.{nat_tests}
 use Rattle.std.specs.Prelude.{codes}
 use Rattle.clap.specs.Walk.{Row, Text}
 use Rattle.clap.specs.Words.{first_of}
 use Rattle.cocoon_num.specs.Names.{same_name}
 use Rattle.cocoon_num.specs.Tokens.{kept_if}
-use Rattle.command_line.specs.Arguments.{argument_name, number_between, number_or, number_up_to, word_number}
+use Rattle.command_line.specs.Arguments.{argument_name, number_or, number_up_to, word_number}
 use Rattle.command_line.specs.Command.{Command, check, compile, step, forward}
 use Rattle.command_line.specs.Subcommands.{IsInRange, check_of, command_of, compile_of, conflicts_in, forward_of, hops_in, level_in, most_conflicts, step_of, usual_conflicts, with_hops, with_level, with_name, with_names}
 use Rattle.command_line.specs.Syntax.{case_argument, conflicts_argument, design_argument, defs_argument, out_argument, packets_argument}
