@@ -66,6 +66,8 @@ class Room:
         (at / "one.case").write_text("SwIn 1\n1\n-\n")
         assumption = "assume (a: bit<8>, b: bit<8>) a + b == b + a;\nrole"
         (at / "sum.ccn").write_text((EXAMPLES / "c.ccn").read_text().replace("role", assumption, 1))
+        (at / "list.ccn").write_bytes((EXAMPLES / "m.ccn").read_bytes())
+        (at / "forgotten.ccn").write_text((EXAMPLES / "m.ccn").read_text().replace("    filter acl(pkt.ip.src, pkt.ip.dst);\n", "", 1))
 
     def run(self, *words, **how):
         """The status and the standard output."""
@@ -113,6 +115,14 @@ CALLS = {
     13: ("compile none.ccn c.defs lab", "no file none.ccn"),
 }
 NO_MEMORY = 12
+# Calls of `check`, and what each prints.
+CHECKS = {
+    "check c.ccn": (0, "ok levels 1 obligations 0"),
+    "check list.ccn": (0, "ok levels 2 obligations 1"),
+    "check forgotten.ccn": (6, "budget rounds 0 obligation 0"),
+    "check big.ccn": (10, "limit file big.ccn over 1048576"),
+    "check none.ccn": (13, "no file none.ccn"),
+}
 
 
 def try_statuses(room):
@@ -122,6 +132,17 @@ def try_statuses(room):
     for status, (words, line) in CALLS.items():
         ran = room.run(*words.split())
         expect(ran == (status, f"{line}\n"), f"`cocoon {words}` ends with {status} and prints `{line}`", ran)
+
+
+def try_checks(room):
+    """What `check` leaves is the file of a spent budget alone."""
+    for words, (status, line) in CHECKS.items():
+        old = sorted(path.name for path in room.at.iterdir())
+        ran = room.run(*words.split())
+        expect(ran == (status, f"{line}\n"), f"`cocoon {words}` ends with {status} and prints `{line}`", ran)
+        new = sorted({path.name for path in room.at.iterdir()} - {*old})
+        expect(new == (["forgotten.ccn.budget.json"] if status == 6 else []), f"`cocoon {words}` leaves the file of a spent budget, or none", new)
+    expect(room.content("forgotten.ccn.budget.json") == b'{"instances":[],"obligation":0}', "the file of the spent budget is as it should be")
 
 
 def try_no_memory(room):
@@ -290,7 +311,7 @@ def main(words):
         sys.exit("program: it is not built: run `rt ci`")
     with tempfile.TemporaryDirectory(prefix="cocoon-program-") as folder:
         room = Room(pathlib.Path(folder), program)
-        for attempt in (try_statuses, try_no_memory, try_sync, try_beside, try_races, try_rename, try_readers, try_main):
+        for attempt in (try_statuses, try_checks, try_no_memory, try_sync, try_beside, try_races, try_rename, try_readers, try_main):
             attempt(room)
     print("\n".join([*WRONG, f"program: {len(WRONG)} wrong" if WRONG else "program: all is as it should be"]))
     return 1 if WRONG else 0

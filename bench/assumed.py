@@ -1,11 +1,11 @@
 #!/usr/bin/env python3
-"""Judges what the built program says of assumptions, by an independent reading of the language.
+"""Judges what the built program says of assumptions and of obligations that are not shown, by an independent reading of the language.
 
     bench/assumed.py VERIFIER [FILE.cases ..]
 
-runs the cases of a file of crates/command_tests/data (assumptions.cases, if none is named) in folders of their own, and hands each report with
+runs the cases of files of crates/command_tests/data (assumptions.cases and refinements.cases, if none is named) in folders of their own, and hands each report with
 status 4 of an assumption, and each file of a spent budget, to the program VERIFIER, which is no part of this repository: it is called as
-`VERIFIER output DESIGN REPORT DEFS [--budget FILE --number N]`, and ends with 0 if the report is right. Cases in which a call fails are passed over.
+`VERIFIER output DESIGN REPORT [DEFS] [--budget FILE --number N]`, and ends with 0 if the report is right. Cases in which a call fails are tried without that.
 It needs the built program (`rt run` in crates/cocoon); or COCOON names one.
 """
 
@@ -66,7 +66,7 @@ def judged(verifier, folder, words, printed):
     """What the verifier says of a report on an assumption."""
     (folder / "report.txt").write_bytes(printed)
     names = [word for word in words[2:] if not word.startswith("--") and not word.isdigit()]
-    asked = ["output", names[0], "report.txt", names[1]]
+    asked = ["output", names[0], "report.txt", *names[1:2]]
     if printed.startswith(b"budget"):
         asked += ["--budget", names[0] + ".budget.json", "--number", printed.split()[2].decode()]
     ran = subprocess.run([sys.executable, verifier, *asked], cwd=folder, capture_output=True)
@@ -75,13 +75,11 @@ def judged(verifier, folder, words, printed):
 
 def main(verifier, *files):
     good = bad = 0
-    for path in map(pathlib.Path, files or [DATA / "assumptions.cases"]):
+    for path in map(pathlib.Path, files or [DATA / "assumptions.cases", DATA / "refinements.cases"]):
         for name, lines in cases(path):
             with tempfile.TemporaryDirectory() as made:
                 folder = pathlib.Path(made)
                 wanted = prepare(lines, folder)
-                if wanted.keys() & {"failing-call", "failing-put", "full-sink"}:
-                    continue
                 words = wanted["words"]
                 ran = subprocess.run([PROGRAM, *words[1:]], cwd=folder, capture_output=True)
                 told = f"{ran.returncode} {ran.stdout[:60]!r}"

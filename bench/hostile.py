@@ -58,10 +58,15 @@ DEFINITIONS = rf"definitions d\.defs (\d+:\d+ ({TEXT_FAULTS}|UnknownFunction|Wro
 OF_DESIGN = r"limit (refines|within|ports|roles|functions|assumptions|params|headers|fields|paths|expanded|rows)"
 BUNDLE = r"bundle lab\.(net\.json|s\d+\.(p4|rows\.json)) "
 FORMS = {
-    ("compile", 0): r"compiled switches \d+ hosts \d+ links \d+ obligations 0",
-    ("compile", 3): LANGUAGE + r"|language d\.ccn 1:1 NotYet",
-    ("compile", 4): DEFINITIONS,
-    ("compile", 10): rf"limit file (d\.ccn|d\.defs|new\.\S+) over \d+|({OF_DESIGN}|limit (switches|hosts|tables|sites|members)) \d+ over \d+",
+    ("check", 0): r"ok levels \d+ obligations \d+",
+    ("check", 3): LANGUAGE,
+    ("check", 6): r"budget (rounds 0|conflicts 20000) obligation \d+",
+    ("check", 10): rf"limit file d\.ccn over \d+|({OF_DESIGN}|limit (leaves|clauses)) \d+ over \d+",
+    ("compile", 0): r"compiled switches \d+ hosts \d+ links \d+ obligations \d+",
+    ("compile", 3): LANGUAGE,
+    ("compile", 4): DEFINITIONS + rf"|broken assumption \d+ at {NUMBERS}",
+    ("compile", 6): r"budget (rounds 0|conflicts 20000) obligation \d+|budget conflicts 20000 assumption \d+",
+    ("compile", 10): rf"limit file (d\.ccn|d\.defs|new\.\S+) over \d+|({OF_DESIGN}|limit (switches|hosts|tables|sites|members|leaves|clauses)) \d+ over \d+",
     ("step", 0): rf"nothing|[A-Za-z_]\w* {NUMBERS} : {NUMBERS}",
     ("step", 3): LANGUAGE,
     ("step", 4): DEFINITIONS,
@@ -210,6 +215,7 @@ def with_bundle(program, folder, texts):
 def jobs_of(files, room):
     """What is run in a room: words of each command with the files that are mutated."""
     texts = ["d.ccn", "d.defs"]
+    yield Job(room, ["check", "d.ccn"], ["d.ccn"])
     yield Job(room, ["compile", *texts, "new"], texts)
     for case in sorted(name for name in files if name.endswith(".case")):
         for level in "001":
@@ -314,7 +320,7 @@ class Worker:
         self.home.mkdir()
         self.rooms = [Room(self.home / str(number), files) for number, files in enumerate(corpus)]
         jobs = [job for room in self.rooms for job in jobs_of(room.files, room)]
-        self.jobs = [[job for job in jobs if job.words[0] == command] for command in ("compile", "step", "forward")]
+        self.jobs = [[job for job in jobs if job.words[0] == command] for command in ("check", "compile", "step", "forward")]
         self.jobs = [some for some in self.jobs if some]
         self.pool = [text for files in corpus for text in files.values()]
         self.counts, self.most, self.lines = collections.Counter(), {}, []

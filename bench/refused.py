@@ -29,6 +29,7 @@ BUNDLE = ("one.s1.p4", "one.s1.rows.json", "one.net.json")
 OLDER = b"older\n"
 JOB, FORWARD, STEP = "compile c.ccn c.defs one", "forward one p.txt", "step c.ccn c.defs 0 c.case"
 SPENT = "compile a.spent a.defs one --conflicts 1"
+NARROW = "check r.narrow"
 WORDS = [
     JOB,
     "compile c.ccn c.defs",
@@ -40,6 +41,8 @@ WORDS = [
     "compile c.ccn c.short one",
     "compile a.broken a.defs one",
     SPENT,
+    "check r.ccn",
+    NARROW,
     FORWARD,
     STEP,
     "step m.ccn m.defs 1 m.case",
@@ -65,6 +68,7 @@ def inputs():
         "c.slip": files["c.ccn"].replace(b"send", b"sned", 1),
         "a.broken": files["a.ccn"].replace(b"role", b"assume (t: bit<8>, p: bit<16>) pick(t, p) < 16w3;\nrole", 1),
         "a.spent": files["a.ccn"].replace(b"role", b"assume (a: bit<8>, b: bit<8>) a + b == b + a;\nrole", 1),
+        "r.narrow": files["r.ccn"].replace(b"havoc x: bit<16>; send SwOut[s, x];", b"send SwOut[s, 16w1];", 1),
         "c.case": b"SwIn 1 0\n1\n-\n",
         "line.case": b"SwIn 1\n1\n-\n",
         "long.case": bytes(65537),
@@ -148,7 +152,7 @@ def refuse_memory(make_room):
 
 def refuse_files(make_room):
     room = make_room()
-    for words in (JOB, SPENT, FORWARD, STEP):
+    for words in (JOB, SPENT, NARROW, FORWARD, STEP):
         _, (_, calls) = room.tried(words, {})
         for fault in ("5", "28", "4"):
             print(f"one of {calls} calls on files of {words} fails with {fault}")
