@@ -13,6 +13,7 @@ READING is a folder with another program, which is no part of this repository: `
 """
 
 import collections
+import json
 import os
 import pathlib
 import random
@@ -26,7 +27,8 @@ PROGRAM = os.environ.get("COCOON", TOP / "crates" / "cocoon" / "out" / "cocoon")
 # As the reading counts what is built: obligations are decided, and no failure is printed.
 STAGE = 8
 DECIDING = ["check d.ccn", "compile d.ccn d.defs out"]
-MOST_BODIES = 64
+# So many runs of bodies are tried for a delivery, and of a choice that is not read back at once so many numbers.
+MOST_STEPS, TRIED_CHOICES = 400, 8
 PACKETS = 12
 
 
@@ -37,15 +39,22 @@ class Reading:
         self.folder = pathlib.Path(folder).resolve()
         sys.path.insert(0, str(self.folder))
         sys.setrecursionlimit(100000)
-        import bundle, levels, refcli, symgen, verify
+        import bundle, levels, random_design, refcli, symgen, verify
         import load as texts
 
         self.bundle, self.levels, self.refcli, self.symgen, self.texts, self.verify = bundle, levels, refcli, symgen, texts, verify
+        self.one_level = random_design
 
     def draw(self, seed):
-        """A design and its definitions; every third one has roles and bodies of any kind."""
-        if seed % 3 == 2:
-            return self.levels.Levels(random.Random(seed)).design(refines=1 + seed // 3 % 3)
+        """A design and its definitions: mostly access lists that a switch keeps to, or nearly; each fourth one has roles and bodies of any kind, and each fourth
+        one a block whose body does what the body above does, or less."""
+        if seed % 4 == 2:
+            return self.levels.Levels(random.Random(seed)).design(refines=1 + seed // 4 % 3)
+        if seed % 4 == 3:
+            design, defs = self.one_level.Gen(random.Random(seed)).design()
+            head, body = re.search(rb"^(role SwIn.*? = \{)(.*)$", design, re.M).groups()
+            less = random.Random(seed).choice([b"", b" filter p != 16w3;", b" filter s == 16w1 or p < 16w2;"])
+            return design + b"refine SwIn within 1 { " + head + less + body + b" }\n", defs
         design = self.symgen.make(seed).encode()
         return design, with_hosts(self.symgen.definitions(str(seed), self.view(design)), design, random.Random(seed))
 
@@ -158,28 +167,39 @@ def number_of(bytes, widths):
     return found
 
 
+def stepped(room, place, packet, choices):
+    """Where the body at level 0 sends, and what; None, if nothing."""
+    lines = [" ".join(place), " ".join(map(str, packet)), " ".join(map(str, choices)) or "-", ""]
+    (room.at / "way.case").write_text("\n".join(lines))
+    status, line = room.run("step d.ccn d.defs 0 way.case")
+    if status != 0 or line == "nothing\n":
+        return None
+    there, _, sent = line.rstrip("\n").partition(" : ")
+    return there.split(" "), [int(number) for number in sent.split(" ")]
+
+
 def chained(reading, room, design, defs, host, entered, end, delivered):
-    """Whether `step`, chained at level 0, makes a delivery; None where a choice is not found that is not sent at once."""
+    """Whether `step`, chained at level 0, makes a delivery. None where it is not found: choices that are not read back at once are tried up to a small number."""
     names = re.search(rb"host \((\w+), (\w+)\)", design)
-    place, packet, sink = [names[1].decode(), str(host)], entered, [names[2].decode(), str(end)]
-    for _ in range(MOST_BODIES):
+    sink = [names[2].decode(), str(end)]
+    left, seen = [([names[1].decode(), str(host)], entered)], 0
+    while left and seen < MOST_STEPS:
+        place, packet = left.pop()
         choices = reading.choices(design, defs, place, packet, sink, delivered)
-        case = lambda some: " ".join(place) + "\n" + " ".join(map(str, packet)) + "\n" + (" ".join(map(str, some)) or "-") + "\n"
-        (room.at / "way.case").write_text(case(choices or []))
-        status, line = room.run("step d.ccn d.defs 0 way.case")
-        if status != 0 or line == "nothing\n":
-            return False if choices is not None else None
-        there, _, sent = line.rstrip("\n").partition(" : ")
-        place, packet = there.split(" "), [int(number) for number in sent.split(" ")]
-        if place == sink:
-            return packet == delivered
+        if choices is not None:
+            return stepped(room, place, packet, choices) == (sink, delivered)
+        for tried in [[], *([number] for number in range(TRIED_CHOICES))]:
+            seen += 1
+            there = stepped(room, place, packet, tried)
+            if there and there[0][0] != sink[0]:
+                left.append(there)
     return None
 
 
 def tried(reading, room, design, defs, dice):
     """Of a design that compiles, how each delivery of some packets fares."""
     widths, fared = fields_of(design), collections.Counter()
-    hosts = [int(host) for host in re.findall(r'\[(\d+),1,\d+\]|\[(\d+),2,\d+\]', (room.at / "out.net.json").read_text()) for host in host if host]
+    hosts = [host[0] for host in json.loads((room.at / "out.net.json").read_text())["hosts"] if len(host) == 3]
     size = sum(widths) // 8
     lines = []
     for _ in range(PACKETS if hosts else 0):
