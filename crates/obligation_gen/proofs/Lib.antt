@@ -3,3 +3,4 @@ mod Refinable
 mod Leaves
 mod Roles
 mod Treed
+pub mod OwedFormulas

@@ -6,10 +6,10 @@ ghost use Rattle.cocoon_syntax.specs.TreeOf.{design_of};
 ghost use Rattle.bit_blast.specs.Blasting.{most_clauses};
 ghost use Rattle.bit_blast.specs.Clauses.{count_of};
 ghost use Rattle.bv_terms.specs.Arenas.{term_at};
+ghost use Rattle.obligation_gen.specs.Owed.{IsOwed, NeverFailsHere};
 ghost use Rattle.query_laws.specs.Certified.{AllFit, IsCert};
 ghost use Rattle.query_laws.specs.Queries.{query};
 ghost use Rattle.queries.specs.Checked.{Tells};
-ghost use Rattle.rechecks.specs.Owed.{IsOwed, NeverFailsHere};
 
 use bv_terms::Terms;
 use certificates::Cert;

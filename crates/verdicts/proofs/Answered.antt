@@ -12,12 +12,12 @@ use Rattle.cdcl.specs.declared.answer.Answer.TheVariants.{Satisfied, Spent, Unsa
 use Rattle.cnf_core.specs.Licensing.{Licensed}
 use Rattle.cnf_core.specs.Satisfying.{WellNamed}
 use Rattle.cnf_core.specs.declared.clauses.Cnf.{Cnf}
+use Rattle.obligation_gen.specs.Owed.{NeverFailsHere}
 use Rattle.obligation_gen.specs.declared.obligation.Obligation.{Obligation}
 use Rattle.query_laws.specs.Certified.{AllFit, DerivesFrom, HasClauses, IsCert}
 use Rattle.query_laws.specs.Queries.{query}
 use Rattle.queries.specs.Asked.{IsQuery}
 use Rattle.queries.specs.declared.asking.OwnGoal.{OwnGoal}
-use Rattle.rechecks.specs.Owed.{NeverFailsHere}
 use Rattle.verdicts.specs.Deciding.{Decides, IsShown, own_query}
 use Rattle.verdicts.specs.Telling.{IsTold}
 use Rattle.verdicts.specs.declared.deciding.Verdict.{Verdict}

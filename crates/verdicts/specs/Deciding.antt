@@ -8,10 +8,10 @@ use Rattle.certificates.specs.declared.Cert.{Cert}
 use Rattle.cdcl.specs.Answering.{Refutation}
 use Rattle.cnf_core.specs.declared.clauses.Cnf.{Cnf}
 use Rattle.cnf_core.specs.declared.log.Log.{Log}
+use Rattle.obligation_gen.specs.Owed.{NeverFailsHere}
 use Rattle.obligation_gen.specs.declared.obligation.Obligation.{Obligation}
 use Rattle.query_laws.specs.Certified.{HasClauses, HasTooMany, IsCert, IsSatisfiable}
 use Rattle.query_laws.specs.Queries.{query}
-use Rattle.rechecks.specs.Owed.{NeverFailsHere}
 use Rattle.discharge.specs.Answering.{IsSpentOn}
 use Rattle.verdicts.specs.declared.deciding.Query.{Query}
 use Rattle.verdicts.specs.declared.deciding.Query.TheVariants.{Goal}

@@ -1,7 +1,7 @@
 //! Whether an obligation of a design holds.
 ghost use Rattle.std.specs.Prelude.{◌≡◌, ◌^◌, ◌<◌, ◌≤◌, [], IfOk};
 ghost use Rattle.cocoon_syntax.specs.TreeOf.{design_of};
-ghost use Rattle.rechecks.specs.Owed.{IsOwed};
+ghost use Rattle.obligation_gen.specs.Owed.{IsOwed};
 ghost use Rattle.verdicts.specs.Deciding.{Decides, IsOwnGoal};
 ghost use Rattle.verdicts.specs.Telling.{IsTold};
 

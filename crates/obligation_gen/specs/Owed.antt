@@ -1,4 +1,4 @@
--- Cited by the clauses of `recheck_one` and by those of code that decides: obligations of the code that a design owes.
+-- Cited by the clauses of code that decides obligations and checks certificates: obligations of the code that a design owes.
 use Rattle.std.specs.Prelude.{◌≡◌, ℕ, List, Some, slice_get}
 use Rattle.cocoon_num.specs.Tree.{Design}
 use Rattle.bv_terms.specs.declared.node.Node.{Node}
