@@ -1,6 +1,6 @@
 //! Terms by the words that say them.
 use crate::building::{apply, binary, input, not, pick, slice};
-use crate::numbers::{constant, sized, small};
+use design_cases::{constant, sized, small};
 use crate::random::Generator;
 use bv_terms::{TermId, TermOp, Terms};
 use case_files::number;

@@ -1,5 +1,5 @@
 //! Numbers that look random, the same ones of each seed.
-use crate::numbers::lowest;
+use design_cases::lowest;
 use cocoon_num::Bits;
 
 /// A generator of 64 bits at a time, by shifts and a multiplication.
