@@ -116,12 +116,7 @@ fn fits_node(alloc: Global, terms: &Terms, tables: &[Option<FunTable>], node: &N
 }
 
 /// Whether the tables fit the functions that a term applies.
-pub fn tables_fit(
-    alloc: Global,
-    terms: &Terms,
-    tables: &[Option<FunTable>],
-    goal: TermId,
-) -> bool
+pub fn tables_fit(alloc: Global, terms: &Terms, tables: &[Option<FunTable>], goal: TermId) -> bool
     ensures there { IsTrue result → goal < length terms.now }
     ensures fit { IsTrue result → TablesFit tables.now (term_at terms.now goal) }
 {

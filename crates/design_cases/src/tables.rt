@@ -23,10 +23,7 @@ fn copied_table(alloc: Global, table: &FunTable) -> Option<FunTable> {
 }
 
 /// The same tables, in memory of their own.
-pub fn copied_tables(
-    alloc: Global,
-    tables: &[Option<FunTable>],
-) -> Option<Vec<Option<FunTable>>> {
+pub fn copied_tables(alloc: Global, tables: &[Option<FunTable>]) -> Option<Vec<Option<FunTable>>> {
     let mut copies = Vec::new(alloc);
     for table in tables {
         let copy = match table {
