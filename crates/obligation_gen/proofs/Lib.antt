@@ -4,3 +4,4 @@ mod Leaves
 mod Roles
 mod Treed
 pub mod OwedFormulas
+mod Joining
