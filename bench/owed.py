@@ -1,17 +1,18 @@
 #!/usr/bin/env python3
 """What refinements owe by an independent reading of the language, in cases of obligation_tests.
 
-    bench/obligations.py READING [FILE]     prints a file of cases, owed.cases if none is named, with what the reading wants of each case
-    bench/obligations.py READING numbers DESIGN DEFINITIONS SEED COUNT
+    bench/owed.py READING [FILE]     prints a file of cases, owed.cases if none is named, with what the reading wants of each case
+    bench/owed.py READING numbers DESIGN DEFINITIONS SEED COUNT
                                             prints so many tuples of numbers, at each of which other leaves are true or other formulas
-    bench/obligations.py READING random FIRST COUNT [TUPLES]
-                                            lets the built program crates/obligation_tests/out judge the obligations of so many random designs of the reading,
-                                            each at so many tuples, 24 if none are said; and prints what differs, and how much was compared
-    bench/obligations.py times              prints the instructions, the time and the most memory of that program for some designs
+    bench/owed.py READING random SEED COUNT [TUPLES]
+                                            lets the built program crates/obligation_tests/out judge the obligations of so many random designs with blocks,
+                                            from a seed on, each at so many tuples, 24 if none are said; and prints what differs, and how much was compared
+    bench/owed.py times              prints the instructions, the time and the most memory of that program for some designs
 
 READING is the folder of the reading, which shares nothing with this repository but the language. docs/CASES.md says what the cases ask.
 """
 
+import itertools
 import pathlib
 import random
 import re
@@ -132,13 +133,16 @@ def print_numbers(design, definitions, seed, count):
 
 
 def asked_of(seed, count, folder):
-    """A file of cases on a random design, and what there is to compare: obligations, those whose formula or condition is true somewhere, and values."""
+    """A file of cases on a random design with a block, and what there is to compare: obligations, those whose formula or condition is true somewhere,
+    and truths."""
     import levels
 
     design, definitions = (text.decode() for text in levels.Levels(random.Random(seed)).design())
     (folder / f"{seed}.ccn").write_text(design)
     (folder / f"{seed}.defs").write_text(definitions)
     owed = Owed(design, definitions)
+    if owed.reading.checked.levels() < 2:
+        return None
     lines = [f'design "{seed}.ccn"', f'definitions "{seed}.defs"', f"  {answer(owed, 'count', [])} | count"]
     if owed.over is not None or not owed.all or owed.pairs() > MOST_PAIRS:
         return lines, (len(owed.all), 0, 0, 0, 0)
@@ -158,18 +162,24 @@ def asked_of(seed, count, folder):
     return lines, (len(owed.all), true, reached, sum(map(len, truths)), sum(map(sum, truths)))
 
 
+def judged(lines, folder):
+    """How many cases there are, and how many differ."""
+    (folder / "one.cases").write_text("\n".join(lines) + "\n")
+    said = subprocess.run([PROGRAM, "one.cases"], cwd=folder, capture_output=True, text=True).stdout
+    last = re.search(r"(\d+) cases, (\d+) differ", said)
+    if last is None or last[2] != "0":
+        print(said)
+    return (int(last[1]), int(last[2])) if last else (1, 1)
+
+
 def judge_random(first, count, tuples):
-    sums, differ, cases, over = [0] * 5, 0, 0, 0
+    sums, cases, differ, over = [0] * 5, 0, 0, 0
     with tempfile.TemporaryDirectory() as name:
         folder = pathlib.Path(name)
-        for seed in range(first, first + count):
-            lines, figures = asked_of(seed, tuples, folder)
-            (folder / "one.cases").write_text("\n".join(lines) + "\n")
-            said = subprocess.run([PROGRAM, "one.cases"], cwd=folder, capture_output=True, text=True).stdout
-            last = re.search(r"(\d+) cases, (\d+) differ", said)
-            if last is None or last[2] != "0":
-                print(f"seed {seed}:\n{said}")
-            cases, differ = cases + int(last[1] if last else 1), differ + int(last[2] if last else 1)
+        made = (found for seed in itertools.count(first) if (found := asked_of(seed, tuples, folder)))
+        for lines, figures in itertools.islice(made, count):
+            some, wrong = judged(lines, folder)
+            cases, differ = cases + some, differ + wrong
             sums = [total + figure for total, figure in zip(sums, figures)]
             over += "over" in lines[2]
     owed, true, reached, values, trues = sums
