@@ -14,7 +14,7 @@ use Rattle.obligation_laws.specs.Obligations as laws
 use Rattle.obligation_laws.specs.Obligations.{all_obligations}
 use Rattle.query_laws.specs.Certified.{HasTooMany, IsSatisfiable}
 use Rattle.query_laws.specs.Queries.{query}
-use Rattle.rechecks.specs.Owed.{IsOwed}
+use Rattle.obligation_gen.specs.Owed.{IsOwed}
 use Rattle.discharge.specs.Answering.{IsSpentOn}
 use Rattle.discharge.proofs.Lists.{take_next}
 use Rattle.budget_text.specs.Spent.{asked}

@@ -14,7 +14,7 @@ use Rattle.obligation_laws.specs.Failing.{NeverFails}
 use Rattle.obligation_laws.specs.Obligations.{all_obligations}
 use Rattle.query_laws.specs.Certified.{HasTooMany, IsSatisfiable}
 use Rattle.refinement.specs.Owed.{Refines}
-use Rattle.rechecks.specs.Owed.{NeverFailsHere}
+use Rattle.obligation_gen.specs.Owed.{NeverFailsHere}
 use Rattle.discharge.specs.Answering.{IsSpentOn}
 use Rattle.verdicts.specs.Deciding.{own_query}
 use Rattle.budget_text.specs.Spent.{asked, rounds}

@@ -6,7 +6,7 @@ ghost use Rattle.cocoon_syntax.specs.TreeOf.{design_of};
 ghost use Rattle.obligation_gen.specs.Counted.{AreFew, all_counts};
 ghost use Rattle.obligation_gen.specs.Shown.{ShowsObligations};
 ghost use Rattle.obligation_laws.specs.Obligations as laws;
-ghost use Rattle.rechecks.specs.Owed.{IsOwed};
+ghost use Rattle.obligation_gen.specs.Owed.{IsOwed};
 ghost use Rattle.cocoon_cli.specs.Answering.{TellsSpent};
 ghost use Rattle.cocoon_cli.specs.Refining.{AnswersAll, AnswersOne, HasManyLeaves, IsRefined, NotAll, NotOne, NotRefined};
 ghost use Rattle.cocoon_cli.specs.ReportLines.{budget_line, rounds_line};

@@ -3,5 +3,5 @@ mod Refinable
 mod Leaves
 mod Roles
 mod Treed
-pub mod OwedFormulas
 mod Joining
+pub mod OwedFormulas

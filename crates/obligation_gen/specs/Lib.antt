@@ -1,5 +1,5 @@
 pub mod Shown
 pub mod Counted
 pub mod Refined
-pub mod Owed
 pub mod Joined
+pub mod Owed

@@ -47,8 +47,8 @@ fn fits(checked: &Checked, level: u32, instance: &Instance) -> bool
     numbers_fit(&assumed.params, instance.values.items())
 }
 
-/// Whether all instances are.
-pub(crate) fn all_fit(checked: &Checked, level: u32, instances: &[Instance]) -> bool
+/// Whether all instances are of assumptions of levels up to this one, at numbers that fit.
+pub fn all_fit(checked: &Checked, level: u32, instances: &[Instance]) -> bool
     requires { level ≤ last_level (design_of checked.now) }
     ensures { IsTrue result ↔ AllFit (design_of checked.now) level instances.now }
 {

@@ -9,3 +9,4 @@ mod joining;
 
 pub use asking::{OwnGoal, query};
 pub use checking::{RecheckFault, check_cert};
+pub use fitting::all_fit;
