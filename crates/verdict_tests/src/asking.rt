@@ -146,14 +146,7 @@ pub fn put_every(
             lists.put(" ");
         }
         if let Some(obligation) = obligation(checked, terms, all, number) {
-            put_asked_with(
-                alloc,
-                checked,
-                terms,
-                obligation,
-                ("list", ""),
-                &mut lists,
-            );
+            put_asked_with(alloc, checked, terms, obligation, ("list", ""), &mut lists);
         }
     }
     given.put_number(all.len() as u64);
