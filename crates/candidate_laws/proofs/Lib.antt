@@ -1,0 +1,4 @@
+pub mod SameFunctions
+pub mod FullTables
+pub mod Candidate
+pub mod Counting

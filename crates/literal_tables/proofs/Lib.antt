@@ -1,0 +1,5 @@
+pub mod Calls
+pub mod FirstRows
+pub mod Keys
+pub mod Places
+pub mod Widths

@@ -1,0 +1,4 @@
+pub mod FirstRows
+pub mod LookupRows
+pub mod Tables
+pub mod Made
