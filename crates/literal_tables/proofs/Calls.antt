@@ -47,3 +47,10 @@ guard_parts d x = sym (guards-alike d x) ∙ either (switch_guards d) (role_guar
 
 pub literal_parts : (d : Design) (x : List ℕ) → is_one_of (literal_functions d) x ≡ (is_one_of (guard_calls d) x || is_one_of (switch_forks d) x)
 literal_parts d x = either (guard_calls d) (fork_calls d) x ∙ ap (λ b. is_one_of (guard_calls d) x || b) (sym (forks-alike d x))
+
+-- a test that is one of two
+pub one-true : (whole a b : Bool) (r : Bool) → whole ≡ (a || b) → r ≡ a → r ≡ true → r ≡ whole
+one-true whole a b r w e t = t ∙ sym (w ∙ ap (λ x. x || b) (sym e ∙ t))
+
+pub one-false : (whole a b : Bool) (r s : Bool) → whole ≡ (a || b) → r ≡ a → r ≡ false → s ≡ b → s ≡ whole
+one-false whole a b r s w e f g = g ∙ sym (w ∙ ap (λ x. x || b) (sym e ∙ f))
