@@ -16,7 +16,10 @@ ghost use Rattle.p4_run.specs.Runs.{AreApplied, PlacesTables, Runs};
 
 use crate::faults::{LoadFault, load_fault};
 use crate::loaded::Loaded;
-use crate::places::{FieldWidths, TablePlaces, field_widths, group_places, table_places};
+use crate::origin::Origin;
+use crate::places::{
+    FieldWidths, TablePlaces, field_widths, group_places, meta_widths, table_places,
+};
 use crate::tables::tables_with;
 use cocoon_num::NoMemory;
 use number_table::NumberTable;
@@ -95,17 +98,21 @@ fn placed(
 {
     let FieldWidths { widths, starts } = field_widths(alloc, program.headers.items())?;
     let header_bytes = byte_count(&widths)?;
+    let meta = meta_widths(alloc, program.meta.items())?;
     let ingress = ingress_steps(alloc, &program, &rows, &starts, &places.rows, &tables)?;
     let egress = egress_steps(alloc, &program, &rows, &starts, &places.rows, &tables)?;
     let groups = group_places(alloc, &rows)?;
+    let origin = Origin::of(&program, &rows);
+    let all_groups = rows.groups;
     Ok(Loaded {
-        program,
-        rows,
+        origin,
         widths,
         header_bytes,
+        meta,
         tables,
         ingress,
         egress,
+        all_groups,
         groups,
     })
 }
@@ -128,7 +135,7 @@ fn resolved(
 }
 
 impl Loaded {
-    /// Loads rows into a program.
+    /// Loads rows into a program, which is not kept.
     pub fn new(alloc: Global, program: Program, rows: RowsFile) -> Result<Loaded, LoadFault>
         requires { WellKinded (program_of program) }
         ensures program { IfOk result (λ loaded. program_in loaded ≡ program_of program) }

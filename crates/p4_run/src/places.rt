@@ -49,6 +49,15 @@ pub(crate) fn field_widths(alloc: Global, headers: &[P4Header]) -> Result<FieldW
     Ok(FieldWidths { widths, starts })
 }
 
+/// The widths of meta fields.
+pub(crate) fn meta_widths(alloc: Global, fields: &[P4Field]) -> Result<Vec<u8>, NoMemory>
+    ensures { IfOk result (λ widths. widths.items ≡ field_widths (map field_of fields.now)) }
+{
+    let mut widths = Vec::new(alloc);
+    push_widths(&mut widths, fields)?;
+    Ok(widths)
+}
+
 /// Where the table of each number stands, and where its rows stand.
 #[derive(Drop)]
 pub(crate) struct TablePlaces {

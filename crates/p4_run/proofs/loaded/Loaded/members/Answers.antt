@@ -15,19 +15,25 @@ returns-in-Some-clause-members c =
     let g = c.in-Some.known.now in
     let i = c.place-place.result in
     let own : i ≡ place_in l.groups c.args.group = search rules in
-    let at : i ≡ place_of (group_numbers (map group_of l.rows.groups)) c.args.group = own ∙ l.groups_are c.args.group in
-    let within : i < length l.rows.groups = search rules in
-    let is : g ≡ get_or l.rows.groups i g = search rules in
-    c.items-in-Some.ensures ∙ sym (members_some l.rows.groups g i c.args.group at within is)
+    let gs = l.origin.rows.groups in
+    let at : i ≡ place_of (group_numbers (map group_of gs)) c.args.group = own ∙ l.groups_are c.args.group in
+    let kept_within : i < length l.all_groups = search rules in
+    let kept_is : g ≡ get_or l.all_groups i g = search rules in
+    let within : i < length gs = subst (λ xs. i < length xs) l.groups_kept kept_within in
+    let is : g ≡ get_or gs i g = subst (λ xs. g ≡ get_or xs i g) l.groups_kept kept_is in
+    c.items-in-Some.ensures ∙ sym (members_some gs g i c.args.group at within is)
 
 pub returns-in-Some-clause-ascend : goal.returns-in-Some-clause-ascend
 returns-in-Some-clause-ascend c =
     let l = c.args.self.now in
     let g = c.in-Some.known.now in
     let i = c.place-place.result in
-    let within : i < length l.rows.groups = search rules in
-    let is : g ≡ get_or l.rows.groups i g = search rules in
-    let own : group_fits (group_of g) ≡ true = each_at group_of group_fits l.rows.groups i g (loads_of (program_in l) (rows_in l) l.loads).groups within is in
+    let gs = l.origin.rows.groups in
+    let kept_within : i < length l.all_groups = search rules in
+    let kept_is : g ≡ get_or l.all_groups i g = search rules in
+    let within : i < length gs = subst (λ xs. i < length xs) l.groups_kept kept_within in
+    let is : g ≡ get_or gs i g = subst (λ xs. g ≡ get_or xs i g) l.groups_kept kept_is in
+    let own : group_fits (group_of g) ≡ true = each_at group_of group_fits gs i g (loads_of (program_in l) (rows_in l) l.loads).groups within is in
     subst (λ ms. IsTrue (ascend ms)) (sym c.items-in-Some.ensures) (and_parts (not (g.number == 0)) (ascend g.members) own).1
 
 pub returns-in-None-clause-members : goal.returns-in-None-clause-members
@@ -35,6 +41,8 @@ returns-in-None-clause-members c =
     let l = c.args.self.now in
     let i = c.place-place.result in
     let own : i ≡ place_in l.groups c.args.group = search rules in
-    let at : i ≡ place_of (group_numbers (map group_of l.rows.groups)) c.args.group = own ∙ l.groups_are c.args.group in
-    let past : length l.rows.groups ≤ i = search rules in
-    sym (members_none l.rows.groups i c.args.group at past)
+    let gs = l.origin.rows.groups in
+    let at : i ≡ place_of (group_numbers (map group_of gs)) c.args.group = own ∙ l.groups_are c.args.group in
+    let kept_past : length l.all_groups ≤ i = search rules in
+    let past : length gs ≤ i = subst (λ xs. length xs ≤ i) l.groups_kept kept_past in
+    sym (members_none gs i c.args.group at past)
