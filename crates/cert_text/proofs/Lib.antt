@@ -1,0 +1,5 @@
+mod Accepting
+mod OneCert
+mod Showing
+pub mod SideBySide
+mod Telling

@@ -1,0 +1,3 @@
+pub mod Certifying
+pub mod Faults
+pub mod Rechecking
