@@ -10,7 +10,6 @@ ghost use Rattle.p4_ir.specs.WellKinded.{is_well_kinded, WellKinded};
 ghost use Rattle.p4_run.specs.FaultOf.{IsFault};
 ghost use Rattle.p4_run.specs.Faults.{load_fault};
 
-use cocoon_num::{NoMemory, both};
 use p4_ir::SwitchFiles;
 use p4_run::{LoadFault, Loaded};
 use std::alloc::{AllocFailed, Global};
@@ -21,17 +20,6 @@ pub enum NetFault {
     /// The rows of the switch of this number do not load, for this fault, which is never its `NoMemory`.
     Load(u16, LoadFault),
     NoMemory,
-}
-
-impl From<NoMemory> for NetFault {
-    ghost use Rattle.std.specs.Prelude.{◌≡◌};
-    ghost use Rattle.loaded_net.specs.declared.loading.NetFault.TheVariants.{NoMemory};
-
-    ghost from_gives = { λ _ r. r ≡ NoMemory };
-
-    fn from(_: NoMemory) -> NetFault {
-        NetFault::NoMemory
-    }
 }
 
 impl<T: Drop> From<AllocFailed<T>> for NetFault {
@@ -65,8 +53,7 @@ pub fn load(alloc: Global, files: &SwitchFiles) -> Result<Loaded, NetFault>
         TellsFirst fault (told_at files.now.number
         (load_fault (program_of files.now.program) (rows_of files.now.rows)))) }
 {
-    let (program, rows) = both(files.program.copy(alloc), files.rows.copy(alloc))?;
-    match Loaded::new(alloc, program, rows) {
+    match Loaded::new(alloc, &files.program, &files.rows) {
         Ok(loaded) => Ok(loaded),
         Err(fault) => Err(fault_at(files.number, fault)),
     }

@@ -9,3 +9,4 @@ pub mod TableFacts
 pub mod TestSteps
 pub mod VisitLaws
 pub mod VisitSteps
+pub mod Walks

@@ -7,10 +7,10 @@ use Rattle.p4_run.specs.declared.loaded.Loaded.{Loaded}
 
 -- the program, its rows, and the widths of its headers
 abbrev pub program_in : Loaded → Program
-program_in l = program_of l.program
+program_in l = program_of l.origin.program
 
 abbrev pub rows_in : Loaded → RowsFile
-rows_in l = rows_of l.rows
+rows_in l = rows_of l.origin.rows
 
 abbrev pub layout_in : Loaded → Layout
 layout_in l = program_layout (program_in l)

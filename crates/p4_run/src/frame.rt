@@ -1,14 +1,11 @@
 //! The memory that runs work in.
 ghost use Rattle.std.specs.Prelude.{◌≡◌, ◌↔◌, IfOk, IsTrue};
-ghost use Rattle.p4_ir.specs.P4Tree.{field_widths};
 ghost use Rattle.p4_code.specs.States.{Fit};
 ghost use Rattle.p4_run.specs.Frames.{Fits, headers_in};
 ghost use Rattle.p4_run.specs.Running.{program_in};
 ghost use Rattle.p4_run.specs.Frames as frames;
 ghost use Rattle.p4_run.specs.States as spec;
-ghost use Rattle.p4_run.specs.States.{fields_fit};
 
-use crate::faults::fits_width;
 use crate::loaded::Loaded;
 use crate::registers::{numbers_fit, zero_registers};
 use cocoon_num::NoMemory;
@@ -29,23 +26,7 @@ pub struct Frame {
 fn registers_fit(loaded: &Loaded, registers: &Registers) -> bool
     ensures { result ≡ spec.registers_fit (program_in loaded.now) registers.now }
 {
-    numbers_fit(&loaded.widths, &registers.fields) && meta_fits(loaded, &registers.meta)
-}
-
-/// Whether each number fits the width of its meta field, and there are as many.
-fn meta_fits(loaded: &Loaded, numbers: &[u64]) -> bool
-    ensures { result ≡ fields_fit (field_widths (program_in loaded.now).meta) numbers.now }
-{
-    let fields = loaded.program.meta.items();
-    if fields.len() != numbers.len() {
-        return false;
-    }
-    for (index, field) in fields.iter().enumerate() {
-        if !fits_width(field.width, numbers[index]) {
-            return false;
-        }
-    }
-    true
+    numbers_fit(&loaded.widths, &registers.fields) && numbers_fit(&loaded.meta, &registers.meta)
 }
 
 /// Numbers that fit, all 0.
@@ -53,7 +34,7 @@ fn zeros(alloc: Global, loaded: &Loaded) -> Result<Registers, NoMemory>
     ensures { IfOk result (λ made. Fit (program_in loaded.now) made) }
 {
     let fields = loaded.widths.len();
-    let meta = loaded.program.meta.items().len();
+    let meta = loaded.meta.len();
     let made = zero_registers(alloc, fields, meta)?;
     Ok(made)
 }

@@ -7,6 +7,7 @@ pub mod frame;
 pub mod laws;
 pub mod loaded;
 pub mod loading;
+pub mod origin;
 pub mod places;
 pub mod registers;
 pub mod tables;

@@ -16,7 +16,10 @@ ghost use Rattle.p4_run.specs.Runs.{AreApplied, PlacesTables, Runs};
 
 use crate::faults::{LoadFault, load_fault};
 use crate::loaded::Loaded;
-use crate::places::{FieldWidths, TablePlaces, field_widths, group_places, table_places};
+use crate::origin::Origin;
+use crate::places::{
+    FieldWidths, TablePlaces, copied_groups, field_widths, group_places, meta_widths, table_places,
+};
 use crate::tables::tables_with;
 use cocoon_num::NoMemory;
 use number_table::NumberTable;
@@ -81,31 +84,35 @@ fn egress_steps(
 /// A program with rows that load, and its tables.
 fn placed(
     alloc: Global,
-    program: Program,
-    rows: RowsFile,
+    program: &Program,
+    rows: &RowsFile,
     places: &TablePlaces,
     tables: Vec<Application>,
 ) -> Result<Loaded, NoMemory>
-    requires kinds { IsTrue (kinds_fit (program_of program)) }
-    requires loads { IsTrue (rows_load (program_of program) (rows_of rows)) }
-    requires places { PlacesTables (program_of program) (rows_of rows).tables places.now }
-    requires tables { AreApplied (program_of program) (rows_of rows).tables tables.items }
-    ensures program { IfOk result (λ loaded. program_in loaded ≡ program_of program) }
-    ensures rows { IfOk result (λ loaded. rows_in loaded ≡ rows_of rows) }
+    requires kinds { IsTrue (kinds_fit (program_of program.now)) }
+    requires loads { IsTrue (rows_load (program_of program.now) (rows_of rows.now)) }
+    requires places { PlacesTables (program_of program.now) (rows_of rows.now).tables places.now }
+    requires tables { AreApplied (program_of program.now) (rows_of rows.now).tables tables.items }
+    ensures program { IfOk result (λ loaded. program_in loaded ≡ program_of program.now) }
+    ensures rows { IfOk result (λ loaded. rows_in loaded ≡ rows_of rows.now) }
 {
     let FieldWidths { widths, starts } = field_widths(alloc, program.headers.items())?;
     let header_bytes = byte_count(&widths)?;
-    let ingress = ingress_steps(alloc, &program, &rows, &starts, &places.rows, &tables)?;
-    let egress = egress_steps(alloc, &program, &rows, &starts, &places.rows, &tables)?;
-    let groups = group_places(alloc, &rows)?;
+    let meta = meta_widths(alloc, program.meta.items())?;
+    let ingress = ingress_steps(alloc, program, rows, &starts, &places.rows, &tables)?;
+    let egress = egress_steps(alloc, program, rows, &starts, &places.rows, &tables)?;
+    let all_groups = copied_groups(alloc, rows)?;
+    let groups = group_places(alloc, rows)?;
+    let origin = Origin::of(program, rows);
     Ok(Loaded {
-        program,
-        rows,
+        origin,
         widths,
         header_bytes,
+        meta,
         tables,
         ingress,
         egress,
+        all_groups,
         groups,
     })
 }
@@ -113,33 +120,33 @@ fn placed(
 /// A program with rows that load.
 fn resolved(
     alloc: Global,
-    program: Program,
-    rows: RowsFile,
+    program: &Program,
+    rows: &RowsFile,
     places: &TablePlaces,
 ) -> Result<Loaded, NoMemory>
-    requires kinds { IsTrue (kinds_fit (program_of program)) }
-    requires loads { IsTrue (rows_load (program_of program) (rows_of rows)) }
-    requires places { PlacesTables (program_of program) (rows_of rows).tables places.now }
-    ensures program { IfOk result (λ loaded. program_in loaded ≡ program_of program) }
-    ensures rows { IfOk result (λ loaded. rows_in loaded ≡ rows_of rows) }
+    requires kinds { IsTrue (kinds_fit (program_of program.now)) }
+    requires loads { IsTrue (rows_load (program_of program.now) (rows_of rows.now)) }
+    requires places { PlacesTables (program_of program.now) (rows_of rows.now).tables places.now }
+    ensures program { IfOk result (λ loaded. program_in loaded ≡ program_of program.now) }
+    ensures rows { IfOk result (λ loaded. rows_in loaded ≡ rows_of rows.now) }
 {
-    let tables = tables_with(alloc, &program, &places.tables, rows.tables.items())?;
+    let tables = tables_with(alloc, program, &places.tables, rows.tables.items())?;
     placed(alloc, program, rows, places, tables)
 }
 
 impl Loaded {
-    /// Loads rows into a program.
-    pub fn new(alloc: Global, program: Program, rows: RowsFile) -> Result<Loaded, LoadFault>
-        requires { WellKinded (program_of program) }
-        ensures program { IfOk result (λ loaded. program_in loaded ≡ program_of program) }
-        ensures rows { IfOk result (λ loaded. rows_in loaded ≡ rows_of rows) }
+    /// Loads rows into a program. Neither is kept, nor copied whole.
+    pub fn new(alloc: Global, program: &Program, rows: &RowsFile) -> Result<Loaded, LoadFault>
+        requires { WellKinded (program_of program.now) }
+        ensures program { IfOk result (λ loaded. program_in loaded ≡ program_of program.now) }
+        ensures rows { IfOk result (λ loaded. rows_in loaded ≡ rows_of rows.now) }
         ensures loads { IfOk result (λ loaded.
-            faults.load_fault (program_of program) (rows_of rows) ≡ None) }
+            faults.load_fault (program_of program.now) (rows_of rows.now) ≡ None) }
         ensures fault { IfErr result (λ fault.
-            IsFault fault (faults.load_fault (program_of program) (rows_of rows))) }
+            IsFault fault (faults.load_fault (program_of program.now) (rows_of rows.now))) }
     {
-        let places = table_places(alloc, &program, rows.tables.items())?;
-        if let Some(fault) = load_fault(alloc, &program, &rows, &places)? {
+        let places = table_places(alloc, program, rows.tables.items())?;
+        if let Some(fault) = load_fault(alloc, program, rows, &places)? {
             return Err(fault);
         }
         Ok(resolved(alloc, program, rows, &places)?)

@@ -4,7 +4,7 @@ ghost use Rattle.std.specs.Prelude.{◌≡◌, ◌++◌, IfOk, List, map, OnOk, 
 ghost use Rattle.number_table.specs.NumberPlaces.{HasPlaces};
 ghost use Rattle.packed_fields.specs.AtOnce.{widths_in};
 ghost use Rattle.p4_ir.specs.Loading.{all_tables, table_numbers};
-ghost use Rattle.p4_ir.specs.NetOf.{rows_of, table_rows_of};
+ghost use Rattle.p4_ir.specs.NetOf.{group_of, rows_of, table_rows_of};
 ghost use Rattle.p4_ir.specs.P4Kinds.{numbers_of};
 ghost use Rattle.p4_ir.specs.P4Tree.{field_widths};
 ghost use Rattle.p4_ir.specs.Program.{field_of, header_of, program_of, table_of};
@@ -13,8 +13,9 @@ ghost use Rattle.p4_code.specs.Places.{layout_of, starts_from};
 ghost use Rattle.p4_run.specs.Runs.{ArePlaced, PlacesTables};
 
 use cocoon_num::NoMemory;
+use cocoon_num::copies::copy_list;
 use number_table::NumberTable;
-use p4_ir::{P4Field, P4Header, Program, RowsFile, Table, TableRows};
+use p4_ir::{Group, P4Field, P4Header, Program, RowsFile, Table, TableRows};
 use std::alloc::Global;
 
 /// The widths of the fields of some headers, one header after another, and the index of each header's first field.
@@ -47,6 +48,15 @@ pub(crate) fn field_widths(alloc: Global, headers: &[P4Header]) -> Result<FieldW
         push_widths(&mut widths, header.fields.items())?;
     }
     Ok(FieldWidths { widths, starts })
+}
+
+/// The widths of meta fields.
+pub(crate) fn meta_widths(alloc: Global, fields: &[P4Field]) -> Result<Vec<u8>, NoMemory>
+    ensures { IfOk result (λ widths. widths.items ≡ field_widths (map field_of fields.now)) }
+{
+    let mut widths = Vec::new(alloc);
+    push_widths(&mut widths, fields)?;
+    Ok(widths)
 }
 
 /// Where the table of each number stands, and where its rows stand.
@@ -130,6 +140,13 @@ pub(crate) fn table_of_either<'p>(
         ≡ table_numbered (all_tables (program_of program.now)) number }
 {
     table_at(program, places.place(number))
+}
+
+/// The groups, in memory of their own.
+pub(crate) fn copied_groups(alloc: Global, rows: &RowsFile) -> Result<Vec<Group>, NoMemory>
+    ensures { IfOk result (λ groups. map group_of groups.items ≡ (rows_of rows.now).groups) }
+{
+    Ok(copy_list(alloc, rows.groups.items())?)
 }
 
 /// Where the group of each number stands.

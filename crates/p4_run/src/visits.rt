@@ -167,7 +167,7 @@ impl Loaded {
         ensures ascend { IsTrue (ascend result.now) }
     {
         let place = self.groups.place(u32::from(group));
-        match self.rows.groups.items().get(place) {
+        match self.all_groups.get(place) {
             Some(known) => known.members.items(),
             None => &[],
         }

@@ -29,7 +29,7 @@ fn load_into(
     given: &mut Printer,
 ) -> Option<Loaded> {
     match is_well_kinded(alloc, &program) {
-        Ok(true) => match Loaded::new(alloc, program, rows) {
+        Ok(true) => match Loaded::new(alloc, &program, &rows) {
             Ok(loaded) => return Some(loaded),
             Err(fault) => put_fault(fault, given),
         },

@@ -7,5 +7,5 @@ use Rattle.p4_run.proofs.loaded.Loaded.new.Goals as goal
 
 pub resolved-requires-clause-loads : goal.resolved-requires-clause-loads
 resolved-requires-clause-loads c =
-    let none : load_fault (program_of c.args.program) (rows_of c.args.rows) ≡ None = search rules in
-    loads_from_none (program_of c.args.program) (rows_of c.args.rows) none
+    let none : load_fault (program_of c.args.program.now) (rows_of c.args.rows.now) ≡ None = search rules in
+    loads_from_none (program_of c.args.program.now) (rows_of c.args.rows.now) none
