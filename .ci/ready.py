@@ -162,7 +162,7 @@ def test_fresh_clone(room):
     expect(min(seconds) < 1, "a fresh clone answers in less than a second", seconds)
     expect_shipped(room.compile(), "the second call")
     expect((room.top / "out" / "seen").is_file(), "what was seen is noted")
-    expect(sorted(os.listdir(room.work)) == ["lab.net.json", "lab.s1.p4", "lab.s1.rows.json"], "the bundle is in the current directory")
+    expect(sorted(os.listdir(room.work)) == ["lab.certs.json", "lab.net.json", "lab.s1.p4", "lab.s1.rows.json"], "the bundle is in the current directory")
 
 
 def test_called_from_elsewhere(room):

@@ -220,7 +220,8 @@ def jobs_of(files, room):
     for case in sorted(name for name in files if name.endswith(".case")):
         for level in "001":
             yield Job(room, ["step", *texts, level, case], [*texts, case, case])
-    bundle = sorted(name for name in files if name.startswith("lab.")) + ["p.txt"]
+    # `forward` does not look at certificates.
+    bundle = sorted(name for name in files if name.startswith("lab.") and name != "lab.certs.json") + ["p.txt"]
     if "p.txt" in files:
         for hops in (["--hops", "3"], []):
             yield Job(room, ["forward", "lab", "p.txt", *hops], bundle)

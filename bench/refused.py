@@ -25,7 +25,7 @@ PROGRAM = TOP / "crates" / "cocoon" / "out" / "cocoon"
 TESTS = TOP / "crates" / "command_tests"
 CASES = [TESTS / "out" / "command_tests", TESTS / "data" / "memory.cases"]
 MEMORY_FOLDER = "/dev/shm" if os.access("/dev/shm", os.W_OK) else None
-BUNDLE = ("one.s1.p4", "one.s1.rows.json", "one.net.json")
+BUNDLE = ("one.s1.p4", "one.s1.rows.json", "one.certs.json", "one.net.json")
 OLDER = b"older\n"
 JOB, FORWARD, STEP = "compile c.ccn c.defs one", "forward one p.txt", "step c.ccn c.defs 0 c.case"
 SPENT = "compile a.spent a.defs one --conflicts 1"
@@ -74,7 +74,6 @@ def inputs():
         "long.case": bytes(65537),
         "m.case": b"HostOut 167772161\n167772161 167772162\n-\n",
         "p.txt": b"0 0101\n1 02\n2 -\n",
-        "one.certs.json": OLDER,
     }
     return files
 

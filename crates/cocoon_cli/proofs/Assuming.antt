@@ -1,6 +1,5 @@
 -- What is answered of the assumptions under tables, as the step on them says it of the definitions of a text.
-use Rattle.std.proofs.Common.{◌≡◌, ℕ, List, ◌∷◌, Option, Some, None, Err, refl, sym, ap, subst, inl, inr}
-use Rattle.std.specs.Prelude.{codes}
+use Rattle.std.proofs.Common.{◌≡◌, ℕ, List, ◌∷◌, Option, Some, None, Err, refl, sym, ap, subst}
 use Rattle.cocoon_num.specs.Tree.{AssumeDecl, Design}
 use Rattle.cocoon_num.specs.declared.limit_name.LimitName.{LimitName}
 use Rattle.cocoon_types.specs.Design.{last_level}
@@ -9,13 +8,10 @@ use Rattle.refinement.specs.Assumptions.{Meets}
 use Rattle.runtime_defs.specs.Places.{Places}
 use Rattle.sound_types.specs.Defined.{HasDefinitions}
 use Rattle.sound_types.specs.Literals.{DesignLiteralsFit}
-use Rattle.discharge.specs.Answering.{IsSpentOn, IsTooBig}
 use Rattle.discharge.specs.Meeting.{IsFalseAt, IsTold, OfTables}
-use Rattle.discharge.specs.Queries.{assumption_query}
 use Rattle.design_texts.specs.DesignTexts.{BindsTables}
 use Rattle.command_reports.specs.declared.refusal.Refusal.{Refusal}
 use Rattle.command_reports.specs.declared.refusal.Refusal.TheVariants as refusal
-use Rattle.command_reports.specs.declared.files.CommandFile.TheVariants.{Budget}
 use Rattle.cocoon_cli.specs.Answering.{IsFound}
 use Rattle.cocoon_cli.specs.Assumed.{IsBig, IsBroken, IsSpent, OfAssumption}
 use Rattle.cocoon_cli.specs.Commands.{text_steps}

@@ -1,6 +1,6 @@
 -- What is proved of each command by its case: which steps a bundle decides, which files its steps tell of, that its report
 -- is one, and what it writes.
-use Rattle.std.proofs.Common.{◌≡◌, ◌⊎◌, ℕ, List, ◌++◌, length, Option, Some, None, Result, Ok, Err, refl, sym, ap, subst, ◌∙◌, inl, inr}
+use Rattle.std.proofs.Common.{◌≡◌, ◌⊎◌, ℕ, List, ◌++◌, length, Option, Some, None, Err, refl, sym, ap, subst, ◌∙◌, inl, inr}
 use Rattle.cocoon_io.specs.Files.{Files}
 use Rattle.cocoon_types.specs.Tables.{defs_of}
 use Rattle.case_file.specs.Cases.{case_of}
@@ -21,7 +21,6 @@ use Rattle.command_reports.specs.Refusals.{bundle_refusal}
 use Rattle.command_reports.specs.Report.{fault_of, success, verdict_status}
 use Rattle.command_reports.specs.declared.files.CommandFile.TheVariants.{Budget, Bundle, Case as CaseFile, Definitions, Design, Packets}
 use Rattle.command_reports.specs.declared.refusal.Refusal.{Refusal}
-use Rattle.command_reports.specs.declared.refusal.Refusal.TheVariants as refusal
 use Rattle.command_reports.specs.declared.report.Report.{Report}
 use Rattle.command_reports.specs.declared.report.Verdict.{Verdict}
 use Rattle.command_reports.specs.declared.report.Verdict.TheVariants as verdict
@@ -31,19 +30,19 @@ use Rattle.cocoon_cli.specs.declared.answer.Writing.TheVariants as written
 use Rattle.cocoon_cli.specs.declared.reading.Read.{Read}
 use Rattle.cocoon_cli.specs.Commands.{Plans, PlansDone, Reports, Writes, asks, files_of, writes}
 use Rattle.cocoon_cli.specs.Answering.{IsBudget, PlansBy}
-use Rattle.cocoon_cli.specs.Compiling.{LowersTexts}
-use Rattle.cocoon_cli.specs.Headline.{Compiled, CompiledOf, none_besides}
+use Rattle.cocoon_cli.specs.Compiling.{CompilesTexts}
+use Rattle.cocoon_cli.specs.Headline.{Compiled, CompiledOf, IsCertificates}
 use Rattle.cocoon_cli.specs.Leaves.{IsWhole, LeavesFault, LeavesWhole}
-use Rattle.cocoon_cli.specs.Outcomes.{AllGood, none, good, Ends, no_memory, reads, steps}
+use Rattle.cocoon_cli.specs.Outcomes.{AllGood, none, Ends, no_memory, reads, steps}
 use Rattle.cocoon_cli.specs.ReportLines.{sent_text, totals_line, totals_of}
 use Rattle.cocoon_cli.specs.Run.{IsKnown, MayWrite, done, inputs_of}
 use Rattle.cocoon_cli.specs.Shell.{CanWrite, Fits, HoldsNet, IsGiven, NotAllWritten, ReadsAll, writing_of}
-use Rattle.cocoon_cli.specs.Steps.{Inputs, bundle_within, bundle_written}
+use Rattle.cocoon_cli.specs.Steps.{Inputs}
 use Rattle.cocoon_cli.specs.Writing.{with_writing, bundle}
-use Rattle.cocoon_cli.proofs.Compiling.{on_net}
-use Rattle.cocoon_cli.proofs.Ending.{all_good, next, refused, stopped}
+use Rattle.cocoon_cli.proofs.Ending.{all_good}
 use Rattle.cocoon_cli.proofs.OneStep.{AllDecided, HasReading, Laws, on_both, on_design, on_packets, on_text, same_ok}
 use Rattle.cocoon_cli.proofs.Telling.{AllTell, Named}
+use Rattle.cocoon_cli.proofs.Fitting.{files_good, files_refused, files_stopped, of_files}
 use Rattle.cocoon_cli.proofs.TextSteps.{Texts}
 
 -- ---- its outcome
@@ -51,7 +50,7 @@ use Rattle.cocoon_cli.proofs.TextSteps.{Texts}
 -- the steps of a command are decided where the content of a bundle that it reads is known
 pub steps_decided : Laws → (c : Command) (i : Inputs) → IsKnown (bundle_in (files_of c)) i → AllDecided i (steps c)
 steps_decided laws (check d n) i b = (tt, (tt, (tt, (tt, (tt, (tt, (tt, tt)))))))
-steps_decided laws (compile d e o n) i b = (tt, (tt, (tt, (tt, (tt, (tt, (tt, (tt, (tt, (tt, (tt, (tt, (tt, (tt, (tt, (tt, tt))))))))))))))))
+steps_decided laws (compile d e o n) i b = (tt, (tt, (tt, (tt, (tt, (tt, (tt, (tt, (tt, (tt, (tt, (tt, (tt, (tt, (tt, (tt, (tt, (tt, tt))))))))))))))))))
 steps_decided laws (step d e l f) i b = (tt, (tt, (tt, (tt, (tt, (tt, (tt, (tt, (tt, (tt, (tt, (tt, (tt, (tt, tt))))))))))))))
 steps_decided laws (forward o p n) i b =
     let r : HasReading i o = (b.0, b.1, laws.one_reading b.0 o) in
@@ -68,7 +67,7 @@ all_tell (compile d e o n) =
     let y : Named (files_of (compile d e o n)) Definitions = (e, refl) in
     let b : Named (files_of (compile d e o n)) Budget = (budget_name d, refl) in
     let z : (file : BundleFile) → Named (files_of (compile d e o n)) (Bundle file) = λ file. (whole_name o file, refl) in
-    (x, (x, (y, (y, (x, (x, (tt, (y, (y, (tt, (b, (tt, (b, (tt, (z, (z, tt))))))))))))))))
+    (x, (x, (y, (y, (x, (x, (tt, (y, (y, (tt, (b, (tt, (b, (tt, (z, (z, (z, (z, tt))))))))))))))))))
 all_tell (step d e l f) =
     let x : Named (files_of (step d e l f)) Design = (d, refl) in
     let y : Named (files_of (step d e l f)) Definitions = (e, refl) in
@@ -117,7 +116,7 @@ texts d e o n i read g = record { design = g.design.0; defs = g.definitions.0 }
 
 -- the steps of writing are good where all of it fits
 pub writes_good : (c : Command) (i : Inputs) (read : Read) (w : Written) → IsGiven (files_of c) i read → PlansDone c read w → Fits (writing_of (files_of c) read w) → AllGood i (writes c)
-writes_good (compile d e o n) i read (written.Bundle name net) g p fit = good (on_net i read.design.items read.definitions.items (net_of net) (texts d e o n i read g) p.1 fit) (good tt none)
+writes_good (compile d e o n) i read (written.Bundle name net certs) g p fit = files_good i read.design.items read.definitions.items (net_of net) certs (texts d e o n i read g) p.1 fit
 writes_good (compile d e o n) i read written.Nothing g p fit = absurd p
 writes_good (compile d e o n) i read (written.Own file bytes) g p fit = absurd p
 writes_good (check d n) i read w g p fit = none
@@ -126,9 +125,10 @@ writes_good (forward o p n) i read w g h fit = none
 
 -- and it is what the command writes
 pub writes_it : (c : Command) (i : Inputs) (read : Read) (w : Written) → IsGiven (files_of c) i read → PlansDone c read w → Fits (writing_of (files_of c) read w) → Writes c i (writing_of (files_of c) read w)
-writes_it (compile d e o n) i read (written.Bundle name net) g p fit =
-    on_net i read.design.items read.definitions.items (net_of net) (texts d e o n i read g) p.1
-    (fit, ap (λ out. bundle out (bundle_of.bundle read.design.items (net_of net) None)) p.0)
+writes_it (compile d e o n) i read (written.Bundle name net certs) g p fit =
+    of_files i read.design.items read.definitions.items (net_of net) certs (texts d e o n i read g) p.1
+    (λ files. AllFit files × (bundle name.now (bundle_of.bundle read.design.items (net_of net) (Some certs)) ≡ bundle o files))
+    (fit, ap (λ out. bundle out (bundle_of.bundle read.design.items (net_of net) (Some certs))) p.0)
 writes_it (compile d e o n) i read written.Nothing g p fit = absurd p
 writes_it (compile d e o n) i read (written.Own file bytes) g p fit = absurd p
 writes_it (check d n) i read w g p fit = ap (writing_of (files_of (check d n)) read) p
@@ -137,7 +137,7 @@ writes_it (forward o q n) i read w g p fit = ap (writing_of (files_of (forward o
 
 -- it may be written
 can_write_done : (c : Command) (read : Read) (w : Written) → PlansDone c read w → CanWrite (files_of c) w
-can_write_done (compile d e o n) read (written.Bundle name net) p = (ap Some (sym p.0), p.1.lowering.writable)
+can_write_done (compile d e o n) read (written.Bundle name net certs) p = (ap Some (sym p.0), p.1.lowers.lowering.writable)
 can_write_done (compile d e o n) read written.Nothing p = absurd p
 can_write_done (compile d e o n) read (written.Own file bytes) p = absurd p
 can_write_done (check d n) read w p = subst (CanWrite (files_of (check d n))) (sym p) tt
@@ -163,28 +163,30 @@ pub record Unwritten (c : Command) (i : Inputs) (before after : Option Files) (r
   pub leaves : LeavesFault c i before after (fault_of r)
 
 -- where its files fit, a bundle is what `compile` writes
-bundle_written_by : (d e o : List ℕ) (n : ℕ) (i : Inputs) (read : Read) (net : NetData) → AllGood i (reads (files_of (compile d e o n))) → AllGood i (asks (compile d e o n)) → Texts i read.design.items read.definitions.items
-    → LowersTexts read.design.items read.definitions.items net → AllFit (bundle_of.bundle read.design.items net None) → IsWhole (compile d e o n) i (bundle o (bundle_of.bundle read.design.items net None))
-bundle_written_by d e o n i read net r a g l fit =
-    let c = compile d e o n in (
-      all_good i (reads (files_of c)) (asks c ++ writes c) r (all_good i (asks c) (writes c) a (good (on_net i read.design.items read.definitions.items net g l fit) (good tt none))),
-      on_net i read.design.items read.definitions.items net g l (fit, refl),
+bundle_written_by : (d e o : List ℕ) (n : ℕ) (i : Inputs) (read : Read) (net : NetData) (certs : List ℕ) → AllGood i (reads (files_of (compile d e o n))) → AllGood i (asks (compile d e o n)) → Texts i read.design.items read.definitions.items
+    → CompilesTexts read.design.items read.definitions.items net certs → AllFit (bundle_of.bundle read.design.items net (Some certs)) → IsWhole (compile d e o n) i (bundle o (bundle_of.bundle read.design.items net (Some certs)))
+bundle_written_by d e o n i read net certs r a g l fit =
+    let c = compile d e o n in
+    let x = read.design.items in
+    let y = read.definitions.items in (
+      all_good i (reads (files_of c)) (asks c ++ writes c) r (all_good i (asks c) (writes c) a (files_good i x y net certs g l fit)),
+      of_files i x y net certs g l (λ files. AllFit files × (bundle o (bundle_of.bundle x net (Some certs)) ≡ bundle o files)) (fit, refl),
     )
 
-bundle_unwritten : (d e o : List ℕ) (n : ℕ) (i : Inputs) (before after : Option Files) (read : Read) (net : NetData) (f : BundleFault) (report : Report) → Reports (compile d e o n) i report → AllGood i (reads (files_of (compile d e o n))) → AllGood i (asks (compile d e o n)) → Texts i read.design.items read.definitions.items
-    → LowersTexts read.design.items read.definitions.items net → NotWritten o (bundle_of.bundle read.design.items net None) before after f → Unwritten (compile d e o n) i before after (bundle_refusal f)
-bundle_unwritten d e o n i before after read net (fault.Folder file cause) report k r a g l h = record {
-  ends = next i _ bundle_within _ (on_net i read.design.items read.definitions.items net g l h.0) (stopped i _ bundle_written _ (file, refl));
-  leaves = (report, bundle o (bundle_of.bundle read.design.items net None), inl (bundle_written_by d e o n i read net r a g l h.0, k), h.2);
+bundle_unwritten : (d e o : List ℕ) (n : ℕ) (i : Inputs) (before after : Option Files) (read : Read) (net : NetData) (certs : List ℕ) (f : BundleFault) (report : Report) → Reports (compile d e o n) i report → AllGood i (reads (files_of (compile d e o n))) → AllGood i (asks (compile d e o n)) → Texts i read.design.items read.definitions.items
+    → CompilesTexts read.design.items read.definitions.items net certs → NotWritten o (bundle_of.bundle read.design.items net (Some certs)) before after f → Unwritten (compile d e o n) i before after (bundle_refusal f)
+bundle_unwritten d e o n i before after read net certs (fault.Folder file cause) report k r a g l h = record {
+  ends = files_stopped i read.design.items read.definitions.items net certs g l file h.0;
+  leaves = (report, bundle o (bundle_of.bundle read.design.items net (Some certs)), inl (bundle_written_by d e o n i read net certs r a g l h.0, k), h.2);
 }
-bundle_unwritten d e o n i before after read net (fault.Limit file) report k r a g l h = record {
-  ends = refused i _ bundle_within _ (on_net i read.design.items read.definitions.items net g l (file, h.0, refl));
+bundle_unwritten d e o n i before after read net certs (fault.Limit file) report k r a g l h = record {
+  ends = files_refused i read.design.items read.definitions.items net certs g l file h.0;
   leaves = h.1;
 }
-bundle_unwritten d e o n i before after read net fault.NoMemory report k r a g l (inl h) = record { ends = no_memory refl; leaves = inl h }
-bundle_unwritten d e o n i before after read net fault.NoMemory report k r a g l (inr h) = record {
+bundle_unwritten d e o n i before after read net certs fault.NoMemory report k r a g l (inl h) = record { ends = no_memory refl; leaves = inl h }
+bundle_unwritten d e o n i before after read net certs fault.NoMemory report k r a g l (inr h) = record {
   ends = no_memory refl;
-  leaves = inr (report, bundle o (bundle_of.bundle read.design.items net None), inl (bundle_written_by d e o n i read net r a g l h.0, k), h.1);
+  leaves = inr (report, bundle o (bundle_of.bundle read.design.items net (Some certs)), inl (bundle_written_by d e o n i read net certs r a g l h.0, k), h.1);
 }
 
 -- of a command that writes nothing
@@ -195,9 +197,9 @@ nothing_unwritten c i before after read w r p h =
 
 pub not_written : (c : Command) (i : Inputs) (before after : Option Files) (read : Read) (w : Written) (r : Refusal) (report : Report) → Reports c i report → AllGood i (reads (files_of c)) → AllGood i (asks c) → IsGiven (files_of c) i read
     → PlansDone c read w → NotAllWritten (writing_of (files_of c) read w) before after r → Unwritten c i before after r
-not_written (compile d e o n) i before after read (written.Bundle name net) r report k rs ask g p h =
-    let m = subst (λ out. NotWritten out (bundle_of.bundle read.design.items (net_of net) None) before after h.0) p.0 h.1 in
-    subst (λ (x : Refusal). Unwritten (compile d e o n) i before after x) (sym h.2) (bundle_unwritten d e o n i before after read (net_of net) h.0 report k rs ask (texts d e o n i read g) p.1 m)
+not_written (compile d e o n) i before after read (written.Bundle name net certs) r report k rs ask g p h =
+    let m = subst (λ out. NotWritten out (bundle_of.bundle read.design.items (net_of net) (Some certs)) before after h.0) p.0 h.1 in
+    subst (λ (x : Refusal). Unwritten (compile d e o n) i before after x) (sym h.2) (bundle_unwritten d e o n i before after read (net_of net) certs h.0 report k rs ask (texts d e o n i read g) p.1 m)
 not_written (compile d e o n) i before after read written.Nothing r report k rs ask g p h = absurd p
 not_written (compile d e o n) i before after read (written.Own file bytes) r report k rs ask g p h = absurd p
 not_written (check d n) i before after read w r report k rs ask g p h = nothing_unwritten (check d n) i before after read w r p h
@@ -206,38 +208,40 @@ not_written (forward o q n) i before after read w r report k rs ask g p h = noth
 
 -- ---- the main promise
 
-compiled : (before after : Files) (d e o : List ℕ) (n : ℕ) (read : Read) (net : NetData) → IsGiven (files_of (compile d e o n)) (inputs_of (files_of (compile d e o n)) before) read → LowersTexts read.design.items read.definitions.items net
-    → Holds before after o read.design.items net None → Compiled before after d e o none_besides
-compiled before after d e o n read net g l h = record {
-  design_text = read.design.items;
-  defs_text = read.definitions.items;
-  design = l.tree;
-  entries = l.binds.entries;
-  net = net;
-  design_is = g.design.0;
-  defs_are = g.definitions.0;
-  design_reads = l.binds.binds.checked.reads;
-  well_formed = l.binds.binds.checked.resolves.rules;
-  defs_read = l.binds.binds.read;
-  defs_fit = l.binds.binds.fits;
-  network = h.network;
-  digest = h.digest;
-  others_same = λ name outside besides. h.others_same name outside (λ e. refl);
-  exact = l.lowering.exact;
-  within = l.stays;
-}
+compiled : (before after : Files) (d e o : List ℕ) (n : ℕ) (read : Read) (net : NetData) (certs : List ℕ) → IsGiven (files_of (compile d e o n)) (inputs_of (files_of (compile d e o n)) before) read
+    → CompilesTexts read.design.items read.definitions.items net certs → Holds before after o read.design.items net (Some certs) → Compiled before after d e o (IsCertificates o)
+compiled before after d e o n read net certs g made h =
+    let l = made.lowers in
+    record {
+      design_text = read.design.items;
+      defs_text = read.definitions.items;
+      design = l.tree;
+      entries = l.binds.entries;
+      net = net;
+      design_is = g.design.0;
+      defs_are = g.definitions.0;
+      design_reads = l.binds.binds.checked.reads;
+      well_formed = l.binds.binds.checked.resolves.rules;
+      defs_read = l.binds.binds.read;
+      defs_fit = l.binds.binds.fits;
+      network = h.network;
+      digest = h.digest;
+      others_same = λ name outside besides. h.others_same name outside (λ e. absurd (besides e));
+      exact = l.lowering.exact;
+      within = l.stays;
+    }
 
-net_compiled : (before after : Option Files) (d e o : List ℕ) (n : ℕ) (read : Read) (net : NetData) → ReadsAll (files_of (compile d e o n)) before read → LowersTexts read.design.items read.definitions.items net
-    → ContentHolds before after o read.design.items net None → CompiledOf (Some (compile d e o n)) before after
-net_compiled None after d e o n read net g l h = tt
-net_compiled (Some before) None d e o n read net g l h = h
-net_compiled (Some before) (Some after) d e o n read net g l h =
-    compiled before after d e o n read net (subst (λ (i : Inputs). IsGiven (files_of (compile d e o n)) i read) g.inputs_are g.given) l h
+net_compiled : (before after : Option Files) (d e o : List ℕ) (n : ℕ) (read : Read) (net : NetData) (certs : List ℕ) → ReadsAll (files_of (compile d e o n)) before read → CompilesTexts read.design.items read.definitions.items net certs
+    → ContentHolds before after o read.design.items net (Some certs) → CompiledOf (Some (compile d e o n)) before after
+net_compiled None after d e o n read net certs g l h = tt
+net_compiled (Some before) None d e o n read net certs g l h = h
+net_compiled (Some before) (Some after) d e o n read net certs g l h =
+    compiled before after d e o n read net certs (subst (λ (i : Inputs). IsGiven (files_of (compile d e o n)) i read) g.inputs_are g.given) l h
 
 headline_done : (c : Command) (before mid after : Option Files) (read : Read) (w : Written) → mid ≡ before → ReadsAll (files_of c) before read → PlansDone c read w → HoldsNet read w mid after → CompiledOf (Some c) before after
-headline_done (compile d e o n) before mid after read (written.Bundle name net) same g p h =
-    net_compiled before after d e o n read (net_of net) g p.1
-    (subst (λ out. ContentHolds before after out read.design.items (net_of net) None) p.0 (subst (λ content. ContentHolds content after name.now read.design.items (net_of net) None) same h))
+headline_done (compile d e o n) before mid after read (written.Bundle name net certs) same g p h =
+    net_compiled before after d e o n read (net_of net) certs g p.1
+    (subst (λ out. ContentHolds before after out read.design.items (net_of net) (Some certs)) p.0 (subst (λ content. ContentHolds content after name.now read.design.items (net_of net) (Some certs)) same h))
 headline_done (compile d e o n) before mid after read written.Nothing same g p h = absurd p
 headline_done (compile d e o n) before mid after read (written.Own file bytes) same g p h = absurd p
 headline_done (check d n) before mid after read w same g p h = tt

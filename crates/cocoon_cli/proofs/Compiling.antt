@@ -1,29 +1,33 @@
 -- What `compile` answers over its two texts, put together from its parts.
-use Rattle.std.proofs.Common.{◌≡◌, ℕ, List, [], ◌∷◌, ◌++◌, length, Err, refl, sym, ap, ap₂, ◌∙◌, inl, inr}
+use Rattle.std.proofs.Common.{◌≡◌, ℕ, List, [], ◌∷◌, length, map, Err, refl, sym, ap, ap₂, subst, ◌∙◌}
+use Rattle.cert_json.specs.CertsJson.{certs_data}
+use Rattle.cert_text.specs.Certifying.{Certifies}
+use Rattle.certificates.specs.CertsOf.{cert_of}
+use Rattle.certificates.specs.declared.Cert.{Cert}
 use Rattle.cocoon_num.specs.Tree.{Design}
+use Rattle.json_forms.specs.Values.{IsJson}
 use Rattle.obligation_laws.specs.Obligations.{all_obligations}
 use Rattle.obligation_gen.specs.Counted.{AreFew, all_counts}
 use Rattle.runtime_defs.specs.Places.{Places}
 use Rattle.design_texts.specs.DesignTexts.{BindsTables}
-use Rattle.lower_p4.specs.Lowers.{Lowers}
 use Rattle.p4_ir.specs.NetTree.{NetData}
-use Rattle.net_bundle.specs.Bundle.{MadeFile, all_switch_files}
-use Rattle.net_bundle.specs.declared.file.BundleFile.{BundleFile}
-use Rattle.net_bundle.specs.Writing.{FirstOver}
 use Rattle.command_reports.specs.declared.files.CommandFile.{CommandFile}
 use Rattle.command_reports.specs.declared.refusal.Refusal.{Refusal}
 use Rattle.command_reports.specs.declared.refusal.Refusal.TheVariants as refusal
 use Rattle.command_reports.specs.declared.report.Report.{Report}
+use Rattle.command_reports.specs.declared.report.Verdict.{Verdict}
+use Rattle.command_reports.specs.declared.report.Verdict.TheVariants as verdict
 use Rattle.command_reports.specs.Report.{success}
 use Rattle.command_line.specs.Command.{compile}
 use Rattle.cocoon_cli.specs.Commands.{Reports, asks, owed_steps, text_steps}
-use Rattle.cocoon_cli.specs.Compiling.{LowersDesign, LowersTexts, NotLowered}
+use Rattle.cocoon_cli.specs.Compiling.{CompilesTexts, LowersDesign, LowersTexts, NotLowered}
 use Rattle.cocoon_cli.specs.Outcomes.{AllGood, none, good, Ends, FirstWith, later, no_memory}
-use Rattle.cocoon_cli.specs.Refining.{AnswersGivenUp, NotRefined}
+use Rattle.cocoon_cli.specs.Refining.{AnswersGivenUp, KeepsAll, NotRefined}
 use Rattle.cocoon_cli.specs.ReportLines.{totals_line, totals_of}
-use Rattle.cocoon_cli.specs.Steps.{Inputs, OfDefinitions, OfDesign, Step, IsGood, assumptions_met, bundle_within, bundle_written, lowering_within}
-use Rattle.cocoon_cli.specs.Answering.{IsFound}
+use Rattle.cocoon_cli.specs.Steps.{Inputs, OfNetwork, Step, IsGood, assumptions_met, bundle_written, certificates_within, lowering_within, network_file_within, switch_files_within}
+use Rattle.cocoon_cli.specs.Answering.{IsFound, PlansBy}
 use Rattle.cocoon_cli.specs.declared.answer.Answer.{Answer}
+use Rattle.cocoon_cli.specs.declared.answer.Writing.{Writing as Written}
 use Rattle.cocoon_cli.proofs.Assuming.{met_good}
 use Rattle.cocoon_cli.proofs.Ending.{ends_after, next, refused}
 use Rattle.cocoon_cli.proofs.Owing.{is_given_up, not_refined, refined_good}
@@ -31,7 +35,7 @@ use Rattle.cocoon_cli.proofs.TextSteps.{Texts, after_texts, on_both, texts_first
 
 -- the steps after the texts
 abbrev pub lowering : List Step
-lowering = lowering_within ∷ bundle_within ∷ bundle_written ∷ []
+lowering = lowering_within ∷ switch_files_within ∷ certificates_within ∷ network_file_within ∷ bundle_written ∷ []
 
 -- those that are good where the definitions meet the assumptions and the blocks keep what they owe
 abbrev pub deciding : ℕ → List Step
@@ -39,12 +43,6 @@ deciding n = assumptions_met n ∷ owed_steps n []
 
 abbrev pub assuming : ℕ → List Step
 assuming n = assumptions_met n ∷ owed_steps n lowering
-
--- the first of some files that is over its limit is that of more, too
-over_before : (fs rest : List MadeFile) (file : BundleFile) → FirstOver fs file → FirstOver (fs ++ rest) file
-over_before [] rest file h = absurd h
-over_before (f ∷ fs) rest file (inl h) = inl h
-over_before (f ∷ fs) rest file (inr (fits, h)) = inr (fits, over_before fs rest file h)
 
 -- why it is not decided whether the blocks of a design keep what they owe
 pub unrefined : (i : Inputs) (x y : List ℕ) (k : ℕ) (t : Design) (p : Places) (r : Refusal) → Texts i x y → BindsTables x y t p → IsGood i (assumptions_met k) → NotRefined t r → Ends i (Err r) (text_steps (assuming k))
@@ -67,16 +65,15 @@ not_lowered i x y k (refusal.TooLong file most) g a h =
     after_texts i x y (assuming k) h.tree h.tables _ g h.binds
     (ends_after i _ (deciding k) lowering a
     (next i _ lowering_within _ (on_both i x y h.tree es g h.binds.binds (h.net, h.lowers, h.within))
-    (refused i _ bundle_within _ (on_both i x y h.tree es g h.binds.binds
-    (h.net, h.lowers, (h.first, over_before (all_switch_files h.net.switches) _ h.first h.long, ap₂ (λ (f : CommandFile) (n : ℕ). refusal.TooLong f n) h.names h.limit))))))
+    (refused i _ switch_files_within _ (on_both i x y h.tree es g h.binds.binds
+    (h.net, h.lowers, (h.first, h.long, ap₂ (λ (f : CommandFile) (n : ℕ). refusal.TooLong f n) h.names h.limit))))))
 not_lowered i x y k refusal.NoMemory g a h = no_memory refl
 not_lowered i x y k r g a h = absurd h
 
 -- ---- a network that is made
 
 -- what holds of it
-pub on_net : {P : List ℕ → NetData → Type 0} (i : Inputs) (x y : List ℕ) (net : NetData) → Texts i x y → LowersTexts x y net → P x net
-    → OfDesign i (λ t d. OfDefinitions i (λ _ e. (n : NetData) × Lowers d e n × P t n))
+pub on_net : {P : List ℕ → Design → NetData → Type 0} (i : Inputs) (x y : List ℕ) (net : NetData) → Texts i x y → (h : LowersTexts x y net) → P x h.tree net → OfNetwork i P
 on_net i x y net g h p = on_both i x y h.tree h.binds.entries g h.binds.binds (net, h.lowers, p)
 
 pub asks_good : (d e o : List ℕ) (n : ℕ) (i : Inputs) (x y : List ℕ) (net : NetData) → Texts i x y → LowersTexts x y net → AllGood i (asks (compile d e o n))
@@ -84,6 +81,15 @@ asks_good d e o n i x y net g h =
     texts_good i x y (assumptions_met n ∷ owed_steps n (lowering_within ∷ [])) h.tree h.tables g h.binds
     (good (met_good i x y n h.tree h.tables g h.binds h.met)
     (refined_good i x n (lowering_within ∷ []) h.tree g.design h.binds.binds.checked h.few h.refines (good (on_both i x y h.tree h.binds.entries g h.binds.binds (net, h.lowers, h.within)) none)))
+
+-- with the certificates of its design
+pub compiles_texts : (x y : List ℕ) (t : Design) (net : NetData) (certs : List Cert) (bytes : List ℕ) → LowersDesign x y t net → KeepsAll t certs → IsJson bytes (certs_data (map cert_of certs)) → CompilesTexts x y net bytes
+compiles_texts x y t net certs bytes (h, same) kept is =
+    record { lowers = h; certify = subst (λ (d : Design). Certifies d bytes) (sym same) (record { certs = certs; is = is; shows = kept.shown }) }
+
+-- what is written with a success
+pub plans_done : (P : Written → Type 0) (v : Verdict) (w : Written) → v ≡ verdict.Done → P w → PlansBy P v w
+plans_done P v w done p = subst (λ (u : Verdict). PlansBy P u w) (sym done) p
 
 pub reports : (d e o : List ℕ) (n : ℕ) (i : Inputs) (x y : List ℕ) (t : Design) (count : ℕ) (net : NetData) (report : Report) → Texts i x y → LowersDesign x y t net → count ≡ length (all_obligations t)
     → report ≡ success (totals_line (totals_of count net)) → Reports (compile d e o n) i report

@@ -1,5 +1,5 @@
 -- A step that ends a command with a report: what is written with it, and that a fault of that write stops the step.
-use Rattle.std.proofs.Common.{◌≡◌, ◌⊎◌, ℕ, List, [], ◌∷◌, Option, Some, Result, Ok, Err, refl, sym, ap, subst, inl, inr}
+use Rattle.std.proofs.Common.{◌≡◌, ℕ, List, [], ◌∷◌, Option, Some, Ok, Err, refl, sym, ap, subst, inl, inr}
 use Rattle.cocoon_io.specs.Files.{Files}
 use Rattle.command_line.specs.Command.{Command}
 use Rattle.command_reports.specs.FileNames.{FileNames, name_of}

@@ -1,17 +1,21 @@
 -- What is said of one obligation of a design, and then of all.
-use Rattle.std.proofs.Common.{◌≡◌, ℕ, zero, suc, ◌+◌, ◌<◌, ◌≤◌, get_or, List, [], ◌∷◌, length, take, Option, Some, None, All, refl, sym, ap, ap₂, subst, ◌∙◌, arith}
+use Rattle.std.proofs.Common.{◌≡◌, ℕ, zero, suc, ◌+◌, ◌<◌, ◌≤◌, get_or, List, [], ◌∷◌, ◌++◌, length, take, Some, All, IfErr, IfOk, Result, Ok, Err, refl, sym, ap, ap₂, subst, inr, arith}
 use Rattle.std.specs.List.{AllZip}
 use Rattle.std.specs.Prelude.{codes, slice_get}
 use Rattle.std.proofs.lemmas.List.{take_all}
 use Rattle.std.proofs.lemmas.List.Elements.{All-append, All-cons, All-nil}
 use Rattle.bv_terms.specs.TermTrees.{Term}
 use Rattle.bv_terms.specs.declared.node.Node.{Node}
+use Rattle.cert_text.specs.Certifying.{CertsShow, Shows}
+use Rattle.certificates.specs.declared.Cert.{Cert}
 use Rattle.cocoon_num.specs.Tree.{Design}
+use Rattle.obligation_gen.specs.Counted.{AreFew, all_counts}
 use Rattle.obligation_gen.specs.Shown.{ShowsObligation, ShowsObligations}
 use Rattle.obligation_gen.specs.declared.obligation.Obligation.{Obligation}
 use Rattle.obligation_laws.specs.Failing.{NeverFails}
 use Rattle.obligation_laws.specs.Obligations as laws
 use Rattle.obligation_laws.specs.Obligations.{all_obligations}
+use Rattle.refinement.specs.Owed.{Refines}
 use Rattle.query_laws.specs.Certified.{HasTooMany, IsSatisfiable}
 use Rattle.query_laws.specs.Queries.{query}
 use Rattle.obligation_gen.specs.Owed.{IsOwed}
@@ -20,16 +24,19 @@ use Rattle.discharge.proofs.Lists.{take_next}
 use Rattle.budget_text.specs.Spent.{asked}
 use Rattle.certificates.specs.CertsOf.{log_of}
 use Rattle.cnf_core.specs.declared.log.Log.{Log}
+use Rattle.verdict_certs.specs.Keeping.{AreShown, IsShown}
 use Rattle.verdicts.specs.Deciding.{Decides, own_query}
 use Rattle.verdicts.specs.declared.deciding.Query.{Query}
-use Rattle.verdicts.specs.declared.deciding.Verdict.TheVariants.{SpentConflicts}
+use Rattle.verdicts.specs.declared.deciding.Verdict.TheVariants.{Holds, SpentConflicts}
 use Rattle.command_reports.specs.declared.refusal.Refusal.{Refusal}
 use Rattle.command_reports.specs.declared.refusal.Refusal.TheVariants as refusal
 use Rattle.cocoon_cli.specs.Answering.{TellsSpent}
 use Rattle.cocoon_cli.specs.ReportLines.{budget_line}
 use Rattle.cocoon_cli.specs.Owing.{OfObligation, by_conflicts, by_rounds, query_of}
-use Rattle.cocoon_cli.specs.Refining.{AnswersAll, AnswersGivenUp, AnswersOne, IsUnshown, spent, satisfied, NotAll, NotOne}
+use Rattle.cocoon_cli.specs.Refining.{AnswersGivenUp, IsRefined, IsUnshown, KeepsAll, spent, satisfied, NotAll, NotOne, NotRefined, SaysAll}
 use Rattle.cocoon_cli.specs.declared.answer.Answer.{Answer}
+use Rattle.cocoon_cli.specs.declared.obligations.Refined.{Refined}
+use Rattle.cocoon_cli.specs.declared.obligations.Refined.TheVariants as refined
 
 -- ---- lists side by side
 
@@ -45,15 +52,18 @@ zip_length R [] (b ∷ ys) h = absurd h
 zip_length R (a ∷ xs) [] h = absurd h
 zip_length R (a ∷ xs) (b ∷ ys) h = ap suc (zip_length R xs ys h.1)
 
+zip_append : {A B : Type 0} (R : A → B → Type 0) (xs us : List A) (ys vs : List B) → AllZip R xs ys → AllZip R us vs → AllZip R (xs ++ us) (ys ++ vs)
+zip_append R [] us [] vs h k = k
+zip_append R [] us (b ∷ ys) vs h k = absurd h
+zip_append R (a ∷ xs) us [] vs h k = absurd h
+zip_append R (a ∷ xs) us (b ∷ ys) vs h k = (h.0, zip_append R xs us ys vs h.1 k)
+
 at_index : {A : Type 0} (xs : List A) (k : ℕ) (x : A) → k < length xs → x ≡ get_or xs k x → slice_get xs k ≡ Some x
 at_index [] k x less e = absurd (omega (arith, less))
 at_index (y ∷ xs) zero x less e = ap Some (sym e)
 at_index (y ∷ xs) (suc k) x less e = at_index xs k x (omega (arith, less)) e
 
 -- ---- one obligation
-
-pub as_many : (d : Design) (nodes : List Node) (os : List Obligation) → ShowsObligations d nodes os (all_obligations d) → length os ≡ length (all_obligations d)
-as_many d nodes os h = zip_length (ShowsObligation d nodes) os (all_obligations d) h
 
 same_query : (d : Design) (nodes : List Node) (o : Obligation) (owed : laws.Obligation) → ShowsObligation d nodes o owed → own_query d nodes o ≡ query_of d owed
 same_query d nodes o owed h = ap₂ (λ (level : ℕ) (t : Term). query d level t []) h.level_ h.formula_.term
@@ -90,7 +100,11 @@ not_shown d nodes o conflicts k answer n (satisfied h tells) = record {
   written = tells.written;
 }
 
--- the same by what the search says
+-- what the search says shows it
+pub is_shown : (d : Design) (nodes : List Node) (o : Obligation) (conflicts : ℕ) (cert : Cert) → Decides d nodes o conflicts (Holds cert) → IsShown d nodes o cert
+is_shown d nodes o conflicts cert h = record { certified = h.certified; never_fails = h.never_fails }
+
+-- or does not
 pub unshown : (d : Design) (nodes : List Node) (o : Obligation) (conflicts budget k : ℕ) (q : Query) (vars : ℕ) (log : Log) (answer : Answer) → budget ≡ conflicts → Decides d nodes o budget (SpentConflicts q vars log)
     → TellsSpent (budget_line conflicts (codes "obligation") k) (asked k [] (log_of log)) answer → IsUnshown d nodes o conflicts k answer
 unshown d nodes o conflicts budget k q vars log answer same h tells = spent vars log (subst (λ (n : ℕ). IsSpentOn (own_query d nodes o) n vars log) same h.1) tells
@@ -102,16 +116,40 @@ not_decided d nodes o k r n h = absurd h
 
 -- ---- all of them
 
-pub none_yet : (d : Design) → All (NeverFails d) (take 0 (all_obligations d))
-none_yet d = All-nil (NeverFails d)
+-- certificates show the first obligations, so many of them
+pub record ShownTo (d : Design) (nodes : List Node) (os : List Obligation) (k : ℕ) (certs : List Cert) : Type 0 where
+  pub shown : AllZip (IsShown d nodes) (take k os) certs
+  pub earlier : All (NeverFails d) (take k (all_obligations d))
 
-pub one_more : (d : Design) (nodes : List Node) (o : Obligation) (conflicts k : ℕ) (answer : Option Answer) → IsNext d nodes o k → answer ≡ None → AnswersOne d nodes o conflicts k answer → All (NeverFails d) (take (k + 1) (all_obligations d))
-one_more d nodes o conflicts k answer n none h =
-    let never = subst (AnswersOne d nodes o conflicts k) none h in
-    subst (All (NeverFails d)) (sym (take_next (all_obligations d) k n.owed n.there))
-    (All-append (NeverFails d) (take k (all_obligations d)) (n.owed ∷ []) n.earlier (All-cons (NeverFails d) n.owed [] (never k n.owed n.there n.shown) (All-nil (NeverFails d))))
+pub none_shown : (d : Design) (nodes : List Node) (os : List Obligation) (certs : List Cert) → certs ≡ [] → ShownTo d nodes os 0 certs
+none_shown d nodes os certs e = record { shown = subst (AllZip (IsShown d nodes) []) (sym e) tt; earlier = All-nil (NeverFails d) }
 
-pub all_kept : (d : Design) (nodes : List Node) (os : List Obligation) (k : ℕ) → ShowsObligations d nodes os (all_obligations d) → length os ≤ k → All (NeverFails d) (take k (all_obligations d)) → All (NeverFails d) (all_obligations d)
-all_kept d nodes os k h done kept =
-    let many = as_many d nodes os h in
-    subst (All (NeverFails d)) (take_all k (all_obligations d) (let e : length (all_obligations d) ≤ k = omega (arith, many, done) in e)) kept
+shown_more : (d : Design) (nodes : List Node) (os : List Obligation) (k : ℕ) (o : Obligation) (certs : List Cert) (cert : Cert) → slice_get os k ≡ Some o → AllZip (IsShown d nodes) (take k os) certs → IsShown d nodes o cert
+    → AllZip (IsShown d nodes) (take (k + 1) os) (certs ++ cert ∷ [])
+shown_more d nodes os k o certs cert there h shows =
+    subst (λ xs. AllZip (IsShown d nodes) xs (certs ++ cert ∷ [])) (sym (take_next os k o there)) (zip_append (IsShown d nodes) (take k os) (o ∷ []) certs (cert ∷ []) h (shows, tt))
+
+pub one_more : (d : Design) (nodes : List Node) (os : List Obligation) (o : Obligation) (k : ℕ) (certs more : List Cert) (cert : Cert) → k < length os → o ≡ get_or os k o → IsNext d nodes o k → ShownTo d nodes os k certs → IsShown d nodes o cert
+    → more ≡ certs ++ cert ∷ [] → ShownTo d nodes os (k + 1) more
+one_more d nodes os o k certs more cert less is n h shows e = record {
+  shown = subst (AllZip (IsShown d nodes) (take (k + 1) os)) (sym e) (shown_more d nodes os k o certs cert (at_index os k o less is) h.shown shows);
+  earlier = subst (All (NeverFails d)) (sym (take_next (all_obligations d) k n.owed n.there))
+      (All-append (NeverFails d) (take k (all_obligations d)) (n.owed ∷ []) h.earlier (All-cons (NeverFails d) n.owed [] (shows.never_fails k n.owed n.there n.shown) (All-nil (NeverFails d))));
+}
+
+pub all_shown : (d : Design) (nodes : List Node) (os : List Obligation) (k : ℕ) (certs : List Cert) → length os ≤ k → ShownTo d nodes os k certs → AreShown d nodes os certs
+all_shown d nodes os k certs done h = subst (λ xs. AllZip (IsShown d nodes) xs certs) (take_all k os done) h.shown
+
+-- what the law says of them, and which blocks are refined where none ever fails
+pub keeps_all : (d : Design) (certs : List Cert) → AreFew (all_counts d) → Refines d → CertsShow d certs → KeepsAll d certs
+keeps_all d certs few refines shown = record { few = few; refines = refines; shown = shown; counted = sym (zip_length (Shows d) (all_obligations d) certs shown) }
+
+pub all_said : (d : Design) (nodes : List Node) (os : List Obligation) (conflicts : ℕ) (x : Result Refined Refusal) → AreFew (all_counts d) → ((certs : List Cert) → AreShown d nodes os certs → KeepsAll d certs) → IfOk x (SaysAll d nodes os conflicts)
+    → IfOk x (IsRefined d conflicts)
+all_said d nodes os conflicts (Ok (refined.Holds certs)) few keeps h = keeps certs.certs h
+all_said d nodes os conflicts (Ok (refined.GivenUp answer)) few keeps h = (few, h)
+all_said d nodes os conflicts (Err r) few keeps h = tt
+
+pub all_unsaid : (d : Design) (x : Result Refined Refusal) → AreFew (all_counts d) → IfErr x (NotAll d) → IfErr x (NotRefined d)
+all_unsaid d (Ok said) few h = tt
+all_unsaid d (Err r) few h = inr (few, h)

@@ -4,6 +4,7 @@ pub mod Assuming
 pub mod Owing
 pub mod Kept
 pub mod Compiling
+pub mod Fitting
 pub mod Stepped
 pub mod Forwarded
 pub mod Counted
@@ -12,6 +13,7 @@ pub mod RuleValues
 pub mod OneStep
 pub mod Telling
 pub mod Commands
+pub mod Certified
 pub mod Finding
 pub mod OneOutcome
 pub mod Performing

@@ -7,7 +7,7 @@ use Rattle.command_reports.specs.declared.report.Report.{Report}
 use Rattle.cocoon_cli.specs.Commands.{files_of}
 use Rattle.cocoon_cli.specs.Outcomes.{AllGood, good, FirstWith, here, later, EndsAt, Agree, Alike, equal, HasOutcome, IsGivenUp, ReportsOutcome, is_any_searched, steps}
 use Rattle.cocoon_cli.specs.Run.{IsKnown, IsOnly}
-use Rattle.cocoon_cli.specs.Steps.{Inputs, Step, Decides, GivesUp, IsGood, assumptions_met, obligations_hold, is_searched}
+use Rattle.cocoon_cli.specs.Steps.{Inputs, Step, Decides, GivesUp, IsGood, assumptions_met, certificates_within, obligations_hold, is_searched}
 use Rattle.cocoon_cli.proofs.Commands.{one_report, steps_decided}
 use Rattle.cocoon_cli.proofs.OneStep.{AllDecided, Decided, Laws, Once, good_or_refused, refuses_once}
 
@@ -27,6 +27,7 @@ or_second false b e = e
 searched : (i : Inputs) (s : Step) (x : Result Report Refusal) → GivesUp i s x → is_searched s ≡ true
 searched i (assumptions_met n) x h = refl
 searched i (obligations_hold n) x h = refl
+searched i certificates_within x h = refl
 searched i s (Ok r) h = absurd h.1
 searched i s (Err r) h = absurd h
 

@@ -1,5 +1,5 @@
 -- By what is read of the files, a step is good, or it refuses in one way.
-use Rattle.std.proofs.Common.{◌≡◌, ◌⊎◌, ◌≤◌, ◌<◌, ℕ, zero, suc, Bool, true, false, All, refl, List, [], ◌∷◌, length, take, Option, Some, None, Result, Ok, Err, sym, ap, ap₂, subst, ◌∙◌, inl, inr, arith}
+use Rattle.std.proofs.Common.{◌≡◌, ◌⊎◌, ◌≤◌, ◌<◌, ℕ, zero, suc, true, false, All, refl, List, [], ◌∷◌, length, take, Option, Some, None, Result, Ok, Err, sym, ap, ap₂, subst, ◌∙◌, inl, inr, arith}
 use Rattle.std.specs.Prelude.{slice_get}
 use Rattle.std.proofs.lemmas.List.Elements.{All-head, All-tail}
 use Rattle.cocoon_num.specs.Lists.{first_of}
@@ -25,15 +25,16 @@ use Rattle.bundle_reader.specs.OneReading.{OneReading}
 use Rattle.bundle_reader.specs.Readings.{ContentFault, ContentReads}
 use Rattle.bundle_reader.specs.declared.fault.ReadFault.{ReadFault}
 use Rattle.bundle_reader.specs.declared.fault.ReadFault.TheVariants as read
-use Rattle.cocoon_io.specs.declared.folder.FolderFault.TheVariants.{Failed, TooLong, NoMemory as Wanting}
+use Rattle.cocoon_io.specs.declared.folder.FolderFault.TheVariants.{Failed, NoMemory as Wanting}
 use Rattle.net_run.specs.RunCounts.{most_runs, runs}
 use Rattle.packet_file.specs.Packets.{Packet, packets_in}
 use Rattle.packet_file.specs.declared.packet.PacketFault.{PacketFault}
 use Rattle.packet_runs.specs.Reports.{IsReport}
 use Rattle.packet_runs.specs.Stopping.{AllWithin, SomeOver}
-use Rattle.net_bundle.specs.Bundle.{MadeFile, bundle}
+use Rattle.net_bundle.specs.Bundle.{MadeFile, all_switch_files, net_text}
 use Rattle.net_bundle.specs.Writing.{AllFit, FirstOver, most_of}
 use Rattle.net_bundle.specs.declared.file.BundleFile.{BundleFile}
+use Rattle.net_bundle.specs.declared.file.BundleFile.TheVariants as files
 use Rattle.runtime_defs.specs.Bound.{most_rows, row_count}
 use Rattle.lower_p4.specs.Lowers.{Lowers}
 use Rattle.lower_p4.specs.LowerLimits.{IsOver, IsWithin}
@@ -51,13 +52,13 @@ use Rattle.refinement.specs.Assumptions.{IsMet, Meets}
 use Rattle.discharge.specs.Meeting.{IsFalseAt}
 use Rattle.command_reports.specs.Refusals.{IsOfFiles, unread_as}
 use Rattle.command_reports.specs.declared.files.CommandFile.{CommandFile}
-use Rattle.command_reports.specs.declared.files.CommandFile.TheVariants.{Design, Definitions, Bundle, Case as CaseFile, Packets as PacketsFile}
+use Rattle.command_reports.specs.declared.files.CommandFile.TheVariants.{Design, Definitions, Case as CaseFile, Packets as PacketsFile}
 use Rattle.command_reports.specs.declared.refusal.InputFault.TheVariants.{NoTree, Rule}
 use Rattle.command_reports.specs.declared.refusal.DefinitionsFault.TheVariants as definitions
 use Rattle.command_reports.specs.declared.refusal.Refusal.{Refusal}
 use Rattle.command_reports.specs.declared.refusal.Refusal.TheVariants as refusal
 use Rattle.design_texts.specs.DesignTexts.{told}
-use Rattle.cocoon_cli.specs.Steps.{Inputs, OfBundle, OfDefinitions, OfDesign, OfPackets, OfText, Step, is_there, is_within, design_reads, design_well_formed, design_within, definitions_read, definitions_fit, definitions_within, assumptions_met, trees_within, obligations_hold, lowering_within, level_there, lines_formed, bundle_reads, packets_judged, copies_within, bundle_within, bundle_written, packets_refusal, IsGood, Refuses}
+use Rattle.cocoon_cli.specs.Steps.{Inputs, OfBundle, OfDefinitions, OfDesign, OfPackets, OfText, Step, is_there, is_within, design_reads, design_well_formed, design_within, definitions_read, definitions_fit, definitions_within, assumptions_met, trees_within, obligations_hold, lowering_within, level_there, lines_formed, bundle_reads, packets_judged, copies_within, switch_files_within, certificates_within, network_file_within, bundle_written, is_long, packets_refusal, IsGood, Refuses}
 use Rattle.cocoon_cli.specs.Assumed.{IsBroken}
 use Rattle.cocoon_cli.specs.Outcomes.{Alike, broken}
 use Rattle.cocoon_cli.proofs.RuleValues.{same_rule}
@@ -274,8 +275,10 @@ refuses_once laws i (packets_judged out) r q b h k =
     on_bundle i out b (λ net u v. on_text i PacketsFile (λ t (f, says, x) (g, said, y).
     same_some (packets_refusal g) r q (ap packets_refusal (sym (same_err (judged_by net t) f g says said)) ∙ x) y) u v) h k
 refuses_once laws i (copies_within out hops) r q b h k = on_packets i out b (λ net ps (_, x) (_, y). x ∙ sym y) h k
-refuses_once laws i bundle_within r q b h k =
-    on_net laws i (λ t n (f, over, x) (g, one, y). x ∙ ap (λ (f : BundleFile). refusal.TooLong (Bundle f) (most_of f)) (one_over (bundle t n None) f g over one) ∙ sym y) h k
+refuses_once laws i switch_files_within r q b h k =
+    on_net laws i (λ t n (f, over, x) (g, one, y). x ∙ ap is_long (one_over (all_switch_files n.switches) f g over one) ∙ sym y) h k
+refuses_once laws i certificates_within r q b h k = absurd h
+refuses_once laws i network_file_within r q b h k = on_net laws i (λ t n (_, x) (_, y). x ∙ sym y) h k
 refuses_once laws i bundle_written r q b h k = absurd h
 
 pub good_or_refused : Laws → (i : Inputs) (s : Step) (r : Refusal) → Decided i s → IsGood i s → Refuses i s r → ⊥
@@ -305,5 +308,8 @@ good_or_refused laws i (bundle_reads out) r b g h =
 good_or_refused laws i (packets_judged out) r b g h =
     on_bundle i out b (λ net u v. on_text i PacketsFile (λ t (ps, says, _) (f, not, _). ok_or_err (judged_by net t) ps f says not) u v) g h
 good_or_refused laws i (copies_within out hops) r b g h = on_packets i out b (λ net ps within (over, _). all_or_over net hops ps within over) g h
-good_or_refused laws i bundle_within r b g h = on_net laws i (λ t n fit (f, over, _). none_over (bundle t n None) f fit over) g h
+good_or_refused laws i switch_files_within r b g h = on_net laws i (λ t n fit (f, over, _). none_over (all_switch_files n.switches) f fit over) g h
+good_or_refused laws i certificates_within r b g h = h
+good_or_refused laws i network_file_within r b g h =
+    on_net laws i (λ t n short (long, _). let few : length (net_text t n) ≤ most_of files.Network = short in let many : most_of files.Network < length (net_text t n) = long in omega arith) g h
 good_or_refused laws i bundle_written r b g h = h

@@ -1,5 +1,5 @@
 -- What is answered of the obligations of a design, as the steps on them say it.
-use Rattle.std.proofs.Common.{◌≡◌, ℕ, List, [], ◌∷◌, Some, Err, refl, sym, ap, ap₂, subst, inl, inr}
+use Rattle.std.proofs.Common.{◌≡◌, ℕ, List, ◌∷◌, Some, Err, refl, sym, ap, ap₂, subst, inl, inr}
 use Rattle.cocoon_num.specs.Tree as tree
 use Rattle.cocoon_num.specs.declared.limit_name.LimitName.{LimitName}
 use Rattle.obligation_gen.specs.Counted.{AreFew, all_counts}

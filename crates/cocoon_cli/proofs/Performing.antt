@@ -1,5 +1,5 @@
 -- What a command does to a folder, put together from what is read, answered and written.
-use Rattle.std.proofs.Common.{◌≡◌, ℕ, List, ◌++◌, Option, Some, None, Result, Ok, Err, refl, sym, ap, subst, ◌∙◌, inl, inr}
+use Rattle.std.proofs.Common.{◌≡◌, ◌++◌, Option, Result, Ok, Err, refl, ap, subst, ◌∙◌, inl, inr}
 use Rattle.cocoon_io.specs.Files.{Files}
 use Rattle.command_line.specs.Command.{Command}
 use Rattle.command_reports.specs.Report.{Ending, Fault, IsEnding, by_read, by_write, by_memory, no_fault, fault_of, refusal_status, status_of}

@@ -20,9 +20,8 @@ use Rattle.command_reports.specs.declared.report.Verdict.TheVariants as verdict
 use Rattle.command_reports.specs.declared.status.Status.{Status}
 use Rattle.command_reports.specs.declared.status.Status.TheVariants.{Budget as BudgetSpent, Done, Usage, ReadFault, WriteFault, NoMemory}
 use Rattle.cocoon_cli.specs.Commands.{Reports, files_of}
-use Rattle.cocoon_cli.specs.Headline.{CompiledOf}
-use Rattle.cocoon_cli.specs.Leaves.{EndsWriting, IsWhole, IsWritten, Leaves, LeavesAll, LeavesSome, LeavesFault, LeavesWhole}
-use Rattle.cocoon_cli.specs.Outcomes.{EndsAt, FirstWith, no_memory as out_of_memory, at_step, at_fault, StopsAt as StopsAtStep, Answers, HasOutcome, steps}
+use Rattle.cocoon_cli.specs.Leaves.{EndsWriting, IsWhole, IsWritten, Leaves, LeavesAll, LeavesSome, LeavesFault}
+use Rattle.cocoon_cli.specs.Outcomes.{FirstWith, no_memory as out_of_memory, at_step, at_fault, StopsAt as StopsAtStep, Answers, HasOutcome, steps}
 use Rattle.cocoon_cli.specs.Run.{Call, Cause, Counted, CountsFault, Uncounted, MayCount, of_read, of_write, of_memory, Count, inputs_of, InputsAre, Performs, IsOnly, CauseOf, LineNames, NamesFault, EndsWith, Yields, to_read_fault, to_write_fault, to_no_memory, TheOutcome, OutcomeOf, DoneOf, IsSpentAt, SpentOf, LeavesOf, MayWrite, failed, spent, UsageOf, Keeps, KeepsMore}
 use Rattle.cocoon_cli.specs.Run as run
 use Rattle.cocoon_cli.specs.Steps.{Inputs, Step, assumptions_met, obligations_hold, is_there, bundle_reads, bundle_written}
@@ -413,10 +412,8 @@ keeps_memory one last call same r w p =
     let m = memory_cause last (command call.words) call same r w p in
     keeps one last call m.0 m.1
 
--- the main promise: status 0 comes only of a command that reported
-pub headline_of : (c : Command) (o : Option Command) (call : Call) (h : Cause c call) → Some c ≡ o → IfOk h.outcome (λ r. r.verdict ≡ verdict.Done → CompiledOf (Some c) call.content_before call.content_after) → call.status ≡ Done
-    → CompiledOf o call.content_before call.content_after
-headline_of c o call h e headline d =
+-- what is said of a command that reported: status 0 comes of no other
+pub said_of : (P : Option Command → Type 0) (c : Command) (o : Option Command) (call : Call) (h : Cause c call) → Some c ≡ o → IfOk h.outcome (λ r. r.verdict ≡ verdict.Done → P (Some c)) → call.status ≡ Done → P o
+said_of P c o call h e said d =
     let f = plainly c call h Done tt d in
-    subst (λ (d : Option Command). CompiledOf d call.content_before call.content_after) e
-    (subst (λ (x : Result Report Refusal). IfOk x (λ r. r.verdict ≡ verdict.Done → CompiledOf (Some c) call.content_before call.content_after)) f.1 headline f.2)
+    subst P e (subst (λ (x : Result Report Refusal). IfOk x (λ r. r.verdict ≡ verdict.Done → P (Some c))) f.1 said f.2)

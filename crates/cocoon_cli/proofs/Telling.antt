@@ -1,10 +1,11 @@
 -- Each outcome of a command has a line: a refusal is about a file that the command has.
-use Rattle.std.proofs.Common.{◌≡◌, List, [], ◌∷◌, ℕ, Option, Some, Result, Ok, Err, refl, sym, ap, subst, option_map, inl, inr}
+use Rattle.std.proofs.Common.{◌≡◌, List, [], ◌∷◌, ℕ, Option, Some, Err, refl, sym, ap, subst, option_map, inl, inr}
 use Rattle.bundle_reader.specs.declared.fault.ReadFault.{ReadFault}
 use Rattle.bundle_reader.specs.declared.fault.ReadFault.TheVariants as read
 use Rattle.cocoon_io.specs.declared.folder.FolderFault.TheVariants.{Failed, TooLong, NoMemory as Wanting}
 use Rattle.cocoon_num.specs.declared.limit_name.LimitName.TheVariants.{Packet as PacketLimit}
 use Rattle.net_bundle.specs.declared.file.BundleFile.{BundleFile}
+use Rattle.net_bundle.specs.declared.file.BundleFile.TheVariants as files
 use Rattle.packet_file.specs.declared.packet.PacketFault.{PacketFault}
 use Rattle.packet_file.specs.declared.packet.PacketFault.TheVariants as packets
 use Rattle.command_reports.specs.FileNames.{FileNames, name_of}
@@ -14,9 +15,8 @@ use Rattle.command_reports.specs.declared.files.CommandFile.{CommandFile}
 use Rattle.command_reports.specs.declared.files.CommandFile.TheVariants.{Design, Definitions, Bundle, Case, Packets, Budget}
 use Rattle.command_reports.specs.declared.refusal.Refusal.{Refusal}
 use Rattle.command_reports.specs.declared.refusal.Refusal.TheVariants as refusal
-use Rattle.command_reports.specs.declared.report.Report.{Report}
 use Rattle.cocoon_cli.specs.Outcomes.{Ends, no_memory, at_step, at_fault, EndsAt, FirstWith, here, later, StopsAt}
-use Rattle.cocoon_cli.specs.Steps.{Inputs, IsTooLarge, Refuses, Step, Stops, assumptions_met, bundle_reads, bundle_within, bundle_written, copies_within, definitions_fit, definitions_read, definitions_within, design_reads, design_well_formed, design_within, is_there, is_within, level_there, lines_formed, lowering_within, obligations_hold, packets_judged, packets_refusal, trees_within}
+use Rattle.cocoon_cli.specs.Steps.{Inputs, IsTooLarge, Refuses, Step, Stops, assumptions_met, bundle_reads, bundle_written, certificates_within, copies_within, definitions_fit, definitions_read, definitions_within, design_reads, design_well_formed, design_within, is_there, is_within, level_there, lines_formed, lowering_within, network_file_within, obligations_hold, packets_judged, packets_refusal, switch_files_within, trees_within}
 
 -- there is a file of this kind
 abbrev pub Named : FileNames → CommandFile → Type 0
@@ -35,7 +35,9 @@ Tells names (obligations_hold conflicts) = Named names Budget
 Tells names (lines_formed level) = Named names Case
 Tells names (packets_judged out) = Named names Packets
 Tells names (bundle_reads out) = (file : BundleFile) → Named names (Bundle file)
-Tells names bundle_within = (file : BundleFile) → Named names (Bundle file)
+Tells names switch_files_within = (file : BundleFile) → Named names (Bundle file)
+Tells names certificates_within = (file : BundleFile) → Named names (Bundle file)
+Tells names network_file_within = (file : BundleFile) → Named names (Bundle file)
 Tells names bundle_written = (file : BundleFile) → Named names (Bundle file)
 Tells names s = Unit {0}
 
@@ -89,8 +91,10 @@ refused_has names i (bundle_reads out) r n h = same_has names r _ h.2 (unread_ha
 refused_has names i (packets_judged out) r n h = packets_has names h.holds.holds.0 r h.holds.holds.2 n
 refused_has names i (copies_within out hops) r n h =
     let (ps, say, (over, e)) = h.holds.holds in same_has names r _ e (_, refl)
-refused_has names i bundle_within r n h =
+refused_has names i switch_files_within r n h =
     let (net, lowers, (file, over, e)) = h.holds.holds in same_has names r _ e (with_name _ _ (n file))
+refused_has names i certificates_within r n h = absurd h
+refused_has names i network_file_within r n h = same_has names r _ h.holds.holds.2.1 (with_name _ _ (n files.Network))
 refused_has names i bundle_written r n h = absurd h
 
 stopped_has : (names : FileNames) (i : Inputs) (s : Step) (r : Refusal) → Tells names s → Stops i s r → HasLine names r
@@ -101,15 +105,16 @@ stopped_has names i (obligations_hold conflicts) r n h = same_has names r _ h.0 
 stopped_has names i bundle_written r n (file, h) = same_has names r _ h (with_name _ _ (n file))
 stopped_has names i s r n h = absurd h
 
-large_has : (names : FileNames) (i : Inputs) (s : Step) (r : Refusal) → IsTooLarge i s r → HasLine names r
-large_has names i (assumptions_met conflicts) r h = same_has names r _ h.holds.holds.3 (_, refl)
-large_has names i (obligations_hold conflicts) r h = same_has names r _ h.holds.3 (_, refl)
-large_has names i s r h = absurd h
+large_has : (names : FileNames) (i : Inputs) (s : Step) (r : Refusal) → Tells names s → IsTooLarge i s r → HasLine names r
+large_has names i (assumptions_met conflicts) r n h = same_has names r _ h.holds.holds.3 (_, refl)
+large_has names i (obligations_hold conflicts) r n h = same_has names r _ h.holds.3 (_, refl)
+large_has names i certificates_within r n h = same_has names r _ h.holds.2.1 (with_name _ _ (n files.Certificates))
+large_has names i s r n h = absurd h
 
 first_has : (names : FileNames) (i : Inputs) (r : Refusal) (ss : List Step) → AllTell names ss → FirstWith i (EndsAt i (Err r)) ss → HasLine names r
 first_has names i r [] t h = elim h [ ]
 first_has names i r (s ∷ ss) t (here (inl h)) = refused_has names i s r t.0 h
-first_has names i r (s ∷ ss) t (here (inr h)) = large_has names i s r h
+first_has names i r (s ∷ ss) t (here (inr h)) = large_has names i s r t.0 h
 first_has names i r (s ∷ ss) t (later g h) = first_has names i r ss t.1 h
 
 fault_has : (names : FileNames) (i : Inputs) (r : Refusal) (ss : List Step) → AllTell names ss → FirstWith i (StopsAt i (Err r)) ss → HasLine names r

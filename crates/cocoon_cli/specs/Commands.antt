@@ -20,7 +20,7 @@ use Rattle.command_reports.specs.declared.report.Report.{Report}
 use Rattle.cocoon_cli.specs.Compiling.{Compiles}
 use Rattle.cocoon_cli.specs.Answering.{PlansBy}
 use Rattle.cocoon_cli.specs.ReportLines.{checked_line, sent_text, totals_line, totals_of}
-use Rattle.cocoon_cli.specs.Steps.{Inputs, OfBoth, OfDesign, OfDefinitions, OfFiles, OfNetwork, OfPackets, OfText, Step, design_reads, design_well_formed, design_within, definitions_read, definitions_fit, definitions_within, lowering_within, assumptions_met, trees_within, obligations_hold, level_there, lines_formed, packets_judged, copies_within, bundle_within, bundle_written}
+use Rattle.cocoon_cli.specs.Steps.{Inputs, OfBoth, OfDesign, OfFiles, OfNetwork, OfPackets, OfText, Step, design_reads, design_well_formed, design_within, definitions_read, definitions_fit, definitions_within, lowering_within, assumptions_met, trees_within, obligations_hold, level_there, lines_formed, packets_judged, copies_within, switch_files_within, certificates_within, network_file_within, bundle_written}
 use Rattle.cocoon_cli.specs.Writing.{Writing, nothing, bundle}
 use Rattle.cocoon_cli.specs.declared.answer.Answer.{Answer}
 use Rattle.cocoon_cli.specs.declared.answer.Writing.{Writing as Written}
@@ -86,7 +86,8 @@ asks (forward out packets hops) = packets_judged out ∷ copies_within out hops 
 -- its steps of writing
 abbrev pub writes : Command → List Step
 writes (check design conflicts) = []
-writes (compile design defs out conflicts) = bundle_within ∷ bundle_written ∷ []
+writes (compile design defs out conflicts) =
+    switch_files_within ∷ certificates_within ∷ network_file_within ∷ bundle_written ∷ []
 writes (step design defs level file) = []
 writes (forward out packets hops) = []
 
@@ -96,7 +97,7 @@ Reports (check name conflicts) inputs report =
     OfDesign inputs (λ _ design. report
     ≡ success (checked_line (last_level design + 1) (length (all_obligations design))))
 Reports (compile name defs_name out conflicts) inputs report =
-    OfNetwork inputs (λ design net.
+    OfNetwork inputs (λ _ design net.
     report ≡ success (totals_line (totals_of (length (all_obligations design)) net)))
 Reports (step design defs level file) inputs report =
     OfBoth inputs (λ d entries. OfText inputs Case (λ text.

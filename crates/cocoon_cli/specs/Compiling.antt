@@ -1,9 +1,10 @@
--- Cited by the clauses of compile.rt. The network that is made of the two texts of a `compile`, or why
--- there is none.
+-- Cited by the clauses of compile.rt. The network that is made of the two texts of a `compile`, with the
+-- certificates of its design, or why there is none.
 use Rattle.std.specs.Prelude.{◌≡◌, ℕ, List}
 use Rattle.cocoon_num.specs.Tree.{Design}
 use Rattle.cocoon_types.specs.Design.{last_level}
 use Rattle.cocoon_types.specs.Tables.{defs_of}
+use Rattle.cert_text.specs.Certifying.{Certifies}
 use Rattle.lowered.specs.Delivers.{DeliversWithin}
 use Rattle.obligation_gen.specs.Counted.{AreFew, all_counts}
 use Rattle.p4_ir.specs.NetOf.{net_of}
@@ -43,10 +44,15 @@ pub record LowersTexts (design defs : List ℕ) (net : NetData) : Type 0 where
 abbrev pub LowersDesign : (design defs : List ℕ) → Design → NetData → Type 0
 LowersDesign design defs tree net = (made : LowersTexts design defs net) × (made.tree ≡ tree)
 
--- this is written: the bundle of that network under the given name
+-- the network of both texts, and certificates of what the design owes
+pub record CompilesTexts (design defs : List ℕ) (net : NetData) (certificates : List ℕ) : Type 0 where
+  pub lowers : LowersTexts design defs net
+  pub certify : Certifies lowers.tree certificates
+
+-- this is written: the bundle of them under the given name
 abbrev pub Compiles : (out design defs : List ℕ) → Writing → Type 0
-Compiles out design defs (written.Bundle name net) =
-    (name.now ≡ out) × LowersTexts design defs (net_of net)
+Compiles out design defs (written.Bundle name net certificates) =
+    (name.now ≡ out) × CompilesTexts design defs (net_of net) certificates
 Compiles out design defs w = ⊥
 
 -- of the files of the switches of their network, this is the first that is over its limit

@@ -4,7 +4,7 @@
 -- and each such delivery, its port, headers and payload, is one that the design's topmost
 -- specification may make. It is the sentence of "What is proved" in README.md, which "The headline"
 -- of docs/PROMISES.md takes part by part.
-use Rattle.std.specs.Prelude.{◌≡◌, ℕ, List, Option, Some, None}
+use Rattle.std.specs.Prelude.{◌≡◌, ℕ, List, Option, Some, None, codes}
 use Rattle.std.specs.FinMap.{get}
 use Rattle.cocoon_num.specs.Tree.{Design, DefsText}
 use Rattle.cocoon_num.specs.Reads.{Reads, ReadsDefs}
@@ -13,7 +13,7 @@ use Rattle.cocoon_types.specs.Tables.{defs_of}
 use Rattle.cocoon_types.specs.Rules.{WellFormed}
 use Rattle.cocoon_types.specs.DefsRules.{DefsFit}
 use Rattle.p4_ir.specs.NetTree.{NetData}
-use Rattle.net_bundle.specs.BundleNames.{digest_of}
+use Rattle.net_bundle.specs.BundleNames.{digest_of, file_name}
 use Rattle.net_bundle.specs.Network.{Network, InBundle}
 use Rattle.lowered.specs.Delivers.{DeliversExactly, DeliversWithin}
 use Rattle.command_line.specs.Command.{Command, check, compile, step, forward}
@@ -44,9 +44,9 @@ pub record Compiled (before after : Files) (design_name defs_name out : List ℕ
   pub exact : DeliversExactly net design (defs_of design entries)
   pub within : DeliversWithin net design (defs_of design entries)
 
--- no name changes besides
-abbrev pub none_besides : List ℕ → Type 0
-none_besides name = ⊥
+-- OUT.certs.json: the certificates of the design stand beside the network
+abbrev pub IsCertificates : (out : List ℕ) → List ℕ → Type 0
+IsCertificates out name = name ≡ file_name out (codes "certs.json")
 
 -- the same of a command; of one that compiles nothing there is nothing to say
 abbrev pub CompiledOf : Option Command → Option Files → Option Files → Type 0
@@ -55,7 +55,7 @@ CompiledOf (Some (check design conflicts)) before after = Unit {0}
 CompiledOf (Some (compile design defs out conflicts)) None after = Unit {0}
 CompiledOf (Some (compile design defs out conflicts)) (Some before) None = ⊥
 CompiledOf (Some (compile design defs out conflicts)) (Some before) (Some after) =
-    Compiled before after design defs out none_besides
+    Compiled before after design defs out (IsCertificates out)
 CompiledOf (Some (step design defs level file)) before after = Unit {0}
 CompiledOf (Some (forward out packets hops)) before after = Unit {0}
 

@@ -15,5 +15,6 @@ pub mod Outcomes
 pub mod Leaves
 pub mod Headline
 pub mod Checked
+pub mod Certified
 pub mod Run
 pub mod Shell

@@ -1,8 +1,10 @@
--- Cited by the clauses of obligations.rt. What is answered of the obligations of a design: that each holds, the answer of a
--- search that was given up, or why they are not decided.
-use Rattle.std.specs.Prelude.{◌≡◌, ◌⊎◌, ℕ, List, [], Option, Some, None, All, codes, length}
+-- Cited by the clauses of obligations.rt. What is said of the obligations of a design: certificates that show that each holds,
+-- the answer of a search that was given up, or why they are not decided.
+use Rattle.std.specs.Prelude.{◌≡◌, ◌⊎◌, ℕ, List, [], Some, codes, length}
 use Rattle.bv_terms.specs.declared.node.Node.{Node}
+use Rattle.cert_text.specs.Certifying.{CertsShow}
 use Rattle.certificates.specs.CertsOf.{log_of}
+use Rattle.certificates.specs.declared.Cert.{Cert as Certificate}
 use Rattle.cnf_core.specs.declared.log.Log.{Log}
 use Rattle.cocoon_num.specs.Tree.{Design}
 use Rattle.cocoon_num.specs.declared.limit_name.LimitName.TheVariants.{Clauses, Leaves}
@@ -10,12 +12,11 @@ use Rattle.cocoon_types.specs.Limits.{first_above, reported}
 use Rattle.hop_inline.specs.Counted.{most_leaves}
 use Rattle.obligation_gen.specs.Counted.{AreFew, all_counts}
 use Rattle.obligation_gen.specs.declared.obligation.Obligation.{Obligation}
-use Rattle.obligation_laws.specs.Failing.{NeverFails}
 use Rattle.obligation_laws.specs.Obligations.{all_obligations}
 use Rattle.query_laws.specs.Certified.{HasTooMany, IsSatisfiable}
 use Rattle.refinement.specs.Owed.{Refines}
-use Rattle.obligation_gen.specs.Owed.{NeverFailsHere}
 use Rattle.discharge.specs.Answering.{IsSpentOn}
+use Rattle.verdict_certs.specs.Keeping.{AreShown, IsShown}
 use Rattle.verdicts.specs.Deciding.{own_query}
 use Rattle.budget_text.specs.Spent.{asked, rounds}
 use Rattle.command_reports.specs.declared.files.CommandFile.TheVariants.{Budget}
@@ -28,6 +29,8 @@ use Rattle.cocoon_cli.specs.declared.answer.Answer.{Answer}
 use Rattle.cocoon_cli.specs.declared.answer.Writing.TheVariants.{Own}
 use Rattle.cocoon_cli.specs.declared.obligations.Refined.{Refined}
 use Rattle.cocoon_cli.specs.declared.obligations.Refined.TheVariants.{Holds, GivenUp}
+use Rattle.cocoon_cli.specs.declared.obligations.Shown.{Shown}
+use Rattle.cocoon_cli.specs.declared.obligations.Shown.TheVariants as shown
 
 -- ---- trees
 
@@ -51,10 +54,10 @@ pub data IsUnshown (d : Design) (nodes : List Node) (o : Obligation) (conflicts 
       → TellsSpent (rounds_line 0 number) (rounds number []) answer
       → IsUnshown d nodes o conflicts number answer
 
--- nothing where it never fails
-abbrev pub AnswersOne : Design → List Node → Obligation → (conflicts number : ℕ) → Option Answer → Type 0
-AnswersOne d nodes o conflicts number None = NeverFailsHere d nodes o
-AnswersOne d nodes o conflicts number (Some answer) = IsUnshown d nodes o conflicts number answer
+-- a certificate shows it, or the search for it was given up
+abbrev pub SaysOne : Design → List Node → Obligation → (conflicts number : ℕ) → Shown → Type 0
+SaysOne d nodes o conflicts number (shown.Cert cert) = IsShown d nodes o cert
+SaysOne d nodes o conflicts number (shown.GivenUp answer) = IsUnshown d nodes o conflicts number answer
 
 -- why it is not decided
 abbrev pub NotOne : Design → List Node → Obligation → Refusal → Type 0
@@ -70,10 +73,10 @@ pub record AnswersGivenUp (d : Design) (conflicts : ℕ) (answer : Answer) : Typ
   pub is : IsGivenUpOn d conflicts answer.report bytes
   pub written : answer.writing ≡ Own Budget bytes
 
--- nothing where each never fails
-abbrev pub AnswersAll : Design → (conflicts : ℕ) → Option Answer → Type 0
-AnswersAll d conflicts None = All (NeverFails d) (all_obligations d)
-AnswersAll d conflicts (Some answer) = AnswersGivenUp d conflicts answer
+-- a certificate shows each, or the search for one was given up
+abbrev pub SaysAll : Design → List Node → List Obligation → (conflicts : ℕ) → Refined → Type 0
+SaysAll d nodes obligations conflicts (Holds certs) = AreShown d nodes obligations certs.certs
+SaysAll d nodes obligations conflicts (GivenUp answer) = AnswersGivenUp d conflicts answer
 
 -- why they are not decided
 abbrev pub NotAll : Design → Refusal → Type 0
@@ -83,14 +86,15 @@ NotAll d _ = ⊥
 
 -- ---- a design
 
--- no tree has too many leaves, and each block keeps what it owes: so many obligations
-pub record KeepsAll (d : Design) (count : ℕ) : Type 0 where
+-- no tree has too many leaves, each block keeps what it owes, and the certificates show it, one for each obligation
+pub record KeepsAll (d : Design) (certs : List Certificate) : Type 0 where
   pub few : AreFew (all_counts d)
   pub refines : Refines d
-  pub counted : count ≡ length (all_obligations d)
+  pub shown : CertsShow d certs
+  pub counted : length certs ≡ length (all_obligations d)
 
 abbrev pub IsRefined : Design → (conflicts : ℕ) → Refined → Type 0
-IsRefined d conflicts (Holds count) = KeepsAll d count
+IsRefined d conflicts (Holds certs) = KeepsAll d certs.certs
 IsRefined d conflicts (GivenUp answer) = AreFew (all_counts d) × AnswersGivenUp d conflicts answer
 
 -- why that is not decided: of obligations only where no tree has too many leaves

@@ -1,6 +1,6 @@
 -- Cited by the clauses of the commands and of answer.rt, and through Outcomes.antt by `keeps` of `run`. The
 -- reports of commands that succeed, and of searches that are given up. It follows "Reports" in docs/FORMATS.md.
-use Rattle.std.specs.Prelude.{ℕ, List, [], ◌∷◌, ◌++◌, length, Option, Some, None, codes, decimal}
+use Rattle.std.specs.Prelude.{ℕ, List, ◌++◌, length, Option, Some, None, codes, decimal}
 use Rattle.p4_ir.specs.NetTree.{NetData}
 use Rattle.case_runs.specs.declared.sent.Sent.{Sent}
 use Rattle.command_reports.specs.Report.{list_text}

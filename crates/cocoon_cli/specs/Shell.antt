@@ -141,13 +141,13 @@ own_file file (Some name) bytes = own file name bytes
 -- what stands in the folder where it is written
 abbrev pub writing_of : FileNames → Read → Written → Writing
 writing_of names read written.Nothing = nothing
-writing_of names read (written.Bundle name net) =
-    bundle name.now (bundle_of.bundle read.design.items (net_of net) None)
+writing_of names read (written.Bundle name net certificates) =
+    bundle name.now (bundle_of.bundle read.design.items (net_of net) (Some certificates))
 writing_of names read (written.Own file bytes) = own_file file (name_of names file) bytes
 
 -- it may be written: a bundle is the one that is named, and can be read back
 abbrev pub CanWrite : FileNames → Written → Type 0
-CanWrite names (written.Bundle name net) =
+CanWrite names (written.Bundle name net certificates) =
     (names.bundle ≡ Some name.now) × IsTrue (net_fits (net_of net))
 CanWrite names w = Unit {0}
 
@@ -164,8 +164,8 @@ pub record AllWritten (w : Writing) (before after : Option Files) : Type 0 where
 
 -- a bundle that was written gives its network
 abbrev pub HoldsNet : Read → Written → (before after : Option Files) → Type 0
-HoldsNet read (written.Bundle name net) before after =
-    ContentHolds before after name.now read.design.items (net_of net) None
+HoldsNet read (written.Bundle name net certificates) before after =
+    ContentHolds before after name.now read.design.items (net_of net) (Some certificates)
 HoldsNet read w before after = Unit {0}
 
 -- why it was not all written

@@ -2,7 +2,8 @@
 -- `run`. The steps of commands, and how each may end one. A step looks at what is read of the
 -- command's files; each is a case of its own. A new rule or limit of designs adds none. It follows
 -- "Statuses" in docs/FORMATS.md.
-use Rattle.std.specs.Prelude.{◌≡◌, ◌≤◌, ◌<◌, ℕ, suc, Bool, true, false, List, [], ◌∷◌, length, Option, Some, None, Result, Ok, Err, codes}
+use Rattle.std.specs.Prelude.{◌≡◌, ◌≤◌, ◌<◌, ℕ, suc, Bool, true, false, List, length, Option, Some, None, Result, Ok, Err, codes}
+use Rattle.cert_text.specs.Certifying.{Certifies}
 use Rattle.cocoon_num.specs.Lists.{first_of}
 use Rattle.cocoon_num.specs.Tree as tree
 use Rattle.cocoon_num.specs.declared.limit_name.LimitName.{LimitName}
@@ -29,9 +30,10 @@ use Rattle.packet_file.specs.Packets.{Packet, packets_in}
 use Rattle.packet_file.specs.declared.packet.PacketFault.{PacketFault}
 use Rattle.packet_file.specs.declared.packet.PacketFault.TheVariants as packets
 use Rattle.packet_runs.specs.Stopping.{AllWithin, SomeOver}
-use Rattle.net_bundle.specs.Bundle.{MadeFile, bundle}
+use Rattle.net_bundle.specs.Bundle.{MadeFile, all_switch_files, bundle, net_text}
 use Rattle.net_bundle.specs.Writing.{AllFit, FirstOver, most_of}
 use Rattle.net_bundle.specs.declared.file.BundleFile.{BundleFile}
+use Rattle.net_bundle.specs.declared.file.BundleFile.TheVariants as files
 use Rattle.hop_inline.specs.Counted.{most_leaves}
 use Rattle.obligation_gen.specs.Counted.{AreFew, all_counts}
 use Rattle.refinement.specs.Assumptions.{Meets}
@@ -91,8 +93,12 @@ pub data Step : Type 0 where
   packets_judged : (out : List ℕ) → Step
   -- the copies of each packet make no more runs than they may, within so many visits
   copies_within : (out : List ℕ) (hops : ℕ) → Step
-  -- each file of the bundle has at most the bytes that it may have
-  bundle_within : Step
+  -- the files of the switches have at most the bytes that they may have
+  switch_files_within : Step
+  -- so do the certificates that the searches found
+  certificates_within : Step
+  -- and the file of the network
+  network_file_within : Step
   -- the files of the bundle are written
   bundle_written : Step
 
@@ -125,16 +131,23 @@ abbrev pub OfBoth : Inputs → (tree.Design → tree.DefsText → Type 0) → Ty
 OfBoth inputs Holds =
     OfDesign inputs (λ _ design. OfDefinitions inputs (λ _ defs. Holds design defs))
 
--- this holds of the design, and of the network that the compiler makes of both
-abbrev pub OfNetwork : Inputs → (tree.Design → NetData → Type 0) → Type 0
+-- this holds of the design and its text, and of the network that the compiler makes of both
+abbrev pub OfNetwork : Inputs → (List ℕ → tree.Design → NetData → Type 0) → Type 0
 OfNetwork inputs Holds =
-    OfBoth inputs (λ design defs. (net : NetData) × Lowers design defs net × Holds design net)
+    OfDesign inputs (λ text design. OfDefinitions inputs (λ _ defs.
+    (net : NetData) × Lowers design defs net × Holds text design net))
 
--- this holds of the files of its bundle
+-- this holds of a file of certificates that show what the design owes
+abbrev pub OfCertificates : Inputs → (List ℕ → Type 0) → Type 0
+OfCertificates inputs Holds =
+    OfDesign inputs (λ _ design. (certificates : List ℕ) × Certifies design certificates
+    × Holds certificates)
+
+-- this holds of the files of the bundle of that network, with such certificates
 abbrev pub OfFiles : Inputs → (List MadeFile → Type 0) → Type 0
 OfFiles inputs Holds =
-    OfDesign inputs (λ text design. OfDefinitions inputs (λ _ defs.
-    (net : NetData) × Lowers design defs net × Holds (bundle text net None)))
+    OfNetwork inputs (λ text design net. (certificates : List ℕ) × Certifies design certificates
+    × Holds (bundle text net (Some certificates)))
 
 -- the files of a bundle give a network of which this holds
 pub record OfBundle (inputs : Inputs) (out : List ℕ) (Holds : NetData → Type 0) : Type 0 where
@@ -176,7 +189,12 @@ IsGood inputs (bundle_reads out) = OfBundle inputs out (λ _. Unit {0})
 IsGood inputs (packets_judged out) = OfPackets inputs out (λ _ _. Unit {0})
 IsGood inputs (copies_within out hops) =
     OfPackets inputs out (λ net packets. AllWithin net hops packets)
-IsGood inputs bundle_within = OfFiles inputs AllFit
+IsGood inputs switch_files_within =
+    OfNetwork inputs (λ _ _ net. AllFit (all_switch_files net.switches))
+IsGood inputs certificates_within =
+    OfCertificates inputs (λ certificates. length certificates ≤ most_of files.Certificates)
+IsGood inputs network_file_within =
+    OfNetwork inputs (λ text _ net. length (net_text text net) ≤ most_of files.Network)
 IsGood inputs bundle_written = Unit {0}
 
 -- what is refused of packets that are not all well
@@ -185,6 +203,10 @@ packets_refusal (packets.Form line) = Some (refusal.Line Packets line)
 packets_refusal (packets.TooLong count) = Some (refusal.OverLimit PacketLimit count)
 packets_refusal (packets.NoSuchHost line) = Some (refusal.NoHost Packets line)
 packets_refusal packets.NoMemory = None
+
+-- what is refused of a file of the bundle that would have more bytes than it may
+abbrev pub is_long : BundleFile → Refusal
+is_long file = refusal.TooLong (Bundle file) (most_of file)
 
 -- the step refuses, with this
 abbrev pub Refuses : Inputs → Step → Refusal → Type 0
@@ -237,9 +259,13 @@ Refuses inputs (packets_judged out) r =
 Refuses inputs (copies_within out hops) r =
     OfPackets inputs out (λ net packets.
     SomeOver net hops packets × (r ≡ refusal.OverLimit Copies (suc most_runs)))
-Refuses inputs bundle_within r =
-    OfFiles inputs (λ files. (file : BundleFile) × FirstOver files file
-    × (r ≡ refusal.TooLong (Bundle file) (most_of file)))
+Refuses inputs switch_files_within r =
+    OfNetwork inputs (λ _ _ net. (file : BundleFile) × FirstOver (all_switch_files net.switches) file
+    × (r ≡ is_long file))
+Refuses inputs certificates_within r = ⊥
+Refuses inputs network_file_within r =
+    OfNetwork inputs (λ text _ net.
+    (most_of files.Network < length (net_text text net)) × (r ≡ is_long files.Network))
 Refuses inputs bundle_written r = ⊥
 
 -- ---- how a step may end a command
@@ -254,11 +280,12 @@ abbrev pub Decides : Inputs → Step → Result Report Refusal → Type 0
 Decides inputs s (Ok report) = Judges inputs s report
 Decides inputs s (Err r) = Refuses inputs s r
 
--- Whether the step is decided by a search. Such a step may be good, end the command in several ways
--- that are alike, or be given up.
+-- Whether the step is decided by a search, or by what searches found. Such a step may be good, end the
+-- command in several ways that are alike, or be given up.
 abbrev pub is_searched : Step → Bool
 is_searched (assumptions_met conflicts) = true
 is_searched (obligations_hold conflicts) = true
+is_searched certificates_within = true
 is_searched s = false
 
 -- a search spent what it may spend: this is reported, and these are the bytes of the file of that
@@ -270,7 +297,7 @@ Spends inputs (obligations_hold conflicts) report bytes =
     OfDesign inputs (λ _ design. IsGivenUpOn design conflicts report bytes)
 Spends inputs s report bytes = ⊥
 
--- a query is too large to be searched
+-- a query is too large to be searched, or what was found is too large to be written
 abbrev pub IsTooLarge : Inputs → Step → Refusal → Type 0
 IsTooLarge inputs (assumptions_met conflicts) r =
     OfBoth inputs (λ design defs. (number : ℕ) × (count : ℕ) × IsBig design defs number count
@@ -278,6 +305,9 @@ IsTooLarge inputs (assumptions_met conflicts) r =
 IsTooLarge inputs (obligations_hold conflicts) r =
     OfDesign inputs (λ _ design. (number : ℕ) × (count : ℕ) × owing.IsBig design number count
     × (r ≡ refusal.OverLimit Clauses count))
+IsTooLarge inputs certificates_within r =
+    OfCertificates inputs (λ certificates.
+    (most_of files.Certificates < length certificates) × (r ≡ is_long files.Certificates))
 IsTooLarge inputs s r = ⊥
 
 -- a search is given up

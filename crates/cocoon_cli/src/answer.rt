@@ -12,8 +12,8 @@ use std::alloc::Global;
 #[derive(Drop)]
 pub enum Writing<'w> {
     Nothing,
-    /// The bundle of this name, of a network.
-    Bundle(&'w str, NetData),
+    /// The bundle of this name, of a network, with the certificates of its design.
+    Bundle(&'w str, NetData, List<u8>),
     /// One file with a name of its own.
     Own(CommandFile, List<u8>),
 }

@@ -40,7 +40,8 @@ pub fn check<'w>(alloc: Global, asked: &Check<'w>, design: &[u8]) -> Result<Answ
     let decided = decide_all(alloc, &checked, asked.conflicts)?;
     match decided {
         Refined::GivenUp(answer) => Ok(answer),
-        Refined::Holds(obligations) => {
+        Refined::Holds(certs) => {
+            let obligations = certs.certs.items().len() as u64;
             let line = checked_line(alloc, checked.levels(), obligations)?;
             Ok(Answer {
                 report: Report::success(line.into_bytes()),

@@ -1,5 +1,5 @@
 //! `compile`: a network is made of a design whose blocks keep what they owe, and definitions that meet
-//! its assumptions, and its bundle is written.
+//! its assumptions, and its bundle is written, with the certificates of what the blocks keep.
 ghost use Rattle.std.specs.Prelude.{◌≡◌, ◌≤◌, ◌<◌, ◌^◌, ℕ, IfErr, IfOk, List, Some, length, string_bytes};
 ghost use Rattle.cocoon_syntax.specs.TreeOf.{design_of};
 ghost use Rattle.cocoon_types.specs.Design.{last_level};
@@ -23,7 +23,8 @@ use crate::answer::{Answer, Writing};
 use crate::assumptions::unmet;
 use crate::laws::deliveries_stay_within;
 use crate::obligations::{Refined, decide_all};
-use cocoon_num::NoMemory;
+use cert_text::to_json;
+use cocoon_num::{List, NoMemory};
 use command_line::Compile;
 use command_reports::{Refusal, Report};
 use design_texts::{Bound, bound_texts};
@@ -105,7 +106,7 @@ fn totals_line(alloc: Global, totals: Totals) -> Result<String, NoMemory>
 
 /// Compiles the texts of a design and its definitions into the bundle of the command. The design is
 /// judged first, then the definitions and whether they meet the assumptions, then what the blocks of
-/// the design owe, and then the limits of the network.
+/// the design owe, and then the limits of the network. The certificates are made last.
 pub fn compile<'w>(
     alloc: Global,
     asked: &Compile<'w>,
@@ -132,12 +133,15 @@ pub fn compile<'w>(
     let decided = decide_all(alloc, &bound.checked, asked.conflicts)?;
     match decided {
         Refined::GivenUp(answer) => Ok(answer),
-        Refined::Holds(obligations) => {
+        Refined::Holds(certs) => {
             let net = lower_bound(alloc, &bound)?;
+            let obligations = certs.certs.items().len() as u64;
             let line = totals_line(alloc, count_parts(&net, obligations))?;
+            let text = to_json(alloc, &certs)?;
+            let certificates = List::from(text);
             Ok(Answer {
                 report: Report::success(line.into_bytes()),
-                writing: Writing::Bundle(asked.out, net),
+                writing: Writing::Bundle(asked.out, net, certificates),
             })
         }
     }

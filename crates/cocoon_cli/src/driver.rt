@@ -1,6 +1,7 @@
 //! The top call: the words are read, the command is performed, and one report is printed.
 ghost use Rattle.std.specs.Prelude.{◌≡◌, map, string_bytes};
 ghost use Rattle.command_line.specs.Words.{command};
+ghost use Rattle.cocoon_cli.specs.Certified.{CertifiedOf};
 ghost use Rattle.cocoon_cli.specs.Checked.{RefinedOf};
 ghost use Rattle.cocoon_cli.specs.Headline.{Headline};
 ghost use Rattle.cocoon_cli.specs.Run.{Keeps, count};
@@ -45,6 +46,11 @@ pub fn run<F: Folder, S: Sink>(
     // where a `check` or a `compile` succeeds, each block of the design is contained and bounded
     ensures refined { result ≡ Status.Done
         → RefinedOf (command (map string_bytes words.now)) (F.content folder.old) }
+
+    // beside the network stand certificates, which show of each obligation of the design that it holds
+    ensures certified { result ≡ Status.Done
+        → CertifiedOf (command (map string_bytes words.now))
+        (F.content folder.old) (F.content folder.new) }
 {
     one_outcome();
     checked_designs_are_refined();

@@ -1,5 +1,6 @@
-//! The obligations of a design, each decided by a search for all definitions.
-ghost use Rattle.std.specs.Prelude.{[], ◌≡◌, ◌≤◌, ◌<◌, ◌^◌, IfErr, IfOk, OnOk, codes, string_bytes};
+//! The obligations of a design, each decided by a search for all definitions. What shows that they hold is
+//! kept, as certificates.
+ghost use Rattle.std.specs.Prelude.{[], ◌∷◌, ◌≡◌, ◌≤◌, ◌<◌, ◌++◌, ◌^◌, IfErr, IfOk, OnOk, codes, string_bytes};
 ghost use Rattle.budget_text.specs.Spent as spent;
 ghost use Rattle.certificates.specs.CertsOf.{log_of};
 ghost use Rattle.cocoon_syntax.specs.TreeOf.{design_of};
@@ -8,14 +9,15 @@ ghost use Rattle.obligation_gen.specs.Shown.{ShowsObligations};
 ghost use Rattle.obligation_laws.specs.Obligations as laws;
 ghost use Rattle.obligation_gen.specs.Owed.{IsOwed};
 ghost use Rattle.cocoon_cli.specs.Answering.{TellsSpent};
-ghost use Rattle.cocoon_cli.specs.Refining.{AnswersAll, AnswersOne, HasManyLeaves, IsRefined, NotAll, NotOne, NotRefined};
+ghost use Rattle.cocoon_cli.specs.Refining.{HasManyLeaves, IsRefined, NotAll, NotOne, NotRefined, SaysAll, SaysOne};
 ghost use Rattle.cocoon_cli.specs.ReportLines.{budget_line, rounds_line};
 
 use crate::answer::{Answer, budget_line};
 use budget_text::{obligation_file, rounds_file};
 use bv_terms::Terms;
+use certificates::{Cert, Certs};
 use cnf_core::Log;
-use cocoon_num::{LimitName, NoMemory};
+use cocoon_num::{LimitName, List, NoMemory};
 use cocoon_resolve::Checked;
 use command_reports::Refusal;
 use discharge::Budget;
@@ -24,6 +26,7 @@ use obligation_gen::{Obligation, all_obligations};
 use obligation_laws::laws::blocks_that_never_fail_are_refined;
 use sound_types::laws::code_literals_fit;
 use std::alloc::Global;
+use verdict_certs::laws::shown_obligations_are_certified;
 use verdicts::{Verdict, decide};
 
 /// What a design owes, and the arena that holds its formulas.
@@ -79,19 +82,28 @@ fn open_answer<'w>(alloc: Global, number: u32) -> Result<Answer<'w>, NoMemory>
     Ok(Answer::given_up(line, file))
 }
 
-/// What is answered of the obligation of this number: nothing if it holds.
-fn unkept<'w>(
+/// What is said of one obligation.
+#[derive(Drop)]
+enum Shown<'w> {
+    /// This shows it.
+    Cert(Cert),
+    /// The search for it was given up.
+    GivenUp(Answer<'w>),
+}
+
+/// What is said of the obligation of this number.
+fn show_one<'w>(
     alloc: Global,
     checked: &Checked,
     terms: &Terms,
     obligation: &Obligation,
     number: u32,
     conflicts: u32,
-) -> Result<Option<Answer<'w>>, Refusal>
+) -> Result<Shown<'w>, Refusal>
     requires owed { IsOwed (design_of checked.now) terms.now obligation.now }
     requires some { 1 ≤ conflicts }
     requires few { conflicts < 2 ^ 31 }
-    ensures decided { IfOk result (AnswersOne (design_of checked.now) terms.now obligation.now
+    ensures decided { IfOk result (SaysOne (design_of checked.now) terms.now obligation.now
         conflicts number) }
     ensures refused { IfErr result (NotOne (design_of checked.now) terms.now obligation.now) }
 {
@@ -101,11 +113,11 @@ fn unkept<'w>(
     };
     let verdict = decide(alloc, checked, terms, obligation, &budget)?;
     match verdict {
-        Verdict::Holds(_) => Ok(None),
+        Verdict::Holds(cert) => Ok(Shown::Cert(cert)),
         Verdict::SpentConflicts(_, _, log) => {
-            Ok(Some(spent_answer(alloc, conflicts, number, &log)?))
+            Ok(Shown::GivenUp(spent_answer(alloc, conflicts, number, &log)?))
         }
-        Verdict::SpentRounds(_) => Ok(Some(open_answer(alloc, number)?)),
+        Verdict::SpentRounds(_) => Ok(Shown::GivenUp(open_answer(alloc, number)?)),
         Verdict::Big(_, count) => Err(Refusal::OverLimit(LimitName::Clauses, count)),
     }
 }
@@ -120,42 +132,57 @@ fn number_of(index: usize) -> Result<u32, NoMemory>
     }
 }
 
-/// What is answered of all obligations: nothing if each holds. They are decided in order, and the
-/// first that is not shown to hold decides.
-fn first_unkept<'w>(
-    alloc: Global,
-    checked: &Checked,
-    terms: &Terms,
-    obligations: &[Obligation],
-    conflicts: u32,
-) -> Result<Option<Answer<'w>>, Refusal>
-    requires shown { ShowsObligations (design_of checked.now) terms.now obligations.now
-        (laws.all_obligations (design_of checked.now)) }
-    requires some { 1 ≤ conflicts }
-    requires few { conflicts < 2 ^ 31 }
-    ensures decided { IfOk result (AnswersAll (design_of checked.now) conflicts) }
-    ensures refused { IfErr result (NotAll (design_of checked.now)) }
+/// Keeps a certificate behind others.
+fn keep(certs: &mut Vec<Cert>, cert: Cert) -> Result<(), NoMemory>
+    ensures { OnOk result (certs.new.items ≡ certs.old.items ++ cert ∷ []) }
 {
-    for (index, obligation) in obligations.iter().enumerate() {
-        let number = number_of(index)?;
-        if let Some(answer) = unkept(alloc, checked, terms, obligation, number, conflicts)? {
-            return Ok(Some(answer));
-        }
-    }
-    Ok(None)
+    certs.push(cert)?;
+    Ok(())
 }
 
 /// What is said of all obligations of a design.
 #[derive(Drop)]
 pub enum Refined<'w> {
-    /// There are so many, and each holds.
-    Holds(u64),
+    /// Each holds, and these show it.
+    Holds(Certs),
     /// The search for one was given up.
     GivenUp(Answer<'w>),
 }
 
+/// What is said of all obligations. They are decided in order, and the first that is not shown to hold
+/// decides.
+fn show_all<'w>(
+    alloc: Global,
+    checked: &Checked,
+    terms: &Terms,
+    obligations: &[Obligation],
+    conflicts: u32,
+) -> Result<Refined<'w>, Refusal>
+    requires shown { ShowsObligations (design_of checked.now) terms.now obligations.now
+        (laws.all_obligations (design_of checked.now)) }
+    requires some { 1 ≤ conflicts }
+    requires few { conflicts < 2 ^ 31 }
+    ensures decided { IfOk result (SaysAll (design_of checked.now) terms.now obligations.now
+        conflicts) }
+    ensures refused { IfErr result (NotAll (design_of checked.now)) }
+{
+    let mut certs = Vec::<Cert>::new(alloc);
+    for (index, obligation) in obligations.iter().enumerate() {
+        let number = number_of(index)?;
+        let shown = show_one(alloc, checked, terms, obligation, number, conflicts)?;
+        match shown {
+            Shown::Cert(cert) => keep(&mut certs, cert)?,
+            Shown::GivenUp(answer) => return Ok(Refined::GivenUp(answer)),
+        }
+    }
+    Ok(Refined::Holds(Certs {
+        certs: List::from(certs),
+    }))
+}
+
 /// Whether the blocks of a design keep what they owe, for all definitions that meet its assumptions.
 /// All trees are made first; then each obligation is decided by a search of at most so many conflicts.
+/// What shows that each holds is kept, one certificate for each, in order.
 pub fn decide_all<'w>(
     alloc: Global,
     checked: &Checked,
@@ -166,13 +193,10 @@ pub fn decide_all<'w>(
     ensures decided { IfOk result (IsRefined (design_of checked.now) conflicts) }
     ensures refused { IfErr result (NotRefined (design_of checked.now)) }
 {
+    shown_obligations_are_certified();
     blocks_that_never_fail_are_refined();
     code_literals_fit();
     let _design = checked.design();
     let owed = all_owed(alloc, checked)?;
-    let answer = first_unkept(alloc, checked, &owed.terms, &owed.obligations, conflicts)?;
-    match answer {
-        Some(answer) => Ok(Refined::GivenUp(answer)),
-        None => Ok(Refined::Holds(owed.obligations.len() as u64)),
-    }
+    show_all(alloc, checked, &owed.terms, &owed.obligations, conflicts)
 }

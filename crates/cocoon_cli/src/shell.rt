@@ -6,6 +6,7 @@ ghost use Rattle.command_line.specs.Command.{stands_for};
 ghost use Rattle.command_line.specs.Subcommands.{IsInRange};
 ghost use Rattle.command_reports.specs.FileNames.{names_in};
 ghost use Rattle.command_reports.specs.declared.report.Verdict.TheVariants.{Done};
+ghost use Rattle.cocoon_cli.specs.Certified.{CertifiedOf};
 ghost use Rattle.cocoon_cli.specs.Commands.{Plans, files_of};
 ghost use Rattle.cocoon_cli.specs.Headline.{CompiledOf};
 ghost use Rattle.cocoon_cli.specs.Run.{count};
@@ -98,6 +99,8 @@ pub fn perform<F: Folder>(
         result }
     ensures headline { IfOk result (λ report. report.verdict ≡ Done
         → CompiledOf (Some (stands_for command.now)) (F.content folder.old) (F.content folder.new)) }
+    ensures certified { IfOk result (λ report. report.verdict ≡ Done
+        → CertifiedOf (Some (stands_for command.now)) (F.content folder.old) (F.content folder.new)) }
 {
     let names = names_of(command);
     let read = read_all(alloc, folder, &names)?;

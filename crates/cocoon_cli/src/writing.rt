@@ -65,8 +65,9 @@ pub fn write_all<F: Folder>(
 {
     match writing {
         Writing::Nothing => Ok(()),
-        Writing::Bundle(out, net) => {
-            match write_bundle(alloc, folder, out, net, &read.design, None) {
+        Writing::Bundle(out, net, certificates) => {
+            let certificates = Some(certificates.items());
+            match write_bundle(alloc, folder, out, net, &read.design, certificates) {
                 Ok(()) => Ok(()),
                 Err(fault) => Err(Refusal::from(fault)),
             }

@@ -1,5 +1,5 @@
 //! One run of a case, and what differs after it.
-use crate::fields::{LINE, Line, has_line, line_of};
+use crate::fields::{LINE, Line, has_line, line_of, put_wanted, words_of};
 use crate::lines::{CaseFiles, number_in, report};
 use case_files::Printer;
 use cocoon_cli::run;
@@ -110,27 +110,47 @@ pub fn place_all(lines: &str, files: &CaseFiles, folder: &mut MemFolder, out: &m
 }
 
 /// What is wanted of a file after the run.
-fn wanted_of<'a>(case: Case<'a>, name: &str) -> Option<&'a [u8]> {
-    let mut found = case.files.before.file(name);
+#[derive(Clone, Copy, Drop)]
+enum Left<'a> {
+    /// It has these bytes, or is not there.
+    As(Option<&'a [u8]>),
+    /// It is there, with other bytes than before.
+    Changed,
+}
+
+fn wanted_of<'a>(case: Case<'a>, name: &str) -> Left<'a> {
+    let mut wanted = Left::As(case.files.before.file(name));
     for cut in case.lines.split(LINE) {
         let line = line_of(cut);
         if line.name == name {
             match line.word {
-                "after" | "after-edit" | "after-repeat" => found = case.files.after.file(name),
-                "absent" => found = None,
+                "after" | "after-edit" | "after-repeat" => {
+                    wanted = Left::As(case.files.after.file(name));
+                }
+                "absent" => wanted = Left::As(None),
+                "changed" => wanted = Left::Changed,
                 _ => {}
             }
         }
     }
-    found
+    wanted
+}
+
+/// Whether a file is in the folder as it is wanted.
+fn is_left(case: Case<'_>, folder: &MemFolder, name: &str) -> bool {
+    let found = folder.file(name);
+    match wanted_of(case, name) {
+        Left::As(bytes) => found == bytes,
+        Left::Changed => found.is_some() && found != case.files.before.file(name),
+    }
 }
 
 /// Reports which files are not in the folder as they are wanted.
 pub fn compare(case: Case<'_>, folder: &MemFolder, out: &mut Printer) {
     for cut in case.lines.split(LINE) {
         let Line { word, name, .. } = line_of(cut);
-        if matches!(word, "file" | "text" | "after" | "absent")
-            && folder.file(name) != wanted_of(case, name)
+        if matches!(word, "file" | "text" | "after" | "absent" | "changed")
+            && !is_left(case, folder, name)
         {
             report(out, "not as wanted: the file ", name);
         }
@@ -143,15 +163,25 @@ fn is_cut_short(case: Case<'_>, folder: &MemFolder) -> bool {
     let mut is_new = true;
     for cut in case.lines.split(LINE) {
         let Line { word, name, .. } = line_of(cut);
-        if word == "after" || word == "absent" {
-            let found = folder.file(name);
-            is_new = is_new && found == wanted_of(case, name);
-            if !is_new && found != case.files.before.file(name) {
+        if matches!(word, "after" | "absent" | "changed") {
+            is_new = is_new && is_left(case, folder, name);
+            if !is_new && folder.file(name) != case.files.before.file(name) {
                 return false;
             }
         }
     }
     true
+}
+
+/// Reports a status and a report that are not as they are wanted.
+fn judge_answer(found: &str, wanted: Wanted<'_>, out: &mut Printer) {
+    if !wanted.is_met(found) {
+        out.put("  found ");
+        out.put_debug(&found);
+        out.put(", wanted ");
+        out.put_debug(&wanted.text());
+        out.put("\n");
+    }
 }
 
 /// Reports what differs from what is wanted after a run.
@@ -160,14 +190,30 @@ fn judge(case: Case<'_>, folder: &MemFolder, found: &str, wanted: Wanted<'_>, ou
     if is_out_of_memory && has_line(case.lines, "or-no-memory") && is_cut_short(case, folder) {
         return;
     }
-    if !wanted.is_met(found) {
-        out.put("  found ");
-        out.put_debug(&found);
-        out.put(", wanted ");
-        out.put_debug(&wanted.text());
-        out.put("\n");
-    }
+    judge_answer(found, wanted, out);
     compare(case, folder, out);
+}
+
+/// Runs the words that come then, if there are any, over the folder as the case left it, and reports
+/// what differs.
+fn try_then(alloc: Global, case: Case<'_>, folder: &mut MemFolder, out: &mut Printer) {
+    let Ok(words) = words_of(alloc, case.lines, "then") else {
+        return out.lose();
+    };
+    if words.is_empty() {
+        return;
+    }
+    let mut sink = TrialSink {
+        held: MemSink::new(alloc, Vec::new(alloc)),
+        is_full: false,
+    };
+    let mut found = Printer::new(alloc);
+    run_words(alloc, &words, folder, &mut sink, &mut found);
+    let mut wanted = Printer::new(alloc);
+    put_wanted(case.lines, ("then-status", "then-report"), &mut wanted);
+    judge_answer(found.text(), Wanted::Whole(wanted.text()), out);
+    out.lose_with(&found);
+    out.lose_with(&wanted);
 }
 
 /// Runs a case over these, and reports what differs.
@@ -185,6 +231,7 @@ fn try_over(
     run_words(alloc, case.words, folder, sink, &mut found);
     judge(case, folder, found.text(), wanted, out);
     out.lose_with(&found);
+    try_then(alloc, case, folder, out);
 }
 
 /// Runs a case once, and reports what differs.

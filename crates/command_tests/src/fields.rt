@@ -118,15 +118,28 @@ pub fn has_line(lines: &str, word: &str) -> bool {
     last_line(lines, word).word == word
 }
 
-/// The words of the last line `words`, the program's name first.
-pub fn words_of(alloc: Global, lines: &str) -> Result<Vec<String>, NoMemory> {
+/// Puts the status and the report that the last lines with these two words want.
+pub fn put_wanted(lines: &str, (status, report): (&str, &str), wanted: &mut Printer) {
+    let status = last_line(lines, status).name;
+    let report = last_line(lines, report).name;
+    wanted.put(status);
+    wanted.put(" ");
+    wanted.put(report);
+    if !report.is_empty() {
+        wanted.put("\n");
+    }
+}
+
+/// What stands behind the first field of the last line with this word: words, the program's name first.
+pub fn words_of(alloc: Global, lines: &str, word: &str) -> Result<Vec<String>, NoMemory> {
     let mut words = Vec::new(alloc);
     for cut in lines.split(LINE) {
-        let Some(behind) = cut.strip_prefix("words\u{1f}") else {
-            continue;
-        };
-        words.clear();
-        push_words(alloc, &mut words, behind)?;
+        if let Some((first, behind)) = cut.split_once(FIELD) {
+            if first == word {
+                words.clear();
+                push_words(alloc, &mut words, behind)?;
+            }
+        }
     }
     Ok(words)
 }

@@ -124,10 +124,11 @@ fn follow(data: Data<'_>, files: &mut CaseFiles, cut: &str, out: &mut Printer) {
 /// Whether a line that begins with this word and has so many fields is one of a case, if it says nothing of files.
 fn is_line(word: &str, count: usize) -> bool {
     match word {
-        "words" => true,
+        "words" | "then" => true,
         "full-sink" | "or-no-memory" => count == 1,
-        "report" => count == 1 || count == 2,
-        "status" | "absent" | "failing-call" | "failing-put" => count == 2,
+        "report" | "then-report" => count == 1 || count == 2,
+        "status" | "then-status" | "absent" | "changed" => count == 2,
+        "failing-call" | "failing-put" => count == 2,
         "cut" | "table" | "same-behind" | "others" => count == 2,
         "replace" => count == 3,
         "lowers" => count == 4,

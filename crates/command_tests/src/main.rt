@@ -15,7 +15,7 @@ use calls::try_calls;
 use case_files::{Printer, print};
 use cocoon_io::HonestFolder;
 use cocoon_num::NoMemory;
-use fields::{last_line, put_lines, words_of};
+use fields::{last_line, put_lines, put_wanted, words_of};
 use lines::{CaseFiles, Data, follow_all, read};
 use lowering::try_lowering;
 use std::process::ExitCode;
@@ -29,18 +29,6 @@ struct Totals {
     cases: u64,
     runs: usize,
     differing: u64,
-}
-
-/// Puts the status and the report that are wanted.
-fn put_wanted(lines: &str, wanted: &mut Printer) {
-    let status = last_line(lines, "status").name;
-    let report = last_line(lines, "report").name;
-    wanted.put(status);
-    wanted.put(" ");
-    wanted.put(report);
-    if !report.is_empty() {
-        wanted.put("\n");
-    }
 }
 
 /// Runs a case of these words, and answers how often the command was run.
@@ -76,8 +64,8 @@ fn try_words(
 /// Runs a case of these files, and answers how often the command was run.
 fn try_files(data: Data<'_>, lines: &str, files: &mut CaseFiles, out: &mut Printer) -> usize {
     let mut wanted = Printer::new(data.rt.alloc());
-    put_wanted(lines, &mut wanted);
-    match words_of(data.rt.alloc(), lines) {
+    put_wanted(lines, ("status", "report"), &mut wanted);
+    match words_of(data.rt.alloc(), lines, "words") {
         Ok(words) if wanted.is_whole() => {
             try_words(data, (lines, &words), files, wanted.text(), out)
         }

@@ -6,7 +6,7 @@ use Rattle.cocoon_types.specs.Tables.{Defs, defs_of}
 use Rattle.net_bundle.specs.Network.{InBundle}
 use Rattle.command_line.specs.Command.{forward}
 use Rattle.command_line.specs.Words.{command}
-use Rattle.cocoon_cli.specs.Headline.{Compiled, none_besides}
+use Rattle.cocoon_cli.specs.Headline.{Compiled, IsCertificates}
 use Rattle.cocoon_cli.specs.Run.{Call, CauseOf}
 use Rattle.command_reports.specs.declared.status.Status.TheVariants.{Done}
 
@@ -17,7 +17,7 @@ pub record ForwardsCompiled : Type 0 where
   pub design_name : List ℕ
   pub defs_name : List ℕ
   pub out : List ℕ
-  pub compiled : Compiled before after design_name defs_name out none_besides
+  pub compiled : Compiled before after design_name defs_name out (IsCertificates out)
   -- the call of the `forward`, of which the clause `keeps` of `run` says `cause`
   pub call : Call
   pub packets_name : List ℕ

@@ -1,4 +1,4 @@
-use Rattle.std.proofs.Common.{[], ap, ap₂, inl, inr, subst, ◌∙◌}
+use Rattle.std.proofs.Common.{◌≡◌, [], length, ap, ap₂, inl, inr, rules, subst, ◌∙◌}
 use Rattle.std.specs.Prelude.{Vec, ℕ}
 use Rattle.std.specs.declared.alloc.Global.{Global}
 use Rattle.cocoon_syntax.specs.TreeOf.{design_of}
@@ -48,8 +48,9 @@ returns-clause-asked c = λ inputs design.
     let x = c.args.design.now in
     let d = design_of c.in_ok-checked.checked in
     let reads = c.in_ok-checked.ensures.reads in
-    let kept : KeepsAll d c.in-Holds.obligations = subst (IsRefined d n) c.in-Holds.is c.in_ok-decided.ensures.decided in
+    let kept : KeepsAll d c.in-Holds.certs.certs = subst (IsRefined d n) c.in-Holds.is c.in_ok-decided.ensures.decided in
+    let same : length c.items.result.now ≡ length c.in-Holds.certs.certs = search rules in
     inl (
       checked_good inputs x (owed_steps n []) d design reads (refined_good inputs x n [] d design reads kept.few kept.refines none),
-      on_design inputs x d design reads.reads (c.success.ensures ∙ ap success (ap (λ (v : Vec ℕ Global). v.items) c.into_bytes.ensures.value ∙ c.in_ok-line-in-Holds.ensures ∙ ap₂ checked_line c.levels.ensures kept.counted)),
+      on_design inputs x d design reads.reads (c.success.ensures ∙ ap success (ap (λ (v : Vec ℕ Global). v.items) c.into_bytes.ensures.value ∙ c.in_ok-line-in-Holds.ensures ∙ ap₂ checked_line c.levels.ensures (same ∙ kept.counted))),
     )

@@ -1,13 +1,15 @@
-use Rattle.std.proofs.Common.{[], ◌∷◌, ap, inl, inr, refl, subst, ◌∙◌}
+use Rattle.std.proofs.Common.{◌≡◌, [], ◌∷◌, length, ap, inl, inr, refl, rules, subst, sym, ◌∙◌}
 use Rattle.std.specs.Prelude.{Vec, ℕ}
 use Rattle.std.specs.declared.alloc.Global.{Global}
 use Rattle.cocoon_syntax.specs.TreeOf.{design_of}
 use Rattle.command_line.specs.Command.{compile as command}
 use Rattle.p4_ir.specs.NetOf.{net_of}
 use Rattle.command_reports.specs.Report.{success}
+use Rattle.command_reports.specs.declared.report.Report.{Report}
 use Rattle.command_reports.specs.declared.refusal.Refusal.TheVariants as refusal
 use Rattle.obligation_gen.specs.Counted.{AreFew, all_counts}
 use Rattle.cocoon_cli.specs.Commands.{owed_steps}
+use Rattle.cocoon_cli.specs.Compiling.{Compiles, CompilesTexts}
 use Rattle.cocoon_cli.specs.Deciding.{AnswersUnmet}
 use Rattle.cocoon_cli.specs.Outcomes.{good, no_memory, none}
 use Rattle.cocoon_cli.specs.Refining.{AnswersGivenUp, IsRefined, KeepsAll}
@@ -18,7 +20,7 @@ use Rattle.cocoon_cli.proofs.Assuming.{all_met_good, is_found, is_none, not_met}
 use Rattle.cocoon_cli.proofs.Counted.{passed}
 use Rattle.cocoon_cli.proofs.Owing.{refined_good}
 use Rattle.cocoon_cli.proofs.TextSteps.{Texts, not_matched}
-use Rattle.cocoon_cli.proofs.Compiling.{asks_good, assuming, given_up_found, lowering, not_lowered, reports, unrefined}
+use Rattle.cocoon_cli.proofs.Compiling.{asks_good, assuming, compiles_texts, given_up_found, lowering, not_lowered, plans_done, reports, unrefined}
 use Rattle.cocoon_cli.proofs.compile.compile.Goals as goal
 
 pub returns-in_err-bound-clause-asked : goal.returns-in_err-bound-clause-asked
@@ -78,7 +80,7 @@ returns-in_err-net-in-Holds-clause-asked c = λ inputs design defs.
     let binds = c.in_ok-bound.ensures.binds in
     let r = c.in_err-net-in-Holds.field-0.0 in
     let met = all_met_good inputs x c.args.defs.now n d c.in_ok-bound.bound.defs c.in_ok-answer.field-0 g binds (c.code_literals_fit.ensures.designs c.in_ok-bound.bound.checked) (is_none c.in_ok-answer.field-0 c.in_default.not-Some) c.in_ok-answer.ensures.decided in
-    let kept : KeepsAll d c.in-Holds.obligations = subst (IsRefined d n) c.in-Holds.is c.in_ok-decided.ensures.decided in
+    let kept : KeepsAll d c.in-Holds.certs.certs = subst (IsRefined d n) c.in-Holds.is c.in_ok-decided.ensures.decided in
     passed (Asked (command asked.design.now asked.defs.now asked.out.now asked.conflicts) inputs) _ r c.from_residual-in_err-net-in-Holds.ensures.1
     (not_lowered inputs x c.args.defs.now n r g (good met (refined_good inputs x n [] d design binds.binds.checked kept.few kept.refines none)) (c.in_err-net-in-Holds.ensures.refused x c.args.defs.now binds))
 
@@ -95,9 +97,27 @@ returns-clause-asked c = λ inputs design defs.
     let net = net_of c.in_ok-net-in-Holds.net in
     let g : Texts inputs c.args.design.now c.args.defs.now = record { design = design; defs = defs } in
     let lowers = c.in_ok-net-in-Holds.ensures.lowers c.args.design.now c.args.defs.now c.in_ok-bound.ensures.binds in
-    let kept : KeepsAll d c.in-Holds.obligations = subst (IsRefined d n) c.in-Holds.is c.in_ok-decided.ensures.decided in
+    let kept : KeepsAll d c.in-Holds.certs.certs = subst (IsRefined d n) c.in-Holds.is c.in_ok-decided.ensures.decided in
+    let same : length c.items.result.now ≡ length c.in-Holds.certs.certs = search rules in
     inl (
       asks_good asked.design.now asked.defs.now asked.out.now n inputs c.args.design.now c.args.defs.now net g lowers.0,
-      reports asked.design.now asked.defs.now asked.out.now n inputs c.args.design.now c.args.defs.now d c.in-Holds.obligations net _ g lowers kept.counted
+      reports asked.design.now asked.defs.now asked.out.now n inputs c.args.design.now c.args.defs.now d (length c.items.result.now) net _ g lowers (same ∙ kept.counted)
           (c.success.ensures ∙ ap success (ap (λ (v : Vec ℕ Global). v.items) c.into_bytes.ensures.value ∙ c.in_ok-line-in-Holds.ensures ∙ ap totals_line c.count_parts.ensures)),
     )
+
+pub returns-in_err-text-in-Holds-clause-asked : goal.returns-in_err-text-in-Holds-clause-asked
+returns-in_err-text-in-Holds-clause-asked c = λ inputs design defs.
+    let asked = c.args.asked.now in
+    passed (Asked (command asked.design.now asked.defs.now asked.out.now asked.conflicts) inputs) _ refusal.NoMemory c.from_residual-in_err-text-in-Holds.ensures.1 (no_memory refl)
+
+pub returns-clause-plans : goal.returns-clause-plans
+returns-clause-plans c =
+    let n = c.args.asked.now.conflicts in
+    let x = c.args.design.now in
+    let y = c.args.defs.now in
+    let d = design_of c.in_ok-bound.bound.checked in
+    let net = net_of c.in_ok-net-in-Holds.net in
+    let kept : KeepsAll d c.in-Holds.certs.certs = subst (IsRefined d n) c.in-Holds.is c.in_ok-decided.ensures.decided in
+    let lowers = c.in_ok-net-in-Holds.ensures.lowers x y c.in_ok-bound.ensures.binds in
+    let made = compiles_texts x y d net c.in-Holds.certs.certs c.in_ok-text-in-Holds.text.items lowers kept c.in_ok-text-in-Holds.ensures.reads in
+    plans_done (λ w. Compiles c.args.asked.now.out.now x y w) _ _ (ap (λ (r : Report). r.verdict) c.success.ensures) (refl, subst (CompilesTexts x y net) (sym c.from-certificates.ensures) made)

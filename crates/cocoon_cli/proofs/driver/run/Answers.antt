@@ -1,12 +1,14 @@
-use Rattle.std.proofs.Common.{◌∙◌, refl, ap, sym, subst, inl, option_map, List, map, ℕ, Some}
+use Rattle.std.proofs.Common.{◌∙◌, refl, ap, sym, subst, inl, option_map, map, Option, Some}
 use Rattle.std.specs.Prelude.{string_bytes}
 use Rattle.command_line.specs.Command.{Command}
 use Rattle.command_line.specs.Command.{stands_for}
-use Rattle.command_reports.specs.Report.{Ending, IsEnding}
+use Rattle.command_reports.specs.Report.{IsEnding}
+use Rattle.cocoon_cli.specs.Certified.{CertifiedOf}
+use Rattle.cocoon_cli.specs.Headline.{CompiledOf}
 use Rattle.cocoon_cli.specs.Run.{Call, Cause, count}
 use Rattle.cocoon_cli.proofs.Performing.{ended}
 use Rattle.cocoon_cli.proofs.Refined.{refined_words}
-use Rattle.cocoon_cli.proofs.Running.{keeps_of, keeps_memory, headline_of}
+use Rattle.cocoon_cli.proofs.Running.{keeps_of, keeps_memory, said_of}
 use Rattle.cocoon_cli.proofs.driver.run.Goals as goal
 
 pub returns-in-Ok-Some-clause-keeps : goal.returns-in-Ok-Some-clause-keeps
@@ -49,7 +51,34 @@ returns-in-Ok-Some-clause-headline g c done =
       is_ending = end.1;
       prints = c.print.ensures end.0 (subst (λ names. IsEnding names outcome end.0) (sym c.names_of.ensures) end.1);
     } in
-    headline_of asked _ call cause (ap (option_map stands_for) (sym c.in-Ok-Some.field-0-is) ∙ c.in-Ok-Some.ensures) c.perform-outcome.ensures.headline done
+    said_of (λ (o : Option Command). CompiledOf o call.content_before call.content_after) asked _ call cause (ap (option_map stands_for) (sym c.in-Ok-Some.field-0-is) ∙ c.in-Ok-Some.ensures) c.perform-outcome.ensures.headline done
+
+pub returns-in-Ok-Some-clause-certified : goal.returns-in-Ok-Some-clause-certified
+returns-in-Ok-Some-clause-certified g c done =
+    let asked = stands_for c.in-Ok-Some.command in
+    let outcome = c.perform-outcome.result in
+    let acts = c.perform-outcome.ensures.acts in
+    let end = ended asked acts.performs.inputs outcome acts.performs.answers in
+    let call : Call = record {
+      words = map string_bytes c.args.words.now;
+      content_before = g.F.Folder.content c.args.folder.now;
+      content_after = g.F.Folder.content c.perform-outcome.new.folder;
+      output_before = g.S.Sink.output c.args.out.now;
+      output_after = g.S.Sink.output c.print.new.out;
+      reads = count g.F.Folder.last_read_fault (g.F.Folder.read_faults c.args.folder.now) (g.F.Folder.read_faults c.perform-outcome.new.folder);
+      writes = count g.F.Folder.last_write_fault (g.F.Folder.write_faults c.args.folder.now) (g.F.Folder.write_faults c.perform-outcome.new.folder);
+      puts = count g.S.Sink.last_fault (g.S.Sink.faults c.args.out.now) (g.S.Sink.faults c.print.new.out);
+      status = c.print.result;
+    } in
+    let cause : Cause asked call = record {
+      outcome = outcome;
+      performs = acts.performs;
+      counts = acts.called.counts;
+      ending = end.0;
+      is_ending = end.1;
+      prints = c.print.ensures end.0 (subst (λ names. IsEnding names outcome end.0) (sym c.names_of.ensures) end.1);
+    } in
+    said_of (λ (o : Option Command). CertifiedOf o call.content_before call.content_after) asked _ call cause (ap (option_map stands_for) (sym c.in-Ok-Some.field-0-is) ∙ c.in-Ok-Some.ensures) c.perform-outcome.ensures.certified done
 
 pub returns-in-Ok-Some-clause-refined : goal.returns-in-Ok-Some-clause-refined
 returns-in-Ok-Some-clause-refined g c done =

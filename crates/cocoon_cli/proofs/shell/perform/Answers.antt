@@ -4,6 +4,7 @@ use Rattle.cocoon_cli.specs.Commands.{files_of}
 use Rattle.cocoon_cli.specs.Run.{count}
 use Rattle.cocoon_cli.specs.Shell.{Acts, AllWritten, CanWrite, NotAllWritten, ReadsAll, ReadsNot, writing_of}
 use Rattle.cocoon_cli.proofs.Counted.{called_after, called_ok, passed, uncounted, unnamed}
+use Rattle.cocoon_cli.proofs.Certified.{certified_of}
 use Rattle.cocoon_cli.proofs.Commands.{can_write, headline}
 use Rattle.cocoon_cli.proofs.Performing.{done, unanswered, unread, unwritten}
 use Rattle.cocoon_cli.proofs.shell.perform.Goals as goal
@@ -73,3 +74,14 @@ returns-clause-headline g c done =
     let asked = stands_for c.args.command.now in
     headline asked _ _ _ c.in_ok-read.read c.in_ok-answer.answer c.in_ok-read.ensures.same
     (subst (λ names. ReadsAll names (g.F.Folder.content c.args.folder.now) c.in_ok-read.read) c.names_of-names.ensures c.in_ok-read.ensures.all) c.in_ok-answer.ensures.plans done c.in_ok-write_all.ensures.holds
+
+pub returns-clause-certified : goal.returns-clause-certified
+returns-clause-certified g c done =
+    let asked = stands_for c.args.command.now in
+    let read = c.in_ok-read.read in
+    let answer = c.in_ok-answer.answer in
+    let mid = g.F.Folder.content c.read_all.new.folder in
+    let after = g.F.Folder.content c.write_all.new.folder in
+    certified_of asked _ mid after read answer c.in_ok-read.ensures.same
+    (subst (λ names. ReadsAll names (g.F.Folder.content c.args.folder.now) read) c.names_of-names.ensures c.in_ok-read.ensures.all) c.in_ok-answer.ensures.plans done
+    (subst (λ names. AllWritten (writing_of names read answer.writing) mid after) c.names_of-names.ensures c.in_ok-write_all.ensures.written) c.in_ok-write_all.ensures.holds

@@ -2,8 +2,13 @@ use Rattle.std.proofs.Common.{◌≡◌, rules, subst}
 use Rattle.cocoon_syntax.specs.TreeOf.{design_of}
 use Rattle.verdicts.specs.Deciding.{Decides}
 use Rattle.cocoon_cli.specs.Refining.{satisfied}
-use Rattle.cocoon_cli.proofs.Kept.{unshown}
-use Rattle.cocoon_cli.proofs.obligations.unkept.Goals as goal
+use Rattle.cocoon_cli.proofs.Kept.{is_shown, unshown}
+use Rattle.cocoon_cli.proofs.obligations.show_one.Goals as goal
+
+pub returns-in-Holds-clause-decided : goal.returns-in-Holds-clause-decided
+returns-in-Holds-clause-decided c =
+    is_shown (design_of c.args.checked.now) c.args.terms.now c.args.obligation.now _ c.in-Holds.cert
+    (subst (Decides (design_of c.args.checked.now) c.args.terms.now c.args.obligation.now c.from.result) c.in-Holds.is c.in_ok-verdict.ensures)
 
 pub returns-in-SpentConflicts-clause-decided : goal.returns-in-SpentConflicts-clause-decided
 returns-in-SpentConflicts-clause-decided c =
