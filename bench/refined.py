@@ -2,17 +2,22 @@
 """Designs of one to three blocks, drawn by chance: what `check` and `compile` say of them, and what their networks deliver, against an
 independent reading of the language.
 
-    bench/refined.py designs READING [COUNT [SEED]]     draws so many designs (2,000) from this seed (1) on: status and first line of `check` and of
+    bench/refined.py designs READING [COUNT [SEED]] [one]   draws so many designs (2,000) from this seed (1) on: status and first line of `check` and of
                                                         `compile` are those of the reading, and each file of a spent budget is judged by it
-    bench/refined.py packets READING [COUNT [SEED]]     draws designs until so many (1,000) compile, and sends packets through each: a delivery of
+    bench/refined.py packets READING [COUNT [SEED]] [one]   draws designs until so many (1,000) compile, and sends packets through each: a delivery of
                                                         `forward` has to be one that `step`, chained at level 0, makes with some choices
     bench/refined.py cases READING [COUNT [SEED]]       prints the designs as a file of cases for crates/command_tests, with what the reading says of each
+
+With the word `one` behind all numbers the designs of `designs` and `packets` have one block, within one body, whose roles all stand in its list; `designs` then decides each
+also with few conflicts.
 
 READING is a folder with another program, which is no part of this repository: `refcli.run` answers words over files, `symgen` and `levels` draw designs,
 `verify` judges reports and files, and finds choices. It needs the built program (`rt run` in crates/cocoon); or COCOON names one.
 """
 
 import collections
+import functools
+import itertools
 import json
 import os
 import pathlib
@@ -27,8 +32,9 @@ PROGRAM = os.environ.get("COCOON", TOP / "crates" / "cocoon" / "out" / "cocoon")
 # As the reading counts what is built: obligations are decided, and no failure is printed.
 STAGE = 8
 DECIDING = ["check d.ccn", "compile d.ccn d.defs out"]
-# So many runs of bodies are tried for a delivery, and of a choice that is not read back at once so many numbers.
-MOST_STEPS, TRIED_CHOICES = 400, 8
+FEW_CONFLICTS = [1, 1, 1, 2, 3, 5, 10]
+# So many pairs of applications are counted before they are made.
+MANY_PAIRS = 100_000
 PACKETS = 12
 
 
@@ -39,11 +45,14 @@ class Reading:
         self.folder = pathlib.Path(folder).resolve()
         sys.path.insert(0, str(self.folder))
         sys.setrecursionlimit(100000)
-        import bundle, levels, random_design, refcli, symgen, verify
+        import bundle, clauses, decide, instances, levels, lexer, meaning, random_design, refcli, satsolve, symgen, verify
         import load as texts
 
-        self.bundle, self.levels, self.refcli, self.symgen, self.texts, self.verify = bundle, levels, refcli, symgen, texts, verify
-        self.one_level = random_design
+        self.bundle, self.levels, self.meaning, self.refcli, self.symgen, self.texts, self.verify = bundle, levels, meaning, refcli, symgen, texts, verify
+        self.clauses, self.instances, self.solve, self.one_level = clauses, instances, satsolve.solve, random_design
+        # Each text is read once, and each query asked once.
+        lexer.lex, self.view, self.bound, self.tables = [functools.lru_cache(16)(call) for call in (lexer.lex, self.view, levels.bound, self.tables)]
+        decide.decide, self.asked, self.design = self.decide, {}, b""
 
     def draw(self, seed):
         """A design and its definitions: mostly access lists that a switch keeps to, or nearly; each fourth one has roles and bodies of any kind, and each fourth
@@ -58,25 +67,80 @@ class Reading:
         design = self.symgen.make(seed).encode()
         return design, with_hosts(self.symgen.definitions(str(seed), self.view(design)), design, random.Random(seed))
 
+    def draw_one(self, seed):
+        """A design of one block, within one body and without new roles, and its definitions: half of them switches below which the same is done, or nearly; each fourth one refines
+        roles by bodies of any kind, and each fourth one a switch by a body that does less, often where the body above chooses the port."""
+        dice = random.Random(seed)
+        if seed % 4 == 2:
+            return next(filter(has_no_new_role, map(self.levelled(seed), itertools.count())))
+        if seed % 4 == 3:
+            design, defs = self.draw(seed)
+            return (chosen_port(design) if dice.random() < 0.5 else design), defs
+        design = next(filter(None, (one_block(self.symgen.make(f"{seed} {place}"), dice) for place in itertools.count())))
+        return design, with_hosts(self.symgen.definitions(str(seed), self.view(design)), design, dice)
+
+    def levelled(self, seed):
+        def at(place):
+            design, defs = self.levels.Levels(random.Random(f"{seed} {place}")).design(refines=1)
+            return re.sub(rb"within \d+", b"within 1", design), defs
+
+        return at
+
     def view(self, design):
         return self.texts.view_of(self.texts.parse_design(design))
 
+    def tables(self, design, defs):
+        return self.texts.bind_text(self.view(design), defs)
+
+    def decide(self, checked, terms, obligation, *_):
+        """Whether the query holds, can be satisfied, or has too many clauses: what the reading itself would look for besides, in further rounds, is no answer yet."""
+        key = obligation.level, obligation.role, obligation.leaf, obligation.kind
+        if key not in self.asked:
+            self.asked[key] = self.ask(self.texts.view_of(checked), terms, obligation)
+        return self.asked[key]
+
+    def ask(self, view, terms, obligation):
+        before = self.instances.before_flatten(view, obligation.level, obligation.formula, [], terms)
+        if self.instances.pairs_of(before, terms) > MANY_PAIRS:
+            count = self.instances.flat_size(before, terms)[1]
+            if count > self.clauses.MAX_CLAUSES:
+                return "big", count, []
+        goal, _ = self.instances.flatten(before, terms)
+        count = self.clauses.count(terms, goal)[1]
+        if count > self.clauses.MAX_CLAUSES:
+            return "big", count, []
+        return ("rounds" if self.solve(self.clauses.blast(terms, goal)[0]) else "holds"), []
+
     def answer(self, words, files):
         """Status, report, and the file of a spent budget."""
+        self.take(files["d.ccn"])
         folder = self.bundle.MemFolder(dict(files))
         status, report = self.refcli.run(words.split(), folder, STAGE)
         return status, report.decode(), folder.files.get("d.ccn.budget.json")
 
+    def take(self, design):
+        if design != self.design:
+            self.asked, self.design = {}, design
+
     def accepts(self, room, *words):
-        """Whether the verifier accepts a report or a file."""
+        """Whether the verifier accepts a report."""
         ran = subprocess.run([sys.executable, self.folder / "verify.py", *words], cwd=room, capture_output=True)
         return ran.returncode == 0
+
+    def refuses(self, design, budget, number, defs=None):
+        """Why the verifier refuses the file of a spent budget; None, if it does not."""
+        self.take(design)
+        view = self.view(design)
+        try:
+            self.verify.verify_budget(view, budget, number, self.tables(design, defs) if defs else None, out=lambda _: None)
+        except self.verify.Refused as why:
+            return f"its file: {why}"
 
     def choices(self, design, defs, start, packet, end, sent):
         """Choices with which the body at level 0 sends there; None, if there are none."""
         view = self.view(design)
         place = lambda words: (view.role_of(words[0].encode()), [int(value) for value in words[1:]])
-        return self.verify.reachable_above(view, self.texts.bind_text(view, defs), 0, place(start), packet, place(end), sent)
+        return self.verify.reachable_above(view, self.tables(design, defs), 0, place(start), packet, place(end), sent)
 
 
 def with_hosts(drawn, design, dice):
@@ -91,6 +155,38 @@ def with_hosts(drawn, design, dice):
         made += [f"define h({width}w{host}) = true;", f"define portOf({width}w{host}) = 16w{port};"]
         made += [f"define hostAt(16w1, 16w{port}) = {width}w{host};", f"define acl({width}w{host}, _) = {dice.choice(['true', 'false'])};"]
     return "\n".join([*kept, *made, ""]).encode()
+
+
+def has_no_new_role(drawn):
+    names, block = drawn[0].split(b"refine ")[1].split(b" within", 1)
+    return set(re.findall(rb"\brole (\w+)", block)) <= set(names.split(b", "))
+
+
+def chosen_port(design):
+    """The body above chooses to which port it sends."""
+    head, body = re.search(rb"^(role SwIn.*? = \{)(.*)$", design, re.M).groups()
+    if b"fork" in body:
+        return design
+    sends = re.sub(rb"send SwOut\[s, .*?\];", b"send SwOut[s, c];", body)
+    return design.replace(head + body, head + b" havoc c: bit<16>;" + sends, 1)
+
+
+def one_block(text, dice):
+    """A design whose last block is the only one, and whose top is all above it; none, if there is one block alone. At times the last block refines the other way as well."""
+    top, *blocks = re.split(r"^refine ", text, flags=re.M)
+    if len(blocks) < 2:
+        return None
+    above = [line for line in top.splitlines() if not line.startswith("role Out")] + [line.strip() for line in blocks[0].splitlines()[1:-1]]
+    last = blocks[1]
+    if dice.random() < 0.4:
+        names = dice.choice(["SwOut, SwIn", "SwIn, SwOut"])
+        end = next(line for line in above if line.startswith("role SwOut"))
+        last = last.replace("SwIn within 1 {", f"{names} within 1 {{\n  {end}", 1)
+        if dice.random() < 0.5 and "SwIn[" not in end:
+            width = re.search(r"function h\(p0: bit<(\d+)>", text)[1]
+            freed = re.sub(r"= \{.*\}", f"= {{ havoc c: bit<{width}>; send In[c]; }}", end)
+            above = [freed if line == end else line for line in above]
+    return "\n".join([*above, "refine " + last]).encode()
 
 
 class Room:
@@ -115,39 +211,55 @@ class Room:
 
 def judged(reading, room, words):
     """What the program says, and what is wrong with it."""
+    design, defs = (room.at / "d.ccn").read_bytes(), (room.at / "d.defs").read_bytes()
     status, report = room.run(words)
-    wanted, told, budget = reading.answer(words, {"d.ccn": (room.at / "d.ccn").read_bytes(), "d.defs": (room.at / "d.defs").read_bytes()})
+    wanted, told, budget = reading.answer(words, {"d.ccn": design, "d.defs": defs})
     kind = " ".join(word for word in report.split(" ")[:2] if not word[:1].isdigit()) or f"status {status}"
     if report.startswith("budget conflicts"):
-        _, _, number, *rest = report.split()
-        defs = ["d.defs"] if rest[0] == "assumption" else []
-        return kind, None if status == 6 and reading.accepts(room.at, "budget", "d.ccn", "d.ccn.budget.json", number, *defs) else "its file"
+        _, _, number, what, place = report.split()
+        if status != 6 or f"--conflicts {number}" not in f"{words} --conflicts 20000" or is_before(told, what, int(place)):
+            return kind, f"wanted {wanted} {told!r}, found {status} {report!r}"
+        return f"{kind} {what}", reading.refuses(design, room.budget(), int(number), defs if what == "assumption" else None)
     if report.startswith("broken assumption"):
         (room.at / "report.txt").write_text(report)
         same = (status, report.split(" at ")[0]) == (wanted, told.split(" at ")[0])
-        return kind, None if same and reading.accepts(room.at, "output", "d.ccn", "report.txt", "d.defs") else f"wanted {wanted} {told!r}"
+        real = report == told or reading.accepts(room.at, "output", "d.ccn", "report.txt", "d.defs")
+        return kind, None if same and real else f"wanted {wanted} {told!r}, found {status} {report!r}"
     if (status, report) != (wanted, told):
         return kind, f"wanted {wanted} {told!r}, found {status} {report!r}"
     if status == 6:
-        same = room.budget() == budget and reading.accepts(room.at, "budget", "d.ccn", "d.ccn.budget.json", "0")
-        return kind, None if same else f"its file, {room.budget()!r}"
+        return kind, reading.refuses(design, room.budget(), 0) or (None if room.budget() == budget else f"its file, {room.budget()!r}")
     return kind, None
 
 
-def designs(reading, count, seed):
-    kinds, wrong = collections.Counter(), 0
+def is_before(told, what, place):
+    """Whether the reading fails before an assumption or an obligation."""
+    words = told.split()
+    if words[:2] == ["broken", "assumption"]:
+        return what == "obligation" or int(words[2]) < place
+    return words[:2] == ["budget", "rounds"] and what == "obligation" and int(words[4]) < place
+
+
+def designs(reading, count, seed, one):
+    kinds, fared, wrong = collections.Counter(), collections.Counter(), 0
     for seed in range(seed, seed + count):
-        design, defs = reading.draw(seed)
-        for words in DECIDING:
+        design, defs = reading.draw_one(seed) if one else reading.draw(seed)
+        few = random.Random(seed).choice(FEW_CONFLICTS)
+        for words in DECIDING + ([f"{words} --conflicts {few}" for words in DECIDING] if one else []):
             with tempfile.TemporaryDirectory() as made:
-                kind, why = judged(reading, Room(made, design, defs), words)
+                room = Room(made, design, defs)
+                kind, why = judged(reading, room, words)
+                if words in DECIDING and (room.at / "out.net.json").exists():
+                    found = tried(reading, room, design, defs, random.Random(seed))
+                    fared += found
+                    why = why or ("a delivery is not made at level 0" if found["NOT MADE"] else None)
             kinds[f"{words.split()[0]}: {kind.strip()}"] += 1
             if why:
                 wrong += 1
                 print(f"seed {seed}: {words}: {why}", flush=True)
     for kind, number in sorted(kinds.items()):
         print(f"{number:6} {kind}")
-    print(f"{count} designs, {wrong} answers are wrong")
+    print(f"{count} designs, {wrong} answers are wrong; of those that compile " + ", ".join(f"{number} {what}" for what, number in sorted(fared.items())))
     return wrong
 
 
@@ -178,22 +290,34 @@ def stepped(room, place, packet, choices):
     return there.split(" "), [int(number) for number in sent.split(" ")]
 
 
-def chained(reading, room, design, defs, host, entered, end, delivered):
-    """Whether `step`, chained at level 0, makes a delivery. None where it is not found: choices that are not read back at once are tried up to a small number."""
-    names = re.search(rb"host \((\w+), (\w+)\)", design)
-    sink = [names[2].decode(), str(end)]
-    left, seen = [([names[1].decode(), str(host)], entered)], 0
-    while left and seen < MOST_STEPS:
-        place, packet = left.pop()
-        choices = reading.choices(design, defs, place, packet, sink, delivered)
-        if choices is not None:
-            return stepped(room, place, packet, choices) == (sink, delivered)
-        for tried in [[], *([number] for number in range(TRIED_CHOICES))]:
-            seen += 1
-            there = stepped(room, place, packet, tried)
-            if there and there[0][0] != sink[0]:
+def walk(reading, design, defs, host, entered, end, delivered):
+    """The places and packets of a walk over bodies of the last level that delivers; None, if there is none."""
+    checked, bound = reading.bound(design, defs)
+    start, aim = ((checked.entry_role(), (host,)), tuple(entered)), ((checked.sink_role(), (end,)), tuple(delivered))
+    came, left = {start: None}, [start]
+    while left and aim not in came:
+        at = left.pop()
+        for _, there in reading.meaning.last_successors(checked, bound, *at) if at[0][0] != aim[0][0] else []:
+            if there not in came:
+                came[there] = at
                 left.append(there)
-    return None
+    found = []
+    while aim in came and aim is not None:
+        found.append(aim)
+        aim = came[aim]
+    names = [name.decode() if isinstance(name, bytes) else name for name in checked.role_names]
+    return [([names[role], *map(str, values)], list(packet)) for (role, values), packet in reversed(found)]
+
+
+def chained(reading, room, design, defs, *delivery):
+    """Whether `step`, chained at level 0, makes a delivery: between each two places of that level on a walk at the last one."""
+    top = set(re.findall(rb"^role (\w+)", design.split(b"refine ")[0], re.M))
+    states = [state for state in walk(reading, design, defs, *delivery) if state[0][0].encode() in top]
+    for (place, packet), (there, sent) in itertools.pairwise(states):
+        choices = reading.choices(design, defs, place, packet, there, sent)
+        if choices is None or stepped(room, place, packet, choices) != (there, sent):
+            return False
+    return len(states) > 1
 
 
 def tried(reading, room, design, defs, dice):
@@ -222,16 +346,16 @@ def tried(reading, room, design, defs, dice):
         host, entered, payload = lines[number - 1]
         found = number_of(entered, widths), number_of(b"".fromhex(bytes)[:size], widths)
         made = chained(reading, room, design, defs, host, found[0], int(end), found[1]) and b"".fromhex(bytes)[size:].hex() == payload
-        fared[{True: "made by step", False: "NOT MADE", None: "not followed"}[made]] += 1
-        if made is False:
+        fared["made by step" if made else "NOT MADE"] += 1
+        if not made:
             print(f"    packet {host} {entered.hex()}{payload}: delivered at {end} as {bytes}")
     return fared
 
 
-def packets(reading, count, seed):
+def packets(reading, count, seed, one):
     fared, compiled = collections.Counter(), 0
     while compiled < count:
-        design, defs = reading.draw(seed)
+        design, defs = reading.draw_one(seed) if one else reading.draw(seed)
         with tempfile.TemporaryDirectory() as made:
             room = Room(made, design, defs)
             if room.run("compile d.ccn d.defs out")[0] == 0:
@@ -252,7 +376,7 @@ def quoted(text):
     return '"' + text.replace("\\", "\\\\").replace('"', '\\"').replace("\n", "\\n") + '"'
 
 
-def cases(reading, count, seed):
+def cases(reading, count, seed, _one):
     print("# Designs that were drawn by bench/refined.py, with what another reading of the language says of them.\n")
     for seed in range(seed, seed + count):
         design, defs = reading.draw(seed)
@@ -276,8 +400,10 @@ TRIED = {"designs": (designs, 2000), "packets": (packets, 1000), "cases": (cases
 
 def main(asked, folder, *numbers):
     what, usual = TRIED[asked]
+    one = numbers[-1:] == ("one",)
+    numbers = numbers[:-1] if one else numbers
     count, seed = [int(number) for number in [*numbers, *[usual, 1][len(numbers) :]]]
-    return 1 if what(Reading(folder), count, seed) else 0
+    return 1 if what(Reading(folder), count, seed, one) else 0
 
 
 if __name__ == "__main__":

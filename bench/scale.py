@@ -8,7 +8,7 @@
 
 Two switches are followed through 5, 7, 9 and 11 bodies; leaves and spines have three levels; there are 16 blocks, a block that refines 63 roles, a role with 4,096 ways and one with too
 many; and an access list for up to 1,024 hosts, of which `compile` asks an assumption. It needs the built program (`rt run` in crates/cocoon), or COCOON names
-one, and for the comparison `minisat`. The line of a run has its seconds of the processor, its seconds, its peak of memory, its status and its line.
+one, GNU time for the memory, and for the comparison `minisat`. The line of a run has its seconds of the processor, its seconds, its peak of memory, its status and its line.
 """
 
 import os
@@ -87,12 +87,14 @@ def inputs():
 
 
 def measured(room, command, conflicts):
-    words = [PROGRAM, command, "d.ccn", *(["d.defs", "out"] if command == "compile" else []), *conflicts]
+    # What a process of this script's own has at its start would count as its peak.
+    words = ["/usr/bin/time", "-f", "%M", "-o", "peak", PROGRAM, command, "d.ccn", *(["d.defs", "out"] if command == "compile" else []), *conflicts]
     began = time.monotonic()
     child = subprocess.Popen(words, cwd=room, stdout=subprocess.PIPE)
     line = child.stdout.read().decode().strip()
     _, status, used = os.wait4(child.pid, 0)
-    return used.ru_utime + used.ru_stime, time.monotonic() - began, used.ru_maxrss / 1024, os.waitstatus_to_exitcode(status), line
+    clock, peak = time.monotonic() - began, pathlib.Path(room, "peak").read_text().split()[-1]
+    return used.ru_utime + used.ru_stime, clock, int(peak) / 1024, os.waitstatus_to_exitcode(status), line
 
 
 class Reading:

@@ -31,6 +31,8 @@ TOP = pathlib.Path(__file__).resolve().parent.parent
 TESTS = TOP / "crates" / "solver_tests"
 DATA = TESTS / "data"
 NEEDED = ["cocoon_num", "name_table", "cnf_core", "proof_check", "search_laws", "watched_literals", "unit_propagation", "cdcl", "case_files", "bv_terms", "term_walk", "bit_blast"]
+# The definitions of the tests name these.
+NEEDED += ["table_terms", "term_laws", "flat_laws"]
 # Each kind with growing sizes, up to the first that takes too long.
 FORMULAS = [
     ("exchanged", [2, 4, 6, 8, 10, 12, 14, 24, 32, 64]),
@@ -72,6 +74,8 @@ def copied(folder, crates, name, modules):
         shutil.copytree(TESTS / "proofs" / module, program / "proofs" / module)
     for path in [*program.rglob("*.antt"), *program.rglob("*.rt")]:
         path.write_text(path.read_text().replace("Rattle.solver_tests.", f"Rattle.{name}."))
+    # Without the same handles nothing that is kept on this machine would be taken.
+    shutil.copy(TOP / "HANDLES", folder)
     lines = [line for line in (TOP / "crates.txt").read_text().splitlines() if line.split(":")[0] in crates]
     (folder / "crates.txt").write_text("\n".join([*lines, f"{name}: {' '.join(crates)}"]) + "\n")
     return program
