@@ -1,15 +1,15 @@
 -- What is said of one assumption, and then of all.
-use Rattle.std.proofs.Common.{◌≡◌, ℕ, zero, suc, ◌+◌, ◌<◌, ◌≤◌, ◌^◌, List, [], ◌∷◌, ◌++◌, length, map, take, Some, All, refl, sym, ap, subst, ◌∙◌, arith}
+use Rattle.std.proofs.Common.{◌≡◌, ℕ, ◌+◌, ◌<◌, ◌≤◌, ◌^◌, List, [], ◌∷◌, ◌++◌, length, map, take, Some, All, refl, sym, ap, subst, ◌∙◌, arith}
 use Rattle.std.specs.Prelude.{slice_get}
 use Rattle.std.proofs.lemmas.List.{length-append, length-map}
-use Rattle.std.proofs.lemmas.List.Elements.{All-append, All-cons, All-nil}
+use Rattle.std.proofs.lemmas.List.Elements.{All-append, All-cons, All-from_recursion, All-nil, recursion_from_All}
 use Rattle.cnf_core.specs.Clauses.{literals}
 use Rattle.cnf_core.specs.Satisfying.{makes_true}
 use Rattle.cnf_core.specs.declared.clauses.Assignment.{Assignment}
 use Rattle.cnf_core.specs.declared.clauses.Cnf.{Cnf}
 use Rattle.cocoon_num.specs.Tree.{AssumeDecl, Design}
-use Rattle.cocoon_resolve.specs.Readers.{all_assumptions}
-use Rattle.cocoon_types.specs.Design.{widths_of}
+use Rattle.cocoon_resolve.specs.Readers.{all_assumptions, assumptions_to}
+use Rattle.cocoon_types.specs.Design.{last_level, widths_of}
 use Rattle.cocoon_types.specs.Rules.{WellFormed}
 use Rattle.bit_blast.specs.Blasting.{InputRow, IsClauses, IsFault, MapsInputs, most_clauses}
 use Rattle.bit_blast.specs.Clauses.{count_of}
@@ -21,14 +21,14 @@ use Rattle.bv_terms.specs.Arenas.{IsArena, KeepsTerms, term_at}
 use Rattle.bv_terms.specs.TermTrees.{IsTerm, Term, width}
 use Rattle.bv_terms.specs.declared.node.Node.{Node}
 use Rattle.expr_term_laws.specs.Shown.{HasWidth}
-use Rattle.refinement.specs.Assumptions.{IsMet}
+use Rattle.refinement.specs.Assumptions.{IsMet, Meets}
 use Rattle.table_terms.specs.WithRows.{Tables}
-use Rattle.discharge.specs.Answering.{Answers}
+use Rattle.discharge.specs.Answering.{Answers, AnswersTo}
 use Rattle.fun_instances.specs.OwnInputs.{HasInputsOf}
 use Rattle.discharge.specs.Asked.{IsQuery, Refuses, Says}
 use Rattle.discharge.specs.Meeting.{EarlierAreMet, OfTables}
 use Rattle.discharge.specs.Queries.{assumption_query, own_term, values_read}
-use Rattle.discharge.proofs.Lists.{take_all, take_next}
+use Rattle.discharge.proofs.Lists.{at_there, front_all, take_next, there_below}
 use Rattle.discharge.proofs.Inputs.{params_declared, rows_from, rows_narrow, rows_of_inputs, rows_read}
 use Rattle.discharge.specs.declared.asking.Query.{Query}
 use Rattle.discharge.specs.declared.meeting.Met.{Met}
@@ -44,8 +44,17 @@ one_met d tables i a is so_far met es h s =
     subst (All (IsMet d _)) (sym (take_next (all_assumptions d) i a is))
     (All-append (IsMet d _) (take i (all_assumptions d)) (a ∷ []) (so_far es h s) (All-cons (IsMet d _) a [] (met es h s) (All-nil (IsMet d _))))
 
-pub all_met : (d : Design) (tables : Tables) (conflicts i : ℕ) → length (all_assumptions d) ≤ i → EarlierAreMet d tables i → Answers d tables conflicts Yes
-all_met d tables conflicts i h so_far es k s = subst (All (IsMet d _)) (take_all (all_assumptions d) i h) (so_far es k s)
+-- those of some levels come first
+abbrev pub FirstAre : Design → (level : ℕ) → Type 0
+FirstAre d level = (i : ℕ) (a : AssumeDecl) → slice_get (assumptions_to level d) i ≡ Some a → slice_get (all_assumptions d) i ≡ Some a
+
+pub among_all : (d : Design) (level : ℕ) → FirstAre d level → (i : ℕ) → i < length (assumptions_to level d) → i < length (all_assumptions d)
+among_all d level first i l = let a = at_there (assumptions_to level d) i l in there_below (all_assumptions d) i a.0 (first i a.0 a.1)
+
+pub all_met_to : (d : Design) (level : ℕ) → FirstAre d level → (tables : Tables) (conflicts i : ℕ) → length (assumptions_to level d) ≤ i → EarlierAreMet d tables i → AnswersTo d level tables conflicts Yes
+all_met_to d level first tables conflicts i h so_far es k s =
+    All-from_recursion (IsMet d _) (assumptions_to level d)
+    (front_all (IsMet d _) (assumptions_to level d) (all_assumptions d) i first h (recursion_from_All (IsMet d _) (take i (all_assumptions d)) (so_far es k s)))
 
 pub last_told : (d : Design) (tables : Tables) (conflicts i : ℕ) (a : AssumeDecl) → slice_get (all_assumptions d) i ≡ Some a → EarlierAreMet d tables i → (met : Met) → (met ≡ Yes → ⊥) → Says d tables conflicts i a met
     → Answers d tables conflicts met
@@ -68,6 +77,29 @@ last_told d tables conflicts i a is so_far (Big n count) last says = record {
   said = says.1;
   earlier = subst (EarlierAreMet d tables) (sym says.0) so_far;
 }
+
+pub last_told_to : (d : Design) (level : ℕ) (tables : Tables) (conflicts i : ℕ) → i < length (assumptions_to level d) → (a : AssumeDecl) → slice_get (all_assumptions d) i ≡ Some a → EarlierAreMet d tables i → (met : Met) → (met ≡ Yes → ⊥)
+    → Says d tables conflicts i a met → AnswersTo d level tables conflicts met
+last_told_to d level tables conflicts i l a is so_far Yes last says = absurd (last refl)
+last_told_to d level tables conflicts i l a is so_far (Broken n values) last says = (
+  subst (λ m. m < length (assumptions_to level d)) (sym says.0) l,
+  last_told d tables conflicts i a is so_far (Broken n values) last says,
+)
+last_told_to d level tables conflicts i l a is so_far (SpentConflicts n vars log) last says = (
+  subst (λ m. m < length (assumptions_to level d)) (sym says.0) l,
+  last_told d tables conflicts i a is so_far (SpentConflicts n vars log) last says,
+)
+last_told_to d level tables conflicts i l a is so_far (Big n count) last says = (
+  subst (λ m. m < length (assumptions_to level d)) (sym says.0) l,
+  last_told d tables conflicts i a is so_far (Big n count) last says,
+)
+
+-- of all levels
+pub of_all : (d : Design) (level : ℕ) → level ≡ last_level d → (tables : Tables) (conflicts : ℕ) (met : Met) → AnswersTo d level tables conflicts met → Answers d tables conflicts met
+of_all d level e tables conflicts Yes h = subst (λ n. OfTables d tables (Meets n d)) e h
+of_all d level e tables conflicts (Broken i values) h = h.1
+of_all d level e tables conflicts (SpentConflicts i vars log) h = h.1
+of_all d level e tables conflicts (Big i count) h = h.1
 
 -- ---- the query
 

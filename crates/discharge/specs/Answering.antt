@@ -1,9 +1,10 @@
--- Cited by the clause of `meets`: when each answer comes.
-use Rattle.std.specs.Prelude.{◌≡◌, ℕ, ◌<◌, List}
+-- Cited by the clauses of `meets` and `meets_to`: when each answer comes.
+use Rattle.std.specs.Prelude.{◌≡◌, ℕ, ◌<◌, length}
 use Rattle.cnf_core.specs.Licensing.{Licensed}
 use Rattle.cnf_core.specs.declared.clauses.Cnf.{Cnf}
 use Rattle.cnf_core.specs.declared.log.Log.{Log}
-use Rattle.cocoon_num.specs.Tree.{AssumeDecl, Design}
+use Rattle.cocoon_num.specs.Tree.{Design}
+use Rattle.cocoon_resolve.specs.Readers.{assumptions_to}
 use Rattle.cocoon_types.specs.Design.{last_level}
 use Rattle.bit_blast.specs.Blasting.{IsClauses, most_clauses}
 use Rattle.bit_blast.specs.Clauses.{count_of, vars_of}
@@ -44,3 +45,17 @@ Answers d tables conflicts (SpentConflicts i vars log) =
 -- its query is too large
 Answers d tables conflicts (Big i count) =
     IsTold d tables i (λ a. IsTooBig (assumption_query d a tables) count)
+
+-- ---- up to a level
+
+-- the assumption that is told of is one of levels 0 to this one
+abbrev pub IsAmong : Design → (level : ℕ) → Met → Type 0
+IsAmong d level Yes = Unit {0}
+IsAmong d level (Broken i values) = i < length (assumptions_to level d)
+IsAmong d level (SpentConflicts i vars log) = i < length (assumptions_to level d)
+IsAmong d level (Big i count) = i < length (assumptions_to level d)
+
+-- the same where no others are asked: yes, only if all of these levels are met
+abbrev pub AnswersTo : Design → (level : ℕ) → Tables → (conflicts : ℕ) → Met → Type 0
+AnswersTo d level tables conflicts Yes = OfTables d tables (Meets level d)
+AnswersTo d level tables conflicts met = IsAmong d level met × Answers d tables conflicts met

@@ -5,4 +5,4 @@ mod asking;
 pub mod laws;
 pub mod meeting;
 
-pub use meeting::{Budget, Met, meets};
+pub use meeting::{Budget, Met, meets, meets_to};

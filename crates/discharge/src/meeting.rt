@@ -2,10 +2,11 @@
 ghost use Rattle.std.specs.Prelude.{◌≡◌, ◌^◌, ◌<◌, ◌≤◌, IfOk, length};
 ghost use Rattle.cocoon_resolve.specs.Readers.{all_assumptions};
 ghost use Rattle.cocoon_syntax.specs.TreeOf.{design_of};
+ghost use Rattle.cocoon_types.specs.Design.{last_level};
 ghost use Rattle.expr_terms.specs.Sizes.{AreSizes};
 ghost use Rattle.fun_instances.specs.Taking.{OfAssumption};
 ghost use Rattle.runtime_defs.specs.Fitting.{FitsDesign};
-ghost use Rattle.discharge.specs.Answering.{Answers};
+ghost use Rattle.discharge.specs.Answering.{Answers, AnswersTo};
 ghost use Rattle.discharge.specs.Asked.{Says};
 
 use crate::asking::{Query, assumption_query, search};
@@ -13,6 +14,7 @@ use cnf_core::Log;
 use cocoon_num::{List, NoMemory};
 use cocoon_resolve::Checked;
 use expr_terms::CallSizes;
+use pattern_laws::laws::earlier_levels_come_first;
 use runtime_defs::Defs;
 use std::alloc::Global;
 
@@ -53,21 +55,33 @@ pub fn meets(
     ensures { IfOk result (λ met.
         Answers (design_of checked.now) defs.now budget.now.conflicts met) }
 {
+    meets_to(alloc, checked, defs, checked.levels() - 1, budget)
+}
+
+/// Whether they meet the assumptions of levels 0 to this one, and those alone.
+pub fn meets_to(
+    alloc: Global,
+    checked: &Checked,
+    defs: &Defs,
+    level: u32,
+    budget: &Budget,
+) -> Result<Met, NoMemory>
+    requires of { FitsDesign (design_of checked.now) defs.now }
+    requires level { level ≤ last_level (design_of checked.now) }
+    requires some { 1 ≤ budget.now.conflicts }
+    requires few { budget.now.conflicts < 2 ^ 31 }
+    ensures { IfOk result (λ met.
+        AnswersTo (design_of checked.now) level defs.now budget.now.conflicts met) }
+{
+    earlier_levels_come_first();
     let sizes = CallSizes::new(alloc, checked)?;
-    for number in 0..assumption_count(checked) {
+    for number in 0..checked.assume_count(level) {
         match met_one(alloc, checked, &sizes, defs, number, budget.conflicts)? {
             Met::Yes => {}
             met => return Ok(met),
         }
     }
     Ok(Met::Yes)
-}
-
-/// How many assumptions there are at all levels.
-fn assumption_count(checked: &Checked) -> u32
-    ensures { result ≡ length (all_assumptions (design_of checked.now)) }
-{
-    checked.assume_count(checked.levels() - 1)
 }
 
 /// Whether the definitions meet the assumption of this number.

@@ -1,8 +1,9 @@
 -- A query, step by step.
 use Rattle.std.proofs.Common.{◌≡◌, ℕ, ◌+◌, ◌<◌, List, ◌∷◌, ◌++◌, length, map, ap, subst, ◌∙◌, arith}
+use Rattle.std.proofs.lemmas.List.{length-append}
 use Rattle.cocoon_num.specs.Tree.{Design}
 use Rattle.bit_blast.specs.Goals.{IsGoal}
-use Rattle.bv_terms.specs.Arenas.{IsArena, inputs_in, term_at}
+use Rattle.bv_terms.specs.Arenas.{IsArena, KeepsTerms, inputs_in, term_at}
 use Rattle.bv_terms.specs.Inputs.{renamed}
 use Rattle.bv_terms.specs.TermTrees.{IsTerm, Term, constant}
 use Rattle.bv_terms.specs.declared.node.Node.{Node}
@@ -10,6 +11,7 @@ use Rattle.bv_terms.specs.declared.node.TermOp.TheVariants.{And}
 use Rattle.certificates.specs.declared.Instance.{Instance}
 use Rattle.expr_terms.specs.Variables.{Keeps, Makes, MakesAll, terms_at}
 use Rattle.expr_terms.proofs.Making.{makes_on}
+use Rattle.flat_goals.specs.Applied.{AreApplied}
 use Rattle.flat_laws.specs.Flat.{flattened}
 use Rattle.pattern_laws.specs.Tuples.{pattern_terms}
 use Rattle.table_terms.specs.Chains.{chain}
@@ -63,10 +65,17 @@ asked_term d level formula instances nodes id arena h = subst IsTerm h.made.term
 
 -- what is asked, flattened
 pub is_query : (d : Design) (level : ℕ) (formula : Term) (instances : List Instance) (a : List Node) (id : ℕ) (own : OwnGoal) → IsAsked d level formula instances a id → IsTerm (asked d level formula instances)
-    → IsGoal (query d level formula instances) → own.goal < length own.terms → term_at own.terms own.goal ≡ flattened (term_at a id) (inputs_in a) → IsQuery d level formula instances own
-is_query d level formula instances a id own h term goal there is = record {
+    → IsGoal (query d level formula instances) → own.inputs ≡ inputs_of formula → KeepsTerms a own.terms → own.goal < length own.terms → term_at own.terms own.goal ≡ flattened (term_at a id) (inputs_in a)
+    → AreApplied own.terms (term_at a id) (inputs_in a) own.applied → IsQuery d level formula instances own
+is_query d level formula instances a id own h term goal inputs kept there is applied = record {
   there = there;
   term = is ∙ (λ k. flattened (h.made.term k) (h.inputs k));
   goal_ = goal;
   asked_ = term;
+  asked_there = (id, record { there = longer kept.grown; term = kept.terms id h.made.there ∙ h.made.term });
+  inputs = inputs;
+  applied = subst (λ n. AreApplied own.terms (asked d level formula instances) n own.applied) h.inputs (subst (λ t. AreApplied own.terms t (inputs_in a) own.applied) h.made.term applied);
 }
+  where
+    longer : (more : List Node) × (own.terms ≡ a ++ more) → id < length own.terms
+    longer g = let e = ap length g.1 ∙ length-append a g.0 in let l = h.made.there in omega (arith, e, l)

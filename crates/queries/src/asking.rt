@@ -8,12 +8,12 @@ ghost use Rattle.query_laws.specs.Certified.{AllFit};
 ghost use Rattle.queries.specs.Asked.{IsQuery};
 
 use crate::joining::{all_true, put_instances};
-use bv_terms::{TermId, Terms};
+use bv_terms::{InputId, TermId, Terms};
 use certificates::Instance;
-use cocoon_num::NoMemory;
+use cocoon_num::{List, NoMemory};
 use cocoon_resolve::Checked;
 use expr_terms::CallSizes;
-use flat_goals::flatten;
+use flat_goals::{Applied, flatten};
 use pattern_instances::pattern_instances;
 use query_laws::laws::{added_terms_fit, own_names_are_by_place, queries_are_goals};
 use sound_types::laws::code_literals_fit;
@@ -25,6 +25,10 @@ use term_copy::copy;
 pub struct OwnGoal {
     pub terms: Terms,
     pub goal: TermId,
+    /// The inputs of the formula, in ascending order. Here they are the first ones, in this order.
+    pub inputs: List<InputId>,
+    /// The applications of what is asked, in the order of the walk. Each became an input.
+    pub applied: List<Applied>,
 }
 
 /// The query of a formula of this level with these instances. The time is in proportion to what is
@@ -50,12 +54,18 @@ pub fn query(
     code_literals_fit();
     let _design = checked.design();
     let mut own = Terms::new(alloc);
-    let first = copy(alloc, terms, formula, &mut own)?.term;
+    let copied = copy(alloc, terms, formula, &mut own)?;
+    let first = copied.term;
     let sizes = CallSizes::new(alloc, checked)?;
     let mut others = pattern_instances(alloc, checked, &sizes, level, first, &mut own)?;
     put_instances(alloc, checked, instances, &mut own, &mut others)?;
     let asked = all_true(&mut own, first, &others)?;
     prove!(asked < own.count());
-    let goal = flatten(alloc, asked, &mut own)?.goal;
-    Ok(OwnGoal { terms: own, goal })
+    let flat = flatten(alloc, asked, &mut own)?;
+    Ok(OwnGoal {
+        terms: own,
+        goal: flat.goal,
+        inputs: copied.inputs,
+        applied: flat.applied,
+    })
 }

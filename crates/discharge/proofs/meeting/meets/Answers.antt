@@ -1,30 +1,13 @@
-use Rattle.std.proofs.Common.{◌≡◌, ◌<◌, ◌≤◌, ◌+◌, length, arith, subst}
-use Rattle.cocoon_resolve.specs.Readers.{all_assumptions}
+use Rattle.std.proofs.Common.{◌≡◌, ◌-◌, arith}
+use Rattle.std.proofs.lemmas.Result.{IfOk-weaker}
 use Rattle.cocoon_syntax.specs.TreeOf.{design_of}
-use Rattle.discharge.specs.Asked.{Says}
-use Rattle.discharge.proofs.Lists.{at_there}
-use Rattle.discharge.proofs.Telling.{all_met, last_told, one_met}
+use Rattle.cocoon_types.specs.Design.{last_level}
+use Rattle.discharge.proofs.Telling.{of_all}
 use Rattle.discharge.proofs.meeting.meets.Goals as goal
-
-pub returns-in_default : goal.returns-in_default
-returns-in_default c =
-    let d = design_of c.args.checked.now in
-    let i = c.loop-number.number in
-    let here : i < length (all_assumptions d) = (let count = c.assumption_count-number-end.ensures in let more = c.loop-number-test.true in omega (arith, count, more)) in
-    let a = at_there (all_assumptions d) i here in
-    last_told d c.args.defs.now c.args.budget.now.conflicts i a.0 a.1 c.loop-number.invariant c.in_ok-met.met c.in_default.not-Yes (c.in_ok-met.ensures a.0 a.1)
-
-pub loop-number-preserved : goal.loop-number-preserved
-loop-number-preserved c =
-    let d = design_of c.args.checked.now in
-    let i = c.loop-number.number in
-    let here : i < length (all_assumptions d) = (let count = c.assumption_count-number-end.ensures in let more = c.loop-number-test.true in omega (arith, count, more)) in
-    let a = at_there (all_assumptions d) i here in
-    one_met d c.args.defs.now i a.0 a.1 c.loop-number.invariant (subst (Says d c.args.defs.now c.args.budget.now.conflicts i a.0) c.in-Yes.is (c.in_ok-met.ensures a.0 a.1))
 
 pub returns : goal.returns
 returns c =
     let d = design_of c.args.checked.now in
-    let i = c.loop-number.number in
-    let done : length (all_assumptions d) ≤ i = (let count = c.assumption_count-number-end.ensures in let no = c.loop-number-test.false in omega (arith, count, no)) in
-    all_met d c.args.defs.now c.args.budget.now.conflicts i done c.loop-number.invariant
+    let level = c.levels.result - 1 in
+    let last : level ≡ last_level d = (let e = c.levels.ensures in omega (arith, e)) in
+    IfOk-weaker c.meets_to.result _ _ (λ met h. of_all d level last c.args.defs.now c.args.budget.now.conflicts met h) c.meets_to.ensures

@@ -14,10 +14,10 @@ pub pattern_instances-requires-clause-over : goal.pattern_instances-requires-cla
 pattern_instances-requires-clause-over c =
     let d = design_of c.args.checked.now in
     let formula = term_at c.args.terms.now c.args.formula in
-    let first = c.in_ok-first.field-0.term in
-    let inputs = c.in_ok-first.field-0.inputs in
-    let copy = copied formula c.copy.new.to first (inputs_in c.new-own.result) inputs (ap inputs_in c.new-own.ensures) (c.own_names_are_by_place.ensures formula inputs c.in_ok-first.ensures.inputs)
-    c.in_ok-first.ensures.there c.in_ok-first.ensures.term c.in_ok-first.ensures.more in
+    let first = c.in_ok-copied.copied.term in
+    let inputs = c.in_ok-copied.copied.inputs in
+    let copy = copied formula c.copy.new.to first (inputs_in c.new-own.result) inputs (ap inputs_in c.new-own.ensures) (c.own_names_are_by_place.ensures formula inputs c.in_ok-copied.ensures.inputs)
+    c.in_ok-copied.ensures.there c.in_ok-copied.ensures.term c.in_ok-copied.ensures.more in
     (any_input, subst (IsOver d any_input) (sym copy.made.term) (c.added_terms_fit.ensures.own d formula c.requires.stands).1)
 
 pub put_instances-requires-clause-fit : goal.put_instances-requires-clause-fit
@@ -28,10 +28,10 @@ all_true-requires-clause-width c =
     let d = design_of c.args.checked.now in
     let formula = term_at c.args.terms.now c.args.formula in
     let is = c.args.instances.now in
-    let first = c.in_ok-first.field-0.term in
-    let inputs = c.in_ok-first.field-0.inputs in
-    let copy = copied formula c.copy.new.to first (inputs_in c.new-own.result) inputs (ap inputs_in c.new-own.ensures) (c.own_names_are_by_place.ensures formula inputs c.in_ok-first.ensures.inputs)
-    c.in_ok-first.ensures.there c.in_ok-first.ensures.term c.in_ok-first.ensures.more in
+    let first = c.in_ok-copied.copied.term in
+    let inputs = c.in_ok-copied.copied.inputs in
+    let copy = copied formula c.copy.new.to first (inputs_in c.new-own.result) inputs (ap inputs_in c.new-own.ensures) (c.own_names_are_by_place.ensures formula inputs c.in_ok-copied.ensures.inputs)
+    c.in_ok-copied.ensures.there c.in_ok-copied.ensures.term c.in_ok-copied.ensures.more in
     let more = all_added d c.args.level formula is c.copy.new.to c.pattern_instances.new.terms c.put_instances.new.terms first c.in_ok-others.others.items c.put_instances.new.ids.items copy c.in_ok-others.ensures.kept
     c.in_ok-others.ensures.terms c.in_ok-put_instances.ensures.kept c.in_ok-put_instances.ensures.made in
     let here : IsAdded d c.args.level formula is c.put_instances.new.terms first c.deref.result.now = subst (IsAdded d c.args.level formula is c.put_instances.new.terms first) (sym c.deref.ensures.value) more in
@@ -42,10 +42,10 @@ all_true-requires-clause-widths c =
     let d = design_of c.args.checked.now in
     let formula = term_at c.args.terms.now c.args.formula in
     let is = c.args.instances.now in
-    let first = c.in_ok-first.field-0.term in
-    let inputs = c.in_ok-first.field-0.inputs in
-    let copy = copied formula c.copy.new.to first (inputs_in c.new-own.result) inputs (ap inputs_in c.new-own.ensures) (c.own_names_are_by_place.ensures formula inputs c.in_ok-first.ensures.inputs)
-    c.in_ok-first.ensures.there c.in_ok-first.ensures.term c.in_ok-first.ensures.more in
+    let first = c.in_ok-copied.copied.term in
+    let inputs = c.in_ok-copied.copied.inputs in
+    let copy = copied formula c.copy.new.to first (inputs_in c.new-own.result) inputs (ap inputs_in c.new-own.ensures) (c.own_names_are_by_place.ensures formula inputs c.in_ok-copied.ensures.inputs)
+    c.in_ok-copied.ensures.there c.in_ok-copied.ensures.term c.in_ok-copied.ensures.more in
     let more = all_added d c.args.level formula is c.copy.new.to c.pattern_instances.new.terms c.put_instances.new.terms first c.in_ok-others.others.items c.put_instances.new.ids.items copy c.in_ok-others.ensures.kept
     c.in_ok-others.ensures.terms c.in_ok-put_instances.ensures.kept c.in_ok-put_instances.ensures.made in
     let here : IsAdded d c.args.level formula is c.put_instances.new.terms first c.deref.result.now = subst (IsAdded d c.args.level formula is c.put_instances.new.terms first) (sym c.deref.ensures.value) more in
@@ -58,10 +58,10 @@ flatten-requires-clause-truth c =
     let d = design_of c.args.checked.now in
     let formula = term_at c.args.terms.now c.args.formula in
     let is = c.args.instances.now in
-    let first = c.in_ok-first.field-0.term in
-    let inputs = c.in_ok-first.field-0.inputs in
-    let copy = copied formula c.copy.new.to first (inputs_in c.new-own.result) inputs (ap inputs_in c.new-own.ensures) (c.own_names_are_by_place.ensures formula inputs c.in_ok-first.ensures.inputs)
-    c.in_ok-first.ensures.there c.in_ok-first.ensures.term c.in_ok-first.ensures.more in
+    let first = c.in_ok-copied.copied.term in
+    let inputs = c.in_ok-copied.copied.inputs in
+    let copy = copied formula c.copy.new.to first (inputs_in c.new-own.result) inputs (ap inputs_in c.new-own.ensures) (c.own_names_are_by_place.ensures formula inputs c.in_ok-copied.ensures.inputs)
+    c.in_ok-copied.ensures.there c.in_ok-copied.ensures.term c.in_ok-copied.ensures.more in
     let more = all_added d c.args.level formula is c.copy.new.to c.pattern_instances.new.terms c.put_instances.new.terms first c.in_ok-others.others.items c.put_instances.new.ids.items copy c.in_ok-others.ensures.kept
     c.in_ok-others.ensures.terms c.in_ok-put_instances.ensures.kept c.in_ok-put_instances.ensures.made in
     let here : IsAdded d c.args.level formula is c.put_instances.new.terms first c.deref.result.now = subst (IsAdded d c.args.level formula is c.put_instances.new.terms first) (sym c.deref.ensures.value) more in
@@ -76,10 +76,10 @@ flatten-requires-clause-alike c =
     let d = design_of c.args.checked.now in
     let formula = term_at c.args.terms.now c.args.formula in
     let is = c.args.instances.now in
-    let first = c.in_ok-first.field-0.term in
-    let inputs = c.in_ok-first.field-0.inputs in
-    let copy = copied formula c.copy.new.to first (inputs_in c.new-own.result) inputs (ap inputs_in c.new-own.ensures) (c.own_names_are_by_place.ensures formula inputs c.in_ok-first.ensures.inputs)
-    c.in_ok-first.ensures.there c.in_ok-first.ensures.term c.in_ok-first.ensures.more in
+    let first = c.in_ok-copied.copied.term in
+    let inputs = c.in_ok-copied.copied.inputs in
+    let copy = copied formula c.copy.new.to first (inputs_in c.new-own.result) inputs (ap inputs_in c.new-own.ensures) (c.own_names_are_by_place.ensures formula inputs c.in_ok-copied.ensures.inputs)
+    c.in_ok-copied.ensures.there c.in_ok-copied.ensures.term c.in_ok-copied.ensures.more in
     let more = all_added d c.args.level formula is c.copy.new.to c.pattern_instances.new.terms c.put_instances.new.terms first c.in_ok-others.others.items c.put_instances.new.ids.items copy c.in_ok-others.ensures.kept
     c.in_ok-others.ensures.terms c.in_ok-put_instances.ensures.kept c.in_ok-put_instances.ensures.made in
     let here : IsAdded d c.args.level formula is c.put_instances.new.terms first c.deref.result.now = subst (IsAdded d c.args.level formula is c.put_instances.new.terms first) (sym c.deref.ensures.value) more in
@@ -94,10 +94,10 @@ returns c =
     let d = design_of c.args.checked.now in
     let formula = term_at c.args.terms.now c.args.formula in
     let is = c.args.instances.now in
-    let first = c.in_ok-first.field-0.term in
-    let inputs = c.in_ok-first.field-0.inputs in
-    let copy = copied formula c.copy.new.to first (inputs_in c.new-own.result) inputs (ap inputs_in c.new-own.ensures) (c.own_names_are_by_place.ensures formula inputs c.in_ok-first.ensures.inputs)
-    c.in_ok-first.ensures.there c.in_ok-first.ensures.term c.in_ok-first.ensures.more in
+    let first = c.in_ok-copied.copied.term in
+    let inputs = c.in_ok-copied.copied.inputs in
+    let copy = copied formula c.copy.new.to first (inputs_in c.new-own.result) inputs (ap inputs_in c.new-own.ensures) (c.own_names_are_by_place.ensures formula inputs c.in_ok-copied.ensures.inputs)
+    c.in_ok-copied.ensures.there c.in_ok-copied.ensures.term c.in_ok-copied.ensures.more in
     let more = all_added d c.args.level formula is c.copy.new.to c.pattern_instances.new.terms c.put_instances.new.terms first c.in_ok-others.others.items c.put_instances.new.ids.items copy c.in_ok-others.ensures.kept
     c.in_ok-others.ensures.terms c.in_ok-put_instances.ensures.kept c.in_ok-put_instances.ensures.made in
     let here : IsAdded d c.args.level formula is c.put_instances.new.terms first c.deref.result.now = subst (IsAdded d c.args.level formula is c.put_instances.new.terms first) (sym c.deref.ensures.value) more in
@@ -105,5 +105,7 @@ returns c =
     let literals = c.code_literals_fit.ensures.designs c.args.checked.now in
     let all = all_asked d c.args.level formula is c.put_instances.new.terms c.all_true.new.terms first c.in_ok-asked.asked c.deref.result.now here c.in_ok-asked.ensures.kept c.in_ok-asked.ensures.made in
     let term = asked_term d c.args.level formula is c.all_true.new.terms c.in_ok-asked.asked c.count.ensures.arena all in
-    is_query d c.args.level formula is c.all_true.new.terms c.in_ok-asked.asked (record { terms = c.flatten.new.terms; goal = c.in_ok-goal.field-0.goal }) all term
-    (c.queries_are_goals.ensures.goal d rules literals c.args.level formula c.requires.stands is c.requires.fit term) c.in_ok-goal.ensures.there c.in_ok-goal.ensures.term
+    is_query d c.args.level formula is c.all_true.new.terms c.in_ok-asked.asked
+    (record { terms = c.flatten.new.terms; goal = c.in_ok-flat.flat.goal; inputs = inputs; applied = c.in_ok-flat.flat.applied }) all term
+    (c.queries_are_goals.ensures.goal d rules literals c.args.level formula c.requires.stands is c.requires.fit term)
+    (c.own_names_are_by_place.ensures formula inputs c.in_ok-copied.ensures.inputs) c.in_ok-flat.ensures.kept c.in_ok-flat.ensures.there c.in_ok-flat.ensures.term c.in_ok-flat.ensures.applied

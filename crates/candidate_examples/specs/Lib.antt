@@ -1,0 +1,2 @@
+pub mod DesignQ
+pub mod Expected

@@ -1,0 +1,6 @@
+pub mod SameFunctions
+pub mod FullTables
+pub mod Candidate
+pub mod Counting
+pub mod Kept
+pub mod Broken

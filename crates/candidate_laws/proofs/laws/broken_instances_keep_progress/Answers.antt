@@ -1,0 +1,8 @@
+use Rattle.candidate_laws.proofs.Kept.{more-progress, no-progress}
+use Rattle.candidate_laws.proofs.laws.broken_instances_keep_progress.Goals as goal
+
+pub returns-clause-none : goal.returns-clause-none
+returns-clause-none c = no-progress
+
+pub returns-clause-more : goal.returns-clause-more
+returns-clause-more c = more-progress

@@ -1,0 +1,15 @@
+-- Cited by the clauses of the laws of this crate: assumptions that are false under tables.
+use Rattle.std.specs.Prelude.{◌≡◌, ℕ, false, List, [], Some}
+use Rattle.cocoon_num.specs.Tree.{AssumeDecl, DefsText, Design}
+use Rattle.cocoon_num.specs.Values.{truth}
+use Rattle.cocoon_types.specs.Tables.{defs_of}
+use Rattle.cocoon_types.specs.Val.{Env, bind, context, value}
+use Rattle.runtime_defs.specs.Stands.{Stands}
+use Rattle.sound_types.specs.Defined.{HasDefinitions}
+use Rattle.table_terms.specs.WithRows.{Tables}
+
+-- under the definitions of each text for which the tables stand the assumption is false at these numbers, which fit it
+abbrev pub IsBroken : Design → Tables → AssumeDecl → List ℕ → Type 0
+IsBroken d tables a ns =
+    (es : DefsText) → HasDefinitions d es → Stands d tables (defs_of d es)
+    → (env : Env) × (bind a.params ns ≡ Some env) × (value (context d (defs_of d es)) env [] a.body ≡ Some (truth false))

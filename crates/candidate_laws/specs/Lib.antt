@@ -1,0 +1,4 @@
+pub mod FirstRows
+pub mod Candidates
+pub mod Rounds
+pub mod Broken

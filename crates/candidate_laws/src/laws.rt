@@ -1,0 +1,97 @@
+//! What assignments give, and how long progress is. The functions do nothing; their contracts are
+//! the laws.
+ghost use Rattle.std.specs.Prelude.{◌≡◌, ◌≤◌, ℕ, List, [], ◌∷◌, ◌++◌, length};
+ghost use Rattle.bv_terms.specs.TermTrees.{IsTerm, Term};
+ghost use Rattle.bv_terms.specs.TermValues.{Functions, Inputs, term_value};
+ghost use Rattle.certificates.specs.declared.Instance.{Instance};
+ghost use Rattle.cocoon_num.specs.Tree.{Design};
+ghost use Rattle.cocoon_num.specs.Values.{number};
+ghost use Rattle.cocoon_types.specs.Rules.{WellFormed};
+ghost use Rattle.flat_laws.specs.Rows as flat;
+ghost use Rattle.fun_instances.specs.Taking.{NumbersFit, OfAssumption};
+ghost use Rattle.formula_functions.specs.LeafTerms.{AppliesDeclared, Stands};
+ghost use Rattle.query_laws.specs.Certified.{AllFit};
+ghost use Rattle.query_laws.specs.OwnNames.{input_count};
+ghost use Rattle.query_laws.specs.Queries.{asked, Fits, instance_term, query};
+ghost use Rattle.runtime_defs.specs.Fitting.{FitsDesign};
+ghost use Rattle.sound_types.specs.Literals.{DesignLiteralsFit};
+ghost use Rattle.table_terms.specs.WithRows.{Tables};
+ghost use Rattle.candidate_laws.specs.Broken.{IsBroken};
+ghost use Rattle.candidate_laws.specs.Candidates.{IsCandidate, IsFalseBy};
+ghost use Rattle.candidate_laws.specs.FirstRows.{HaveFirstRows};
+ghost use Rattle.candidate_laws.specs.Rounds.{Progress, tuples_to};
+
+use application_laws::laws::{tables_keep_values, tables_take_the_place};
+use flat_laws::laws::flat_goals_have_tables;
+use fun_instances::laws::assumptions_have_values;
+use pattern_laws::laws::{earlier_levels_come_first, instances_fit};
+use query_laws::laws::queries_are_goals;
+use table_terms::laws::rows_keep_values;
+use tables_stand::laws::tables_are_definitions;
+
+/// What is asked of a formula with instances applies run-time functions of the design alone, each
+/// at the widths that it is declared with, if the formula does.
+pub fn asked_goals_apply_declared_functions()
+    ensures { (d : Design) → WellFormed d → DesignLiteralsFit d → (level : ℕ) (formula : Term)
+        → Stands d 1 formula → (instances : List Instance) → AllFit d level instances
+        → AppliesDeclared d (asked d level formula instances) }
+{
+    instances_fit();
+}
+
+/// Inputs at which a query is true give a candidate: tables of the design with a row for each
+/// list of values that its applications have. The defaults play no part.
+pub fn true_queries_have_candidates()
+    ensures { (d : Design) → WellFormed d → DesignLiteralsFit d → (level : ℕ) (formula : Term)
+        → Stands d 1 formula → (instances : List Instance) → AllFit d level instances
+        → IsTerm (asked d level formula instances) → (none : Functions) (ins : Inputs)
+        → flat.AllFit (asked d level formula instances) (input_count formula) ins
+        → term_value none ins (query d level formula instances) ≡ number 1 1
+        → (tables : Tables) → FitsDesign d tables
+        → HaveFirstRows none ins (asked d level formula instances) (input_count formula) tables
+        → IsCandidate d level formula instances tables }
+{
+    flat_goals_have_tables();
+    instances_fit();
+    queries_are_goals();
+}
+
+/// Where an assumption is false under the definitions that a candidate stands for, its numbers fit,
+/// and its instance there is false, if it is a term.
+pub fn broken_assumptions_are_false_instances()
+    ensures fits { (d : Design) → WellFormed d → DesignLiteralsFit d → (level : ℕ) (formula : Term)
+        (instances : List Instance) (tables : Tables)
+        → IsCandidate d level formula instances tables → (i : Instance) → OfAssumption d i.number
+        (λ a. IsBroken d tables a i.values → NumbersFit a i.values) }
+    ensures false_ { (d : Design) → WellFormed d → DesignLiteralsFit d
+        → (level : ℕ) (formula : Term) (instances : List Instance) (tables : Tables)
+        → IsCandidate d level formula instances tables → (i : Instance) → OfAssumption d i.number
+        (λ a. IsBroken d tables a i.values → IsTerm (instance_term d i)
+        → IsFalseBy tables (instance_term d i)) }
+{
+    assumptions_have_values();
+    instances_fit();
+    rows_keep_values();
+    tables_are_definitions();
+    tables_keep_values();
+    tables_take_the_place();
+}
+
+/// Nothing is progress. An instance that is false under a candidate of those before it keeps
+/// progress: it differs from each of them.
+pub fn broken_instances_keep_progress()
+    ensures none { (d : Design) (level : ℕ) (formula : Term) → Progress d level formula [] }
+    ensures more { (d : Design) (level : ℕ) (formula : Term) (instances : List Instance)
+        → Progress d level formula instances → (tables : Tables)
+        → IsCandidate d level formula instances tables
+        → (i : Instance) → Fits d level i → IsFalseBy tables (instance_term d i)
+        → Progress d level formula (instances ++ i ∷ []) }
+{}
+
+/// Progress is no longer than there are tuples of values of the assumptions up to its level.
+pub fn progress_is_short()
+    ensures { (d : Design) (level : ℕ) (formula : Term) (instances : List Instance)
+        → Progress d level formula instances → length instances ≤ tuples_to level d }
+{
+    earlier_levels_come_first();
+}

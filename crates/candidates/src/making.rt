@@ -1,0 +1,52 @@
+//! Definitions by an assignment.
+ghost use Rattle.std.specs.Prelude.{IfOk};
+ghost use Rattle.cocoon_syntax.specs.TreeOf.{design_of};
+ghost use Rattle.runtime_defs.specs.Fitting.{FitsDesign};
+ghost use Rattle.candidates.specs.Flat.{IsCandidateOf, IsFlatGoal};
+
+use crate::applying::lookups;
+use crate::assigned::environment;
+use bit_blast::InputMap;
+use bit_blast::laws::{clauses_mean_the_goal, satisfying_is_making_hold};
+use bv_terms::Terms;
+use candidate_laws::laws::true_queries_have_candidates;
+use cnf_core::Assignment;
+use cocoon_num::NoMemory;
+use cocoon_resolve::Checked;
+use flat_goals::Applied;
+use flat_laws::laws::flat_goals_are_goals;
+use literal_tables::{Defaults, tables_of};
+use runtime_defs::Defs;
+use sound_types::laws::code_literals_fit;
+use std::alloc::Global;
+
+/// The definitions that an assignment gives of a flat goal: at the arguments of each application
+/// the value of its input, else these defaults, where they are free. They are a candidate, if the
+/// goal is a query whose clauses the assignment satisfies.
+pub fn candidate(
+    alloc: Global,
+    checked: &Checked,
+    terms: &Terms,
+    applied: &[Applied],
+    inputs: &InputMap,
+    assignment: &Assignment,
+    defaults: Defaults,
+) -> Result<Defs, NoMemory>
+    requires { IsFlatGoal (design_of checked.now) terms.now applied.now inputs.now }
+    ensures fits { IfOk result (λ defs. FitsDesign (design_of checked.now) defs) }
+    ensures candidate { IfOk result (λ defs. IsCandidateOf (design_of checked.now)
+        terms.now applied.now inputs.now assignment.now defs) }
+{
+    clauses_mean_the_goal();
+    code_literals_fit();
+    flat_goals_are_goals();
+    satisfying_is_making_hold();
+    true_queries_have_candidates();
+    let _design = checked.design();
+    let _count = terms.count();
+    let env = environment(alloc, terms, inputs, assignment)?;
+    let looked = lookups(alloc, terms, &env, applied)?;
+    let tables = tables_of(alloc, checked, &looked, defaults)?;
+    let defs = Defs::from_tables(alloc, checked, tables)?;
+    Ok(defs)
+}
