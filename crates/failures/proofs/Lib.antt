@@ -1,0 +1,2 @@
+pub mod Refinable
+pub mod Failing
