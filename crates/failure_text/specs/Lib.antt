@@ -1,0 +1,2 @@
+pub mod FailureTexts
+pub mod Told
