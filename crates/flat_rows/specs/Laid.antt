@@ -1,4 +1,4 @@
--- Cited by the private clauses of `laying`, `scanned`, `first_results` and `sorted`: parts of rows, laid side by side.
+-- Cited by the private clauses of `laying`, `scanned`, `first_places` and `sorted`: parts of rows, laid side by side.
 use Rattle.std.specs.Prelude.{◌≡◌, ℕ, ◌*◌, ◌<◌, List, [], ◌∷◌, ◌++◌, bit_and, drop, map, take}
 use Rattle.std.specs.Cmp.Lexicographic.{slice_cmp}
 use Rattle.std.specs.Ordering.{nat_cmp}

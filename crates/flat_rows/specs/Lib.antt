@@ -1,8 +1,10 @@
-pub mod FirstResults
+pub mod FirstPlaces
+pub mod Groups
 pub mod Held
 pub mod Keyed
 pub mod Laid
 pub mod Pairs
+pub mod Places
 pub mod Scanned
 pub mod Searched
 pub mod Spans

@@ -1,4 +1,4 @@
--- Cited by the private clauses of `first_results` and `sorted`: rows as their values, each with its result.
+-- Cited by the private clauses of `first_places` and `sorted`: rows as their values, each with its result.
 use Rattle.std.specs.Prelude.{ℕ, List, [], ◌∷◌, drop, take, if◌then◌else◌, Option, Some}
 use Rattle.std.specs.Cmp.Lexicographic.{slice_cmp}
 use Rattle.std.specs.BTreeMap.{is_at}

@@ -1,85 +1,60 @@
 //! The rows of one table, laid flat.
-ghost use Rattle.std.specs.Prelude.{All, ◌≡◌, ◌<◌, IfOk, IsTrue, length, map, List, ℕ};
-ghost use Rattle.cocoon_num.specs.Lists.{each};
-ghost use Rattle.cocoon_num.specs.Names.{same_name};
+ghost use Rattle.std.specs.Prelude.{All, ◌≡◌, ◌<◌, IfOk, length, map};
 ghost use Rattle.p4_ir.specs.NetOf.{key_row_of, table_rows_of};
-ghost use Rattle.flat_rows.specs.Held.{FormAnswers, Holds, key_count, looked_up, share_masks};
+ghost use Rattle.flat_rows.specs.Groups.{IsGroup, earlier, least_place};
+ghost use Rattle.flat_rows.specs.Held.{Holds, key_count, looked_up};
 ghost use Rattle.flat_rows.specs.Keyed.{HasKeys, keyed};
 
+use crate::choosing::chosen_masks;
+use crate::laying::row_results;
 use crate::scanned::ScannedRows;
 use crate::sorted::SortedRows;
 use cocoon_num::NoMemory;
 use p4_ir::{KeyRow, TableRows};
 use std::alloc::Global;
 
-/// In which of two ways rows are laid.
-#[derive(Drop)]
-pub(crate) enum Form {
-    /// The rows have different masks.
-    Scanned(ScannedRows),
-    /// All rows have the same masks.
-    Sorted(SortedRows),
-}
-
-/// The rows of one table: a look-up reads no memory but a few flat lists. Where all rows have the same masks, as literal rows
-/// have, its time grows with the logarithm of their number, else with the number.
+/// The rows of one table: a look-up reads no memory but a few flat lists. Rows that have the same masks, as literal rows have,
+/// are a group, in which its time grows with the logarithm of their number; it grows with the number of the others.
 #[derive(Drop)]
 pub struct FlatRows {
     pub(crate) default: u64,
-    pub(crate) form: Form,
+    /// One for each row.
+    pub(crate) results: Vec<u64>,
+    pub(crate) groups: Vec<SortedRows>,
+    /// The rows that are in no group.
+    pub(crate) others: ScannedRows,
+    ghost many: { All (λ (g : SortedRows). length g.masks.items ≡ others.count) groups.items },
 }
 
-#[tactic(auto, using(crate::proofs::ScanFacts::same_is))]
-fn is_same(one: &[u64], other: &[u64]) -> bool
-    ensures { result ≡ same_name one.now other.now }
-{
-    one == other
-}
-
-/// Whether all rows have these masks.
-fn have_masks(rows: &[KeyRow], masks: &[u64]) -> bool
-    ensures { result ≡ each (share_masks masks.now) (map key_row_of rows.now) }
-{
-    for row in rows {
-        if !is_same(row.masks.items(), masks) {
-            return false;
-        }
-    }
-    true
-}
-
-fn scanned(alloc: Global, count: usize, rows: &[KeyRow]) -> Result<Form, NoMemory>
+fn groups_of(alloc: Global, count: usize, rows: &[KeyRow]) -> Result<Vec<SortedRows>, NoMemory>
     requires { All (HasKeys count) rows.now }
-    ensures { (default : ℕ) → IfOk result (λ form.
-        FormAnswers count form default (map key_row_of rows.now)) }
+    ensures { IfOk result (λ groups. All (IsGroup count (map key_row_of rows.now)) groups.items) }
 {
-    Ok(Form::Scanned(ScannedRows::new(alloc, count, rows)?))
+    let chosen = chosen_masks(alloc, count, rows)?;
+    let mut groups = Vec::new(alloc);
+    for masks in &chosen {
+        groups.push(SortedRows::new(alloc, masks, rows)?)?;
+    }
+    Ok(groups)
 }
 
-fn sorted(alloc: Global, masks: &[u64], rows: &[KeyRow]) -> Result<Form, NoMemory>
-    requires some { 0 < length masks.now }
-    requires rows { All (HasKeys (length masks.now)) rows.now }
-    requires masks { IsTrue (each (share_masks masks.now) (map key_row_of rows.now)) }
-    ensures { (default : ℕ) → IfOk result (λ form.
-        FormAnswers (length masks.now) form default (map key_row_of rows.now)) }
+fn earlier_place(one: usize, other: usize) -> usize
+    ensures { result ≡ earlier one other }
 {
-    Ok(Form::Sorted(SortedRows::new(alloc, masks, rows)?))
+    if one < other { one } else { other }
 }
 
-fn laid(alloc: Global, count: usize, rows: &[KeyRow]) -> Result<Form, NoMemory>
-    requires { All (HasKeys count) rows.now }
-    ensures { (default : ℕ) → IfOk result (λ form.
-        FormAnswers count form default (map key_row_of rows.now)) }
+/// The least of a place and those that groups give.
+fn least_of(groups: &[SortedRows], other: usize, none: usize, keys: &[u32], meta: &[u64]) -> usize
+    requires many { All (λ g. length keys.now ≡ length g.masks.items) groups.now }
+    requires keys { All (λ key. key < length meta.now) keys.now }
+    ensures { result ≡ least_place groups.now other none (keyed meta.now keys.now) }
 {
-    if rows.is_empty() {
-        return scanned(alloc, count, rows);
+    let mut least = other;
+    for group in groups {
+        least = earlier_place(least, group.place(none, keys, meta));
     }
-    let masks = rows[0].masks.items();
-    if !masks.is_empty() && have_masks(rows, masks) {
-        sorted(alloc, masks, rows)
-    } else {
-        scanned(alloc, count, rows)
-    }
+    least
 }
 
 impl FlatRows {
@@ -88,10 +63,15 @@ impl FlatRows {
         requires { All (HasKeys count) rows.now.rows }
         ensures { IfOk result (λ flat. Holds count flat (table_rows_of rows.now)) }
     {
-        let form = laid(alloc, count, rows.rows.items())?;
+        let listed = rows.rows.items();
+        let groups = groups_of(alloc, count, listed)?;
+        let others = ScannedRows::new(alloc, count, listed, &groups)?;
+        let results = row_results(alloc, listed)?;
         Ok(FlatRows {
             default: rows.default,
-            form,
+            results,
+            groups,
+            others,
         })
     }
 
@@ -102,9 +82,12 @@ impl FlatRows {
         requires keys { All (λ key. key < length meta.now) keys.now }
         ensures { result ≡ looked_up self.now (keyed meta.now keys.now) }
     {
-        match &self.form {
-            Form::Scanned(rows) => rows.look(self.default, keys, meta),
-            Form::Sorted(rows) => rows.look(self.default, keys, meta),
+        let none = self.results.len();
+        let other = self.others.place(none, keys, meta);
+        let place = least_of(&self.groups, other, none, keys, meta);
+        match self.results.get(place) {
+            Some(found) => *found,
+            None => self.default,
         }
     }
 }

@@ -1,7 +1,7 @@
 //! Parts of rows, laid side by side.
-ghost use Rattle.std.specs.Prelude.{All, ◌≡◌, ◌+◌, ◌++◌, ◌≤◌, drop, IfOk, length, map, OnOk, take};
+ghost use Rattle.std.specs.Prelude.{◌≡◌, ◌+◌, ◌++◌, ◌≤◌, drop, IfOk, length, map, OnOk, take};
+ghost use Rattle.cocoon_num.specs.Names.{same_name};
 ghost use Rattle.p4_ir.specs.NetOf.{key_row_of};
-ghost use Rattle.flat_rows.specs.Keyed.{HasKeys};
 ghost use Rattle.flat_rows.specs.Laid as spec;
 
 use cocoon_num::NoMemory;
@@ -17,6 +17,13 @@ pub(crate) fn laid_row(values: &[u64], at: usize, count: usize) -> &[u64]
     &values[at..at + count]
 }
 
+#[tactic(auto, using(crate::proofs::ScanFacts::same_is))]
+pub(crate) fn is_same(one: &[u64], other: &[u64]) -> bool
+    ensures { result ≡ same_name one.now other.now }
+{
+    one == other
+}
+
 /// The results of some rows.
 pub(crate) fn row_results(alloc: Global, rows: &[KeyRow]) -> Result<Vec<u64>, NoMemory>
     ensures { IfOk result (λ v. v.items ≡ spec.results_of (map key_row_of rows.now)) }
@@ -29,7 +36,11 @@ pub(crate) fn row_results(alloc: Global, rows: &[KeyRow]) -> Result<Vec<u64>, No
 }
 
 /// Appends numbers, each in the bits of its mask.
-fn push_masked(laid: &mut Vec<u64>, masks: &[u64], numbers: &[u64]) -> Result<(), NoMemory>
+pub(crate) fn push_masked(
+    laid: &mut Vec<u64>,
+    masks: &[u64],
+    numbers: &[u64],
+) -> Result<(), NoMemory>
     requires { length numbers.now ≡ length masks.now }
     ensures { OnOk result (laid.new.items ≡ laid.old.items ++ spec.masked masks.now numbers.now) }
 {
@@ -37,20 +48,4 @@ fn push_masked(laid: &mut Vec<u64>, masks: &[u64], numbers: &[u64]) -> Result<()
         laid.push(numbers[index] & *mask)?;
     }
     Ok(())
-}
-
-/// The values of some rows, each in the bits of these masks.
-pub(crate) fn masked_values(
-    alloc: Global,
-    masks: &[u64],
-    rows: &[KeyRow],
-) -> Result<Vec<u64>, NoMemory>
-    requires { All (HasKeys (length masks.now)) rows.now }
-    ensures { IfOk result (λ v. v.items ≡ spec.masked_values masks.now (map key_row_of rows.now)) }
-{
-    let mut laid = Vec::new(alloc);
-    for row in rows {
-        push_masked(&mut laid, masks, row.values.items())?;
-    }
-    Ok(laid)
 }

@@ -1,11 +1,13 @@
 //! Rows that are looked at in their order.
 ghost use Rattle.std.specs.Prelude.{All, ◌≡◌, ◌+◌, ◌*◌, ◌++◌, ◌<◌, ◌≤◌, get_or, IfOk, length, map, OnOk};
 ghost use Rattle.p4_ir.specs.NetOf.{key_row_of};
+ghost use Rattle.flat_rows.specs.Groups.{in_group, outside};
 ghost use Rattle.flat_rows.specs.Keyed.{HasKeys, keyed};
-ghost use Rattle.flat_rows.specs.Laid.{results_of};
+ghost use Rattle.flat_rows.specs.Places.{places_where, rows_where};
 ghost use Rattle.flat_rows.specs.Scanned as spec;
 
-use crate::laying::row_results;
+use crate::laying::is_same;
+use crate::sorted::SortedRows;
 use cocoon_num::NoMemory;
 use p4_ir::KeyRow;
 use std::alloc::Global;
@@ -17,13 +19,13 @@ pub(crate) struct KeyTest {
     pub(crate) value: u64,
 }
 
-/// Rows in their order: the tests of each row, one row after another, and the results.
+/// Rows in their order: the tests of each row, one row after another, and the places of the rows among all of the table.
 #[derive(Drop)]
 pub(crate) struct ScannedRows {
     pub(crate) count: usize,
     pub(crate) tests: Vec<KeyTest>,
-    pub(crate) results: Vec<u64>,
-    ghost many: { length tests.items ≡ length results.items * count },
+    pub(crate) places: Vec<usize>,
+    ghost many: { length tests.items ≡ length places.items * count },
 }
 
 // ---- laying
@@ -43,15 +45,16 @@ fn push_tests(tests: &mut Vec<KeyTest>, values: &[u64], masks: &[u64]) -> Result
     Ok(())
 }
 
-fn rows_tests(alloc: Global, count: usize, rows: &[KeyRow]) -> Result<Vec<KeyTest>, NoMemory>
-    requires { All (HasKeys count) rows.now }
-    ensures { IfOk result (λ tests. tests.items ≡ spec.rows_tests (map key_row_of rows.now)) }
+/// Whether some group is of the row's masks.
+fn is_in_group(groups: &[SortedRows], row: &KeyRow) -> bool
+    ensures { result ≡ in_group groups.now (key_row_of row.now) }
 {
-    let mut tests = Vec::new(alloc);
-    for row in rows {
-        push_tests(&mut tests, row.values.items(), row.masks.items())?;
+    for group in groups {
+        if is_same(row.masks.items(), &group.masks) {
+            return true;
+        }
     }
-    Ok(tests)
+    false
 }
 
 // ---- looking
@@ -98,40 +101,52 @@ fn first_number(keys: &[u32], meta: &[u64]) -> u64
 }
 
 impl ScannedRows {
-    pub(crate) fn new(alloc: Global, count: usize, rows: &[KeyRow]) -> Result<ScannedRows, NoMemory>
+    /// The rows that are in none of these groups.
+    pub(crate) fn new(
+        alloc: Global,
+        count: usize,
+        rows: &[KeyRow],
+        groups: &[SortedRows],
+    ) -> Result<ScannedRows, NoMemory>
         requires { All (HasKeys count) rows.now }
         ensures count { IfOk result (λ s. s.count ≡ count) }
         ensures tests { IfOk result (λ s. s.tests.items
-            ≡ spec.rows_tests (map key_row_of rows.now)) }
-        ensures results { IfOk result (λ s. s.results.items
-            ≡ results_of (map key_row_of rows.now)) }
+            ≡ spec.rows_tests (rows_where (outside groups.now) (map key_row_of rows.now))) }
+        ensures places { IfOk result (λ s. s.places.items
+            ≡ places_where (outside groups.now) 0 (map key_row_of rows.now)) }
     {
-        let tests = rows_tests(alloc, count, rows)?;
-        let results = row_results(alloc, rows)?;
+        let mut tests = Vec::new(alloc);
+        let mut places = Vec::new(alloc);
+        for (place, row) in rows.iter().enumerate() {
+            if !is_in_group(groups, row) {
+                push_tests(&mut tests, row.values.items(), row.masks.items())?;
+                places.push(place)?;
+            }
+        }
         Ok(ScannedRows {
             count,
             tests,
-            results,
+            places,
         })
     }
 
-    /// The result of the first row that matches the numbers in some keys, else the default.
-    pub(crate) fn look(&self, default: u64, keys: &[u32], meta: &[u64]) -> u64
+    /// The place of the first row that matches the numbers in some keys; else the other place.
+    pub(crate) fn place(&self, none: usize, keys: &[u32], meta: &[u64]) -> usize
         requires some { 0 < length keys.now }
         requires many { length keys.now ≡ self.now.count }
         requires keys { All (λ key. key < length meta.now) keys.now }
-        ensures { result ≡ spec.scanned self.now.count self.now.tests.items self.now.results.items
-            default (keyed meta.now keys.now) }
+        ensures { result ≡ spec.scanned self.now.count self.now.tests.items self.now.places.items
+            none (keyed meta.now keys.now) }
     {
         let tests = self.tests.as_slice();
         let first = first_number(keys, meta);
         let mut at = 0;
-        for result in self.results.as_slice() {
+        for place in self.places.as_slice() {
             if matches(&tests[at..], first, keys, meta) {
-                return *result;
+                return *place;
             }
             at += self.count;
         }
-        default
+        none
     }
 }

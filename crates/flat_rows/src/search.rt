@@ -1,10 +1,10 @@
 //! Rows in the order of their values, searched by halves.
-ghost use Rattle.std.specs.Prelude.{All, ◌≡◌, ◌↔◌, ◌+◌, ◌*◌, ◌<◌, get_or, IsTrue, length, unwrap_or};
+ghost use Rattle.std.specs.Prelude.{All, ◌≡◌, ◌↔◌, ◌+◌, ◌*◌, ◌<◌, get_or, IsTrue, length};
 ghost use Rattle.std.specs.Cmp.Lexicographic.{slice_cmp};
 ghost use Rattle.std.specs.Ordering.{nat_cmp};
+ghost use Rattle.flat_rows.specs.Groups.{group_place};
 ghost use Rattle.flat_rows.specs.Keyed.{keyed};
 ghost use Rattle.flat_rows.specs.Laid.{masked};
-ghost use Rattle.flat_rows.specs.Pairs.{found, pairs_of};
 ghost use Rattle.flat_rows.specs.Searched.{asked, IsTelling, Searched, values_at};
 ghost use Rattle.flat_rows.specs.Spans.{IsNarrowed};
 
@@ -63,7 +63,7 @@ fn compare_at(rows: &SortedRows, first: u64, keys: &[u32], meta: &[u64], row: us
     requires many { length keys.now ≡ length rows.now.masks.items }
     requires keys { All (λ key. key < length meta.now) keys.now }
     requires first { first ≡ get_or (asked rows.now meta.now keys.now) 0 0 }
-    requires row { row < length rows.now.results.items }
+    requires row { row < length rows.now.places.items }
     ensures { result
         ≡ slice_cmp nat_cmp (values_at rows.now row) (asked rows.now meta.now keys.now) }
 {
@@ -119,13 +119,13 @@ fn narrowed(span: Span, middle: usize, found: Ordering) -> Span
 fn search(rows: &SortedRows, keys: &[u32], meta: &[u64]) -> Option<usize>
     requires many { length keys.now ≡ length rows.now.masks.items }
     requires keys { All (λ key. key < length meta.now) keys.now }
-    ensures { Searched (values_at rows.now) (length rows.now.results.items)
+    ensures { Searched (values_at rows.now) (length rows.now.places.items)
         (asked rows.now meta.now keys.now) result }
 {
     let first = first_asked(rows, keys, meta);
     let mut span = Span {
         low: 0,
-        high: rows.results.len(),
+        high: rows.places.len(),
     };
     while span.low < span.high {
         let middle = span.low + (span.high - span.low) / 2;
@@ -139,17 +139,15 @@ fn search(rows: &SortedRows, keys: &[u32], meta: &[u64]) -> Option<usize>
 }
 
 impl SortedRows {
-    /// The result of the row that matches the numbers in some keys, else the default.
-    pub(crate) fn look(&self, default: u64, keys: &[u32], meta: &[u64]) -> u64
+    /// The place of the row that matches the numbers in some keys; else the other place.
+    pub(crate) fn place(&self, none: usize, keys: &[u32], meta: &[u64]) -> usize
         requires many { length keys.now ≡ length self.now.masks.items }
         requires keys { All (λ key. key < length meta.now) keys.now }
-        ensures { result ≡ unwrap_or (found (pairs_of (length self.now.masks.items)
-            self.now.values.items self.now.results.items) (asked self.now meta.now keys.now))
-            default }
+        ensures { result ≡ group_place self.now none (keyed meta.now keys.now) }
     {
         match search(self, keys, meta) {
-            Some(row) => self.results[row],
-            None => default,
+            Some(row) => self.places[row],
+            None => none,
         }
     }
 }

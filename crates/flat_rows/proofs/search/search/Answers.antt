@@ -5,7 +5,7 @@ use Rattle.flat_rows.proofs.search.search.Goals as goal
 
 pub returns-then-is_equal : goal.returns-then-is_equal
 returns-then-is_equal c =
-    let n = length c.args.rows.now.results.items in
+    let n = length c.args.rows.now.places.items in
     let s = c.loop-span.span in
     let middle = s.low + (s.high - s.low) / 2 in
     let test : s.low < s.high = c.loop-span-test.true in
@@ -15,7 +15,7 @@ returns-then-is_equal c =
 
 pub loop-span-preserved : goal.loop-span-preserved
 loop-span-preserved c =
-    let n = length c.args.rows.now.results.items in
+    let n = length c.args.rows.now.places.items in
     let s = c.loop-span.span in
     let middle = s.low + (s.high - s.low) / 2 in
     let test : s.low < s.high = c.loop-span-test.true in
