@@ -24,15 +24,10 @@ import refined
 ROUNDS = 64
 # So many bodies a block may allow, and a report is replayed within them.
 MOST_BODIES = 64
-# Of each design of the folder: what is left out, by a text that stands there once and what takes its place.
-BROKEN = {
-    "acl": [(r"  filter zone\(pkt\.ip\.src\)[^\n]*\n", ""), (r"allowed\(([^,()]+), ([^,()]+)\)", r"allowed(\2, \1)")],
-    "fabric": [(r"\n    filter [^\n]*", ""), (r"\n  assume [^\n]*", ""), (r"within \d+", "within 1")],
-    "leaf-spine-refined": [(r"\n    filter [^\n]*", ""), (r"\n  assume [^\n]*", ""), (r"within \d+", "within 1")],
-    "multicast": [(r"\n    filter [^\n]*", ""), (r"\n  assume [^\n]*", ""), (r"within \d+", "within 1")],
-    "nat": [(r"\n    filter [^\n]*", ""), (r"\n  assume [^\n]*", ""), (r"within \d+", "within 1")],
-    "vlan": [(r"\n    filter [^\n]*", ""), (r"\n  assume [^\n]*", ""), (r"within \d+", "within 1")],
-}
+# What is left out of a design of the folder, one place at a time: a text, and what takes its place.
+LEFT_OUT = [(r"\n {4,}filter [^\n;]*;", ""), (r"\n  assume [^\n]*\n?[^;]*;", ""), (r"within \d+", "within 1")]
+# What else is changed in some of them.
+CHANGED = {"acl": [(r"=> allowed\(a, b, p\)", "=> allowed(b, a, p)")]}
 
 
 class Report:
@@ -137,8 +132,9 @@ def variants(text, pattern, instead):
 
 def broken(reading, folder):
     wrong = 0
-    for name, changes in BROKEN.items():
-        text = (pathlib.Path(folder) / f"{name}.ccn").read_text()
+    for path in sorted(pathlib.Path(folder).glob("*.ccn")):
+        name, text = path.stem, path.read_text()
+        changes = LEFT_OUT + CHANGED.get(name, [])
         for place, changed in enumerate(changed for change in changes for changed in variants(text, *change)):
             with tempfile.TemporaryDirectory() as made:
                 room = refined.Room(made, changed.encode(), b"")
