@@ -25,7 +25,7 @@ ROUNDS = 64
 # So many bodies a block may allow, and a report is replayed within them.
 MOST_BODIES = 64
 # What is left out of a design of the folder, one place at a time: a text, and what takes its place.
-LEFT_OUT = [(r"\n {4,}filter [^\n;]*;", ""), (r"\n  assume [^\n]*\n?[^;]*;", ""), (r"within \d+", "within 1")]
+LEFT_OUT = [(r"\n {4,}filter [^\n;]*;", ""), (r"\n  assume \([^;]*;", ""), (r"within \d+", "within 1")]
 # What else is changed in some of them.
 CHANGED = {"acl": [(r"=> allowed\(a, b, p\)", "=> allowed(b, a, p)")]}
 
