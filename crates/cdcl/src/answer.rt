@@ -32,7 +32,7 @@ pub fn solve(alloc: Global, cnf: &Cnf, conflicts: u64) -> Result<Answer, NoMemor
     if conflicts == 0 {
         return Ok(Answer::Spent(search.into_log()));
     }
-    let order = Order::new(alloc, cnf.vars)?;
+    let order = Order::new(alloc, cnf)?;
     match conflict {
         Some(number) => unsat(alloc, cnf, search, order, number),
         None => decide_and_learn(alloc, cnf, search, order, conflicts),

@@ -19,8 +19,8 @@ pub(crate) struct Heap {
 }
 
 impl Heap {
-    /// All variables up to this one, the last one first.
-    pub(crate) fn new(alloc: Global, vars: u32) -> Result<Heap, NoMemory> {
+    /// All variables up to this one.
+    pub(crate) fn new(alloc: Global, scores: &Scores, vars: u32) -> Result<Heap, NoMemory> {
         let mut heap = Heap {
             variables: vec![in alloc; 0; vars as usize]?,
             count: vars as usize,
@@ -29,7 +29,15 @@ impl Heap {
         for place in 0..vars {
             heap.put(place as usize, vars - place);
         }
+        heap.arrange(scores);
         Ok(heap)
+    }
+
+    /// Makes a heap of variables that stand in any order: each moves down, those at the greatest places first.
+    fn arrange(&mut self, scores: &Scores) {
+        for place in (0..self.count / 2).rev() {
+            self.move_down(scores, place, self.variable(place));
+        }
     }
 
     /// The variable at a place; 0 where there is none.
@@ -97,11 +105,11 @@ impl Heap {
         }
     }
 
-    /// Moves a variable down from the top, above the first that it comes before.
-    fn move_down(&mut self, scores: &Scores, variable: u32)
+    /// Moves a variable down from this place, above the first that it comes before.
+    fn move_down(&mut self, scores: &Scores, from: usize, variable: u32)
         ensures { self.new.count ≡ self.old.count }
     {
-        let mut place = 0;
+        let mut place = from;
         while let Some(next) = self.below(scores, place) {
             let other = self.variable(next);
             if !scores.is_before(other, variable) {
@@ -123,7 +131,7 @@ impl Heap {
         let first = self.variable(0);
         self.count -= 1;
         let last = self.variable(self.count);
-        self.move_down(scores, last);
+        self.move_down(scores, 0, last);
         self.note_place(first, NOWHERE);
         Some(first)
     }

@@ -4,7 +4,7 @@ ghost use Rattle.unit_propagation.specs.Waiting.{waiting};
 
 use crate::heap::Heap;
 use crate::scores::Scores;
-use cnf_core::Lit;
+use cnf_core::{Cnf, Lit};
 use cocoon_num::NoMemory;
 use std::alloc::Global;
 
@@ -18,12 +18,15 @@ pub struct Order {
 }
 
 impl Order {
-    /// No conflict yet, over this many variables.
-    pub fn new(alloc: Global, vars: u32) -> Result<Order, NoMemory> {
+    /// No conflict yet, over these clauses.
+    pub fn new(alloc: Global, cnf: &Cnf) -> Result<Order, NoMemory> {
+        let scores = Scores::new(alloc, cnf)?;
+        let heap = Heap::new(alloc, &scores, cnf.vars)?;
+        let phases = vec![in alloc; false; cnf.vars as usize + 1]?;
         Ok(Order {
-            scores: Scores::new(alloc, vars)?,
-            heap: Heap::new(alloc, vars)?,
-            phases: vec![in alloc; false; vars as usize + 1]?,
+            scores,
+            heap,
+            phases,
         })
     }
 

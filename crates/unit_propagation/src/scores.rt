@@ -1,10 +1,14 @@
 //! How much each variable had to do with the conflicts so far, the last ones above all: the order that is known as VSIDS.
 
+use cnf_core::{Clause, Cnf};
 use cocoon_num::NoMemory;
 use std::alloc::Global;
 
-/// What the first conflict adds. What a conflict adds grows by a thirty-second, so that it has to be 32 at least.
-const FIRST: u64 = 1 << 10;
+/// What the first conflict adds: more than 8,000,000 short clauses do. What a conflict adds grows by a thirty-second, so that
+/// it has to be 32 at least.
+const FIRST: u64 = 1 << 26;
+/// What a given clause of one or two literals adds before any conflict. Each other one adds 1.
+const SHORT: u64 = 8;
 /// Above it, all is divided.
 const GREATEST: u64 = 1 << 50;
 /// The number of bits that each number then loses.
@@ -19,13 +23,31 @@ pub(crate) struct Scores {
 }
 
 impl Scores {
-    /// No conflict yet, over this many variables.
-    pub(crate) fn new(alloc: Global, vars: u32) -> Result<Scores, NoMemory> {
-        let scores = vec![in alloc; 0; vars as usize + 1]?;
-        Ok(Scores {
-            scores,
+    /// No conflict yet: a variable comes first that is in many of these clauses, in short ones above all.
+    pub(crate) fn new(alloc: Global, cnf: &Cnf) -> Result<Scores, NoMemory> {
+        let mut scores = Scores {
+            scores: vec![in alloc; 0; cnf.vars as usize + 1]?,
             increment: FIRST,
-        })
+        };
+        for clause in cnf.clauses.items() {
+            scores.count(clause);
+        }
+        Ok(scores)
+    }
+
+    /// Adds what a given clause adds to each of its variables.
+    fn count(&mut self, clause: &Clause) {
+        let lits = clause.lits.items();
+        let share = if lits.len() <= 2 { SHORT } else { 1 };
+        for lit in lits {
+            self.add(lit.variable(), share);
+        }
+    }
+
+    fn add(&mut self, variable: u32, share: u64) {
+        if let Some(score) = self.scores.get_mut(variable as usize) {
+            *score = score.saturating_add(share);
+        }
     }
 
     fn score(&self, variable: u32) -> u64 {
@@ -45,9 +67,7 @@ impl Scores {
 
     /// Adds what a conflict adds.
     pub(crate) fn raise(&mut self, variable: u32) {
-        if let Some(score) = self.scores.get_mut(variable as usize) {
-            *score = score.saturating_add(self.increment);
-        }
+        self.add(variable, self.increment);
     }
 
     /// The next conflict adds more. Where that is too much all scores become smaller, in the same order but for those that
