@@ -1,11 +1,11 @@
 -- An assumption that is false under the definitions of tables is a false instance.
-use Rattle.std.proofs.Common.{◌≡◌, ℕ, zero, suc, Bool, true, List, [], ◌∷◌, All, Option, Some, None, refl, sym, ap, subst, ◌∙◌}
+use Rattle.std.proofs.Common.{◌≡◌, ℕ, suc, Bool, true, List, [], ◌∷◌, All, Some, None, refl, sym, ap, subst, ◌∙◌}
 use Rattle.std.specs.Prelude.{slice_get}
 use Rattle.std.specs.List.{AllByRecursion, AllZip}
 use Rattle.std.proofs.lemmas.Bool.{and_parts}
 use Rattle.std.proofs.lemmas.List.Elements.{All-from_recursion, recursion_from_All}
 use Rattle.cocoon_num.specs.Tree.{AssumeDecl, DefsText, Design, FunctionDecl}
-use Rattle.cocoon_num.specs.Values.{fits_width, number}
+use Rattle.cocoon_num.specs.Values.{fits_width}
 use Rattle.cocoon_num.specs.declared.fun_table.FunRow.{FunRow}
 use Rattle.cocoon_num.specs.declared.fun_table.FunTable.{FunTable}
 use Rattle.cocoon_resolve.specs.Readers.{all_assumptions}
@@ -34,7 +34,7 @@ use Rattle.table_terms.specs.ByTables.{by_tables}
 use Rattle.table_terms.specs.Fitting.{TablesFit}
 use Rattle.table_terms.specs.WithRows.{Tables, table_of, with_rows}
 use Rattle.candidate_laws.specs.Broken.{IsBroken}
-use Rattle.candidate_laws.specs.Candidates.{HasLiteralRows, IsFalseBy, given}
+use Rattle.candidate_laws.specs.Candidates.{HasLiteralRows, IsFalseBy}
 
 -- ---- literal rows are masked
 

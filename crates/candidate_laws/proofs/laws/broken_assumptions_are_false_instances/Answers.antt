@@ -1,10 +1,4 @@
-use Rattle.std.proofs.Common.{All, Option}
-use Rattle.cocoon_num.specs.Tree.{Design}
-use Rattle.cocoon_types.specs.Rules.{WellFormed}
-use Rattle.sound_types.specs.Literals.{DesignLiteralsFit}
-use Rattle.table_terms.specs.WithRows.{Tables}
-use Rattle.candidate_laws.specs.Candidates.{IsCandidate}
-use Rattle.candidate_laws.proofs.Broken.{Laws, all-masked, false-instance, numbers-fit}
+use Rattle.candidate_laws.proofs.Broken.{all-masked, false-instance, numbers-fit}
 use Rattle.candidate_laws.proofs.laws.broken_assumptions_are_false_instances.Goals as goal
 
 pub returns-clause-fits : goal.returns-clause-fits
