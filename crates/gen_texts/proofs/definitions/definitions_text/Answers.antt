@@ -5,7 +5,9 @@ use Rattle.gen_texts.proofs.definitions.definitions_text.Goals as goal
 
 pub returns : goal.returns
 returns c =
-    record { text = IfOk-weaker c.finish.result _ _ (λ v h.
-    is_all _ _ _ v.items c.new-out.ensures
-    (followed c.push.ensures (followed c.push-2.ensures (followed c.push_switch.ensures (followed c.push-3.ensures
-    (followed c.push-4.ensures c.push-5.ensures))))) h) c.finish.ensures }
+    record {
+      text = IfOk-weaker c.finish.result _ _ (λ v h.
+          is_all _ _ _ v.items c.new-out.ensures
+          (followed c.push.ensures (followed c.push-2.ensures (followed c.push_switch.ensures (followed c.push-3.ensures
+          (followed c.push-4.ensures c.push-5.ensures))))) h) c.finish.ensures;
+    }
