@@ -114,5 +114,5 @@ commands_stay words asked h =
 pub compile_and_step_stay : (words : List Text) (asked : Command) → command_by with_step words ≡ Some asked → command words ≡ Some asked
 compile_and_step_stay words asked h = commands_stay words asked (forward_added words asked h)
 
-pub compile_stays : (words : List Text) (d e o : List ℕ) (n : ℕ) → command_by compile_alone words ≡ Some (compile d e o n) → command words ≡ Some (compile d e o n)
-compile_stays words d e o n h = compile_and_step_stay words (compile d e o n) (step_added words (compile d e o n) h)
+pub compile_stays : (words : List Text) (d e o : List ℕ) (n m : ℕ) → command_by compile_alone words ≡ Some (compile d e o n m) → command words ≡ Some (compile d e o n m)
+compile_stays words d e o n m h = compile_and_step_stay words (compile d e o n m) (step_added words (compile d e o n m) h)

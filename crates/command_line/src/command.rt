@@ -16,6 +16,8 @@ pub struct Check<'w> {
     pub design: &'w str,
     /// The most conflicts of one search, from 1 to 200,000.
     pub conflicts: u32,
+    /// The most rounds of one obligation, from 1 to 4,096.
+    pub rounds: u32,
 }
 
 /// What `compile` is given.
@@ -29,6 +31,8 @@ pub struct Compile<'w> {
     pub out: &'w str,
     /// The most conflicts of one search, from 1 to 200,000.
     pub conflicts: u32,
+    /// The most rounds of one obligation, from 1 to 4,096.
+    pub rounds: u32,
 }
 
 /// What `step` is given.

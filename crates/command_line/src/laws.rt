@@ -8,10 +8,10 @@ ghost use Rattle.command_line.specs.Words.{command, command_by};
 /// The words that are a `compile` by the command line that has that subcommand alone are the same
 /// `compile`.
 pub fn compile_stays()
-    ensures { (words : List (List ℕ)) (design defs out : List ℕ) (conflicts : ℕ)
+    ensures { (words : List (List ℕ)) (design defs out : List ℕ) (conflicts rounds : ℕ)
         → command_by (app_with (compile_app ∷ [])) words
-        ≡ Some (compile design defs out conflicts)
-        → command words ≡ Some (compile design defs out conflicts) }
+        ≡ Some (compile design defs out conflicts rounds)
+        → command words ≡ Some (compile design defs out conflicts rounds) }
 {}
 
 /// The words that are a command by the command line that has `compile` and `step` alone are the same
@@ -30,7 +30,7 @@ pub fn commands_stay()
         → command words ≡ Some asked }
 {}
 
-/// The number of conflicts that words ask for is from 1 to 200,000.
+/// The number of conflicts that words ask for is from 1 to 200,000, and that of rounds from 1 to 4,096.
 pub fn numbers_are_in_range()
     ensures { (words : List (List ℕ)) (asked : Command)
         → command words ≡ Some asked → IsInRange asked }
