@@ -68,10 +68,10 @@ stand was is out design net certs e =
 
 -- ---- the clause
 
-certified : (before after : Files) (d e o : List ℕ) (n : ℕ) (read : Read) (net : NetData) (certs : List ℕ) → IsGiven (files_of (compile d e o n)) (inputs_of (files_of (compile d e o n)) before) read
+certified : (before after : Files) (d e o : List ℕ) (n rounds : ℕ) (read : Read) (net : NetData) (certs : List ℕ) → IsGiven (files_of (compile d e o n rounds)) (inputs_of (files_of (compile d e o n rounds)) before) read
     → CompilesTexts read.design.items read.definitions.items net certs → Some after ≡ with_files o (bundle_of.bundle read.design.items net (Some certs)) (Some before) → Holds before after o read.design.items net (Some certs)
     → Certified before after d o
-certified before after d e o n read net certs g made put h = record {
+certified before after d e o n rounds read net certs g made put h = record {
   text = read.design.items;
   design = made.lowers.tree;
   is = g.design.0;
@@ -86,24 +86,24 @@ certified before after d e o n read net certs g made put h = record {
   digest = h.digest;
 }
 
-content_certified : (before after : Option Files) (d e o : List ℕ) (n : ℕ) (read : Read) (net : NetData) (certs : List ℕ) → ReadsAll (files_of (compile d e o n)) before read → CompilesTexts read.design.items read.definitions.items net certs
-    → after ≡ with_files o (bundle_of.bundle read.design.items net (Some certs)) before → ContentHolds before after o read.design.items net (Some certs) → CertifiedOf (Some (compile d e o n)) before after
-content_certified None after d e o n read net certs g made put h = tt
-content_certified (Some before) None d e o n read net certs g made put h = h
-content_certified (Some before) (Some after) d e o n read net certs g made put h =
-    certified before after d e o n read net certs (subst (λ (i : Inputs). IsGiven (files_of (compile d e o n)) i read) g.inputs_are g.given) made put h
+content_certified : (before after : Option Files) (d e o : List ℕ) (n rounds : ℕ) (read : Read) (net : NetData) (certs : List ℕ) → ReadsAll (files_of (compile d e o n rounds)) before read → CompilesTexts read.design.items read.definitions.items net certs
+    → after ≡ with_files o (bundle_of.bundle read.design.items net (Some certs)) before → ContentHolds before after o read.design.items net (Some certs) → CertifiedOf (Some (compile d e o n rounds)) before after
+content_certified None after d e o n rounds read net certs g made put h = tt
+content_certified (Some before) None d e o n rounds read net certs g made put h = h
+content_certified (Some before) (Some after) d e o n rounds read net certs g made put h =
+    certified before after d e o n rounds read net certs (subst (λ (i : Inputs). IsGiven (files_of (compile d e o n rounds)) i read) g.inputs_are g.given) made put h
 
 -- where it is written, what a command plans certifies its design
 certified_done : (c : Command) (before mid after : Option Files) (read : Read) (w : Written) → mid ≡ before → ReadsAll (files_of c) before read → PlansDone c read w → AllWritten (writing_of (files_of c) read w) mid after → HoldsNet read w mid after
     → CertifiedOf (Some c) before after
-certified_done (compile d e o n) before mid after read (written.Bundle name net certs) same g p all h =
+certified_done (compile d e o n rounds) before mid after read (written.Bundle name net certs) same g p all h =
     let bundle = bundle_of.bundle read.design.items (net_of net) (Some certs) in
-    content_certified before after d e o n read (net_of net) certs g p.1
+    content_certified before after d e o n rounds read (net_of net) certs g p.1
     (subst (λ out. after ≡ with_files out bundle before) p.0 (subst (λ content. after ≡ with_files name.now bundle content) same all.stands))
     (subst (λ out. ContentHolds before after out read.design.items (net_of net) (Some certs)) p.0 (subst (λ content. ContentHolds content after name.now read.design.items (net_of net) (Some certs)) same h))
-certified_done (compile d e o n) before mid after read written.Nothing same g p all h = absurd p
-certified_done (compile d e o n) before mid after read (written.Own file bytes) same g p all h = absurd p
-certified_done (check d n) before mid after read w same g p all h = tt
+certified_done (compile d e o n rounds) before mid after read written.Nothing same g p all h = absurd p
+certified_done (compile d e o n rounds) before mid after read (written.Own file bytes) same g p all h = absurd p
+certified_done (check d n rounds) before mid after read w same g p all h = tt
 certified_done (step d e l f) before mid after read w same g p all h = tt
 certified_done (forward o q n) before mid after read w same g p all h = tt
 

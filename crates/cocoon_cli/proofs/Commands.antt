@@ -49,8 +49,8 @@ use Rattle.cocoon_cli.proofs.TextSteps.{Texts}
 
 -- the steps of a command are decided where the content of a bundle that it reads is known
 pub steps_decided : Laws → (c : Command) (i : Inputs) → IsKnown (bundle_in (files_of c)) i → AllDecided i (steps c)
-steps_decided laws (check d n) i b = (tt, (tt, (tt, (tt, (tt, (tt, (tt, tt)))))))
-steps_decided laws (compile d e o n) i b = (tt, (tt, (tt, (tt, (tt, (tt, (tt, (tt, (tt, (tt, (tt, (tt, (tt, (tt, (tt, (tt, (tt, (tt, tt))))))))))))))))))
+steps_decided laws (check d n rounds) i b = (tt, (tt, (tt, (tt, (tt, (tt, (tt, tt)))))))
+steps_decided laws (compile d e o n rounds) i b = (tt, (tt, (tt, (tt, (tt, (tt, (tt, (tt, (tt, (tt, (tt, (tt, (tt, (tt, (tt, (tt, (tt, (tt, tt))))))))))))))))))
 steps_decided laws (step d e l f) i b = (tt, (tt, (tt, (tt, (tt, (tt, (tt, (tt, (tt, (tt, (tt, (tt, (tt, (tt, tt))))))))))))))
 steps_decided laws (forward o p n) i b =
     let r : HasReading i o = (b.0, b.1, laws.one_reading b.0 o) in
@@ -58,15 +58,15 @@ steps_decided laws (forward o p n) i b =
 
 -- each tells of a file that the command has
 pub all_tell : (c : Command) → AllTell (files_of c) (steps c)
-all_tell (check d n) =
-    let x : Named (files_of (check d n)) Design = (d, refl) in
-    let b : Named (files_of (check d n)) Budget = (budget_name d, refl) in
+all_tell (check d n rounds) =
+    let x : Named (files_of (check d n rounds)) Design = (d, refl) in
+    let b : Named (files_of (check d n rounds)) Budget = (budget_name d, refl) in
     (x, (x, (x, (x, (tt, (tt, (b, tt)))))))
-all_tell (compile d e o n) =
-    let x : Named (files_of (compile d e o n)) Design = (d, refl) in
-    let y : Named (files_of (compile d e o n)) Definitions = (e, refl) in
-    let b : Named (files_of (compile d e o n)) Budget = (budget_name d, refl) in
-    let z : (file : BundleFile) → Named (files_of (compile d e o n)) (Bundle file) = λ file. (whole_name o file, refl) in
+all_tell (compile d e o n rounds) =
+    let x : Named (files_of (compile d e o n rounds)) Design = (d, refl) in
+    let y : Named (files_of (compile d e o n rounds)) Definitions = (e, refl) in
+    let b : Named (files_of (compile d e o n rounds)) Budget = (budget_name d, refl) in
+    let z : (file : BundleFile) → Named (files_of (compile d e o n rounds)) (Bundle file) = λ file. (whole_name o file, refl) in
     (x, (x, (y, (y, (x, (x, (tt, (y, (y, (tt, (b, (tt, (b, (tt, (z, (z, (z, (z, tt))))))))))))))))))
 all_tell (step d e l f) =
     let x : Named (files_of (step d e l f)) Design = (d, refl) in
@@ -79,8 +79,8 @@ all_tell (forward o p n) =
 
 -- it has one report
 pub one_report : Laws → (c : Command) (i : Inputs) (r q : Report) → IsKnown (bundle_in (files_of c)) i → Reports c i r → Reports c i q → r ≡ q
-one_report laws (check d n) i r q b h k = on_design laws i (λ _ t x y. x ∙ sym y) h k
-one_report laws (compile d e o n) i r q b h k =
+one_report laws (check d n rounds) i r q b h k = on_design laws i (λ _ t x y. x ∙ sym y) h k
+one_report laws (compile d e o n rounds) i r q b h k =
     on_both laws i (λ t d u e (m, low, x) (p, lows, y).
     x ∙ ap (λ (n : NetData). success (totals_line (totals_of (length (all_obligations d)) n))) (laws.one_net d e m p low lows) ∙ sym y) h k
 one_report laws (step d e l f) i r q b h k =
@@ -96,8 +96,8 @@ one_report laws (forward o p n) i r q b h k =
 
 -- where all steps are good, a command succeeds
 pub report_done : (c : Command) (i : Inputs) (report : Report) → Reports c i report → report.verdict ≡ verdict.Done
-report_done (check d n) i report k = ap (λ (r : Report). r.verdict) k.holds
-report_done (compile d e o n) i report k = ap (λ (r : Report). r.verdict) k.holds.holds.2
+report_done (check d n rounds) i report k = ap (λ (r : Report). r.verdict) k.holds
+report_done (compile d e o n rounds) i report k = ap (λ (r : Report). r.verdict) k.holds.holds.2
 report_done (step d e l f) i report k =
     let (case, sent, says, steps, said) = k.holds.holds.holds in ap (λ (r : Report). r.verdict) said
 report_done (forward o p n) i report k =
@@ -105,42 +105,42 @@ report_done (forward o p n) i report k =
 
 -- what a command that reports this writes, and the status of its report
 pub report_writes : (c : Command) (i : Inputs) (before after : Option Files) (report : Report) → Reports c i report → LeavesWhole c i before after → MayWrite (verdict_status report.verdict) ⊎ (after ≡ before)
-report_writes (check d n) i before after report k (w, is, h) = inr (h ∙ ap (λ x. with_writing x before) is.1)
-report_writes (compile d e o n) i before after report k h = inl (done (ap verdict_status (report_done (compile d e o n) i report k)))
+report_writes (check d n rounds) i before after report k (w, is, h) = inr (h ∙ ap (λ x. with_writing x before) is.1)
+report_writes (compile d e o n rounds) i before after report k h = inl (done (ap verdict_status (report_done (compile d e o n rounds) i report k)))
 report_writes (step d e l f) i before after report k (w, is, h) = inr (h ∙ ap (λ x. with_writing x before) is.1)
 report_writes (forward o p n) i before after report k (w, is, h) = inr (h ∙ ap (λ x. with_writing x before) is.1)
 
 -- the two texts of a `compile`
-texts : (d e o : List ℕ) (n : ℕ) (i : Inputs) (read : Read) → IsGiven (files_of (compile d e o n)) i read → Texts i read.design.items read.definitions.items
-texts d e o n i read g = record { design = g.design.0; defs = g.definitions.0 }
+texts : (d e o : List ℕ) (n rounds : ℕ) (i : Inputs) (read : Read) → IsGiven (files_of (compile d e o n rounds)) i read → Texts i read.design.items read.definitions.items
+texts d e o n rounds i read g = record { design = g.design.0; defs = g.definitions.0 }
 
 -- the steps of writing are good where all of it fits
 pub writes_good : (c : Command) (i : Inputs) (read : Read) (w : Written) → IsGiven (files_of c) i read → PlansDone c read w → Fits (writing_of (files_of c) read w) → AllGood i (writes c)
-writes_good (compile d e o n) i read (written.Bundle name net certs) g p fit = files_good i read.design.items read.definitions.items (net_of net) certs (texts d e o n i read g) p.1 fit
-writes_good (compile d e o n) i read written.Nothing g p fit = absurd p
-writes_good (compile d e o n) i read (written.Own file bytes) g p fit = absurd p
-writes_good (check d n) i read w g p fit = none
+writes_good (compile d e o n rounds) i read (written.Bundle name net certs) g p fit = files_good i read.design.items read.definitions.items (net_of net) certs (texts d e o n rounds i read g) p.1 fit
+writes_good (compile d e o n rounds) i read written.Nothing g p fit = absurd p
+writes_good (compile d e o n rounds) i read (written.Own file bytes) g p fit = absurd p
+writes_good (check d n rounds) i read w g p fit = none
 writes_good (step d e l f) i read w g p fit = none
 writes_good (forward o p n) i read w g h fit = none
 
 -- and it is what the command writes
 pub writes_it : (c : Command) (i : Inputs) (read : Read) (w : Written) → IsGiven (files_of c) i read → PlansDone c read w → Fits (writing_of (files_of c) read w) → Writes c i (writing_of (files_of c) read w)
-writes_it (compile d e o n) i read (written.Bundle name net certs) g p fit =
-    of_files i read.design.items read.definitions.items (net_of net) certs (texts d e o n i read g) p.1
+writes_it (compile d e o n rounds) i read (written.Bundle name net certs) g p fit =
+    of_files i read.design.items read.definitions.items (net_of net) certs (texts d e o n rounds i read g) p.1
     (λ files. AllFit files × (bundle name.now (bundle_of.bundle read.design.items (net_of net) (Some certs)) ≡ bundle o files))
     (fit, ap (λ out. bundle out (bundle_of.bundle read.design.items (net_of net) (Some certs))) p.0)
-writes_it (compile d e o n) i read written.Nothing g p fit = absurd p
-writes_it (compile d e o n) i read (written.Own file bytes) g p fit = absurd p
-writes_it (check d n) i read w g p fit = ap (writing_of (files_of (check d n)) read) p
+writes_it (compile d e o n rounds) i read written.Nothing g p fit = absurd p
+writes_it (compile d e o n rounds) i read (written.Own file bytes) g p fit = absurd p
+writes_it (check d n rounds) i read w g p fit = ap (writing_of (files_of (check d n rounds)) read) p
 writes_it (step d e l f) i read w g p fit = ap (writing_of (files_of (step d e l f)) read) p
 writes_it (forward o q n) i read w g p fit = ap (writing_of (files_of (forward o q n)) read) p
 
 -- it may be written
 can_write_done : (c : Command) (read : Read) (w : Written) → PlansDone c read w → CanWrite (files_of c) w
-can_write_done (compile d e o n) read (written.Bundle name net certs) p = (ap Some (sym p.0), p.1.lowers.lowering.writable)
-can_write_done (compile d e o n) read written.Nothing p = absurd p
-can_write_done (compile d e o n) read (written.Own file bytes) p = absurd p
-can_write_done (check d n) read w p = subst (CanWrite (files_of (check d n))) (sym p) tt
+can_write_done (compile d e o n rounds) read (written.Bundle name net certs) p = (ap Some (sym p.0), p.1.lowers.lowering.writable)
+can_write_done (compile d e o n rounds) read written.Nothing p = absurd p
+can_write_done (compile d e o n rounds) read (written.Own file bytes) p = absurd p
+can_write_done (check d n rounds) read w p = subst (CanWrite (files_of (check d n rounds))) (sym p) tt
 can_write_done (step d e l f) read w p = subst (CanWrite (files_of (step d e l f))) (sym p) tt
 can_write_done (forward o q n) read w p = subst (CanWrite (files_of (forward o q n))) (sym p) tt
 
@@ -163,30 +163,30 @@ pub record Unwritten (c : Command) (i : Inputs) (before after : Option Files) (r
   pub leaves : LeavesFault c i before after (fault_of r)
 
 -- where its files fit, a bundle is what `compile` writes
-bundle_written_by : (d e o : List ℕ) (n : ℕ) (i : Inputs) (read : Read) (net : NetData) (certs : List ℕ) → AllGood i (reads (files_of (compile d e o n))) → AllGood i (asks (compile d e o n)) → Texts i read.design.items read.definitions.items
-    → CompilesTexts read.design.items read.definitions.items net certs → AllFit (bundle_of.bundle read.design.items net (Some certs)) → IsWhole (compile d e o n) i (bundle o (bundle_of.bundle read.design.items net (Some certs)))
-bundle_written_by d e o n i read net certs r a g l fit =
-    let c = compile d e o n in
+bundle_written_by : (d e o : List ℕ) (n rounds : ℕ) (i : Inputs) (read : Read) (net : NetData) (certs : List ℕ) → AllGood i (reads (files_of (compile d e o n rounds))) → AllGood i (asks (compile d e o n rounds)) → Texts i read.design.items read.definitions.items
+    → CompilesTexts read.design.items read.definitions.items net certs → AllFit (bundle_of.bundle read.design.items net (Some certs)) → IsWhole (compile d e o n rounds) i (bundle o (bundle_of.bundle read.design.items net (Some certs)))
+bundle_written_by d e o n rounds i read net certs r a g l fit =
+    let c = compile d e o n rounds in
     let x = read.design.items in
     let y = read.definitions.items in (
       all_good i (reads (files_of c)) (asks c ++ writes c) r (all_good i (asks c) (writes c) a (files_good i x y net certs g l fit)),
       of_files i x y net certs g l (λ files. AllFit files × (bundle o (bundle_of.bundle x net (Some certs)) ≡ bundle o files)) (fit, refl),
     )
 
-bundle_unwritten : (d e o : List ℕ) (n : ℕ) (i : Inputs) (before after : Option Files) (read : Read) (net : NetData) (certs : List ℕ) (f : BundleFault) (report : Report) → Reports (compile d e o n) i report → AllGood i (reads (files_of (compile d e o n))) → AllGood i (asks (compile d e o n)) → Texts i read.design.items read.definitions.items
-    → CompilesTexts read.design.items read.definitions.items net certs → NotWritten o (bundle_of.bundle read.design.items net (Some certs)) before after f → Unwritten (compile d e o n) i before after (bundle_refusal f)
-bundle_unwritten d e o n i before after read net certs (fault.Folder file cause) report k r a g l h = record {
+bundle_unwritten : (d e o : List ℕ) (n rounds : ℕ) (i : Inputs) (before after : Option Files) (read : Read) (net : NetData) (certs : List ℕ) (f : BundleFault) (report : Report) → Reports (compile d e o n rounds) i report → AllGood i (reads (files_of (compile d e o n rounds))) → AllGood i (asks (compile d e o n rounds)) → Texts i read.design.items read.definitions.items
+    → CompilesTexts read.design.items read.definitions.items net certs → NotWritten o (bundle_of.bundle read.design.items net (Some certs)) before after f → Unwritten (compile d e o n rounds) i before after (bundle_refusal f)
+bundle_unwritten d e o n rounds i before after read net certs (fault.Folder file cause) report k r a g l h = record {
   ends = files_stopped i read.design.items read.definitions.items net certs g l file h.0;
-  leaves = (report, bundle o (bundle_of.bundle read.design.items net (Some certs)), inl (bundle_written_by d e o n i read net certs r a g l h.0, k), h.2);
+  leaves = (report, bundle o (bundle_of.bundle read.design.items net (Some certs)), inl (bundle_written_by d e o n rounds i read net certs r a g l h.0, k), h.2);
 }
-bundle_unwritten d e o n i before after read net certs (fault.Limit file) report k r a g l h = record {
+bundle_unwritten d e o n rounds i before after read net certs (fault.Limit file) report k r a g l h = record {
   ends = files_refused i read.design.items read.definitions.items net certs g l file h.0;
   leaves = h.1;
 }
-bundle_unwritten d e o n i before after read net certs fault.NoMemory report k r a g l (inl h) = record { ends = no_memory refl; leaves = inl h }
-bundle_unwritten d e o n i before after read net certs fault.NoMemory report k r a g l (inr h) = record {
+bundle_unwritten d e o n rounds i before after read net certs fault.NoMemory report k r a g l (inl h) = record { ends = no_memory refl; leaves = inl h }
+bundle_unwritten d e o n rounds i before after read net certs fault.NoMemory report k r a g l (inr h) = record {
   ends = no_memory refl;
-  leaves = inr (report, bundle o (bundle_of.bundle read.design.items net (Some certs)), inl (bundle_written_by d e o n i read net certs r a g l h.0, k), h.1);
+  leaves = inr (report, bundle o (bundle_of.bundle read.design.items net (Some certs)), inl (bundle_written_by d e o n rounds i read net certs r a g l h.0, k), h.1);
 }
 
 -- of a command that writes nothing
@@ -197,20 +197,20 @@ nothing_unwritten c i before after read w r p h =
 
 pub not_written : (c : Command) (i : Inputs) (before after : Option Files) (read : Read) (w : Written) (r : Refusal) (report : Report) → Reports c i report → AllGood i (reads (files_of c)) → AllGood i (asks c) → IsGiven (files_of c) i read
     → PlansDone c read w → NotAllWritten (writing_of (files_of c) read w) before after r → Unwritten c i before after r
-not_written (compile d e o n) i before after read (written.Bundle name net certs) r report k rs ask g p h =
+not_written (compile d e o n rounds) i before after read (written.Bundle name net certs) r report k rs ask g p h =
     let m = subst (λ out. NotWritten out (bundle_of.bundle read.design.items (net_of net) (Some certs)) before after h.0) p.0 h.1 in
-    subst (λ (x : Refusal). Unwritten (compile d e o n) i before after x) (sym h.2) (bundle_unwritten d e o n i before after read (net_of net) certs h.0 report k rs ask (texts d e o n i read g) p.1 m)
-not_written (compile d e o n) i before after read written.Nothing r report k rs ask g p h = absurd p
-not_written (compile d e o n) i before after read (written.Own file bytes) r report k rs ask g p h = absurd p
-not_written (check d n) i before after read w r report k rs ask g p h = nothing_unwritten (check d n) i before after read w r p h
+    subst (λ (x : Refusal). Unwritten (compile d e o n rounds) i before after x) (sym h.2) (bundle_unwritten d e o n rounds i before after read (net_of net) certs h.0 report k rs ask (texts d e o n rounds i read g) p.1 m)
+not_written (compile d e o n rounds) i before after read written.Nothing r report k rs ask g p h = absurd p
+not_written (compile d e o n rounds) i before after read (written.Own file bytes) r report k rs ask g p h = absurd p
+not_written (check d n rounds) i before after read w r report k rs ask g p h = nothing_unwritten (check d n rounds) i before after read w r p h
 not_written (step d e l f) i before after read w r report k rs ask g p h = nothing_unwritten (step d e l f) i before after read w r p h
 not_written (forward o q n) i before after read w r report k rs ask g p h = nothing_unwritten (forward o q n) i before after read w r p h
 
 -- ---- the main promise
 
-compiled : (before after : Files) (d e o : List ℕ) (n : ℕ) (read : Read) (net : NetData) (certs : List ℕ) → IsGiven (files_of (compile d e o n)) (inputs_of (files_of (compile d e o n)) before) read
+compiled : (before after : Files) (d e o : List ℕ) (n rounds : ℕ) (read : Read) (net : NetData) (certs : List ℕ) → IsGiven (files_of (compile d e o n rounds)) (inputs_of (files_of (compile d e o n rounds)) before) read
     → CompilesTexts read.design.items read.definitions.items net certs → Holds before after o read.design.items net (Some certs) → Compiled before after d e o (IsCertificates o)
-compiled before after d e o n read net certs g made h =
+compiled before after d e o n rounds read net certs g made h =
     let l = made.lowers in
     record {
       design_text = read.design.items;
@@ -231,20 +231,20 @@ compiled before after d e o n read net certs g made h =
       within = l.stays;
     }
 
-net_compiled : (before after : Option Files) (d e o : List ℕ) (n : ℕ) (read : Read) (net : NetData) (certs : List ℕ) → ReadsAll (files_of (compile d e o n)) before read → CompilesTexts read.design.items read.definitions.items net certs
-    → ContentHolds before after o read.design.items net (Some certs) → CompiledOf (Some (compile d e o n)) before after
-net_compiled None after d e o n read net certs g l h = tt
-net_compiled (Some before) None d e o n read net certs g l h = h
-net_compiled (Some before) (Some after) d e o n read net certs g l h =
-    compiled before after d e o n read net certs (subst (λ (i : Inputs). IsGiven (files_of (compile d e o n)) i read) g.inputs_are g.given) l h
+net_compiled : (before after : Option Files) (d e o : List ℕ) (n rounds : ℕ) (read : Read) (net : NetData) (certs : List ℕ) → ReadsAll (files_of (compile d e o n rounds)) before read → CompilesTexts read.design.items read.definitions.items net certs
+    → ContentHolds before after o read.design.items net (Some certs) → CompiledOf (Some (compile d e o n rounds)) before after
+net_compiled None after d e o n rounds read net certs g l h = tt
+net_compiled (Some before) None d e o n rounds read net certs g l h = h
+net_compiled (Some before) (Some after) d e o n rounds read net certs g l h =
+    compiled before after d e o n rounds read net certs (subst (λ (i : Inputs). IsGiven (files_of (compile d e o n rounds)) i read) g.inputs_are g.given) l h
 
 headline_done : (c : Command) (before mid after : Option Files) (read : Read) (w : Written) → mid ≡ before → ReadsAll (files_of c) before read → PlansDone c read w → HoldsNet read w mid after → CompiledOf (Some c) before after
-headline_done (compile d e o n) before mid after read (written.Bundle name net certs) same g p h =
-    net_compiled before after d e o n read (net_of net) certs g p.1
+headline_done (compile d e o n rounds) before mid after read (written.Bundle name net certs) same g p h =
+    net_compiled before after d e o n rounds read (net_of net) certs g p.1
     (subst (λ out. ContentHolds before after out read.design.items (net_of net) (Some certs)) p.0 (subst (λ content. ContentHolds content after name.now read.design.items (net_of net) (Some certs)) same h))
-headline_done (compile d e o n) before mid after read written.Nothing same g p h = absurd p
-headline_done (compile d e o n) before mid after read (written.Own file bytes) same g p h = absurd p
-headline_done (check d n) before mid after read w same g p h = tt
+headline_done (compile d e o n rounds) before mid after read written.Nothing same g p h = absurd p
+headline_done (compile d e o n rounds) before mid after read (written.Own file bytes) same g p h = absurd p
+headline_done (check d n rounds) before mid after read w same g p h = tt
 headline_done (step d e l f) before mid after read w same g p h = tt
 headline_done (forward o q n) before mid after read w same g p h = tt
 

@@ -19,3 +19,4 @@ pub mod OneOutcome
 pub mod Performing
 pub mod Running
 pub mod Refined
+pub mod Failed

@@ -7,9 +7,9 @@ use Rattle.command_reports.specs.declared.report.Report.{Report}
 use Rattle.cocoon_cli.specs.Commands.{files_of}
 use Rattle.cocoon_cli.specs.Outcomes.{AllGood, good, FirstWith, here, later, EndsAt, Agree, Alike, equal, HasOutcome, IsGivenUp, ReportsOutcome, is_any_searched, steps}
 use Rattle.cocoon_cli.specs.Run.{IsKnown, IsOnly}
-use Rattle.cocoon_cli.specs.Steps.{Inputs, Step, Decides, GivesUp, IsGood, assumptions_met, certificates_within, obligations_hold, is_searched}
+use Rattle.cocoon_cli.specs.Steps.{Inputs, Step, Decides, GivesUp, IsGood, Judges, assumptions_met, certificates_within, obligations_hold, is_searched}
 use Rattle.cocoon_cli.proofs.Commands.{one_report, steps_decided}
-use Rattle.cocoon_cli.proofs.OneStep.{AllDecided, Decided, Laws, Once, good_or_refused, refuses_once}
+use Rattle.cocoon_cli.proofs.OneStep.{AllDecided, Decided, Laws, Once, good_or_judged, good_or_refused, judged_or_refused, judges_once, refuses_once}
 
 -- of two outcomes of some steps: they are one, or one of the steps is decided by a search
 abbrev Two : (searched : Bool) → Inputs → List Step → (x y : Result Report Refusal) → Type 0
@@ -26,10 +26,15 @@ or_second false b e = e
 -- a search that is given up is one
 searched : (i : Inputs) (s : Step) (x : Result Report Refusal) → GivesUp i s x → is_searched s ≡ true
 searched i (assumptions_met n) x h = refl
-searched i (obligations_hold n) x h = refl
+searched i (obligations_hold n m) x h = refl
 searched i certificates_within x h = refl
 searched i s (Ok r) h = absurd h.1
 searched i s (Err r) h = absurd h
+
+-- so is one with a verdict
+judged : (i : Inputs) (s : Step) (r : Report) → Judges i s r → is_searched s ≡ true
+judged i (obligations_hold n m) r h = refl
+judged i s r h = absurd h
 
 -- each of these steps is decided by the content that is known
 once_two : (i : Inputs) (s : Step) (ss : List Step) (r q : Refusal) → Once s r q → Two (is_any_searched (s ∷ ss)) i (s ∷ ss) (Err r) (Err q)
@@ -37,12 +42,13 @@ once_two i (assumptions_met n) ss r q h = inr (refl, inl h)
 once_two i s ss r q h = inl (ap Err h)
 
 decides_once : Laws → (i : Inputs) (s : Step) (ss : List Step) (x y : Result Report Refusal) → Decided i s → Decides i s x → Decides i s y → Two (is_any_searched (s ∷ ss)) i (s ∷ ss) x y
-decides_once laws i s ss (Ok r) y b h k = absurd h
-decides_once laws i s ss (Err r) (Ok q) b h k = absurd k
+decides_once laws i s ss (Ok r) (Ok q) b h k = inr (or_first (is_searched s) (is_any_searched ss) (judged i s r h), inl (judges_once laws i s r q h k))
+decides_once laws i s ss (Ok r) (Err q) b h k = absurd (judged_or_refused i s r q h k)
+decides_once laws i s ss (Err r) (Ok q) b h k = absurd (judged_or_refused i s q r k h)
 decides_once laws i s ss (Err r) (Err q) b h k = once_two i s ss r q (refuses_once laws i s r q b h k)
 
 good_or_decides : Laws → (i : Inputs) (s : Step) (x : Result Report Refusal) → Decided i s → IsGood i s → Decides i s x → ⊥
-good_or_decides laws i s (Ok r) b g h = h
+good_or_decides laws i s (Ok r) b g h = good_or_judged laws i s r g h
 good_or_decides laws i s (Err r) b g h = good_or_refused laws i s r b g h
 
 -- two outcomes of these steps that end at one

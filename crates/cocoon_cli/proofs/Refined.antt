@@ -47,14 +47,14 @@ checked_file one c name (Some files) i are named w r = (
 )
 
 refined_by : OneTree → (c : Command) (content : Option Files) (i : Inputs) → InputsAre (files_of c) content i → AllGood i (steps c) → RefinedOf (Some c) content
-refined_by one (check d n) content i are g =
+refined_by one (check d n rounds) content i are g =
     let rules = tail_good (tail_good (tail_good g)) in
     let owed = tail_good (tail_good (tail_good rules)) in
-    checked_file one (check d n) d content i are refl (head_good rules) (head_good owed)
-refined_by one (compile d e o n) content i are g =
+    checked_file one (check d n rounds) d content i are refl (head_good rules) (head_good owed)
+refined_by one (compile d e o n rounds) content i are g =
     let rules = tail_good (tail_good (tail_good (tail_good (tail_good g)))) in
     let owed = tail_good (tail_good (tail_good (tail_good (tail_good (tail_good (tail_good rules)))))) in
-    checked_file one (compile d e o n) d content i are refl (head_good rules) (head_good owed)
+    checked_file one (compile d e o n rounds) d content i are refl (head_good rules) (head_good owed)
 refined_by one (step d e l f) content i are g = tt
 refined_by one (forward o p n) content i are g = tt
 

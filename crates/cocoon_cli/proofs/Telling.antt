@@ -31,7 +31,7 @@ Tells names design_well_formed = Named names Design
 Tells names definitions_read = Named names Definitions
 Tells names definitions_fit = Named names Definitions
 Tells names (assumptions_met conflicts) = Named names Budget
-Tells names (obligations_hold conflicts) = Named names Budget
+Tells names (obligations_hold conflicts rounds) = Named names Budget
 Tells names (lines_formed level) = Named names Case
 Tells names (packets_judged out) = Named names Packets
 Tells names (bundle_reads out) = (file : BundleFile) → Named names (Bundle file)
@@ -83,7 +83,7 @@ refused_has names i definitions_fit r n h = same_has names r _ h.holds.holds.2 (
 refused_has names i definitions_within r n h = same_has names r _ h.holds.1 (_, refl)
 refused_has names i (assumptions_met conflicts) r n h = same_has names r _ h.holds.holds.3 (_, refl)
 refused_has names i trees_within r n h = same_has names r _ h.holds.2 (_, refl)
-refused_has names i (obligations_hold conflicts) r n h = absurd h
+refused_has names i (obligations_hold conflicts rounds) r n h = absurd h
 refused_has names i lowering_within r n h = same_has names r _ h.holds.holds.3 (_, refl)
 refused_has names i (level_there level) r n h = same_has names r _ h.holds.1 (_, refl)
 refused_has names i (lines_formed level) r n h = same_has names r _ h.holds.holds.2 (with_name _ _ n)
@@ -101,13 +101,13 @@ stopped_has : (names : FileNames) (i : Inputs) (s : Step) (r : Refusal) → Tell
 stopped_has names i (is_there file) r n h = same_has names r _ h (with_name _ _ n)
 stopped_has names i (bundle_reads out) r n (file, h) = same_has names r _ h (with_name _ _ (n file))
 stopped_has names i (assumptions_met conflicts) r n h = same_has names r _ h.0 (with_name _ _ n)
-stopped_has names i (obligations_hold conflicts) r n h = same_has names r _ h.0 (with_name _ _ n)
+stopped_has names i (obligations_hold conflicts rounds) r n h = same_has names r _ h.0 (with_name _ _ n)
 stopped_has names i bundle_written r n (file, h) = same_has names r _ h (with_name _ _ (n file))
 stopped_has names i s r n h = absurd h
 
 large_has : (names : FileNames) (i : Inputs) (s : Step) (r : Refusal) → Tells names s → IsTooLarge i s r → HasLine names r
 large_has names i (assumptions_met conflicts) r n h = same_has names r _ h.holds.holds.3 (_, refl)
-large_has names i (obligations_hold conflicts) r n h = same_has names r _ h.holds.3 (_, refl)
+large_has names i (obligations_hold conflicts rounds) r n h = same_has names r _ h.holds.3 (_, refl)
 large_has names i certificates_within r n h = same_has names r _ h.holds.2.1 (with_name _ _ (n files.Certificates))
 large_has names i s r n h = absurd h
 

@@ -34,8 +34,8 @@ pub record Certified (before after : Files) (design_name out : List ℕ) : Type 
 -- the same of a command; of one that writes no certificates there is nothing to say
 abbrev pub CertifiedOf : Option Command → Option Files → Option Files → Type 0
 CertifiedOf None before after = ⊥
-CertifiedOf (Some (compile design defs out conflicts)) None after = Unit {0}
-CertifiedOf (Some (compile design defs out conflicts)) (Some before) None = ⊥
-CertifiedOf (Some (compile design defs out conflicts)) (Some before) (Some after) =
+CertifiedOf (Some (compile design defs out conflicts rounds)) None after = Unit {0}
+CertifiedOf (Some (compile design defs out conflicts rounds)) (Some before) None = ⊥
+CertifiedOf (Some (compile design defs out conflicts rounds)) (Some before) (Some after) =
     Certified before after design out
 CertifiedOf (Some asked) before after = Unit {0}

@@ -25,6 +25,6 @@ CheckedFile name (Some files) = (text : List ℕ) × (get files name ≡ Some te
 -- the same of a command; of one that decides no obligation there is nothing to say
 abbrev pub RefinedOf : Option Command → Option Files → Type 0
 RefinedOf None content = ⊥
-RefinedOf (Some (check design conflicts)) content = CheckedFile design content
-RefinedOf (Some (compile design defs out conflicts)) content = CheckedFile design content
+RefinedOf (Some (check design conflicts rounds)) content = CheckedFile design content
+RefinedOf (Some (compile design defs out conflicts rounds)) content = CheckedFile design content
 RefinedOf (Some asked) content = Unit {0}

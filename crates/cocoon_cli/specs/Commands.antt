@@ -29,7 +29,7 @@ use Rattle.cocoon_cli.specs.declared.reading.Read.{Read}
 
 -- the files that it has; all but a bundle that it writes are read
 abbrev pub files_of : Command → FileNames
-files_of (check design conflicts) = record {
+files_of (check design conflicts rounds) = record {
   design = Some design;
   definitions = None;
   case = None;
@@ -37,7 +37,7 @@ files_of (check design conflicts) = record {
   bundle = None;
   reads_bundle = false;
 }
-files_of (compile design defs out conflicts) = record {
+files_of (compile design defs out conflicts rounds) = record {
   design = Some design;
   definitions = Some defs;
   case = None;
@@ -72,31 +72,31 @@ text_steps rest =
     design_steps (definitions_read ∷ definitions_fit ∷ definitions_within ∷ rest)
 
 -- the steps on what the blocks of a design owe, and those after them
-abbrev pub owed_steps : (conflicts : ℕ) → List Step → List Step
-owed_steps conflicts rest = trees_within ∷ obligations_hold conflicts ∷ rest
+abbrev pub owed_steps : (conflicts rounds : ℕ) → List Step → List Step
+owed_steps conflicts rounds rest = trees_within ∷ obligations_hold conflicts rounds ∷ rest
 
 -- what it asks of what was read
 abbrev pub asks : Command → List Step
-asks (check design conflicts) = design_steps (owed_steps conflicts [])
-asks (compile design defs out conflicts) =
-    text_steps (assumptions_met conflicts ∷ owed_steps conflicts (lowering_within ∷ []))
+asks (check design conflicts rounds) = design_steps (owed_steps conflicts rounds [])
+asks (compile design defs out conflicts rounds) =
+    text_steps (assumptions_met conflicts ∷ owed_steps conflicts rounds (lowering_within ∷ []))
 asks (step design defs level file) = text_steps (level_there level ∷ lines_formed level ∷ [])
 asks (forward out packets hops) = packets_judged out ∷ copies_within out hops ∷ []
 
 -- its steps of writing
 abbrev pub writes : Command → List Step
-writes (check design conflicts) = []
-writes (compile design defs out conflicts) =
+writes (check design conflicts rounds) = []
+writes (compile design defs out conflicts rounds) =
     switch_files_within ∷ certificates_within ∷ network_file_within ∷ bundle_written ∷ []
 writes (step design defs level file) = []
 writes (forward out packets hops) = []
 
 -- its report, where all steps are good
 abbrev pub Reports : Command → Inputs → Report → Type 0
-Reports (check name conflicts) inputs report =
+Reports (check name conflicts rounds) inputs report =
     OfDesign inputs (λ _ design. report
     ≡ success (checked_line (last_level design + 1) (length (all_obligations design))))
-Reports (compile name defs_name out conflicts) inputs report =
+Reports (compile name defs_name out conflicts rounds) inputs report =
     OfNetwork inputs (λ _ design net.
     report ≡ success (totals_line (totals_of (length (all_obligations design)) net)))
 Reports (step design defs level file) inputs report =
@@ -109,16 +109,16 @@ Reports (forward out file hops) inputs report =
 
 -- what it writes, where all steps are good
 abbrev pub Writes : Command → Inputs → Writing → Type 0
-Writes (check design conflicts) inputs w = w ≡ nothing
-Writes (compile design defs out conflicts) inputs w =
+Writes (check design conflicts rounds) inputs w = w ≡ nothing
+Writes (compile design defs out conflicts rounds) inputs w =
     OfFiles inputs (λ files. AllFit files × (w ≡ bundle out files))
 Writes (step design defs level file) inputs w = w ≡ nothing
 Writes (forward out packets hops) inputs w = w ≡ nothing
 
 -- what its answer says is written where all steps are good, of what was read
 abbrev pub PlansDone : Command → Read → Written → Type 0
-PlansDone (check design conflicts) read w = w ≡ written.Nothing
-PlansDone (compile design defs out conflicts) read w =
+PlansDone (check design conflicts rounds) read w = w ≡ written.Nothing
+PlansDone (compile design defs out conflicts rounds) read w =
     Compiles out read.design.items read.definitions.items w
 PlansDone (step design defs level file) read w = w ≡ written.Nothing
 PlansDone (forward out packets hops) read w = w ≡ written.Nothing

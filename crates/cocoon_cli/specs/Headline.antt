@@ -51,10 +51,10 @@ IsCertificates out name = name ≡ file_name out (codes "certs.json")
 -- the same of a command; of one that compiles nothing there is nothing to say
 abbrev pub CompiledOf : Option Command → Option Files → Option Files → Type 0
 CompiledOf None before after = ⊥
-CompiledOf (Some (check design conflicts)) before after = Unit {0}
-CompiledOf (Some (compile design defs out conflicts)) None after = Unit {0}
-CompiledOf (Some (compile design defs out conflicts)) (Some before) None = ⊥
-CompiledOf (Some (compile design defs out conflicts)) (Some before) (Some after) =
+CompiledOf (Some (check design conflicts rounds)) before after = Unit {0}
+CompiledOf (Some (compile design defs out conflicts rounds)) None after = Unit {0}
+CompiledOf (Some (compile design defs out conflicts rounds)) (Some before) None = ⊥
+CompiledOf (Some (compile design defs out conflicts rounds)) (Some before) (Some after) =
     Compiled before after design defs out (IsCertificates out)
 CompiledOf (Some (step design defs level file)) before after = Unit {0}
 CompiledOf (Some (forward out packets hops)) before after = Unit {0}

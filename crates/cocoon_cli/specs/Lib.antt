@@ -16,5 +16,6 @@ pub mod Leaves
 pub mod Headline
 pub mod Checked
 pub mod Certified
+pub mod Failed
 pub mod Run
 pub mod Shell

@@ -56,7 +56,7 @@ use Rattle.cocoon_types.specs.Design.{last_level}
 use Rattle.cocoon_types.specs.Tables.{defs_of}
 use Rattle.cocoon_cli.specs.Assumed.{IsBig, IsBroken, IsSpent}
 use Rattle.cocoon_cli.specs.Owing as owing
-use Rattle.cocoon_cli.specs.Owing.{IsGivenUpOn}
+use Rattle.cocoon_cli.specs.Owing.{IsFailing, IsGivenUpOn}
 use Rattle.cocoon_cli.specs.ReportLines.{budget_line}
 use Rattle.design_texts.specs.DesignTexts.{told}
 
@@ -79,8 +79,8 @@ pub data Step : Type 0 where
   assumptions_met : (conflicts : ℕ) → Step
   -- no tree of the design has too many leaves
   trees_within : Step
-  -- each block of the design keeps what it owes, decided for each obligation by a search of so many conflicts
-  obligations_hold : (conflicts : ℕ) → Step
+  -- each block of the design keeps what it owes, decided for each obligation in so many rounds, by searches of so many conflicts
+  obligations_hold : (conflicts rounds : ℕ) → Step
   -- the network is within the limits
   lowering_within : Step
   -- the level is one of the design
@@ -177,7 +177,7 @@ IsGood inputs definitions_within = OfDefinitions inputs (λ _ defs. row_count de
 IsGood inputs (assumptions_met conflicts) =
     OfBoth inputs (λ design defs. Meets (last_level design) design (defs_of design defs))
 IsGood inputs trees_within = OfDesign inputs (λ _ design. AreFew (all_counts design))
-IsGood inputs (obligations_hold conflicts) = OfDesign inputs (λ _ design. Refines design)
+IsGood inputs (obligations_hold conflicts rounds) = OfDesign inputs (λ _ design. Refines design)
 IsGood inputs lowering_within =
     OfBoth inputs (λ design defs.
     (net : NetData) × Lowers design defs net × IsWithin design defs)
@@ -240,7 +240,7 @@ Refuses inputs trees_within r =
     OfDesign inputs (λ _ design. (count : ℕ)
     × (first_above most_leaves (all_counts design) ≡ Some count)
     × (r ≡ refusal.OverLimit Leaves (reported count)))
-Refuses inputs (obligations_hold conflicts) r = ⊥
+Refuses inputs (obligations_hold conflicts rounds) r = ⊥
 Refuses inputs lowering_within r =
     OfBoth inputs (λ design defs. (limit : LimitName) × (count : ℕ)
     × IsOver design defs limit count × (r ≡ refusal.OverLimit limit count))
@@ -271,8 +271,10 @@ Refuses inputs bundle_written r = ⊥
 -- ---- how a step may end a command
 
 -- A verdict of the step: the command reports it and goes on no further. It is no success, and no
--- refusal. No step of today gives one.
+-- refusal.
 abbrev pub Judges : Inputs → Step → Report → Type 0
+Judges inputs (obligations_hold conflicts rounds) report =
+    OfDesign inputs (λ _ design. (number : ℕ) × IsFailing design number report)
 Judges inputs s report = ⊥
 
 -- the step decides the outcome: it refuses, or gives a verdict
@@ -284,7 +286,7 @@ Decides inputs s (Err r) = Refuses inputs s r
 -- command in several ways that are alike, or be given up.
 abbrev pub is_searched : Step → Bool
 is_searched (assumptions_met conflicts) = true
-is_searched (obligations_hold conflicts) = true
+is_searched (obligations_hold conflicts rounds) = true
 is_searched certificates_within = true
 is_searched s = false
 
@@ -293,8 +295,8 @@ abbrev pub Spends : Inputs → Step → Report → (bytes : List ℕ) → Type 0
 Spends inputs (assumptions_met conflicts) report bytes =
     OfBoth inputs (λ design defs. (number : ℕ) × IsSpent design defs conflicts number bytes
     × (report ≡ given_up (budget_line conflicts (codes "assumption") number)))
-Spends inputs (obligations_hold conflicts) report bytes =
-    OfDesign inputs (λ _ design. IsGivenUpOn design conflicts report bytes)
+Spends inputs (obligations_hold conflicts rounds) report bytes =
+    OfDesign inputs (λ _ design. IsGivenUpOn design conflicts rounds report bytes)
 Spends inputs s report bytes = ⊥
 
 -- a query is too large to be searched, or what was found is too large to be written
@@ -302,9 +304,9 @@ abbrev pub IsTooLarge : Inputs → Step → Refusal → Type 0
 IsTooLarge inputs (assumptions_met conflicts) r =
     OfBoth inputs (λ design defs. (number : ℕ) × (count : ℕ) × IsBig design defs number count
     × (r ≡ refusal.OverLimit Clauses count))
-IsTooLarge inputs (obligations_hold conflicts) r =
-    OfDesign inputs (λ _ design. (number : ℕ) × (count : ℕ) × owing.IsBig design number count
-    × (r ≡ refusal.OverLimit Clauses count))
+IsTooLarge inputs (obligations_hold conflicts rounds) r =
+    OfDesign inputs (λ _ design. (number : ℕ) × (count : ℕ)
+    × owing.IsBig design rounds number count × (r ≡ refusal.OverLimit Clauses count))
 IsTooLarge inputs certificates_within r =
     OfCertificates inputs (λ certificates.
     (most_of files.Certificates < length certificates) × (r ≡ is_long files.Certificates))
@@ -322,9 +324,9 @@ Stops inputs (bundle_reads out) r = (file : BundleFile) × (r ≡ refusal.ReadFa
 Stops inputs (assumptions_met conflicts) r =
     (r ≡ refusal.WriteFault Budget)
     × ((report : Report) × (bytes : List ℕ) × Spends inputs (assumptions_met conflicts) report bytes)
-Stops inputs (obligations_hold conflicts) r =
+Stops inputs (obligations_hold conflicts rounds) r =
     (r ≡ refusal.WriteFault Budget)
     × ((report : Report) × (bytes : List ℕ)
-    × Spends inputs (obligations_hold conflicts) report bytes)
+    × Spends inputs (obligations_hold conflicts rounds) report bytes)
 Stops inputs bundle_written r = (file : BundleFile) × (r ≡ refusal.WriteFault (Bundle file))
 Stops inputs s r = ⊥

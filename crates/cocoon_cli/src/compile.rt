@@ -119,8 +119,8 @@ pub fn compile<'w>(
     requires few { asked.now.conflicts ≤ most_conflicts }
     ensures asked { (inputs : Inputs) → inputs.file Design ≡ Some design.now
         → inputs.file Definitions ≡ Some defs.now → Asked
-        (spec.compile asked.now.design.now asked.now.defs.now asked.now.out.now asked.now.conflicts)
-        inputs result }
+        (spec.compile asked.now.design.now asked.now.defs.now asked.now.out.now
+        asked.now.conflicts asked.now.rounds) inputs result }
     ensures plans { IfOk result (λ a. PlansBy
         (λ w. Compiles asked.now.out.now design.now defs.now w) a.report.verdict a.writing) }
     ensures quiet { IfErr result IsQuiet }
@@ -130,9 +130,9 @@ pub fn compile<'w>(
     if let Some(answer) = unmet(alloc, &bound, asked.conflicts)? {
         return Ok(answer);
     }
-    let decided = decide_all(alloc, &bound.checked, asked.conflicts)?;
+    let decided = decide_all(alloc, &bound.checked, asked.conflicts, asked.rounds)?;
     match decided {
-        Refined::GivenUp(answer) => Ok(answer),
+        Refined::Ended(answer) => Ok(answer),
         Refined::Holds(certs) => {
             let net = lower_bound(alloc, &bound)?;
             let obligations = certs.certs.items().len() as u64;

@@ -19,4 +19,6 @@ returns c = one (record {
   one_reading = c.one_reading.ensures;
   same_report = c.one_report.ensures;
   no_over = c.one_lowering.ensures.no_limit;
+  no_failure = c.failing_obligations_fail.ensures.fails;
+  no_refuted = c.failing_obligations_fail.ensures.refutes;
 })
