@@ -8,6 +8,7 @@ thing that is wrong, and ends with status 1 if there is one.
 """
 
 import contextlib
+import json
 import os
 import pathlib
 import re
@@ -70,6 +71,7 @@ class Room:
         (at / "sum.ccn").write_text((EXAMPLES / "c.ccn").read_text().replace("role", assumption, 1))
         (at / "list.ccn").write_bytes((EXAMPLES / "m.ccn").read_bytes())
         (at / "forgotten.ccn").write_text((EXAMPLES / "m.ccn").read_text().replace("    filter acl(pkt.ip.src, pkt.ip.dst);\n", "", 1))
+        (at / "short.ccn").write_text((EXAMPLES / "m.ccn").read_text().replace("within 3", "within 2", 1))
 
     def run(self, *words, **how):
         """The status and the standard output."""
@@ -117,11 +119,16 @@ CALLS = {
     13: ("compile none.ccn c.defs lab", "no file none.ccn"),
 }
 NO_MEMORY = 12
+# A call for each status of a failure, and the first line of its report.
+FAILURES = {
+    1: ("check forgotten.ccn", "refuted level 1 role HostOut leaf 0"),
+    5: ("check short.ccn", "hopbound level 1 role HostOut leaf 0"),
+}
 # Calls of `check`, and what each prints.
 CHECKS = {
     "check c.ccn": (0, "ok levels 1 obligations 0"),
     "check list.ccn": (0, "ok levels 2 obligations 1"),
-    "check forgotten.ccn": (6, "budget rounds 0 obligation 0"),
+    "check list.ccn --conflicts 1": (6, "budget conflicts 1 obligation 0"),
     "check big.ccn": (10, "limit file big.ccn over 1048576"),
     "check none.ccn": (13, "no file none.ccn"),
 }
@@ -130,10 +137,16 @@ CHECKS = {
 def try_statuses(room):
     table = (TOP / "README.md").read_text().partition("| Status | Line | When |")[2].partition("\n\n")[0]
     told = {int(number) for number in re.findall(r"^\| (\d+) \|", table, re.M)}
-    expect(told == {*CALLS, NO_MEMORY}, "the statuses of README.md and those that are tried here are the same", sorted(told ^ {*CALLS, NO_MEMORY}))
+    tried = {*CALLS, *FAILURES, NO_MEMORY}
+    expect(told == tried, "the statuses of README.md and those that are tried here are the same", sorted(told ^ tried))
     for status, (words, line) in CALLS.items():
         ran = room.run(*words.split())
         expect(ran == (status, f"{line}\n"), f"`cocoon {words}` ends with {status} and prints `{line}`", ran)
+    for status, (words, line) in FAILURES.items():
+        ended, report = room.run(*words.split())
+        first, *run = report.split("\n")
+        expect((ended, first) == (status, line), f"`cocoon {words}` ends with {status} and begins with `{line}`", (ended, first))
+        expect([word.split(" ")[0] for word in run[:5]] == ["at", "packet", "choices", "to", "sent"], f"`cocoon {words}` tells a run", report)
 
 
 def try_checks(room):
@@ -143,8 +156,9 @@ def try_checks(room):
         ran = room.run(*words.split())
         expect(ran == (status, f"{line}\n"), f"`cocoon {words}` ends with {status} and prints `{line}`", ran)
         new = sorted({path.name for path in room.at.iterdir()} - {*old})
-        expect(new == (["forgotten.ccn.budget.json"] if status == 6 else []), f"`cocoon {words}` leaves the file of a spent budget, or none", new)
-    expect(room.content("forgotten.ccn.budget.json") == b'{"instances":[],"obligation":0}', "the file of the spent budget is as it should be")
+        expect(new == (["list.ccn.budget.json"] if status == 6 else []), f"`cocoon {words}` leaves the file of a spent budget, or none", new)
+    spent = json.loads(room.content("list.ccn.budget.json") or b"{}")
+    expect({**spent, "log": []} == {"instances": [], "log": [], "obligation": 0}, "the file of the spent budget is as it should be", spent)
 
 
 def try_no_memory(room):
