@@ -4,10 +4,10 @@
     bench/refused.py
 
 prints how each run ended and what stood in the folder then; runs that follow each other and are alike become one line. `BAD` is printed
-where a file of the bundle is neither the old one nor the new one, or another file was changed. Then `forward` runs over what a `compile`
-that stopped left, and the program of the cases runs one of them over a folder in memory. docs/TRIED.md says what came of it. It needs a C
-compiler, the built program (`rt run` in crates/cocoon) and that of crates/command_tests (`rt run` there builds it), and takes a minute; the gate
-does not run it.
+where a file of the bundle is neither the old one nor the new one, or another file was changed. Of a run with more than 2,000 allocations
+some 2,000 are refused, evenly spread, and the last 100. Then `forward` runs over what a `compile` that stopped left, and the program of the
+cases runs one of them over a folder in memory. docs/TRIED.md says what came of it. It needs a C compiler, the built program (`rt run` in
+crates/cocoon) and that of crates/command_tests (`rt run` there builds it), and takes two minutes; the gate does not run it.
 """
 
 import collections
@@ -25,6 +25,7 @@ PROGRAM = TOP / "crates" / "cocoon" / "out" / "cocoon"
 TESTS = TOP / "crates" / "command_tests"
 CASES = [TESTS / "out" / "command_tests", TESTS / "data" / "memory.cases"]
 MEMORY_FOLDER = "/dev/shm" if os.access("/dev/shm", os.W_OK) else None
+MOST = 2000
 BUNDLE = ("one.s1.p4", "one.s1.rows.json", "one.certs.json", "one.net.json")
 OLDER = b"older\n"
 JOB, FORWARD, STEP = "compile c.ccn c.defs one", "forward one p.txt", "step c.ccn c.defs 0 c.case"
@@ -81,14 +82,15 @@ def inputs():
 class Room:
     """A folder in which the program is run, with the library that refuses."""
 
-    def __init__(self, library, files, bundle):
+    def __init__(self, library, files, bundles):
         self.at = pathlib.Path(tempfile.mkdtemp(dir=MEMORY_FOLDER))
-        self.library, self.files, self.bundle = library, files, bundle
+        self.library, self.files, self.bundles = library, files, bundles
         for name, content in files.items():
             (self.at / name).write_bytes(content)
 
     def prepare(self, words):
         """Puts an older bundle there, and for `forward` the one that is read."""
+        self.bundle = self.bundles.get(words, self.bundles[JOB])
         for name in BUNDLE:
             (self.at / name).write_bytes(self.bundle[name] if words.startswith("forward") else OLDER)
         for path in [*self.at.glob("*.new"), *self.at.glob("*.budget.json")]:
@@ -103,7 +105,7 @@ class Room:
     def left(self):
         """What each file of the bundle is, and the files beside that were not there."""
         contents = [(self.at / name).read_bytes() for name in BUNDLE]
-        kinds = ["new" if content == self.bundle[name] else "old" if content == OLDER else "BAD" for name, content in zip(BUNDLE, contents)]
+        kinds = ["old" if content == OLDER else "new" if content == self.bundle[name] else "BAD" for name, content in zip(BUNDLE, contents)]
         beside = sorted(path.name for path in self.at.iterdir() if path.name not in self.files and path.name not in BUNDLE)
         return " ".join([*kinds, *beside])
 
@@ -120,17 +122,23 @@ class Room:
         return changed
 
 
+def chosen(last):
+    """The numbers up to a last one: all, or every so many and the last 100."""
+    step = -(-last // MOST)
+    return sorted({*range(1, last + 1, step), *range(max(1, last - 99), last + 1)})
+
+
 def each(make_room, words, variable, last, others):
-    """Runs the words with the variable set to each number up to a last one, and prints what came of it."""
+    """Runs the words with the variable set to numbers up to a last one, and prints what came of it."""
 
     def part(numbers):
         room = make_room()
         lines = [(number, room.tried(words, {**others, variable: str(number)})[0]) for number in numbers]
         return lines, room.close()
 
-    workers = os.cpu_count() or 1
+    workers, numbers = os.cpu_count() or 1, chosen(last)
     with concurrent.futures.ThreadPoolExecutor(workers) as pool:
-        parts = list(pool.map(part, [range(first, last + 1, workers) for first in range(1, workers + 1)]))
+        parts = list(pool.map(part, [numbers[first::workers] for first in range(workers)]))
     for changed in (name for _, names in parts for name in names):
         print(f"BAD: {changed} was changed")
     for line, run in itertools.groupby(sorted(one for lines, _ in parts for one in lines), key=lambda one: one[1]):
@@ -166,7 +174,7 @@ def refuse_files(make_room):
 def stop_compiles(make_room):
     print("compile f.ccn f.defs one over the bundle of c.ccn, of whose calls one fails, and then forward")
     room = make_room()
-    for number in range(1, 21):
+    for number in range(1, 25):
         room.prepare(FORWARD)
         status, report, _ = room.run("compile f.ccn f.defs one", {"FAULT": str(number), "ERROR": "5"})
         then, delivered, _ = room.run(FORWARD, {})
@@ -193,12 +201,15 @@ def main():
         library = f"{folder}/refuse.so"
         subprocess.run(["cc", "-shared", "-fPIC", "-o", library, TOP / "bench" / "refuse.c"], check=True)
         files = inputs()
-        first = Room(library, files, dict.fromkeys(BUNDLE, OLDER))
-        first.run(JOB, {})
-        bundle = {name: (first.at / name).read_bytes() for name in BUNDLE}
+        bundles = {JOB: dict.fromkeys(BUNDLE, OLDER)}
+        first = Room(library, files, bundles)
+        for words in [words for words in WORDS if words.startswith("compile")]:
+            first.prepare(words)
+            first.run(words, {})
+            bundles[words] = {name: (first.at / name).read_bytes() for name in BUNDLE}
         first.close()
         for step in (refuse_memory, refuse_files, stop_compiles):
-            step(lambda: Room(library, files, bundle))
+            step(lambda: Room(library, files, bundles))
         refuse_cases(library)
 
 
