@@ -47,6 +47,15 @@ def design(statements):
     return DESIGN.format(statements="  pkt.e.tag = pkt.e.tag + 8w1;\n" * statements)
 
 
+def sums(text):
+    """The first example with a block that adds in another order, for which one conflict is not enough."""
+    body = "  if (pkt.e.tag == 8w1) { send SwOut[s, 16w1]; } else { send SwOut[s, 16w2]; }"
+    adding = "pkt.e.tag = pkt.e.{} + pkt.e.{}; send SwOut[s, 16w1];"
+    role = "role SwIn[s: bit<16>, p: bit<16>] | g(s) and p < 16w4"
+    text = text.replace("tag: bit<8>;", "tag: bit<8>; a: bit<8>; b: bit<8>;", 1).replace(body, adding.format("a", "b"), 1)
+    return f"{text}refine SwIn within 1 {{ {role} = {{ {adding.format('b', 'a')} }} }}\n"
+
+
 def definitions(hosts):
     lines = ["default h = false;", "default g = false;", "default out = 16w0;", "define g(16w1) = true;"]
     lines += [f"define h(16w{a}) = true;" for a in range(hosts)]
@@ -70,6 +79,8 @@ class Room:
         (at / "sum.ccn").write_text((EXAMPLES / "c.ccn").read_text().replace("role", assumption, 1))
         (at / "list.ccn").write_bytes((EXAMPLES / "m.ccn").read_bytes())
         (at / "forgotten.ccn").write_text((EXAMPLES / "m.ccn").read_text().replace("    filter acl(pkt.ip.src, pkt.ip.dst);\n", "", 1))
+        (at / "short.ccn").write_text((EXAMPLES / "m.ccn").read_text().replace("within 3", "within 2", 1))
+        (at / "sums.ccn").write_text(sums((EXAMPLES / "c.ccn").read_text()))
 
     def run(self, *words, **how):
         """The status and the standard output."""
@@ -102,12 +113,14 @@ def expect(is_so, what, found=None):
 
 # ---- statuses
 
-# A call for each status, and the line that it prints.
+# A call for each status, and the line that it prints, of a failure the first.
 CALLS = {
     0: ("compile c.ccn c.defs lab", "compiled switches 1 hosts 4 links 4 obligations 0"),
+    1: ("check forgotten.ccn", "refuted level 1 role HostOut leaf 0"),
     2: ("", USAGE.rstrip("\n")),
     3: ("compile c.defs c.defs lab", "language c.defs 1:1 Unexpected"),
     4: ("compile c.ccn c.ccn lab", "definitions c.ccn 1:1 Unexpected"),
+    5: ("check short.ccn", "hopbound level 1 role HostOut leaf 0"),
     6: ("compile sum.ccn c.defs lab --conflicts 1", "budget conflicts 1 assumption 0"),
     7: ("forward none one.case", "bundle none.net.json missing"),
     8: ("compile folder c.defs lab", "read fault folder"),
@@ -116,15 +129,24 @@ CALLS = {
     11: ("step c.ccn c.defs 0 one.case", "line one.case 1 Form"),
     13: ("compile none.ccn c.defs lab", "no file none.ccn"),
 }
+FAILED = (1, 5)
 NO_MEMORY = 12
-# Calls of `check`, and what each prints.
+# Calls of `check`, and the line that each prints, of a failure the first.
 CHECKS = {
     "check c.ccn": (0, "ok levels 1 obligations 0"),
     "check list.ccn": (0, "ok levels 2 obligations 1"),
-    "check forgotten.ccn": (6, "budget rounds 0 obligation 0"),
+    "check forgotten.ccn": (1, "refuted level 1 role HostOut leaf 0"),
+    "check short.ccn": (5, "hopbound level 1 role HostOut leaf 0"),
+    "check sums.ccn --conflicts 1": (6, "budget conflicts 1 obligation 0"),
     "check big.ccn": (10, "limit file big.ccn over 1048576"),
     "check none.ccn": (13, "no file none.ccn"),
 }
+
+
+def first(ran):
+    """A status and a report, of a failure its first line."""
+    status, report = ran
+    return status, report.partition("\n")[0] + "\n" if status in FAILED else report
 
 
 def try_statuses(room):
@@ -132,7 +154,7 @@ def try_statuses(room):
     told = {int(number) for number in re.findall(r"^\| (\d+) \|", table, re.M)}
     expect(told == {*CALLS, NO_MEMORY}, "the statuses of README.md and those that are tried here are the same", sorted(told ^ {*CALLS, NO_MEMORY}))
     for status, (words, line) in CALLS.items():
-        ran = room.run(*words.split())
+        ran = first(room.run(*words.split()))
         expect(ran == (status, f"{line}\n"), f"`cocoon {words}` ends with {status} and prints `{line}`", ran)
 
 
@@ -140,11 +162,12 @@ def try_checks(room):
     """What `check` leaves is the file of a spent budget alone."""
     for words, (status, line) in CHECKS.items():
         old = sorted(path.name for path in room.at.iterdir())
-        ran = room.run(*words.split())
+        ran = first(room.run(*words.split()))
         expect(ran == (status, f"{line}\n"), f"`cocoon {words}` ends with {status} and prints `{line}`", ran)
         new = sorted({path.name for path in room.at.iterdir()} - {*old})
-        expect(new == (["forgotten.ccn.budget.json"] if status == 6 else []), f"`cocoon {words}` leaves the file of a spent budget, or none", new)
-    expect(room.content("forgotten.ccn.budget.json") == b'{"instances":[],"obligation":0}', "the file of the spent budget is as it should be")
+        expect(new == (["sums.ccn.budget.json"] if status == 6 else []), f"`cocoon {words}` leaves the file of a spent budget, or none", new)
+    found = (room.content("sums.ccn.budget.json") or b"").decode()
+    expect(found.startswith('{"instances":[],"log":[[') and found.endswith(']]],"obligation":0}'), "the file of the spent budget is as it should be", found)
 
 
 def try_no_memory(room):

@@ -57,15 +57,23 @@ LANGUAGE = rf"language d\.ccn \d+:\d+ ({TEXT_FAULTS}|{RULES})"
 DEFINITIONS = rf"definitions d\.defs (\d+:\d+ ({TEXT_FAULTS}|UnknownFunction|WrongRow|TwoDefaults|GuardRows|ForkRows)|NoDefault [A-Za-z_]\w*)"
 OF_DESIGN = r"limit (refines|within|ports|roles|functions|assumptions|params|headers|fields|paths|expanded|rows)"
 BUNDLE = r"bundle lab\.(net\.json|s\d+\.(p4|rows\.json)) "
+FAILURE = (
+    rf"{{}} level \d+ role [A-Za-z_]\w* leaf \d+\nat [A-Za-z_]\w* {NUMBERS}\npacket {NUMBERS}\nchoices {NUMBERS}\nto [A-Za-z_]\w* {NUMBERS}\nsent {NUMBERS}"
+    r"(\n(default|define) [^\n]*;)*"
+)
 FORMS = {
     ("check", 0): r"ok levels \d+ obligations \d+",
+    ("check", 1): FAILURE.format("refuted"),
     ("check", 3): LANGUAGE,
-    ("check", 6): r"budget (rounds 0|conflicts 20000) obligation \d+",
+    ("check", 5): FAILURE.format("hopbound"),
+    ("check", 6): r"budget (rounds 64|conflicts 20000) obligation \d+|budget conflicts 20000 assumption \d+",
     ("check", 10): rf"limit file d\.ccn over \d+|({OF_DESIGN}|limit (leaves|clauses)) \d+ over \d+",
     ("compile", 0): r"compiled switches \d+ hosts \d+ links \d+ obligations \d+",
+    ("compile", 1): FAILURE.format("refuted"),
     ("compile", 3): LANGUAGE,
     ("compile", 4): DEFINITIONS + rf"|broken assumption \d+ at {NUMBERS}",
-    ("compile", 6): r"budget (rounds 0|conflicts 20000) obligation \d+|budget conflicts 20000 assumption \d+",
+    ("compile", 5): FAILURE.format("hopbound"),
+    ("compile", 6): r"budget (rounds 64|conflicts 20000) obligation \d+|budget conflicts 20000 assumption \d+",
     ("compile", 10): rf"limit file (d\.ccn|d\.defs|new\.\S+) over \d+|({OF_DESIGN}|limit (switches|hosts|tables|sites|members|leaves|clauses)) \d+ over \d+",
     ("step", 0): rf"nothing|[A-Za-z_]\w* {NUMBERS} : {NUMBERS}",
     ("step", 3): LANGUAGE,

@@ -88,6 +88,14 @@ def shown(asked, number):
     return ";".join(out)
 
 
+def verdict(asked, number, rounds):
+    """What the reading says of an obligation in so many rounds."""
+    said = decide.decide(asked.checked, asked.terms, asked.all[number], rounds)
+    if said[0] == "fails":
+        return {"Refuted": "refuted", "Over": "over"}[said[1].kind]
+    return {"holds": "holds", "rounds": "satisfied"}[said[0]] if said[0] != "big" else f"large with {said[1]} clauses"
+
+
 def steps_of(text):
     return [([int(n) for n in lits.split()], [int(n) for n in hints.split()]) for lits, hints in (step.split(":") for step in text.split(";") if step.strip())]
 
@@ -108,11 +116,7 @@ def wanted(asked, question, old):
     if word == "instances":
         return shown(asked, number)
     if word == "decide":
-        goal = query_of(asked.checked, asked.all[number], [], asked.terms)[0]
-        count = clauses.count(asked.terms, goal)[1]
-        if count > clauses.MAX_CLAUSES:
-            return f"large with {count} clauses"
-        return old if old == "spent" else "holds" if satsolve.solve(asked.clauses(number, [])) is None else "satisfied"
+        return old if old.startswith("spent") else verdict(asked, number, int(rest[1].split()[1]) if " " in rest[1] else 0)
     given = [instance(word) for word in words.split()]
     if not all(instances.fits(asked.checked, asked.all[number].level, *one) for one in given):
         return "false" if word == "recheck" else "no fit"
@@ -172,10 +176,11 @@ def log(design, number, words):
 
 
 def main(folder, words):
-    global blast, clauses, instances, load, logcheck, obligations, query_of, satsolve, Terms
+    global blast, clauses, decide, instances, load, logcheck, obligations, query_of, satsolve, Terms
     sys.path.insert(0, folder)
     sys.setrecursionlimit(100000)
     import clauses
+    import decide
     import instances
     import load
     import logcheck

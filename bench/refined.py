@@ -29,12 +29,12 @@ import tempfile
 
 TOP = pathlib.Path(__file__).resolve().parent.parent
 PROGRAM = os.environ.get("COCOON", TOP / "crates" / "cocoon" / "out" / "cocoon")
-# As the reading counts what is built: obligations are decided, and no failure is printed.
-STAGE = 8
+# As the reading counts what is built: obligations are decided in rounds, and failures are printed.
+STAGE = 9
 DECIDING = ["check d.ccn", "compile d.ccn d.defs out"]
+FAILURES = "refuted ", "hopbound "
+USUAL = {"conflicts": 20_000, "rounds": 64}
 FEW_CONFLICTS = [1, 1, 1, 2, 3, 5, 10]
-# So many pairs of applications are counted before they are made.
-MANY_PAIRS = 100_000
 PACKETS = 12
 
 
@@ -45,14 +45,14 @@ class Reading:
         self.folder = pathlib.Path(folder).resolve()
         sys.path.insert(0, str(self.folder))
         sys.setrecursionlimit(100000)
-        import bundle, clauses, decide, instances, levels, lexer, meaning, random_design, refcli, satsolve, symgen, verify
+        import bundle, decide, levels, lexer, meaning, random_design, refcli, symgen, verify
         import load as texts
 
         self.bundle, self.levels, self.meaning, self.refcli, self.symgen, self.texts, self.verify = bundle, levels, meaning, refcli, symgen, texts, verify
-        self.clauses, self.instances, self.solve, self.one_level = clauses, instances, satsolve.solve, random_design
-        # Each text is read once, and each query asked once.
+        self.one_level = random_design
+        # Each text is read once, and each obligation decided once.
         lexer.lex, self.view, self.bound, self.tables = [functools.lru_cache(16)(call) for call in (lexer.lex, self.view, levels.bound, self.tables)]
-        decide.decide, self.asked, self.design = self.decide, {}, b""
+        self.first_decided, decide.decide, self.asked, self.design = decide.decide, self.decide, {}, b""
 
     def draw(self, seed):
         """A design and its definitions: mostly access lists that a switch keeps to, or nearly; each fourth one has roles and bodies of any kind, and each fourth
@@ -92,24 +92,12 @@ class Reading:
     def tables(self, design, defs):
         return self.texts.bind_text(self.view(design), defs)
 
-    def decide(self, checked, terms, obligation, *_):
-        """Whether the query holds, can be satisfied, or has too many clauses: what the reading itself would look for besides, in further rounds, is no answer yet."""
-        key = obligation.level, obligation.role, obligation.leaf, obligation.kind
+    def decide(self, checked, terms, obligation, rounds=400):
+        """What the reading says of an obligation."""
+        key = obligation.level, obligation.role, obligation.leaf, obligation.kind, rounds
         if key not in self.asked:
-            self.asked[key] = self.ask(self.texts.view_of(checked), terms, obligation)
+            self.asked[key] = self.first_decided(checked, terms, obligation, rounds)
         return self.asked[key]
-
-    def ask(self, view, terms, obligation):
-        before = self.instances.before_flatten(view, obligation.level, obligation.formula, [], terms)
-        if self.instances.pairs_of(before, terms) > MANY_PAIRS:
-            count = self.instances.flat_size(before, terms)[1]
-            if count > self.clauses.MAX_CLAUSES:
-                return "big", count, []
-        goal, _ = self.instances.flatten(before, terms)
-        count = self.clauses.count(terms, goal)[1]
-        if count > self.clauses.MAX_CLAUSES:
-            return "big", count, []
-        return ("rounds" if self.solve(self.clauses.blast(terms, goal)[0]) else "holds"), []
 
     def answer(self, words, files):
         """Status, report, and the file of a spent budget."""
@@ -129,6 +117,8 @@ class Reading:
 
     def refuses(self, design, budget, number, defs=None):
         """Why the verifier refuses the file of a spent budget; None, if it does not."""
+        if budget is None:
+            return "no file"
         self.take(design)
         view = self.view(design)
         try:
@@ -213,31 +203,31 @@ def judged(reading, room, words):
     """What the program says, and what is wrong with it."""
     design, defs = (room.at / "d.ccn").read_bytes(), (room.at / "d.defs").read_bytes()
     status, report = room.run(words)
-    wanted, told, budget = reading.answer(words, {"d.ccn": design, "d.defs": defs})
-    kind = " ".join(word for word in report.split(" ")[:2] if not word[:1].isdigit()) or f"status {status}"
-    if report.startswith("budget conflicts"):
-        _, _, number, what, place = report.split()
-        if status != 6 or f"--conflicts {number}" not in f"{words} --conflicts 20000" or is_before(told, what, int(place)):
-            return kind, f"wanted {wanted} {told!r}, found {status} {report!r}"
-        return f"{kind} {what}", reading.refuses(design, room.budget(), int(number), defs if what == "assumption" else None)
+    wanted, told, _ = reading.answer(words, {"d.ccn": design, "d.defs": defs})
+    kind = " ".join(word for word in report.split("\n")[0].split(" ")[:2] if not word[:1].isdigit()) or f"status {status}"
+    differs = f"wanted {wanted} {told!r}, found {status} {report!r}"
+    if report.startswith("budget"):
+        _, of, number, what, *_ = report.split()
+        if status != 6 or int(number) != allowed(words, of):
+            return kind, differs
+        return f"{kind} {what}", reading.refuses(design, room.budget(), int(number), defs if words.startswith("compile") else None)
     if report.startswith("broken assumption"):
         (room.at / "report.txt").write_text(report)
         same = (status, report.split(" at ")[0]) == (wanted, told.split(" at ")[0])
         real = report == told or reading.accepts(room.at, "output", "d.ccn", "report.txt", "d.defs")
-        return kind, None if same and real else f"wanted {wanted} {told!r}, found {status} {report!r}"
-    if (status, report) != (wanted, told):
-        return kind, f"wanted {wanted} {told!r}, found {status} {report!r}"
-    if status == 6:
-        return kind, reading.refuses(design, room.budget(), 0) or (None if room.budget() == budget else f"its file, {room.budget()!r}")
-    return kind, None
+        return kind, None if same and real else differs
+    if report.startswith(FAILURES):
+        (room.at / "report.txt").write_text(report)
+        same = (status, report.split("\n")[0]) == (wanted, told.split("\n")[0])
+        real = report == told or reading.accepts(room.at, "output", "d.ccn", "report.txt")
+        return report.split(" ")[0], None if same and real else differs
+    return kind, None if (status, report) == (wanted, told) else differs
 
 
-def is_before(told, what, place):
-    """Whether the reading fails before an assumption or an obligation."""
-    words = told.split()
-    if words[:2] == ["broken", "assumption"]:
-        return what == "obligation" or int(words[2]) < place
-    return words[:2] == ["budget", "rounds"] and what == "obligation" and int(words[4]) < place
+def allowed(words, of):
+    """How many conflicts or rounds there may be."""
+    found = re.search(rf"--{of} (\d+)", words)
+    return int(found[1]) if found else USUAL[of]
 
 
 def designs(reading, count, seed, one):
@@ -382,16 +372,15 @@ def cases(reading, count, seed, _one):
         design, defs = reading.draw(seed)
         for words in DECIDING:
             status, report, budget = reading.answer(words, {"d.ccn": design, "d.defs": defs})
-            if report.startswith("broken assumption"):
+            if report.startswith("broken assumption") or budget:
                 continue
             print(f"case seed {seed}, {words.split()[0]}\ntext d.ccn {quoted(design.decode())}\ntext d.defs {quoted(defs.decode())}")
-            print(f"words cocoon {words}\nstatus {status}\nreport {quoted(report.rstrip(chr(10)))}")
-            if budget:
-                print("after d.ccn.budget.json rounds.budget.json")
-                number = re.search(rb'"obligation":(\d+)', budget)[1].decode()
-                print(f"after-edit d.ccn.budget.json :0 :{number}\n", flush=True)
+            print(f"words cocoon {words}\nstatus {status}")
+            if report.startswith(FAILURES):
+                print(f"report {quoted(report.splitlines()[0])}\ngoes-on")
             else:
-                print("absent d.ccn.budget.json\n", flush=True)
+                print(f"report {quoted(report.rstrip(chr(10)))}")
+            print("absent d.ccn.budget.json\n", flush=True)
     return 0
 
 

@@ -18,6 +18,7 @@ import tempfile
 TOP = pathlib.Path(__file__).resolve().parent.parent
 DESIGN = TOP / "crates" / "verdict_tests" / "data" / "t.ccn"
 CONFLICTS = 20_000
+ROUNDS = 64
 
 
 def ran(program, folder, question):
@@ -57,9 +58,9 @@ def main(program, runs):
         for within in (5, 7, 9, 10, 11):
             pathlib.Path(folder, "t.ccn").write_text(DESIGN.read_text().replace("within 5", f"within {within}"))
             count, made = least(program, folder, "owed", runs)
-            half_said, half = least(program, folder, f"verdicts {int(count) // 2} {CONFLICTS}", runs)
-            said, whole = least(program, folder, f"verdicts {count} {CONFLICTS}", runs)
-            if said != f"{count} hold, 0 satisfied, 0 others":
+            half_said, half = least(program, folder, f"verdicts {int(count) // 2} {CONFLICTS} {ROUNDS}", runs)
+            said, whole = least(program, folder, f"verdicts {count} {CONFLICTS} {ROUNDS}", runs)
+            if said != f"{count} hold, 0 fail, 0 others":
                 print(said)
             half, whole = half - made, whole - made
             print(f"| {within} | {int(count):,} | {made:.2f} s | {half:.2f} s | {whole:.2f} s | {whole / half:.2f} | {whole / int(count) * 1000:.2f} s |", flush=True)

@@ -13,11 +13,11 @@ use Rattle.cocoon_num.specs.declared.fun_table.FunRow.{FunRow}
 use Rattle.cocoon_num.specs.declared.fun_table.FunTable.{FunTable}
 use Rattle.bv_terms.specs.declared.node.TermOp.TheVariants.{And}
 use Rattle.bv_terms.specs.Environments.{RowFits, TableFits}
-use Rattle.bv_terms.specs.Inputs.{FunctionsFit, InputsFit}
+use Rattle.bv_terms.specs.Inputs.{AreApart, FunctionsFit, InputsFit, Mentions}
 use Rattle.bv_terms.specs.TermTrees.{Term, constant, input, apply, not_, binary, slice, pick, arg_widths, IsTerm}
 use Rattle.bv_terms.specs.TermValues.{Functions, Inputs, term_value}
-use Rattle.bv_terms.specs.Walks.{applications, is_application, walk}
-use Rattle.bv_terms.proofs.Subterms.{Each, each-itself, each-weaker, walk-all}
+use Rattle.bv_terms.specs.Walks.{applications, is_among, is_application, walk}
+use Rattle.bv_terms.proofs.Subterms.{Each, each-itself, each-weaker, walk-all, walk-has}
 use Rattle.certificates.specs.declared.Instance.{Instance}
 use Rattle.defs_text.specs.Fitting.{FitsDesign, all_ones}
 use Rattle.expr_term_laws.specs.Shown.{HasWidth}
@@ -35,14 +35,17 @@ use Rattle.fun_instances.specs.Taking.{NumbersFit, OfAssumption}
 use Rattle.literal_tables.proofs.FirstRows.{all-append, first-all, first-few, first-found}
 use Rattle.pattern_laws.specs.Tuples.{pattern_terms}
 use Rattle.pattern_laws.proofs.OverParts.{OverHere, applied-at, each-over, mentioned-is, over-others}
-use Rattle.query_laws.specs.OwnNames.{in_own_arena, input_count}
+use Rattle.query_laws.specs.OwnNames.{in_own_arena, input_count, inputs_of, own_name}
 use Rattle.query_laws.specs.Queries.{Fits, added, asked, instance_term, query}
+use Rattle.query_laws.proofs.InputNumbers.{are_inputs}
 use Rattle.query_laws.proofs.Renaming.{value_agrees}
 use Rattle.query_laws.proofs.Untrue.{each_instance, own_stands}
 use Rattle.table_terms.specs.ByTables.{by_tables}
 use Rattle.table_terms.specs.WithRows.{Tables, table_of}
+use Rattle.term_copy.proofs.InputLists.{names-apart}
 use Rattle.term_laws.proofs.FittingValues.{values-fit}
-use Rattle.candidate_laws.specs.Candidates.{IsCandidate, IsTrueBy, given}
+use Rattle.term_laws.proofs.RenamedTerms.{among-renamed, value-renamed, walk-kept}
+use Rattle.candidate_laws.specs.Candidates.{IsCandidate, IsTrueBy, MakeTrue, given}
 use Rattle.candidate_laws.specs.FirstRows.{HaveFirstRows, applications_of}
 use Rattle.candidate_laws.proofs.FullTables.{full, full-at, with-rows}
 use Rattle.candidate_laws.proofs.SameFunctions.{Agree, same-value}
@@ -210,6 +213,17 @@ no_input i w = false
 whatever-inputs : (d : Design) (F : Functions) (t : Term) → IsOver d no_input t → (f g : Inputs) → term_value F f t ≡ term_value F g t
 whatever-inputs d F t h f g = value_agrees (OverHere d no_input) F f g (λ i w e. absurd (false≢true e)) t (each-over d no_input t h)
 
+-- ---- names
+
+own-apart : (t : Term) → AreApart (own_name t) t
+own-apart t = names-apart t 0 (inputs_of t) (are_inputs t)
+
+-- in an arena of its own a term has its inputs under their new names
+pub mentioned-there : (t : Term) (i w : ℕ) → Mentions t i w → Mentions (in_own_arena t) (own_name t i) w
+mentioned-there t i w m =
+    subst (λ us. is_among us (input (own_name t i) w) ≡ true) (sym (walk-kept t (own_name t) (own-apart t)))
+    (among-renamed (λ u. is_among (walk t []) u ≡ true) (own_name t) (own-apart t) (walk t []) (input i w) (walk-all (λ u. is_among (walk t []) u ≡ true) t [] (walk-has t []) tt) m ∙ m)
+
 -- ---- the law
 
 -- what is taken of the assumptions has width 1, and is of the design
@@ -307,3 +321,9 @@ module _ (d : Design) (level : ℕ) (laws : Instances d level) (have-tables : Ha
           literal = λ f t e. is-literal d tables z none ins goal (input_count formula) goal-over has f t e;
           short = λ f t e. is-short d tables z none ins goal (input_count formula) goal-over has f t e;
         }
+
+    pub formula-true : MakeTrue tables (λ i. ins (own_name formula i)) formula
+    formula-true = record {
+      fit = λ i w m. inputs-fit d ins own parts-over.0 (own_name formula i) w (mentioned-there formula i w m);
+      is_true = sym (value-renamed (own_name formula) (given tables) ins formula) ∙ all-ones.0;
+    }

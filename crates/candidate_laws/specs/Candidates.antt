@@ -34,6 +34,11 @@ IsTrueBy tables t = (ins : Inputs) → IsTrueAt tables ins t
 abbrev pub IsFalseBy : Tables → Term → Type 0
 IsFalseBy tables t = (ins : Inputs) → term_value (given tables) ins t ≡ number 1 0
 
+-- these numbers fit the inputs of the term, and it is true at them
+pub record MakeTrue (tables : Tables) (ins : Inputs) (t : Term) : Type 0 where
+  pub fit : InputsFit t ins
+  pub is_true : IsTrueAt tables ins t
+
 -- ---- candidates
 
 -- at some inputs the formula is true, and all that it takes of the assumptions by their patterns

@@ -1,24 +1,22 @@
-//! What assignments give, and how long progress is. The functions do nothing; their contracts are
-//! the laws.
+//! What assignments give, what it means, and how long progress is. The functions do nothing;
+//! their contracts are the laws.
 ghost use Rattle.std.specs.Prelude.{◌≡◌, ◌≤◌, ℕ, List, [], ◌∷◌, ◌++◌, length};
 ghost use Rattle.bv_terms.specs.TermTrees.{IsTerm, Term};
-ghost use Rattle.bv_terms.specs.TermValues.{Functions, Inputs, term_value};
+ghost use Rattle.bv_terms.specs.TermValues.{Functions, Inputs};
 ghost use Rattle.certificates.specs.declared.Instance.{Instance};
 ghost use Rattle.cocoon_num.specs.Tree.{Design};
-ghost use Rattle.cocoon_num.specs.Values.{number};
 ghost use Rattle.cocoon_types.specs.Rules.{WellFormed};
-ghost use Rattle.flat_laws.specs.Rows as flat;
 ghost use Rattle.fun_instances.specs.Taking.{NumbersFit, OfAssumption};
 ghost use Rattle.formula_functions.specs.LeafTerms.{AppliesDeclared, Stands};
 ghost use Rattle.query_laws.specs.Certified.{AllFit};
-ghost use Rattle.query_laws.specs.OwnNames.{input_count};
-ghost use Rattle.query_laws.specs.Queries.{asked, Fits, instance_term, query};
+ghost use Rattle.query_laws.specs.OwnNames.{own_name};
+ghost use Rattle.query_laws.specs.Queries.{asked, Fits, instance_term};
 ghost use Rattle.runtime_defs.specs.Fitting.{FitsDesign};
 ghost use Rattle.sound_types.specs.Literals.{DesignLiteralsFit};
 ghost use Rattle.table_terms.specs.WithRows.{Tables};
-ghost use Rattle.candidate_laws.specs.Broken.{IsBroken};
-ghost use Rattle.candidate_laws.specs.Candidates.{IsCandidate, IsFalseBy};
-ghost use Rattle.candidate_laws.specs.FirstRows.{HaveFirstRows};
+ghost use Rattle.candidate_laws.specs.Broken.{IsBroken, IsMeantTrue};
+ghost use Rattle.candidate_laws.specs.Candidates.{IsCandidate, IsFalseBy, MakeTrue};
+ghost use Rattle.candidate_laws.specs.FirstRows.{AreOfTrueQuery};
 ghost use Rattle.candidate_laws.specs.Rounds.{Progress, tuples_to};
 
 use application_laws::laws::{tables_keep_values, tables_take_the_place};
@@ -40,20 +38,34 @@ pub fn asked_goals_apply_declared_functions()
 }
 
 /// Inputs at which a query is true give a candidate: tables of the design with a row for each
-/// list of values that its applications have. The defaults play no part.
+/// list of values that its applications have. The defaults play no part. Under these tables the
+/// formula itself is true at the numbers that its inputs have in an arena of its own.
 pub fn true_queries_have_candidates()
-    ensures { (d : Design) → WellFormed d → DesignLiteralsFit d → (level : ℕ) (formula : Term)
-        → Stands d 1 formula → (instances : List Instance) → AllFit d level instances
-        → IsTerm (asked d level formula instances) → (none : Functions) (ins : Inputs)
-        → flat.AllFit (asked d level formula instances) (input_count formula) ins
-        → term_value none ins (query d level formula instances) ≡ number 1 1
-        → (tables : Tables) → FitsDesign d tables
-        → HaveFirstRows none ins (asked d level formula instances) (input_count formula) tables
+    ensures candidate { (d : Design) → WellFormed d → DesignLiteralsFit d
+        → (level : ℕ) (formula : Term) (instances : List Instance)
+        (none : Functions) (ins : Inputs) (tables : Tables)
+        → AreOfTrueQuery d level formula instances none ins tables
         → IsCandidate d level formula instances tables }
+    ensures formula { (d : Design) → WellFormed d → DesignLiteralsFit d
+        → (level : ℕ) (formula : Term) (instances : List Instance)
+        (none : Functions) (ins : Inputs) (tables : Tables)
+        → AreOfTrueQuery d level formula instances none ins tables
+        → MakeTrue tables (λ i. ins (own_name formula i)) formula }
 {
     flat_goals_have_tables();
     instances_fit();
     queries_are_goals();
+}
+
+/// Where a formula is true under tables, it is true under the definitions that these stand for.
+pub fn formulas_stay_true()
+    ensures { (d : Design) (tables : Tables) → FitsDesign d tables
+        → (formula : Term) → Stands d 1 formula → IsTerm formula
+        → (ins : Inputs) → MakeTrue tables ins formula → IsMeantTrue d tables ins formula }
+{
+    rows_keep_values();
+    tables_keep_values();
+    tables_take_the_place();
 }
 
 /// Where an assumption is false under the definitions that a candidate stands for, its numbers fit,

@@ -2,3 +2,4 @@ pub mod Lists
 pub mod Inputs
 pub mod Applications
 pub mod Rows
+pub mod TrueQueries

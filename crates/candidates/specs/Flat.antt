@@ -1,11 +1,11 @@
--- Cited by the clauses of `candidate`: a goal in an arena, flat, and candidates of queries.
+-- Cited by the clauses of `candidate`: a goal in an arena, flat, and candidates of queries, under which their formulas are true.
 use Rattle.std.specs.Prelude.{◌≡◌, ℕ, ◌<◌, List, length}
 use Rattle.bit_blast.specs.Blasting.{InputRow, IsClauses, MapsInputs}
 use Rattle.bv_terms.specs.Arenas.{term_at}
 use Rattle.bv_terms.specs.TermTrees.{IsTerm, Term}
 use Rattle.bv_terms.specs.declared.node.Node.{Node}
 use Rattle.certificates.specs.declared.Instance.{Instance}
-use Rattle.cnf_core.specs.Satisfying.{Satisfies}
+use Rattle.cnf_core.specs.Satisfying.{Satisfies, makes_true}
 use Rattle.cnf_core.specs.declared.clauses.Assignment.{Assignment}
 use Rattle.cnf_core.specs.declared.clauses.Cnf.{Cnf}
 use Rattle.cocoon_num.specs.Tree.{Design}
@@ -15,10 +15,11 @@ use Rattle.flat_laws.specs.Flat.{flattened}
 use Rattle.flat_laws.specs.Meant.{CanFlatten}
 use Rattle.formula_functions.specs.LeafTerms.{AppliesDeclared, Stands}
 use Rattle.query_laws.specs.Certified.{AllFit}
-use Rattle.query_laws.specs.OwnNames.{input_count}
+use Rattle.query_laws.specs.OwnNames.{input_count, own_name}
 use Rattle.query_laws.specs.Queries.{asked, query}
 use Rattle.table_terms.specs.WithRows.{Tables}
-use Rattle.candidate_laws.specs.Candidates.{IsCandidate}
+use Rattle.candidate_laws.specs.Candidates.{IsCandidate, MakeTrue}
+use Rattle.candidates.specs.Assigned.{assigned}
 
 -- the arena has this term
 pub record Has (nodes : List Node) (t : Term) : Type 0 where
@@ -57,3 +58,9 @@ abbrev pub IsCandidateOf : Design → List Node → List Applied → List InputR
 IsCandidateOf d nodes applied rows x tables =
     (level : ℕ) (formula : Term) (instances : List Instance) → IsSatisfied d nodes applied rows x level formula instances
     → IsCandidate d level formula instances tables
+
+-- each such formula is true under the tables at the numbers that the assignment gives its inputs
+abbrev pub MakesFormulaTrue : Design → List Node → List Applied → List InputRow → Assignment → Tables → Type 0
+MakesFormulaTrue d nodes applied rows x tables =
+    (level : ℕ) (formula : Term) (instances : List Instance) → IsSatisfied d nodes applied rows x level formula instances
+    → MakeTrue tables (λ i. assigned (makes_true x) rows (own_name formula i)) formula

@@ -2,7 +2,7 @@
 ghost use Rattle.std.specs.Prelude.{IfOk};
 ghost use Rattle.cocoon_syntax.specs.TreeOf.{design_of};
 ghost use Rattle.runtime_defs.specs.Fitting.{FitsDesign};
-ghost use Rattle.candidates.specs.Flat.{IsCandidateOf, IsFlatGoal};
+ghost use Rattle.candidates.specs.Flat.{IsCandidateOf, IsFlatGoal, MakesFormulaTrue};
 
 use crate::applying::lookups;
 use crate::assigned::environment;
@@ -21,8 +21,8 @@ use sound_types::laws::code_literals_fit;
 use std::alloc::Global;
 
 /// The definitions that an assignment gives of a flat goal: at the arguments of each application
-/// the value of its input, else these defaults, where they are free. They are a candidate, if the
-/// goal is a query whose clauses the assignment satisfies.
+/// the value of its input, else these defaults, where they are free. If the goal is a query whose
+/// clauses the assignment satisfies, they are a candidate, and its formula is true under them.
 pub fn candidate(
     alloc: Global,
     checked: &Checked,
@@ -35,6 +35,8 @@ pub fn candidate(
     requires { IsFlatGoal (design_of checked.now) terms.now applied.now inputs.now }
     ensures fits { IfOk result (λ defs. FitsDesign (design_of checked.now) defs) }
     ensures candidate { IfOk result (λ defs. IsCandidateOf (design_of checked.now)
+        terms.now applied.now inputs.now assignment.now defs) }
+    ensures formula { IfOk result (λ defs. MakesFormulaTrue (design_of checked.now)
         terms.now applied.now inputs.now assignment.now defs) }
 {
     clauses_mean_the_goal();

@@ -1,7 +1,7 @@
 -- What is said of one obligation of a design, and then of all.
-use Rattle.std.proofs.Common.{◌≡◌, ℕ, zero, suc, ◌+◌, ◌<◌, ◌≤◌, get_or, List, [], ◌∷◌, ◌++◌, length, take, Some, All, IfErr, IfOk, Result, Ok, Err, refl, sym, ap, ap₂, subst, inr, arith}
+use Rattle.std.proofs.Common.{◌≡◌, ℕ, zero, suc, ◌+◌, ◌<◌, ◌≤◌, get_or, List, [], ◌∷◌, ◌++◌, length, take, Some, All, IfErr, IfOk, Result, Ok, Err, refl, sym, ap, subst, ◌∙◌, inr, arith}
 use Rattle.std.specs.List.{AllZip}
-use Rattle.std.specs.Prelude.{codes, slice_get}
+use Rattle.std.specs.Prelude.{slice_get}
 use Rattle.std.proofs.lemmas.List.{take_all}
 use Rattle.std.proofs.lemmas.List.Elements.{All-append, All-cons, All-nil}
 use Rattle.bv_terms.specs.TermTrees.{Term}
@@ -10,30 +10,34 @@ use Rattle.cert_text.specs.Certifying.{CertsShow, Shows}
 use Rattle.certificates.specs.declared.Cert.{Cert}
 use Rattle.cocoon_num.specs.Tree.{Design}
 use Rattle.obligation_gen.specs.Counted.{AreFew, all_counts}
-use Rattle.obligation_gen.specs.Shown.{ShowsObligation, ShowsObligations}
+use Rattle.obligation_gen.specs.Shown.{ShowsObligation, ShowsObligations, kind_in}
+use Rattle.obligation_gen.specs.declared.obligation.Kind.{Kind}
 use Rattle.obligation_gen.specs.declared.obligation.Obligation.{Obligation}
 use Rattle.obligation_laws.specs.Failing.{NeverFails}
 use Rattle.obligation_laws.specs.Obligations as laws
 use Rattle.obligation_laws.specs.Obligations.{all_obligations}
 use Rattle.refinement.specs.Owed.{Refines}
-use Rattle.query_laws.specs.Certified.{HasTooMany, IsSatisfiable}
-use Rattle.query_laws.specs.Queries.{query}
 use Rattle.obligation_gen.specs.Owed.{IsOwed}
 use Rattle.discharge.specs.Answering.{IsSpentOn}
 use Rattle.discharge.proofs.Lists.{take_next}
-use Rattle.budget_text.specs.Spent.{asked}
-use Rattle.certificates.specs.CertsOf.{log_of}
 use Rattle.cnf_core.specs.declared.log.Log.{Log}
 use Rattle.verdict_certs.specs.Keeping.{AreShown, IsShown}
-use Rattle.verdicts.specs.Deciding.{Decides, own_query}
-use Rattle.verdicts.specs.declared.deciding.Query.{Query}
+use Rattle.failures.specs.Found.{failure_of}
+use Rattle.failures.specs.declared.failure.Failure.{Failure}
+use Rattle.failure_text.specs.Told.{Tells}
+use Rattle.query_laws.specs.Certified.{HasTooMany}
+use Rattle.rounds.specs.Outcomes.{IsAsked, IsSpentAfter}
+use Rattle.rounds.specs.declared.outcome.Query.{Query}
+use Rattle.rounds.specs.declared.outcome.Query.TheVariants.{Goal, Assumption}
+use Rattle.verdicts.specs.Deciding.{Decides, formula_in}
+use Rattle.verdicts.specs.Failing as verdicts
 use Rattle.verdicts.specs.declared.deciding.Verdict.TheVariants.{Holds, SpentConflicts}
 use Rattle.command_reports.specs.declared.refusal.Refusal.{Refusal}
 use Rattle.command_reports.specs.declared.refusal.Refusal.TheVariants as refusal
-use Rattle.cocoon_cli.specs.Answering.{TellsSpent}
-use Rattle.cocoon_cli.specs.ReportLines.{budget_line}
-use Rattle.cocoon_cli.specs.Owing.{OfObligation, by_conflicts, by_rounds, query_of}
-use Rattle.cocoon_cli.specs.Refining.{AnswersGivenUp, IsRefined, IsUnshown, KeepsAll, spent, satisfied, NotAll, NotOne, NotRefined, SaysAll}
+use Rattle.cocoon_cli.specs.Answering.{TellsSpent, failed_with}
+use Rattle.cocoon_cli.specs.Owing.{IsFailing, OfObligation, by_conflicts, by_rounds, spent_line, spent_on, verdict_of, word_of}
+use Rattle.cocoon_cli.specs.Refining.{HasTables, IsEnded, IsRefined, IsUnshown, KeepsAll, NotAll, NotOne, NotRefined, SaysAll, TellsRun}
+use Rattle.cocoon_cli.specs.Refining as refining
 use Rattle.cocoon_cli.specs.declared.answer.Answer.{Answer}
 use Rattle.cocoon_cli.specs.declared.obligations.Refined.{Refined}
 use Rattle.cocoon_cli.specs.declared.obligations.Refined.TheVariants as refined
@@ -65,9 +69,6 @@ at_index (y ∷ xs) (suc k) x less e = at_index xs k x (omega (arith, less)) e
 
 -- ---- one obligation
 
-same_query : (d : Design) (nodes : List Node) (o : Obligation) (owed : laws.Obligation) → ShowsObligation d nodes o owed → own_query d nodes o ≡ query_of d owed
-same_query d nodes o owed h = ap₂ (λ (level : ℕ) (t : Term). query d level t []) h.level_ h.formula_.term
-
 -- it is the one of its number, where those before it never fail
 pub record IsNext (d : Design) (nodes : List Node) (o : Obligation) (k : ℕ) : Type 0 where
   pub owed : laws.Obligation
@@ -84,35 +85,76 @@ next_at d nodes os k o h less is earlier =
 pub is_owed : (d : Design) (nodes : List Node) (o : Obligation) (k : ℕ) → IsNext d nodes o k → IsOwed d nodes o
 is_owed d nodes o k n = record { number = k; owed = n.owed; there = n.there; shown = n.shown }
 
--- this is said of it
-said : (P : Term → Type 0) (d : Design) (nodes : List Node) (o : Obligation) (k : ℕ) → IsNext d nodes o k → P (own_query d nodes o) → OfObligation d k (λ o. P (query_of d o))
-said P d nodes o k n p = record { obligation = n.owed; is = n.there; says = subst P (same_query d nodes o n.owed n.shown) p; earlier = n.earlier }
+-- this is said of its level and its formula
+said : (P : ℕ → Term → Type 0) (d : Design) (nodes : List Node) (o : Obligation) (k : ℕ) → IsNext d nodes o k → P o.level (formula_in nodes o) → OfObligation d k (λ o. P o.level o.formula)
+said P d nodes o k n p = record {
+  obligation = n.owed;
+  is = n.there;
+  says = subst (P n.owed.level) n.shown.formula_.term (subst (λ l. P l (formula_in nodes o)) n.shown.level_ p);
+  earlier = n.earlier;
+}
 
-pub not_shown : (d : Design) (nodes : List Node) (o : Obligation) (conflicts k : ℕ) (answer : Answer) → IsNext d nodes o k → IsUnshown d nodes o conflicts k answer → AnswersGivenUp d conflicts answer
-not_shown d nodes o conflicts k answer n (spent vars log h tells) = record {
-  bytes = tells.bytes;
-  is = by_conflicts k (record { vars = vars; log = log; spent = said (λ t. IsSpentOn t conflicts vars log) d nodes o k n h; file = tells.file }) tells.told;
-  written = tells.written;
-}
-not_shown d nodes o conflicts k answer n (satisfied h tells) = record {
-  bytes = tells.bytes;
-  is = by_rounds k (record { satisfied = said IsSatisfiable d nodes o k n h; file = tells.file }) tells.told;
-  written = tells.written;
-}
+-- the answer with the text of a run tells it
+pub tells_run : (d : Design) (o : Obligation) (kind : Kind) (f : Failure) (answer : Answer) (text : List ℕ) → o.kind ≡ kind → answer ≡ failed_with (verdict_of (kind_in kind)) text
+    → Tells d (word_of (kind_in kind)) o.level o.leaf (failure_of d f) text → TellsRun d (kind_in o.kind) o.level o.leaf (failure_of d f) answer
+tells_run d o kind f answer text is made tells =
+    subst (λ k. TellsRun d (kind_in k) o.level o.leaf (failure_of d f) answer) (sym is)
+    (subst (TellsRun d (kind_in kind) o.level o.leaf (failure_of d f)) (sym made) (record { verdict_ = refl; lines_ = tells; written = refl }))
+
+-- a run by which it fails is told
+fails_told : (d : Design) (nodes : List Node) (o : Obligation) (k : ℕ) (f : Failure) (answer : Answer) → IsNext d nodes o k → verdicts.IsFailing d nodes o o.kind f → TellsRun d (kind_in o.kind) o.level o.leaf (failure_of d f) answer
+    → IsFailing d k answer.report
+fails_told d nodes o k f answer n h tells =
+    let run = failure_of d f in
+    let lines = answer.report.lines in
+    record {
+      obligation = n.owed;
+      is = n.there;
+      says = record {
+        failure = run;
+        fails = h.fails k n.owed n.there n.shown;
+        verdict_ = tells.verdict_ ∙ ap verdict_of n.shown.kind_;
+        lines_ = subst (λ leaf. Tells d (word_of n.owed.kind) n.owed.level leaf run lines) n.shown.leaf_
+            (subst (λ level. Tells d (word_of n.owed.kind) level o.leaf run lines) n.shown.level_
+            (subst (λ kind. Tells d (word_of kind) o.level o.leaf run lines) n.shown.kind_ tells.lines_));
+      };
+      earlier = n.earlier;
+    }
+
+pub not_shown : (d : Design) (nodes : List Node) (o : Obligation) (conflicts rounds k : ℕ) (answer : Answer) → IsNext d nodes o k → IsUnshown d nodes o conflicts rounds k answer → IsEnded d conflicts rounds answer
+not_shown d nodes o conflicts rounds k answer n (refining.by_run f h tells) = refining.fails k (fails_told d nodes o k f answer n h tells) tells.written
+not_shown d nodes o conflicts rounds k answer n (refining.by_conflicts q vars log h tells) =
+    refining.given_up tells.bytes
+    (by_conflicts k q (record { vars = vars; log = log; spent_ = said (λ level t. IsAsked d level t rounds q (λ goal. IsSpentOn goal conflicts vars log)) d nodes o k n h; file = tells.file }) tells.told)
+    tells.written
+not_shown d nodes o conflicts rounds k answer n (refining.by_rounds instances h tells) =
+    refining.given_up tells.bytes
+    (by_rounds k (record { instances = instances; spent_ = said (λ level t. IsSpentAfter d level t rounds instances) d nodes o k n h; file = tells.file }) tells.told)
+    tells.written
 
 -- what the search says shows it
-pub is_shown : (d : Design) (nodes : List Node) (o : Obligation) (conflicts : ℕ) (cert : Cert) → Decides d nodes o conflicts (Holds cert) → IsShown d nodes o cert
-is_shown d nodes o conflicts cert h = record { certified = h.certified; never_fails = h.never_fails }
+pub is_shown : (d : Design) (nodes : List Node) (o : Obligation) (conflicts rounds : ℕ) (cert : Cert) → Decides d nodes o conflicts rounds (Holds cert) → IsShown d nodes o cert
+is_shown d nodes o conflicts rounds cert h = record { certified = h.certified; never_fails = h.never_fails }
 
 -- or does not
-pub unshown : (d : Design) (nodes : List Node) (o : Obligation) (conflicts budget k : ℕ) (q : Query) (vars : ℕ) (log : Log) (answer : Answer) → budget ≡ conflicts → Decides d nodes o budget (SpentConflicts q vars log)
-    → TellsSpent (budget_line conflicts (codes "obligation") k) (asked k [] (log_of log)) answer → IsUnshown d nodes o conflicts k answer
-unshown d nodes o conflicts budget k q vars log answer same h tells = spent vars log (subst (λ (n : ℕ). IsSpentOn (own_query d nodes o) n vars log) same h.1) tells
+pub failing : (d : Design) (nodes : List Node) (o : Obligation) (conflicts rounds k : ℕ) (kind : Kind) (f : Failure) (answer : Answer) → verdicts.IsFailing d nodes o kind f → TellsRun d (kind_in o.kind) o.level o.leaf (failure_of d f) answer
+    → IsUnshown d nodes o conflicts rounds k answer
+failing d nodes o conflicts rounds k kind f answer h tells = refining.by_run f (subst (λ x. verdicts.IsFailing d nodes o x f) (sym h.kind_) h) tells
 
-pub not_decided : (d : Design) (nodes : List Node) (o : Obligation) (k : ℕ) (r : Refusal) → IsNext d nodes o k → NotOne d nodes o r → NotAll d r
-not_decided d nodes o k (refusal.OverLimit limit count) n (l, big) = (k, l, said (λ t. HasTooMany t count) d nodes o k n big)
-not_decided d nodes o k refusal.NoMemory n h = tt
-not_decided d nodes o k r n h = absurd h
+pub unshown_by : (d : Design) (nodes : List Node) (o : Obligation) (conflicts rounds budget k : ℕ) (q : Query) (vars : ℕ) (log : Log) (answer : Answer) → budget ≡ conflicts → Decides d nodes o budget rounds (SpentConflicts q vars log)
+    → TellsSpent (spent_line conflicts k q) (spent_on d k q log) answer → IsUnshown d nodes o conflicts rounds k answer
+unshown_by d nodes o conflicts rounds budget k q vars log answer same h tells =
+    refining.by_conflicts q vars log (subst (λ (n : ℕ). IsAsked d o.level (formula_in nodes o) rounds q (λ goal. IsSpentOn goal n vars log)) same h) tells
+
+-- the definitions that were asked are of the design
+pub has_tables : (d : Design) (level : ℕ) (formula : Term) (rounds : ℕ) (q : Query) (P : Term → Type 0) → IsAsked d level formula rounds q P → HasTables d q
+has_tables d level formula rounds (Goal instances) P h = tt
+has_tables d level formula rounds (Assumption i tables instances) P h = h.allowed.1.1.definitions
+
+pub not_decided : (d : Design) (nodes : List Node) (o : Obligation) (rounds k : ℕ) (r : Refusal) → IsNext d nodes o k → NotOne d nodes o rounds r → NotAll d rounds r
+not_decided d nodes o rounds k (refusal.OverLimit limit count) n (l, (q, big)) = (k, l, (q, said (λ level t. IsAsked d level t rounds q (λ goal. HasTooMany goal count)) d nodes o k n big))
+not_decided d nodes o rounds k refusal.NoMemory n h = tt
+not_decided d nodes o rounds k r n h = absurd h
 
 -- ---- all of them
 
@@ -144,12 +186,12 @@ all_shown d nodes os k certs done h = subst (λ xs. AllZip (IsShown d nodes) xs 
 pub keeps_all : (d : Design) (certs : List Cert) → AreFew (all_counts d) → Refines d → CertsShow d certs → KeepsAll d certs
 keeps_all d certs few refines shown = record { few = few; refines = refines; shown = shown; counted = sym (zip_length (Shows d) (all_obligations d) certs shown) }
 
-pub all_said : (d : Design) (nodes : List Node) (os : List Obligation) (conflicts : ℕ) (x : Result Refined Refusal) → AreFew (all_counts d) → ((certs : List Cert) → AreShown d nodes os certs → KeepsAll d certs) → IfOk x (SaysAll d nodes os conflicts)
-    → IfOk x (IsRefined d conflicts)
-all_said d nodes os conflicts (Ok (refined.Holds certs)) few keeps h = keeps certs.certs h
-all_said d nodes os conflicts (Ok (refined.GivenUp answer)) few keeps h = (few, h)
-all_said d nodes os conflicts (Err r) few keeps h = tt
+pub all_said : (d : Design) (nodes : List Node) (os : List Obligation) (conflicts rounds : ℕ) (x : Result Refined Refusal) → AreFew (all_counts d) → ((certs : List Cert) → AreShown d nodes os certs → KeepsAll d certs) → IfOk x (SaysAll d nodes os conflicts rounds)
+    → IfOk x (IsRefined d conflicts rounds)
+all_said d nodes os conflicts rounds (Ok (refined.Holds certs)) few keeps h = keeps certs.certs h
+all_said d nodes os conflicts rounds (Ok (refined.Ended answer)) few keeps h = (few, h)
+all_said d nodes os conflicts rounds (Err r) few keeps h = tt
 
-pub all_unsaid : (d : Design) (x : Result Refined Refusal) → AreFew (all_counts d) → IfErr x (NotAll d) → IfErr x (NotRefined d)
-all_unsaid d (Ok said) few h = tt
-all_unsaid d (Err r) few h = inr (few, h)
+pub all_unsaid : (d : Design) (rounds : ℕ) (x : Result Refined Refusal) → AreFew (all_counts d) → IfErr x (NotAll d rounds) → IfErr x (NotRefined d rounds)
+all_unsaid d rounds (Ok said) few h = tt
+all_unsaid d rounds (Err r) few h = inr (few, h)

@@ -1,5 +1,5 @@
 -- By what is read of the files, a step is good, or it refuses in one way.
-use Rattle.std.proofs.Common.{◌≡◌, ◌⊎◌, ◌≤◌, ◌<◌, ℕ, zero, suc, true, false, All, refl, List, [], ◌∷◌, length, take, Option, Some, None, Result, Ok, Err, sym, ap, ap₂, subst, ◌∙◌, inl, inr, arith}
+use Rattle.std.proofs.Common.{◌≡◌, ◌⊎◌, ◌≤◌, ◌<◌, ℕ, zero, suc, true, false, All, refl, List, [], ◌∷◌, ◌++◌, length, take, Option, Some, None, Result, Ok, Err, sym, ap, ap₂, subst, ◌∙◌, inl, inr, arith}
 use Rattle.std.specs.Prelude.{slice_get}
 use Rattle.std.proofs.lemmas.List.Elements.{All-head, All-tail}
 use Rattle.cocoon_num.specs.Lists.{first_of}
@@ -20,13 +20,17 @@ use Rattle.cocoon_types.specs.declared.fault.TypeRule.{TypeRule}
 use Rattle.cocoon_io.specs.Files.{Files}
 use Rattle.p4_ir.specs.NetTree.{NetData}
 use Rattle.p4_ir.specs.Wiring.{host_numbers}
+use Rattle.bundle_reader.specs.Alone.{OneWiring}
 use Rattle.bundle_reader.specs.OneReading as reading
 use Rattle.bundle_reader.specs.OneReading.{OneReading}
 use Rattle.bundle_reader.specs.Readings.{ContentFault, ContentReads}
 use Rattle.bundle_reader.specs.declared.fault.ReadFault.{ReadFault}
 use Rattle.bundle_reader.specs.declared.fault.ReadFault.TheVariants as read
 use Rattle.cocoon_io.specs.declared.folder.FolderFault.TheVariants.{Failed, NoMemory as Wanting}
+use Rattle.certificates.specs.declared.Cert.{Cert}
 use Rattle.net_run.specs.RunCounts.{most_runs, runs}
+use Rattle.net_wiring.specs.Differences.{FirstDifference}
+use Rattle.net_wiring.specs.declared.wiring.Wiring.{Wiring}
 use Rattle.packet_file.specs.Packets.{Packet, packets_in}
 use Rattle.packet_file.specs.declared.packet.PacketFault.{PacketFault}
 use Rattle.packet_runs.specs.Reports.{IsReport}
@@ -49,18 +53,29 @@ use Rattle.cocoon_resolve.specs.Readers.{all_assumptions}
 use Rattle.hop_inline.specs.Counted.{most_leaves}
 use Rattle.obligation_gen.specs.Counted.{all_counts}
 use Rattle.refinement.specs.Assumptions.{IsMet, Meets}
+use Rattle.refinement.specs.Owed.{Refines}
+use Rattle.failures.specs.Failures.{Failure}
+use Rattle.failure_text.specs.FailureTexts.{first_line, run_lines}
+use Rattle.obligation_laws.specs.Failing.{NeverFails}
+use Rattle.obligation_laws.specs.Obligations.{Obligation, all_obligations}
+use Rattle.verdicts.specs.Failing.{FailsBy}
 use Rattle.discharge.specs.Meeting.{IsFalseAt}
 use Rattle.command_reports.specs.Refusals.{IsOfFiles, unread_as}
 use Rattle.command_reports.specs.declared.files.CommandFile.{CommandFile}
 use Rattle.command_reports.specs.declared.files.CommandFile.TheVariants.{Design, Definitions, Case as CaseFile, Packets as PacketsFile}
+use Rattle.command_reports.specs.declared.refusal.BundleCause.TheVariants as cause
 use Rattle.command_reports.specs.declared.refusal.InputFault.TheVariants.{NoTree, Rule}
 use Rattle.command_reports.specs.declared.refusal.DefinitionsFault.TheVariants as definitions
 use Rattle.command_reports.specs.declared.refusal.Refusal.{Refusal}
 use Rattle.command_reports.specs.declared.refusal.Refusal.TheVariants as refusal
+use Rattle.command_reports.specs.declared.report.Report.{Report}
+use Rattle.command_reports.specs.declared.report.Verdict.{Verdict}
 use Rattle.design_texts.specs.DesignTexts.{told}
-use Rattle.cocoon_cli.specs.Steps.{Inputs, OfBundle, OfDefinitions, OfDesign, OfPackets, OfText, Step, is_there, is_within, design_reads, design_well_formed, design_within, definitions_read, definitions_fit, definitions_within, assumptions_met, trees_within, obligations_hold, lowering_within, level_there, lines_formed, bundle_reads, packets_judged, copies_within, switch_files_within, certificates_within, network_file_within, bundle_written, is_long, packets_refusal, IsGood, Refuses}
+use Rattle.cocoon_cli.specs.Steps.{Inputs, OfBundle, OfCertified, OfDefinitions, OfDesign, OfPackets, OfStandingCertificates, OfStandingWires, OfText, Step, is_there, is_within, design_reads, design_well_formed, design_within, definitions_read, definitions_fit, definitions_within, assumptions_met, trees_within, obligations_hold, certificates_read, certificates_counted, certificates_accepted, wires_read, wires_same, lowering_within, level_there, lines_formed, bundle_reads, packets_judged, copies_within, switch_files_within, certificates_within, network_file_within, bundle_written, is_long, packets_refusal, IsGood, Judges, Refuses}
 use Rattle.cocoon_cli.specs.Assumed.{IsBroken}
-use Rattle.cocoon_cli.specs.Outcomes.{Alike, broken}
+use Rattle.cocoon_cli.specs.Owing.{IsFailing, TellsFailure, word_of}
+use Rattle.cocoon_cli.specs.Outcomes.{Alike, broken, failed, failed_leaf}
+use Rattle.cocoon_cli.proofs.OneStanding.{accepted_or_not, of_networks, one_certificates, one_certificates_fault, one_unaccepted, read_or_fault, same_or_differ}
 use Rattle.cocoon_cli.proofs.RuleValues.{same_rule}
 
 -- that texts have one tree or one first fault, that a design keeps the rules or breaks one first and so with the limits, that
@@ -80,8 +95,12 @@ pub record Laws : Type 0 where
   pub one_over : (d : tree.Design) (e : tree.DefsText) (x y : LimitName) (m n : ℕ) → IsOver d e x m → IsOver d e y n → (x ≡ y) × (m ≡ n)
   pub one_step : (level : ℕ) (d : tree.Design) (defs : tables.Defs) (case : Case) (told other : Option Sent) → Steps level d defs case told → Steps level d defs case other → other ≡ told
   pub one_reading : (files : Files) (out : List ℕ) → OneReading files out
+  pub one_wiring : (files : Files) (out : List ℕ) → OneWiring files out
+  pub one_difference : (old new : NetData) (v w : Wiring) → FirstDifference old new v → FirstDifference old new w → v ≡ w
   pub same_report : (net : NetData) (hops : ℕ) (ps : List Packet) (lines other : List ℕ) → IsReport net hops ps lines → IsReport net hops ps other → lines ≡ other
   pub no_over : (d : tree.Design) (e : tree.DefsText) (x : LimitName) (n : ℕ) → IsWithin d e → IsOver d e x n → ⊥
+  pub no_failure : (d : tree.Design) (o : Obligation) (f : Failure) → FailsBy d o f → NeverFails d o → ⊥
+  pub no_refuted : (d : tree.Design) (o : Obligation) (f : Failure) → FailsBy d o f → Refines d → ⊥
 
 -- ---- what is read
 
@@ -131,6 +150,21 @@ on_bundle {P = P} i out (files, is, one) f h k =
     let same = one.one_network h.net k.net (subst (λ content. ContentReads content out h.net) is h.reads) (subst (λ content. ContentReads content out k.net) is k.reads) in
     f k.net (subst P same h.holds) k.holds
 
+-- so have the certificates and the wires that stand
+abbrev pub HasWiring : Inputs → (out : List ℕ) → Type 0
+HasWiring i out = (files : Files) × (i.content ≡ Some files) × OneWiring files out
+
+on_certificates : {P Q : List Cert → Type 0} {R : Type 0} (i : Inputs) (out : List ℕ) → HasWiring i out → ((certs : List Cert) → P certs → Q certs → R) → OfStandingCertificates i out P → OfStandingCertificates i out Q → R
+on_certificates {P = P} i out (files, is, one) f h k =
+    f k.certs (subst P (one_certificates files out h.certs k.certs (h.given files is) (k.given files is)) h.holds) k.holds
+
+on_certified : {P Q : tree.Design → List Cert → Type 0} {R : Type 0} → Laws → (i : Inputs) (out : List ℕ) → HasWiring i out → ((d : tree.Design) (certs : List Cert) → P d certs → Q d certs → R) → OfCertified i out P → OfCertified i out Q → R
+on_certified laws i out b f h k = on_design laws i (λ _ d u v. on_certificates i out b (f d) u v) h k
+
+on_wires : {P Q : NetData → Type 0} {R : Type 0} (i : Inputs) (out : List ℕ) → HasWiring i out → ((wires : NetData) → P wires → Q wires → R) → OfStandingWires i out P → OfStandingWires i out Q → R
+on_wires {P = P} i out (files, is, one) f h k =
+    f k.wires (subst P (one.one_wiring h.wires k.wires (h.given files is) (k.given files is)) h.holds) k.holds
+
 abbrev judged_by : NetData → List ℕ → Result (List Packet) PacketFault
 judged_by net text = packets_in (host_numbers net.hosts) text
 
@@ -140,6 +174,11 @@ on_packets {P = P} i out r f h k =
 
 abbrev pub Decided : Inputs → Step → Type 0
 Decided i (bundle_reads out) = HasReading i out
+Decided i (certificates_read out) = HasWiring i out
+Decided i (certificates_counted out) = HasWiring i out
+Decided i (certificates_accepted out) = HasWiring i out
+Decided i (wires_read out) = HasWiring i out
+Decided i (wires_same out) = HasWiring i out
 Decided i (packets_judged out) = HasReading i out
 Decided i (copies_within out hops) = HasReading i out
 Decided i s = Unit {0}
@@ -229,7 +268,59 @@ none_broken d defs n v met h = never_false d defs h.assumption v (of_all (IsMet 
 same_number : (r q : Refusal) (m n : ℕ) (v w : List ℕ) → m ≡ n → r ≡ refusal.Broken m v → q ≡ refusal.Broken n w → Alike (Err r) (Err q)
 same_number r q m n v w same x y = broken (ap Err x ∙ ap (λ (k : ℕ). Err (refusal.Broken k v)) same) (ap Err y)
 
+-- ---- obligations
+
+-- the first obligation that fails is one
+none_earlier : Laws → (d : tree.Design) (m n : ℕ) (r q : Report) → IsFailing d m r → IsFailing d n q → m < n → ⊥
+none_earlier laws d m n r q h k less =
+    laws.no_failure d h.obligation h.says.failure h.says.fails (of_first (NeverFails d) (all_obligations d) m n h.obligation less h.is k.earlier)
+
+one_failing : Laws → (d : tree.Design) (m n : ℕ) (r q : Report) → IsFailing d m r → IsFailing d n q → m ≡ n
+one_failing laws d m n r q h k = elim (compared m n) [
+  | inl less ↦ absurd (none_earlier laws d m n r q h k less)
+  | inr (inl same) ↦ same
+  | inr (inr more) ↦ absurd (none_earlier laws d n m q r k h more)
+]
+
+abbrev reported_as : Verdict → List ℕ → Report
+reported_as v lines = record { verdict = v; lines = lines }
+
+-- its report tells its leaf first
+tells_leaf : (d : tree.Design) (o : Obligation) (r : Report) → TellsFailure d o r → (rest : List ℕ) × ◌≡◌ {A = Result Report Refusal} (Ok r) (Ok (failed_leaf o.kind o.level o.role o.number rest))
+tells_leaf d o r h =
+    let t = h.lines_ in
+    let rest = run_lines h.failure ++ t.defs in
+    let lines : r.lines ≡ first_line (word_of o.kind) o.level o.role o.number ++ rest =
+    t.is ∙ ap (λ role. first_line (word_of o.kind) o.level role o.number ++ rest) h.fails.role in
+    (rest, ap Ok (ap₂ reported_as h.verdict_ lines))
+
+same_failing : (d : tree.Design) (n : ℕ) (r q : Report) → IsFailing d n r → IsFailing d n q → Alike (Ok r) (Ok q)
+same_failing d n r q h k =
+    let one = same_some (slice_get (all_obligations d) n) h.obligation k.obligation h.is k.is in
+    let x = tells_leaf d k.obligation r (subst (λ o. TellsFailure d o r) one h.says) in
+    let y = tells_leaf d k.obligation q k.says in
+    failed {kind = k.obligation.kind} {level = k.obligation.level} {role = k.obligation.role} {leaf = k.obligation.number} {rest = x.0} {other = y.0} x.1 y.1
+
+two_failing : Laws → (d : tree.Design) (m n : ℕ) (r q : Report) → IsFailing d m r → IsFailing d n q → Alike (Ok r) (Ok q)
+two_failing laws d m n r q h k = same_failing d n r q (subst (λ x. IsFailing d x r) (one_failing laws d m n r q h k) h) k
+
 -- ---- one step
+
+-- two verdicts of a step are alike
+pub judges_once : Laws → (i : Inputs) (s : Step) (r q : Report) → Judges i s r → Judges i s q → Alike (Ok r) (Ok q)
+judges_once laws i (obligations_hold conflicts rounds) r q h k = on_design laws i (λ _ d (m, x) (n, y). two_failing laws d m n r q x y) h k
+judges_once laws i s r q h k = absurd h
+
+-- it gives none where it refuses
+pub judged_or_refused : (i : Inputs) (s : Step) (r : Report) (q : Refusal) → Judges i s r → Refuses i s q → ⊥
+judged_or_refused i (obligations_hold conflicts rounds) r q h k = k
+judged_or_refused i s r q h k = absurd h
+
+-- and none where it is good
+pub good_or_judged : Laws → (i : Inputs) (s : Step) (r : Report) → IsGood i s → Judges i s r → ⊥
+good_or_judged laws i (obligations_hold conflicts rounds) r g h =
+    on_design laws i (λ _ d refines (n, x). laws.no_refuted d x.obligation x.says.failure x.says.fails refines) g h
+good_or_judged laws i s r g h = absurd h
 
 -- of two refusals of a step: they are one, or are alike where the step is decided by a search
 abbrev pub Once : Step → (r q : Refusal) → Type 0
@@ -258,7 +349,21 @@ refuses_once laws i (assumptions_met conflicts) r q b h k =
 refuses_once laws i trees_within r q b h k =
     on_design laws i (λ _ d (m, first, x) (n, other, y).
     x ∙ ap (λ (c : ℕ). refusal.OverLimit Leaves (reported c)) (same_some (first_above most_leaves (all_counts d)) m n first other) ∙ sym y) h k
-refuses_once laws i (obligations_hold conflicts) r q b h k = absurd h
+refuses_once laws i (obligations_hold conflicts rounds) r q b h k = absurd h
+refuses_once laws i (certificates_read out) r q b h k =
+    h.2 ∙ ap unread_as (one_certificates_fault b.0 out h.0 k.0 (h.1 b.0 b.1) (k.1 b.0 b.1)) ∙ sym k.2
+refuses_once laws i (certificates_counted out) r q b h k =
+    on_certified laws i out b (λ d certs (f, w, x, e) (g, v, y, z).
+    e ∙ ap₂ (λ (m n : ℕ). refusal.Unread files.Certificates (cause.Count m n)) (x.found_ ∙ sym y.found_) (x.wanted_ ∙ sym y.wanted_) ∙ sym z) h k
+refuses_once laws i (certificates_accepted out) r q b h k = on_certified laws i out b (λ d certs x y. one_unaccepted d certs r q x y) h k
+refuses_once laws i (wires_read out) r q b h k =
+    h.2
+    ∙ ap unread_as ((laws.one_reading b.0 out).one_fault h.0 k.0 (of_files h.0 (subst IsOfFiles h.2 h.3)) (of_files k.0 (subst IsOfFiles k.2 k.3))
+    (subst (λ content. ContentFault content out h.0) b.1 h.1.0) (subst (λ content. ContentFault content out k.0) b.1 k.1.0))
+    ∙ sym k.2
+refuses_once laws i (wires_same out) r q b h k =
+    on_net laws i (λ t net u v. on_wires i out b (λ old (w, x, e) (z, y, f).
+    e ∙ ap (λ (d : Wiring). refusal.Unread files.Network (cause.Wiring d)) (laws.one_difference old net w z (of_networks old net w x) (of_networks old net z y)) ∙ sym f) u v) h k
 refuses_once laws i lowering_within r q b h k =
     on_both laws i (λ _ d _ e (l, m, over, x) (o, n, one, y).
     let same = laws.one_over d e l o m n over one in
@@ -298,7 +403,13 @@ good_or_refused laws i (assumptions_met conflicts) r b g h =
     on_both laws i (λ _ d _ e met (n, v, false_at, _). none_broken d (defs_of d e) n v met false_at) g h
 good_or_refused laws i trees_within r b g h =
     on_design laws i (λ _ d few (n, first, _). let no : ◌≡◌ {A = Option ℕ} None (Some n) = sym few ∙ first in cc) g h
-good_or_refused laws i (obligations_hold conflicts) r b g h = h
+good_or_refused laws i (obligations_hold conflicts rounds) r b g h = h
+good_or_refused laws i (certificates_read out) r b g h = read_or_fault b.0 out g.certs h.0 (g.given b.0 b.1) (h.1 b.0 b.1)
+good_or_refused laws i (certificates_counted out) r b g h = on_certified laws i out b (λ d certs many (f, w, x, e). x.differ many) g h
+good_or_refused laws i (certificates_accepted out) r b g h = on_certified laws i out b (λ d certs all x. accepted_or_not d certs r all.0 x) g h
+good_or_refused laws i (wires_read out) r b g h =
+    b.2.no_fault g.wires h.0 (of_files h.0 (subst IsOfFiles h.2 h.3)) h.1.1 (g.given b.0 b.1) (subst (λ content. ContentFault content out h.0) b.1 h.1.0)
+good_or_refused laws i (wires_same out) r b g h = on_net laws i (λ t net u v. on_wires i out b (λ old same (w, x, e). same_or_differ old net w same x) u v) g h
 good_or_refused laws i lowering_within r b g h = on_both laws i (λ _ d _ e (_, _, within) (l, n, over, _). laws.no_over d e l n within over) g h
 good_or_refused laws i (level_there level) r b g h =
     on_design laws i (λ _ d there (over, _). let x : level ≤ last_level d = there in let y : last_level d < level = over in omega arith) g h

@@ -266,6 +266,7 @@ all_read ns content of g h =
     record {
       inputs = i;
       inputs_are = picked ns content a;
+      content_is = content_is ns content (Some x) (Some y) (Some z) (Some w);
       good = all_good i _ _ (file_good ns content a Design x refl g.design)
           (all_good i _ _ (file_good ns content a Definitions y refl g.definitions)
           (all_good i _ _ (file_good ns content a Case z refl g.case) (all_good i _ _ (file_good ns content a Packets w refl g.packets) (net_good i (bundle_in ns) of.net n))));

@@ -5,7 +5,9 @@ use Rattle.cocoon_io.specs.Files.{Files}
 use Rattle.cocoon_io.specs.Calls.{appended}
 use Rattle.net_bundle.specs.Bundle.{MadeFile}
 use Rattle.net_bundle.specs.declared.file.BundleFile.{BundleFile}
+use Rattle.net_bundle.specs.declared.file.BundleFile.TheVariants as at_file
 use Rattle.net_bundle.specs.Writing.{SomeWritten, StopsAt, with_files}
+use Rattle.obligation_laws.specs.Obligations.{Kind, contained, bounded}
 use Rattle.command_line.specs.Command.{Command}
 use Rattle.command_line.specs.Words.{command}
 use Rattle.command_reports.specs.FileNames.{HasName, name_of}
@@ -18,17 +20,18 @@ use Rattle.command_reports.specs.declared.report.Report.{Report}
 use Rattle.command_reports.specs.declared.report.Verdict.{Verdict}
 use Rattle.command_reports.specs.declared.report.Verdict.TheVariants as verdict
 use Rattle.command_reports.specs.declared.status.Status.{Status}
-use Rattle.command_reports.specs.declared.status.Status.TheVariants.{Budget as BudgetSpent, Done, Usage, ReadFault, WriteFault, NoMemory}
+use Rattle.command_reports.specs.declared.status.Status.TheVariants.{Budget as BudgetSpent, Done, HopBound, Refuted, Usage, ReadFault, WriteFault, NoMemory}
 use Rattle.cocoon_cli.specs.Commands.{Reports, files_of}
 use Rattle.cocoon_cli.specs.Leaves.{EndsWriting, IsWhole, IsWritten, Leaves, LeavesAll, LeavesSome, LeavesFault}
 use Rattle.cocoon_cli.specs.Outcomes.{FirstWith, no_memory as out_of_memory, at_step, at_fault, StopsAt as StopsAtStep, Answers, HasOutcome, steps}
 use Rattle.cocoon_cli.specs.Run.{Call, Cause, Counted, CountsFault, Uncounted, MayCount, of_read, of_write, of_memory, Count, inputs_of, InputsAre, Performs, IsOnly, CauseOf, LineNames, NamesFault, EndsWith, Yields, to_read_fault, to_write_fault, to_no_memory, TheOutcome, OutcomeOf, DoneOf, IsSpentAt, SpentOf, LeavesOf, MayWrite, failed, spent, UsageOf, Keeps, KeepsMore}
 use Rattle.cocoon_cli.specs.Run as run
-use Rattle.cocoon_cli.specs.Steps.{Inputs, Step, assumptions_met, obligations_hold, is_there, bundle_reads, bundle_written}
+use Rattle.cocoon_cli.specs.Owing.{verdict_of}
+use Rattle.cocoon_cli.specs.Steps.{Inputs, Step, assumptions_met, obligations_hold, is_there, bundle_reads, bundle_written, certificates_read, wires_read}
 use Rattle.cocoon_cli.specs.Writing.{Writing, nothing as nothing_written, bundle, own, SomeOf, StopsIn, with_writing}
 use Rattle.cocoon_cli.proofs.Commands.{report_done, report_writes}
 use Rattle.cocoon_cli.proofs.Ending.{first_gives, first_map}
-use Rattle.cocoon_cli.proofs.Finding.{spends_budget}
+use Rattle.cocoon_cli.proofs.Finding.{IsOfFailure, judges_failure, spends_budget}
 
 -- ---- what is printed
 
@@ -70,6 +73,8 @@ abbrev Speaks : Status → Result Report Refusal → Type 0
 Speaks Usage x = ⊥
 Speaks Done x = (report : Report) × (x ≡ Ok report) × (report.verdict ≡ verdict.Done)
 Speaks BudgetSpent x = (report : Report) × (x ≡ Ok report) × (report.verdict ≡ verdict.Budget)
+Speaks Refuted x = (report : Report) × (x ≡ Ok report) × (report.verdict ≡ verdict.Refuted)
+Speaks HopBound x = (report : Report) × (x ≡ Ok report) × (report.verdict ≡ verdict.HopBound)
 Speaks ReadFault x = (file : CommandFile) × (x ≡ Err (refusal.ReadFault file))
 Speaks WriteFault x = (file : CommandFile) × (x ≡ Err (refusal.WriteFault file))
 Speaks s x = Unit {0}
@@ -77,7 +82,8 @@ Speaks s x = Unit {0}
 verdict_speaks : (v : Verdict) (report : Report) → report.verdict ≡ v → Speaks (verdict_status v) (Ok report)
 verdict_speaks verdict.Done report e = (report, refl, e)
 verdict_speaks verdict.Budget report e = (report, refl, e)
-verdict_speaks v report e = tt
+verdict_speaks verdict.Refuted report e = (report, refl, e)
+verdict_speaks verdict.HopBound report e = (report, refl, e)
 
 speaks : (x : Result Report Refusal) → Speaks (status_of x) x
 speaks (Ok report) = verdict_speaks report.verdict report refl
@@ -107,7 +113,9 @@ stopped i (Ok report) s h = absurd h
 stopped i (Err r) (is_there file) h = (file, inl (ap Err h))
 stopped i (Err r) (bundle_reads out) (file, h) = (BundleOf file, inl (ap Err h))
 stopped i (Err r) (assumptions_met conflicts) h = (BudgetFile, inr (ap Err h.0))
-stopped i (Err r) (obligations_hold conflicts) h = (BudgetFile, inr (ap Err h.0))
+stopped i (Err r) (obligations_hold conflicts rounds) h = (BudgetFile, inr (ap Err h.0))
+stopped i (Err r) (certificates_read out) h = (BundleOf at_file.Certificates, inl (ap Err h))
+stopped i (Err r) (wires_read out) h = (BundleOf at_file.Network, inl (ap Err h))
 stopped i (Err r) bundle_written (file, h) = (BundleOf file, inr (ap Err h))
 stopped i (Err r) s h = absurd h
 
@@ -234,7 +242,7 @@ write_line_of last (Some c) call h k w = elim (or_sink call h.ending w (how call
 
 -- with a success all steps are good
 not_done : (c : Command) (i : Inputs) (report : Report) (w : Writing) → report.verdict ≡ verdict.Done → (s : Step) → EndsWriting (files_of c) i report w s → ⊥
-not_done c i report w done s (inl h) = h.0
+not_done c i report w done s (inl h) = subst IsOfFailure done (judges_failure i s report h.0)
 not_done c i report w done s (inr h) = let no : ◌≡◌ {A = Verdict} verdict.Done verdict.Budget = sym done ∙ spends_budget i s report h.0 h.1 in cc
 
 whole_of : (c : Command) (i : Inputs) (report : Report) (w : Writing) → report.verdict ≡ verdict.Done → IsWritten c i report w → IsWhole c i w × Reports c i report
@@ -252,16 +260,16 @@ done_by c call report line done p is out =
     (p.inputs, report, p.inputs_are, kept.1, (w, kept.0, stands), printed c call report line is out)
 
 -- with a search that was given up the file of that stands
-spent_at : (c : Command) (i : Inputs) (report : Report) (w : Writing) (before after : Option Files) → after ≡ with_writing w before → (s : Step) → EndsWriting (files_of c) i report w s → IsSpentAt c i report before after s
-spent_at c i report w before after stands s (inl h) = absurd h.0
-spent_at c i report w before after stands s (inr h) =
+spent_at : (c : Command) (i : Inputs) (report : Report) (w : Writing) (before after : Option Files) → report.verdict ≡ verdict.Budget → after ≡ with_writing w before → (s : Step) → EndsWriting (files_of c) i report w s → IsSpentAt c i report before after s
+spent_at c i report w before after budget stands s (inl h) = absurd (subst IsOfFailure budget (judges_failure i s report h.0))
+spent_at c i report w before after budget stands s (inr h) =
     let (bytes, spends, (name, is, writes)) = h in
     record { bytes = bytes; spends = spends; leaves = (name, is, stands ∙ ap (λ (x : Writing). with_writing x before) writes) }
 
 spent_of : (c : Command) (i : Inputs) (report : Report) (w : Writing) (before after : Option Files) → report.verdict ≡ verdict.Budget → after ≡ with_writing w before → IsWritten c i report w → FirstWith i (IsSpentAt c i report before after) (steps c)
 spent_of c i report w before after budget stands (inl h) = absurd (let no : ◌≡◌ {A = Verdict} verdict.Budget verdict.Done = sym budget ∙ report_done c i report h.1 in cc)
 spent_of c i report w before after budget stands (inr h) =
-    first_map i (EndsWriting (files_of c) i report w) (IsSpentAt c i report before after) (spent_at c i report w before after stands) (steps c) h
+    first_map i (EndsWriting (files_of c) i report w) (IsSpentAt c i report before after) (spent_at c i report w before after budget stands) (steps c) h
 
 spent_by : (c : Command) (call : Call) (report : Report) (line : List ℕ) → report.verdict ≡ verdict.Budget → Performs c call.content_before call.content_after (Ok report) → line_of (files_of c) (Ok report) ≡ Some line
     → call.output_after ≡ appended call.output_before line → SpentOf (Some c) call
@@ -284,6 +292,18 @@ spends_of (Some c) call h b =
     let f = told c call h BudgetSpent b w in
     spent_by c call f.0 h.ending.report f.2 (subst (λ (x : Result Report Refusal). Performs c call.content_before call.content_after x) f.1 h.performs)
     (subst (λ (x : Result Report Refusal). line_of (files_of c) x ≡ Some h.ending.report) f.1 h.is_ending.line) w.1
+
+-- with a failure its whole report is printed
+report_told : (c : Command) (call : Call) (h : Cause c call) (s : Status) (v : Verdict) → IsPlain s → call.status ≡ s → (f : (report : Report) × (h.outcome ≡ Ok report) × (report.verdict ≡ v))
+    → (report : Report) × (h.outcome ≡ Ok report) × (report.verdict ≡ v) × (call.output_after ≡ appended call.output_before report.lines)
+report_told c call h s v p is f =
+    let w = plain call h.ending s p is (how call h.ending h.prints) in
+    (f.0, f.1, f.2, printed c call f.0 h.ending.report (subst (λ (x : Result Report Refusal). line_of (files_of c) x ≡ Some h.ending.report) f.1 h.is_ending.line) w.1)
+
+pub failure_told : (c : Command) (call : Call) (h : Cause c call) (k : Kind) → call.status ≡ verdict_status (verdict_of k)
+    → (report : Report) × (h.outcome ≡ Ok report) × (report.verdict ≡ verdict_of k) × (call.output_after ≡ appended call.output_before report.lines)
+failure_told c call h contained s = report_told c call h Refuted verdict.Refuted tt s (plainly c call h Refuted tt s)
+failure_told c call h bounded s = report_told c call h HopBound verdict.HopBound tt s (plainly c call h HopBound tt s)
 
 -- what stands where all is written, or stops within it, is a part of it
 take_all : (fs : List MadeFile) → take (length fs) fs ≡ fs
@@ -323,7 +343,7 @@ leaves_of (Some c) call h = (h.performs.inputs, h.performs.inputs_are, leaves_so
 
 -- what is written with a step that ends a command
 found_writes : (c : Command) (i : Inputs) (report : Report) (w : Writing) (before after : Option Files) → after ≡ with_writing w before → (s : Step) → EndsWriting (files_of c) i report w s → MayWrite (verdict_status report.verdict) ⊎ (after ≡ before)
-found_writes c i report w before after stands s (inl h) = absurd h.0
+found_writes c i report w before after stands s (inl h) = inr (stands ∙ ap (λ (x : Writing). with_writing x before) h.1)
 found_writes c i report w before after stands s (inr h) = inl (spent (ap verdict_status (spends_budget i s report h.0 h.1)))
 
 writes_or_same : (c : Command) (i : Inputs) (before after : Option Files) (report : Report) → LeavesAll c i report before after → MayWrite (verdict_status report.verdict) ⊎ (after ≡ before)

@@ -44,6 +44,10 @@ hops_argument = codes "hops"
 abbrev pub conflicts_argument : Text
 conflicts_argument = codes "conflicts"
 
+-- that for a number of rounds
+abbrev pub rounds_argument : Text
+rounds_argument = codes "rounds"
+
 -- a command with these arguments, in their order
 abbrev pub with_arguments : App → List Text → App
 with_arguments app [] = app

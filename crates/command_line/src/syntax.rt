@@ -32,6 +32,9 @@ pub const HOPS: &str = "hops";
 /// That for the number of conflicts.
 pub const CONFLICTS: &str = "conflicts";
 
+/// That for the number of rounds.
+pub const ROUNDS: &str = "rounds";
+
 /// An argument that has to be there.
 fn required_argument<'w>(alloc: Global, id: &'w str) -> Arg<'w>
     ensures rule { rule_of result ≡ required_argument id.entry.now }

@@ -184,6 +184,18 @@ fn judge_answer(found: &str, wanted: Wanted<'_>, out: &mut Printer) {
     }
 }
 
+/// Reports each text that the report is to have, and does not.
+fn judge_texts(lines: &str, found: &str, out: &mut Printer) {
+    for cut in lines.split(LINE) {
+        let line = line_of(cut);
+        if line.word == "has" && !found.contains(line.name) {
+            out.put("  not in the report: ");
+            out.put_debug(&line.name);
+            out.put("\n");
+        }
+    }
+}
+
 /// Reports what differs from what is wanted after a run.
 fn judge(case: Case<'_>, folder: &MemFolder, found: &str, wanted: Wanted<'_>, out: &mut Printer) {
     let is_out_of_memory = found == "12 " || found == "12 no memory\n";
@@ -191,6 +203,7 @@ fn judge(case: Case<'_>, folder: &MemFolder, found: &str, wanted: Wanted<'_>, ou
         return;
     }
     judge_answer(found, wanted, out);
+    judge_texts(case.lines, found, out);
     compare(case, folder, out);
 }
 

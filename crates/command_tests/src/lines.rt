@@ -125,9 +125,9 @@ fn follow(data: Data<'_>, files: &mut CaseFiles, cut: &str, out: &mut Printer) {
 fn is_line(word: &str, count: usize) -> bool {
     match word {
         "words" | "then" => true,
-        "full-sink" | "or-no-memory" => count == 1,
+        "full-sink" | "goes-on" | "or-no-memory" => count == 1,
         "report" | "then-report" => count == 1 || count == 2,
-        "status" | "then-status" | "absent" | "changed" => count == 2,
+        "status" | "then-status" | "absent" | "changed" | "has" => count == 2,
         "failing-call" | "failing-put" => count == 2,
         "cut" | "table" | "same-behind" | "others" => count == 2,
         "replace" => count == 3,

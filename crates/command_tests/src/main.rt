@@ -15,7 +15,7 @@ use calls::try_calls;
 use case_files::{Printer, print};
 use cocoon_io::HonestFolder;
 use cocoon_num::NoMemory;
-use fields::{last_line, put_lines, put_wanted, words_of};
+use fields::{has_line, last_line, put_lines, put_wanted, words_of};
 use lines::{CaseFiles, Data, follow_all, read};
 use lowering::try_lowering;
 use std::process::ExitCode;
@@ -41,7 +41,11 @@ fn try_words(
 ) -> usize {
     let cut = last_line(lines, "cut").name;
     let replaced = last_line(lines, "replace");
-    let same = Wanted::Whole(wanted);
+    let same = if has_line(lines, "goes-on") {
+        Wanted::Beginning(wanted)
+    } else {
+        Wanted::Whole(wanted)
+    };
     if cut.is_empty() && replaced.name.is_empty() {
         let case = Case {
             lines,

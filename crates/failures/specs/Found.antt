@@ -64,7 +64,14 @@ pub record FailureFits (level : ℕ) (d : Design) (f : Failure) : Type 0 where
   pub to : HasRole d f.to.role level
   pub sent : FieldsFit (field_widths d) f.sent.fields
 
--- the failure has these definitions and begins so
+-- it has these definitions and begins so
+pub record BeginsAt (tables : List (Option FunTable)) (b : Begin) (f : Failure) : Type 0 where
+  pub defs : f.defs ≡ tables
+  pub at : f.at ≡ b.at
+  pub packet : f.packet ≡ b.packet
+  pub choices : f.choices ≡ b.choices
+
+-- the failure is under the definitions of the text of these tables, and begins so
 pub record BeginsSo (d : Design) (tables : List (Option FunTable)) (b : Begin) (f : laws.Failure) : Type 0 where
   pub defs : f.defs ≡ defined d tables
   pub at : f.at ≡ loc_of d b.at

@@ -11,7 +11,7 @@ ghost use Rattle.role_meaning.specs.Located.{loc_of, sent_of};
 ghost use Rattle.send_laws.specs.Sending.{CanSend};
 ghost use Rattle.failures.specs.Ending.{Ends};
 ghost use Rattle.failures.specs.Failures.{IsOver, IsRefuted, OfLevel};
-ghost use Rattle.failures.specs.Found.{BeginFits, CanFail, defined, FailureFits, failure_of, IsOfBlock, NoneBegins};
+ghost use Rattle.failures.specs.Found.{BeginFits, BeginsAt, CanFail, defined, FailureFits, failure_of, IsOfBlock, NoneBegins};
 
 use crate::failure::{Begin, Failure, joined};
 use cocoon_num::NoMemory;
@@ -111,7 +111,7 @@ pub fn refuted(
         OfLevel IsRefuted level (design_of checked.now) (failure_of (design_of checked.now) f))) }
     ensures fits { IfOk result (λ failure. IfSome failure
         (FailureFits level (design_of checked.now))) }
-    ensures begins { IfOk result (λ failure. IfSome failure (λ f. f.at ≡ begin.at)) }
+    ensures begins { IfOk result (λ failure. IfSome failure (BeginsAt defs begin)) }
     ensures none { IfOk result (λ failure. failure ≡ None
         → NoneBegins IsRefuted level (design_of checked.now) defs begin) }
 {
@@ -152,7 +152,7 @@ pub fn over(
         OfLevel IsOver level (design_of checked.now) (failure_of (design_of checked.now) f))) }
     ensures fits { IfOk result (λ failure. IfSome failure
         (FailureFits level (design_of checked.now))) }
-    ensures begins { IfOk result (λ failure. IfSome failure (λ f. f.at ≡ begin.at)) }
+    ensures begins { IfOk result (λ failure. IfSome failure (BeginsAt defs begin)) }
     ensures none { IfOk result (λ failure. failure ≡ None
         → NoneBegins IsOver level (design_of checked.now) defs begin) }
 {

@@ -22,6 +22,13 @@ use verdicts::{Query, Verdict, decide};
 /// A budget has fewer conflicts than this.
 const MANY: u64 = 1 << 31;
 
+/// How many conflicts one search may meet, and how many rounds an obligation may be given.
+#[derive(Clone, Copy)]
+pub struct Allowed {
+    pub conflicts: u64,
+    pub rounds: u32,
+}
+
 /// Whether the log derives the empty clause from the query of the obligation, and the certificate is accepted.
 fn is_shown(
     alloc: Global,
@@ -38,7 +45,7 @@ fn is_shown(
     };
     let derives = matches!(check_log(alloc, &cnf, &cert.log), Ok(true));
     let answer = recheck_one(alloc, checked, terms, obligation, cert);
-    instances.is_empty() && derives && matches!(answer, Ok(true))
+    derives && matches!(answer, Ok(true))
 }
 
 /// Whether each step of the log brings a new clause to the query of the obligation with these instances, which has so many variables.
@@ -56,27 +63,24 @@ fn is_spent(
     let Ok(Some(cnf)) = clauses(alloc, checked, terms, obligation, instances) else {
         return false;
     };
-    let is_new = matches!(check_distinct(alloc, &cnf, log), Ok(true));
-    instances.is_empty() && is_new && cnf.vars == vars
+    matches!(check_distinct(alloc, &cnf, log), Ok(true)) && cnf.vars == vars
 }
 
-/// The verdict of a search through so many conflicts.
+/// The verdict of searches that may meet so many conflicts, in so many rounds.
 fn verdict(
     alloc: Global,
     checked: &Checked,
     terms: &Terms,
     obligation: &Obligation,
-    conflicts: u64,
+    allowed: Allowed,
 ) -> Option<Verdict>
     requires { IsOwed (design_of checked.now) terms.now obligation.now }
 {
+    let Allowed { conflicts, rounds } = allowed;
     if conflicts < 1 || conflicts >= MANY {
         return None;
     }
-    let budget = Budget {
-        conflicts,
-        rounds: 0,
-    };
+    let budget = Budget { conflicts, rounds };
     decide(alloc, checked, terms, obligation, &budget).ok()
 }
 
@@ -88,40 +92,100 @@ fn put_shown(word: &str, is_shown: bool, given: &mut Printer) {
     }
 }
 
+/// Whether there are no more instances than rounds.
+fn is_within(instances: &[Instance], allowed: Allowed) -> bool {
+    instances.len() as u64 <= u64::from(allowed.rounds)
+}
+
+/// Puts on which query the conflicts were spent, and whether the log of one of the obligation is accepted.
+fn put_spent(
+    alloc: Global,
+    checked: &Checked,
+    terms: &Terms,
+    obligation: &Obligation,
+    query: &Query,
+    spent: (u32, &Log),
+    allowed: Allowed,
+    given: &mut Printer,
+)
+    requires { IsOwed (design_of checked.now) terms.now obligation.now }
+{
+    let is_whole = spent.1.steps.items().len() as u64 == allowed.conflicts;
+    match query {
+        Query::Goal(instances) => {
+            let instances = instances.items();
+            let is_new = is_spent(alloc, checked, terms, obligation, instances, spent);
+            put_shown(
+                "spent",
+                is_new && is_whole && is_within(instances, allowed),
+                given,
+            );
+        }
+        Query::Assumption(number, _, instances) => {
+            let word = "spent on a candidate of ";
+            put_shown(
+                word,
+                is_whole && is_within(instances.items(), allowed),
+                given,
+            );
+            given.put_number(u64::from(*number));
+        }
+    }
+}
+
+/// Puts how large a query is.
+fn put_large(query: &Query, count: u64, allowed: Allowed, given: &mut Printer) {
+    put_fault(RecheckFault::Big(count), given);
+    match query {
+        Query::Goal(instances) => put_shown("", is_within(instances.items(), allowed), given),
+        Query::Assumption(_, _, instances) => {
+            put_shown(
+                " of a candidate",
+                is_within(instances.items(), allowed),
+                given,
+            );
+        }
+    }
+}
+
 /// Puts the verdict on an obligation, and whether what comes with it is accepted.
 pub fn put_verdict(
     alloc: Global,
     checked: &Checked,
     terms: &Terms,
     obligation: &Obligation,
-    conflicts: u64,
+    allowed: Allowed,
     given: &mut Printer,
 )
     requires { IsOwed (design_of checked.now) terms.now obligation.now }
 {
-    let Some(verdict) = verdict(alloc, checked, terms, obligation, conflicts) else {
+    let Some(verdict) = verdict(alloc, checked, terms, obligation, allowed) else {
         return given.put("no verdict");
     };
     match verdict {
         Verdict::Holds(cert) => {
             let is_shown = is_shown(alloc, checked, terms, obligation, &cert);
-            put_shown("holds", is_shown, given);
+            put_shown(
+                "holds",
+                is_shown && is_within(cert.instances.items(), allowed),
+                given,
+            );
         }
+        Verdict::Refuted(failure) => {
+            put_shown("refuted", failure.at.role == obligation.role, given);
+        }
+        Verdict::Over(failure) => put_shown("over", failure.at.role == obligation.role, given),
         Verdict::SpentConflicts(query, vars, log) => {
-            let Query::Goal(instances) = query;
             let spent = (vars, &log);
-            let is_new = is_spent(alloc, checked, terms, obligation, instances.items(), spent);
-            let is_shown = is_new && log.steps.items().len() as u64 == conflicts;
-            put_shown("spent", is_shown, given);
+            put_spent(
+                alloc, checked, terms, obligation, &query, spent, allowed, given,
+            );
         }
         Verdict::SpentRounds(instances) => {
-            put_shown("satisfied", instances.items().is_empty(), given);
+            let count = instances.items().len() as u64;
+            put_shown("satisfied", count == u64::from(allowed.rounds), given);
         }
-        Verdict::Big(query, count) => {
-            let Query::Goal(instances) = query;
-            put_fault(RecheckFault::Big(count), given);
-            put_shown("", instances.items().is_empty(), given);
-        }
+        Verdict::Big(query, count) => put_large(&query, count, allowed, given),
     }
 }
 
@@ -129,7 +193,7 @@ pub fn put_verdict(
 #[derive(Drop)]
 struct Tally {
     hold: u64,
-    satisfied: u64,
+    fail: u64,
     others: u64,
 }
 
@@ -138,7 +202,7 @@ impl Tally {
     fn add(&mut self, verdict: Option<Verdict>) {
         let count = match verdict {
             Some(Verdict::Holds(_)) => &mut self.hold,
-            Some(Verdict::SpentRounds(_)) => &mut self.satisfied,
+            Some(Verdict::Refuted(_) | Verdict::Over(_)) => &mut self.fail,
             _ => &mut self.others,
         };
         *count = count.saturating_add(1);
@@ -151,27 +215,27 @@ pub fn put_verdicts(
     checked: &Checked,
     terms: &Terms,
     all: &[Obligation],
-    budget: (usize, u64),
+    count: usize,
+    allowed: Allowed,
     given: &mut Printer,
 )
     requires { ShowsObligations (design_of checked.now) terms.now all.now
         (laws.all_obligations (design_of checked.now)) }
 {
-    let (count, conflicts) = budget;
     let mut tally = Tally {
         hold: 0,
-        satisfied: 0,
+        fail: 0,
         others: 0,
     };
     for number in 0..count {
         if let Some(obligation) = obligation(checked, terms, all, number) {
-            tally.add(verdict(alloc, checked, terms, obligation, conflicts));
+            tally.add(verdict(alloc, checked, terms, obligation, allowed));
         }
     }
     given.put_number(tally.hold);
     given.put(" hold, ");
-    given.put_number(tally.satisfied);
-    given.put(" satisfied, ");
+    given.put_number(tally.fail);
+    given.put(" fail, ");
     given.put_number(tally.others);
     given.put(" others");
 }

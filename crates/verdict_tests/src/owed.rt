@@ -6,7 +6,7 @@ ghost use Rattle.obligation_gen.specs.Shown.{ShowsObligations};
 ghost use Rattle.obligation_laws.specs.Obligations as laws;
 
 use crate::asking::{put_asked_with, put_every};
-use crate::deciding::{put_verdict, put_verdicts};
+use crate::deciding::{Allowed, put_verdict, put_verdicts};
 use crate::instances::put_instances;
 use crate::texts::checked_design;
 use bv_terms::Terms;
@@ -45,6 +45,15 @@ pub fn obligation<'o>(
     all.get(number)
 }
 
+/// The numbers `CONFLICTS ROUNDS`; a number that is not there is 0.
+fn allowed(words: &str) -> Allowed {
+    let (conflicts, rounds) = first_word(words);
+    Allowed {
+        conflicts: number(conflicts).unwrap_or_default(),
+        rounds: u32::try_from(number(rounds).unwrap_or_default()).unwrap_or_default(),
+    }
+}
+
 /// Puts the answer to a question of an obligation, `WORD REST`.
 fn put_about(
     alloc: Global,
@@ -58,14 +67,7 @@ fn put_about(
 {
     let (word, rest) = question;
     match word {
-        "decide" => put_verdict(
-            alloc,
-            checked,
-            terms,
-            obligation,
-            number(rest).unwrap_or_default(),
-            given,
-        ),
+        "decide" => put_verdict(alloc, checked, terms, obligation, allowed(rest), given),
         "instances" => put_instances(alloc, checked, terms, obligation, given),
         _ => put_asked_with(alloc, checked, terms, obligation, question, given),
     }
@@ -82,10 +84,7 @@ fn put_asked(alloc: Global, checked: &Checked, words: &str, given: &mut Printer)
     match word {
         "owed" => given.put_number(all.len() as u64),
         "every" => put_every(alloc, checked, &terms, &all, given),
-        "verdicts" => {
-            let conflicts = number(rest).unwrap_or_default();
-            put_verdicts(alloc, checked, &terms, &all, (at, conflicts), given);
-        }
+        "verdicts" => put_verdicts(alloc, checked, &terms, &all, at, allowed(rest), given),
         _ => match obligation(checked, &terms, &all, at) {
             Some(one) => put_about(alloc, checked, &mut terms, one, (word, rest), given),
             None => given.put("no obligation"),

@@ -1,1 +1,4 @@
-pub mod Answered
+pub mod Along
+pub mod Failing
+pub mod Found
+pub mod True

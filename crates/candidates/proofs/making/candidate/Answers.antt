@@ -1,15 +1,15 @@
 use Rattle.std.proofs.Common.{subst, sym}
 use Rattle.bv_terms.specs.Environments.{functions_of, inputs_of}
+use Rattle.bv_terms.specs.TermValues.{Inputs}
 use Rattle.cnf_core.specs.Satisfying.{makes_true}
 use Rattle.cocoon_syntax.specs.TreeOf.{design_of}
 use Rattle.flat_laws.specs.Flat.{flattened}
 use Rattle.literal_tables.specs.Tables.{AreOfDesign, HaveFirstRows}
-use Rattle.query_laws.specs.OwnNames.{input_count}
-use Rattle.query_laws.specs.Queries.{asked, query}
-use Rattle.candidate_laws.specs.Candidates.{IsCandidate}
+use Rattle.query_laws.specs.OwnNames.{own_name}
+use Rattle.candidate_laws.specs.Candidates.{IsCandidate, MakeTrue}
+use Rattle.candidates.specs.Assigned.{assigned}
 use Rattle.candidates.proofs.Applications.{are-of-design, can-all}
-use Rattle.candidates.proofs.Inputs.{has-nodes, reads}
-use Rattle.candidates.proofs.Rows.{all-fit, first-rows}
+use Rattle.candidates.proofs.TrueQueries.{Laws, numbers-are, of-true-query}
 use Rattle.candidates.proofs.making.candidate.Goals as goal
 
 pub environment-requires : goal.environment-requires
@@ -32,23 +32,29 @@ tables_of-requires c =
 pub returns-clause-candidate : goal.returns-clause-candidate
 returns-clause-candidate c = λ level formula is s.
     let d = design_of c.args.checked.now in
-    let nodes = c.args.terms.now in
-    let arena = c.count-count.ensures.arena in
-    let applied = c.args.applied.now in
-    let rows = c.args.inputs.now in
-    let x = c.args.assignment.now in
-    let v = makes_true x in
     let env = c.in_ok-env.env in
-    let bits = c.in_ok-env.ensures in
-    let goal_ = asked d level formula is in
-    let first = input_count formula in
-    let flat = query d level formula is in
+    let looked = c.in_ok-looked.looked.items in
     let tables = c.in_ok-tables.tables.items in
-    let one =
-    c.clauses_mean_the_goal.ensures.reads flat (c.flat_goals_are_goals.ensures goal_ first s.flat.can) x ((c.satisfying_is_making_hold.ensures s.cnf flat s.clauses x).0 s.satisfies)
-    (functions_of env) (inputs_of env) (reads nodes arena flat rows s.flat.mapped v env bits (has-nodes nodes arena flat s.flat.flat)) in
+    let laws : Laws = record { goals = c.flat_goals_are_goals.ensures; reads_back = c.clauses_mean_the_goal.ensures.reads; holds = c.satisfying_is_making_hold.ensures } in
     let made = subst (λ ls. HaveFirstRows ls tables) c.deref.ensures.value c.in_ok-tables.ensures.rows in
     subst (IsCandidate d level formula is) (sym c.in_ok-defs.ensures)
-    (c.true_queries_have_candidates.ensures d c.design-design.ensures.resolves.rules (c.code_literals_fit.ensures.designs c.args.checked.now) level formula s.stands is s.fit s.term
-    (functions_of env) (inputs_of env) (all-fit d nodes arena applied rows goal_ first s.flat v env bits) one tables c.in_ok-tables.ensures.fits
-    (first-rows d nodes arena applied rows goal_ first s.flat v env bits tables c.in_ok-tables.ensures.fits c.in_ok-looked.looked.items c.in_ok-looked.ensures made))
+    (c.true_queries_have_candidates.ensures.candidate d c.design-design.ensures.resolves.rules (c.code_literals_fit.ensures.designs c.args.checked.now) level formula is
+    (functions_of env) (inputs_of env) tables
+    (of-true-query laws d c.args.terms.now c.count-count.ensures.arena c.args.applied.now c.args.inputs.now c.args.assignment.now env c.in_ok-env.ensures
+    looked c.in_ok-looked.ensures tables c.in_ok-tables.ensures.fits made level formula is s))
+
+pub returns-clause-formula : goal.returns-clause-formula
+returns-clause-formula c = λ level formula is s.
+    let d = design_of c.args.checked.now in
+    let v = makes_true c.args.assignment.now in
+    let env = c.in_ok-env.env in
+    let looked = c.in_ok-looked.looked.items in
+    let tables = c.in_ok-tables.tables.items in
+    let laws : Laws = record { goals = c.flat_goals_are_goals.ensures; reads_back = c.clauses_mean_the_goal.ensures.reads; holds = c.satisfying_is_making_hold.ensures } in
+    let made = subst (λ ls. HaveFirstRows ls tables) c.deref.ensures.value c.in_ok-tables.ensures.rows in
+    subst (λ ts. MakeTrue ts (λ i. assigned v c.args.inputs.now (own_name formula i)) formula) (sym c.in_ok-defs.ensures)
+    (subst (λ (f : Inputs). MakeTrue tables (λ i. f (own_name formula i)) formula) (λ k i. numbers-are v env.inputs c.args.inputs.now c.in_ok-env.ensures i k)
+    (c.true_queries_have_candidates.ensures.formula d c.design-design.ensures.resolves.rules (c.code_literals_fit.ensures.designs c.args.checked.now) level formula is
+    (functions_of env) (inputs_of env) tables
+    (of-true-query laws d c.args.terms.now c.count-count.ensures.arena c.args.applied.now c.args.inputs.now c.args.assignment.now env c.in_ok-env.ensures
+    looked c.in_ok-looked.ensures tables c.in_ok-tables.ensures.fits made level formula is s)))

@@ -12,23 +12,23 @@ use Rattle.cocoon_cli.specs.Commands.{owed_steps}
 use Rattle.cocoon_cli.specs.Compiling.{Compiles, CompilesTexts}
 use Rattle.cocoon_cli.specs.Deciding.{AnswersUnmet}
 use Rattle.cocoon_cli.specs.Outcomes.{good, no_memory, none}
-use Rattle.cocoon_cli.specs.Refining.{AnswersGivenUp, IsRefined, KeepsAll}
-use Rattle.cocoon_cli.specs.ReportLines.{totals_line}
+use Rattle.cocoon_cli.specs.Refining.{IsEnded, IsRefined, KeepsAll}
+use Rattle.cocoon_cli.specs.ReportLines.{compiled_line}
 use Rattle.cocoon_cli.specs.Shell.{Asked}
 use Rattle.cocoon_cli.specs.Steps.{lowering_within}
 use Rattle.cocoon_cli.proofs.Assuming.{all_met_good, is_found, is_none, not_met}
 use Rattle.cocoon_cli.proofs.Counted.{passed}
-use Rattle.cocoon_cli.proofs.Owing.{refined_good}
+use Rattle.cocoon_cli.proofs.Owing.{plans_ended, refined_good}
 use Rattle.cocoon_cli.proofs.TextSteps.{Texts, not_matched}
-use Rattle.cocoon_cli.proofs.Compiling.{asks_good, assuming, compiles_texts, given_up_found, lowering, not_lowered, plans_done, reports, unrefined}
+use Rattle.cocoon_cli.proofs.Compiling.{asks_good, assuming, compiles_texts, ended_found, lowering, not_lowered, plans_done, reports, unrefined}
 use Rattle.cocoon_cli.proofs.compile.compile.Goals as goal
 
 pub returns-in_err-bound-clause-asked : goal.returns-in_err-bound-clause-asked
 returns-in_err-bound-clause-asked c = λ inputs design defs.
     let asked = c.args.asked.now in
     let r = c.in_err-bound.field-0.0 in
-    passed (Asked (command asked.design.now asked.defs.now asked.out.now asked.conflicts) inputs) _ r c.from_residual.ensures.1
-    (not_matched inputs c.args.design.now c.args.defs.now (assuming asked.conflicts) r (record { design = design; defs = defs }) c.in_err-bound.ensures.refused)
+    passed (Asked (command asked.design.now asked.defs.now asked.out.now asked.conflicts asked.rounds) inputs) _ r c.from_residual.ensures.1
+    (not_matched inputs c.args.design.now c.args.defs.now (assuming asked.conflicts asked.rounds) r (record { design = design; defs = defs }) c.in_err-bound.ensures.refused)
 
 pub returns-in_err-answer-clause-asked : goal.returns-in_err-answer-clause-asked
 returns-in_err-answer-clause-asked c = λ inputs design defs.
@@ -36,8 +36,8 @@ returns-in_err-answer-clause-asked c = λ inputs design defs.
     let d = design_of c.in_ok-bound.bound.checked in
     let g : Texts inputs c.args.design.now c.args.defs.now = record { design = design; defs = defs } in
     let r = c.in_err-answer.field-0.0 in
-    passed (Asked (command asked.design.now asked.defs.now asked.out.now asked.conflicts) inputs) _ r c.from_residual-in_err-answer.ensures.1
-    (not_met inputs c.args.design.now c.args.defs.now (owed_steps asked.conflicts lowering) asked.conflicts d c.in_ok-bound.bound.defs r g c.in_ok-bound.ensures.binds (c.code_literals_fit.ensures.designs c.in_ok-bound.bound.checked)
+    passed (Asked (command asked.design.now asked.defs.now asked.out.now asked.conflicts asked.rounds) inputs) _ r c.from_residual-in_err-answer.ensures.1
+    (not_met inputs c.args.design.now c.args.defs.now (owed_steps asked.conflicts asked.rounds lowering) asked.conflicts d c.in_ok-bound.bound.defs r g c.in_ok-bound.ensures.binds (c.code_literals_fit.ensures.designs c.in_ok-bound.bound.checked)
     c.in_err-answer.ensures.refused)
 
 pub returns-in-Some-clause-asked : goal.returns-in-Some-clause-asked
@@ -56,68 +56,81 @@ returns-in_err-decided-clause-asked c = λ inputs design defs.
     let binds = c.in_ok-bound.ensures.binds in
     let r = c.in_err-decided.field-0.0 in
     let met = all_met_good inputs c.args.design.now c.args.defs.now asked.conflicts d c.in_ok-bound.bound.defs c.in_ok-answer.field-0 g binds (c.code_literals_fit.ensures.designs c.in_ok-bound.bound.checked) (is_none c.in_ok-answer.field-0 c.in_default.not-Some) c.in_ok-answer.ensures.decided in
-    passed (Asked (command asked.design.now asked.defs.now asked.out.now asked.conflicts) inputs) _ r c.from_residual-in_err-decided.ensures.1
-    (unrefined inputs c.args.design.now c.args.defs.now asked.conflicts d c.in_ok-bound.bound.defs r g binds met c.in_err-decided.ensures.refused)
+    passed (Asked (command asked.design.now asked.defs.now asked.out.now asked.conflicts asked.rounds) inputs) _ r c.from_residual-in_err-decided.ensures.1
+    (unrefined inputs c.args.design.now c.args.defs.now asked.conflicts asked.rounds d c.in_ok-bound.bound.defs r g binds met c.in_err-decided.ensures.refused)
 
-pub returns-in-GivenUp-clause-asked : goal.returns-in-GivenUp-clause-asked
-returns-in-GivenUp-clause-asked c = λ inputs design defs.
+pub returns-in-Ended-clause-asked : goal.returns-in-Ended-clause-asked
+returns-in-Ended-clause-asked c = λ inputs design defs.
     let n = c.args.asked.now.conflicts in
+    let m = c.args.asked.now.rounds in
     let d = design_of c.in_ok-bound.bound.checked in
     let g : Texts inputs c.args.design.now c.args.defs.now = record { design = design; defs = defs } in
     let binds = c.in_ok-bound.ensures.binds in
-    let answer = c.in-GivenUp.answer in
+    let answer = c.in-Ended.answer in
     let met = all_met_good inputs c.args.design.now c.args.defs.now n d c.in_ok-bound.bound.defs c.in_ok-answer.field-0 g binds (c.code_literals_fit.ensures.designs c.in_ok-bound.bound.checked) (is_none c.in_ok-answer.field-0 c.in_default.not-Some) c.in_ok-answer.ensures.decided in
-    let is : AreFew (all_counts d) × AnswersGivenUp d n answer = subst (IsRefined d n) c.in-GivenUp.is c.in_ok-decided.ensures.decided in
-    inr (given_up_found inputs c.args.design.now c.args.defs.now n (lowering_within ∷ []) d c.in_ok-bound.bound.defs answer g binds met is.0 is.1)
+    let is : AreFew (all_counts d) × IsEnded d n m answer = subst (IsRefined d n m) c.in-Ended.is c.in_ok-decided.ensures.decided in
+    inr (ended_found inputs c.args.design.now c.args.defs.now n m (lowering_within ∷ []) d c.in_ok-bound.bound.defs answer g binds met is.0 is.1)
 
 pub returns-in_err-net-in-Holds-clause-asked : goal.returns-in_err-net-in-Holds-clause-asked
 returns-in_err-net-in-Holds-clause-asked c = λ inputs design defs.
     let asked = c.args.asked.now in
     let n = asked.conflicts in
+    let m = asked.rounds in
     let x = c.args.design.now in
     let d = design_of c.in_ok-bound.bound.checked in
     let g : Texts inputs x c.args.defs.now = record { design = design; defs = defs } in
     let binds = c.in_ok-bound.ensures.binds in
     let r = c.in_err-net-in-Holds.field-0.0 in
     let met = all_met_good inputs x c.args.defs.now n d c.in_ok-bound.bound.defs c.in_ok-answer.field-0 g binds (c.code_literals_fit.ensures.designs c.in_ok-bound.bound.checked) (is_none c.in_ok-answer.field-0 c.in_default.not-Some) c.in_ok-answer.ensures.decided in
-    let kept : KeepsAll d c.in-Holds.certs.certs = subst (IsRefined d n) c.in-Holds.is c.in_ok-decided.ensures.decided in
-    passed (Asked (command asked.design.now asked.defs.now asked.out.now asked.conflicts) inputs) _ r c.from_residual-in_err-net-in-Holds.ensures.1
-    (not_lowered inputs x c.args.defs.now n r g (good met (refined_good inputs x n [] d design binds.binds.checked kept.few kept.refines none)) (c.in_err-net-in-Holds.ensures.refused x c.args.defs.now binds))
+    let kept : KeepsAll d c.in-Holds.certs.certs = subst (IsRefined d n m) c.in-Holds.is c.in_ok-decided.ensures.decided in
+    passed (Asked (command asked.design.now asked.defs.now asked.out.now asked.conflicts asked.rounds) inputs) _ r c.from_residual-in_err-net-in-Holds.ensures.1
+    (not_lowered inputs x c.args.defs.now n m d c.in_ok-bound.bound.defs r g (good met (refined_good inputs x n m [] d design binds.binds.checked kept.few kept.refines none)) (c.in_err-net-in-Holds.ensures.refused x c.args.defs.now binds))
 
 pub returns-in_err-line-in-Holds-clause-asked : goal.returns-in_err-line-in-Holds-clause-asked
 returns-in_err-line-in-Holds-clause-asked c = λ inputs design defs.
     let asked = c.args.asked.now in
-    passed (Asked (command asked.design.now asked.defs.now asked.out.now asked.conflicts) inputs) _ refusal.NoMemory c.from_residual-in_err-line-in-Holds.ensures.1 (no_memory refl)
+    passed (Asked (command asked.design.now asked.defs.now asked.out.now asked.conflicts asked.rounds) inputs) _ refusal.NoMemory c.from_residual-in_err-line-in-Holds.ensures.1 (no_memory refl)
 
 pub returns-clause-asked : goal.returns-clause-asked
 returns-clause-asked c = λ inputs design defs.
     let asked = c.args.asked.now in
     let n = asked.conflicts in
+    let m = asked.rounds in
     let d = design_of c.in_ok-bound.bound.checked in
     let net = net_of c.in_ok-net-in-Holds.net in
     let g : Texts inputs c.args.design.now c.args.defs.now = record { design = design; defs = defs } in
     let lowers = c.in_ok-net-in-Holds.ensures.lowers c.args.design.now c.args.defs.now c.in_ok-bound.ensures.binds in
-    let kept : KeepsAll d c.in-Holds.certs.certs = subst (IsRefined d n) c.in-Holds.is c.in_ok-decided.ensures.decided in
+    let kept : KeepsAll d c.in-Holds.certs.certs = subst (IsRefined d n m) c.in-Holds.is c.in_ok-decided.ensures.decided in
     let same : length c.items.result.now ≡ length c.in-Holds.certs.certs = search rules in
     inl (
-      asks_good asked.design.now asked.defs.now asked.out.now n inputs c.args.design.now c.args.defs.now net g lowers.0,
-      reports asked.design.now asked.defs.now asked.out.now n inputs c.args.design.now c.args.defs.now d (length c.items.result.now) net _ g lowers (same ∙ kept.counted)
-          (c.success.ensures ∙ ap success (ap (λ (v : Vec ℕ Global). v.items) c.into_bytes.ensures.value ∙ c.in_ok-line-in-Holds.ensures ∙ ap totals_line c.count_parts.ensures)),
+      asks_good asked.design.now asked.defs.now asked.out.now n m inputs c.args.design.now c.args.defs.now net g lowers.0,
+      reports asked.design.now asked.defs.now asked.out.now n m inputs c.args.design.now c.args.defs.now d (length c.items.result.now) net _ g lowers (same ∙ kept.counted)
+          (c.success.ensures ∙ ap success (ap (λ (v : Vec ℕ Global). v.items) c.into_bytes.ensures.value ∙ c.in_ok-line-in-Holds.ensures ∙ ap compiled_line c.count_parts.ensures)),
     )
 
 pub returns-in_err-text-in-Holds-clause-asked : goal.returns-in_err-text-in-Holds-clause-asked
 returns-in_err-text-in-Holds-clause-asked c = λ inputs design defs.
     let asked = c.args.asked.now in
-    passed (Asked (command asked.design.now asked.defs.now asked.out.now asked.conflicts) inputs) _ refusal.NoMemory c.from_residual-in_err-text-in-Holds.ensures.1 (no_memory refl)
+    passed (Asked (command asked.design.now asked.defs.now asked.out.now asked.conflicts asked.rounds) inputs) _ refusal.NoMemory c.from_residual-in_err-text-in-Holds.ensures.1 (no_memory refl)
 
 pub returns-clause-plans : goal.returns-clause-plans
 returns-clause-plans c =
     let n = c.args.asked.now.conflicts in
+    let m = c.args.asked.now.rounds in
     let x = c.args.design.now in
     let y = c.args.defs.now in
     let d = design_of c.in_ok-bound.bound.checked in
     let net = net_of c.in_ok-net-in-Holds.net in
-    let kept : KeepsAll d c.in-Holds.certs.certs = subst (IsRefined d n) c.in-Holds.is c.in_ok-decided.ensures.decided in
+    let kept : KeepsAll d c.in-Holds.certs.certs = subst (IsRefined d n m) c.in-Holds.is c.in_ok-decided.ensures.decided in
     let lowers = c.in_ok-net-in-Holds.ensures.lowers x y c.in_ok-bound.ensures.binds in
     let made = compiles_texts x y d net c.in-Holds.certs.certs c.in_ok-text-in-Holds.text.items lowers kept c.in_ok-text-in-Holds.ensures.reads in
     plans_done (λ w. Compiles c.args.asked.now.out.now x y w) _ _ (ap (λ (r : Report). r.verdict) c.success.ensures) (refl, subst (CompilesTexts x y net) (sym c.from-certificates.ensures) made)
+
+pub returns-in-Ended-clause-plans : goal.returns-in-Ended-clause-plans
+returns-in-Ended-clause-plans c =
+    let n = c.args.asked.now.conflicts in
+    let m = c.args.asked.now.rounds in
+    let d = design_of c.in_ok-bound.bound.checked in
+    let answer = c.in-Ended.answer in
+    let is : AreFew (all_counts d) × IsEnded d n m answer = subst (IsRefined d n m) c.in-Ended.is c.in_ok-decided.ensures.decided in
+    plans_ended (λ w. Compiles c.args.asked.now.out.now c.args.design.now c.args.defs.now w) d n m answer is.1

@@ -17,6 +17,10 @@ returns c = one (record {
   one_over = c.one_lowering.ensures.one_limit;
   one_step = c.one_step.ensures;
   one_reading = c.one_reading.ensures;
+  one_wiring = c.one_wiring.ensures;
+  one_difference = c.one_first_difference.ensures;
   same_report = c.one_report.ensures;
   no_over = c.one_lowering.ensures.no_limit;
+  no_failure = c.failing_obligations_fail.ensures.fails;
+  no_refuted = c.failing_obligations_fail.ensures.refutes;
 })

@@ -24,17 +24,17 @@ returns-in_err-shown-clause-refused c =
     let k = c.loop-index.index in
     let n = next_at d nodes c.args.obligations.now k o c.requires.shown c.loop-index-test.true c.index-obligations-index.is c.loop-index.invariant.earlier in
     let r = c.in_err-shown.field-0.0 in
-    passed (λ x. IfErr x (NotAll d)) _ r c.from_residual-in_err-shown.ensures.1 (not_decided d nodes o k r n c.in_err-shown.ensures.refused)
+    passed (λ x. IfErr x (NotAll d c.args.rounds)) _ r c.from_residual-in_err-shown.ensures.1 (not_decided d nodes o c.args.rounds k r n c.in_err-shown.ensures.refused)
 
-pub returns-in-GivenUp-clause-decided : goal.returns-in-GivenUp-clause-decided
-returns-in-GivenUp-clause-decided c =
+pub returns-in-Ended-clause-decided : goal.returns-in-Ended-clause-decided
+returns-in-Ended-clause-decided c =
     let d = design_of c.args.checked.now in
     let nodes = c.args.terms.now in
     let o = c.index-obligations-index.result in
     let k = c.loop-index.index in
     let n = next_at d nodes c.args.obligations.now k o c.requires.shown c.loop-index-test.true c.index-obligations-index.is c.loop-index.invariant.earlier in
-    let told = subst (SaysOne d nodes o c.args.conflicts c.in_ok-number.number) c.in-GivenUp.is c.in_ok-shown.ensures.decided in
-    not_shown d nodes o c.args.conflicts k c.in-GivenUp.answer n (subst (λ m. IsUnshown d nodes o c.args.conflicts m c.in-GivenUp.answer) c.in_ok-number.ensures told)
+    let told = subst (SaysOne d nodes o c.args.conflicts c.args.rounds c.in_ok-number.number) c.in-Ended.is c.in_ok-shown.ensures.decided in
+    not_shown d nodes o c.args.conflicts c.args.rounds k c.in-Ended.answer n (subst (λ m. IsUnshown d nodes o c.args.conflicts c.args.rounds m c.in-Ended.answer) c.in_ok-number.ensures told)
 
 pub loop-index-preserved : goal.loop-index-preserved
 loop-index-preserved c =
@@ -46,7 +46,7 @@ loop-index-preserved c =
     let less = c.loop-index-test.true in
     let is = c.index-obligations-index.is in
     let n = next_at d nodes os k o c.requires.shown less is c.loop-index.invariant.earlier in
-    let told = subst (SaysOne d nodes o c.args.conflicts c.in_ok-number.number) c.in-Cert.is c.in_ok-shown.ensures.decided in
+    let told = subst (SaysOne d nodes o c.args.conflicts c.args.rounds c.in_ok-number.number) c.in-Cert.is c.in_ok-shown.ensures.decided in
     one_more d nodes os o k c.loop-index.certs.items _ c.in-Cert.cert less is n c.loop-index.invariant told c.in_ok-keep-in-Cert.ensures
 
 pub returns-clause-decided : goal.returns-clause-decided

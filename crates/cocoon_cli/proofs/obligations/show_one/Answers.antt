@@ -1,22 +1,45 @@
 use Rattle.std.proofs.Common.{◌≡◌, rules, subst}
 use Rattle.cocoon_syntax.specs.TreeOf.{design_of}
-use Rattle.verdicts.specs.Deciding.{Decides}
-use Rattle.cocoon_cli.specs.Refining.{satisfied}
-use Rattle.cocoon_cli.proofs.Kept.{is_shown, unshown}
+use Rattle.verdicts.specs.Deciding.{Decides, formula_in}
+use Rattle.cocoon_cli.specs.Refining.{by_rounds}
+use Rattle.cocoon_cli.proofs.Kept.{failing, has_tables, is_shown, unshown_by}
 use Rattle.cocoon_cli.proofs.obligations.show_one.Goals as goal
+
+pub failed_answer-in-Refuted-requires : goal.failed_answer-in-Refuted-requires
+failed_answer-in-Refuted-requires c =
+    (subst (Decides (design_of c.args.checked.now) c.args.terms.now c.args.obligation.now c.from.result c.args.rounds) c.in-Refuted.is c.in_ok-verdict.ensures).fits
+
+pub failed_answer-in-Over-requires : goal.failed_answer-in-Over-requires
+failed_answer-in-Over-requires c =
+    (subst (Decides (design_of c.args.checked.now) c.args.terms.now c.args.obligation.now c.from.result c.args.rounds) c.in-Over.is c.in_ok-verdict.ensures).fits
+
+pub spent_answer-in-SpentConflicts-requires : goal.spent_answer-in-SpentConflicts-requires
+spent_answer-in-SpentConflicts-requires c =
+    has_tables (design_of c.args.checked.now) c.args.obligation.now.level (formula_in c.args.terms.now c.args.obligation.now) c.args.rounds _ _
+    (subst (Decides (design_of c.args.checked.now) c.args.terms.now c.args.obligation.now c.from.result c.args.rounds) c.in-SpentConflicts.is c.in_ok-verdict.ensures)
 
 pub returns-in-Holds-clause-decided : goal.returns-in-Holds-clause-decided
 returns-in-Holds-clause-decided c =
-    is_shown (design_of c.args.checked.now) c.args.terms.now c.args.obligation.now _ c.in-Holds.cert
-    (subst (Decides (design_of c.args.checked.now) c.args.terms.now c.args.obligation.now c.from.result) c.in-Holds.is c.in_ok-verdict.ensures)
+    is_shown (design_of c.args.checked.now) c.args.terms.now c.args.obligation.now _ c.args.rounds c.in-Holds.cert
+    (subst (Decides (design_of c.args.checked.now) c.args.terms.now c.args.obligation.now c.from.result c.args.rounds) c.in-Holds.is c.in_ok-verdict.ensures)
+
+pub returns-in-Refuted-clause-decided : goal.returns-in-Refuted-clause-decided
+returns-in-Refuted-clause-decided c =
+    failing (design_of c.args.checked.now) c.args.terms.now c.args.obligation.now c.args.conflicts c.args.rounds c.args.number _ _ _
+    (subst (Decides (design_of c.args.checked.now) c.args.terms.now c.args.obligation.now c.from.result c.args.rounds) c.in-Refuted.is c.in_ok-verdict.ensures) c.in_ok-answer-in-Refuted.ensures
+
+pub returns-in-Over-clause-decided : goal.returns-in-Over-clause-decided
+returns-in-Over-clause-decided c =
+    failing (design_of c.args.checked.now) c.args.terms.now c.args.obligation.now c.args.conflicts c.args.rounds c.args.number _ _ _
+    (subst (Decides (design_of c.args.checked.now) c.args.terms.now c.args.obligation.now c.from.result c.args.rounds) c.in-Over.is c.in_ok-verdict.ensures) c.in_ok-answer-in-Over.ensures
 
 pub returns-in-SpentConflicts-clause-decided : goal.returns-in-SpentConflicts-clause-decided
 returns-in-SpentConflicts-clause-decided c =
     let same : c.from.result ≡ c.args.conflicts = search rules in
-    unshown (design_of c.args.checked.now) c.args.terms.now c.args.obligation.now c.args.conflicts c.from.result c.args.number _ _ _ _ same
-    (subst (Decides (design_of c.args.checked.now) c.args.terms.now c.args.obligation.now c.from.result) c.in-SpentConflicts.is c.in_ok-verdict.ensures) c.in_ok-spent_answer-in-SpentConflicts.ensures
+    unshown_by (design_of c.args.checked.now) c.args.terms.now c.args.obligation.now c.args.conflicts c.args.rounds c.from.result c.args.number _ _ _ _ same
+    (subst (Decides (design_of c.args.checked.now) c.args.terms.now c.args.obligation.now c.from.result c.args.rounds) c.in-SpentConflicts.is c.in_ok-verdict.ensures) c.in_ok-answer-in-SpentConflicts.ensures
 
 pub returns-in-SpentRounds-clause-decided : goal.returns-in-SpentRounds-clause-decided
 returns-in-SpentRounds-clause-decided c =
-    let of = subst (Decides (design_of c.args.checked.now) c.args.terms.now c.args.obligation.now c.from.result) c.in-SpentRounds.is c.in_ok-verdict.ensures in
-    satisfied of.1 c.in_ok-open_answer-in-SpentRounds.ensures
+    let of = subst (Decides (design_of c.args.checked.now) c.args.terms.now c.args.obligation.now c.from.result c.args.rounds) c.in-SpentRounds.is c.in_ok-verdict.ensures in
+    by_rounds _ of c.in_ok-answer-in-SpentRounds.ensures

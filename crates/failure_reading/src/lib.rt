@@ -1,0 +1,7 @@
+//! Failures of obligations, by values that were found for the inputs of their formulas.
+#![tactic(auto)]
+
+mod beginning;
+pub mod reading;
+
+pub use reading::failure;
