@@ -32,6 +32,11 @@ PlansBy Done verdict.Done w = Done w
 PlansBy Done verdict.Budget w = IsBudget w
 PlansBy Done v w = w ≡ written.Nothing
 
+-- the answer with this verdict and these lines, with which nothing is written
+abbrev pub failed_with : Verdict → (lines : List ℕ) → Answer
+failed_with v lines =
+    record { report = record { verdict = v; lines = lines }; writing = written.Nothing }
+
 -- the answer of a search that was given up: its line, and the file of what was spent
 pub record TellsSpent (line : List ℕ) (spent : Spent) (answer : Answer) : Type 0 where
   pub told : answer.report ≡ given_up line

@@ -7,14 +7,17 @@ pub mod Deciding
 pub mod Refining
 pub mod Forwarding
 pub mod Reading
+pub mod Standing
 pub mod Steps
 pub mod Writing
 pub mod Answering
+pub mod Updating
 pub mod Commands
 pub mod Outcomes
 pub mod Leaves
 pub mod Headline
 pub mod Checked
 pub mod Certified
+pub mod Failed
 pub mod Run
 pub mod Shell

@@ -2,6 +2,8 @@
 -- `run`. The outcome of a command: that of the first of its steps that is not good, or else its
 -- report. It follows "Statuses" in docs/FORMATS.md.
 use Rattle.std.specs.Prelude.{◌≡◌, ◌⊎◌, ℕ, Bool, true, false, List, [], ◌∷◌, ◌++◌, ◌||◌, Option, Some, None, Result, Ok, Err}
+use Rattle.failure_text.specs.FailureTexts.{first_line}
+use Rattle.obligation_laws.specs.Obligations.{Kind}
 use Rattle.command_line.specs.Command.{Command}
 use Rattle.command_reports.specs.FileNames.{FileNames, bundle_in, wanted}
 use Rattle.command_reports.specs.declared.files.CommandFile.{CommandFile}
@@ -10,6 +12,7 @@ use Rattle.command_reports.specs.declared.refusal.Refusal.{Refusal}
 use Rattle.command_reports.specs.declared.refusal.Refusal.TheVariants as refusal
 use Rattle.command_reports.specs.declared.report.Report.{Report}
 use Rattle.cocoon_cli.specs.Commands.{Reports, asks, files_of, writes}
+use Rattle.cocoon_cli.specs.Owing.{verdict_of, word_of}
 use Rattle.cocoon_cli.specs.Steps.{Inputs, Step, Decides, GivesUp, IsGood, Stops, bundle_reads, is_searched, is_there, is_within}
 
 -- ---- the steps of a command
@@ -67,12 +70,21 @@ HasOutcome c inputs outcome =
 
 -- ---- of two outcomes over the same files
 
+-- a report of this kind of failure that tells this leaf first
+abbrev pub failed_leaf : Kind → (level : ℕ) (role : List ℕ) (leaf : ℕ) → (rest : List ℕ) → Report
+failed_leaf kind level role leaf rest =
+    record { verdict = verdict_of kind; lines = first_line (word_of kind) level role leaf ++ rest }
+
 -- They are equal, or a search may answer one in place of the other.
 pub data Alike (x y : Result Report Refusal) : Type 0 where
   equal : x ≡ y → Alike x y
   -- the same assumption is broken, at values that may be others
   broken : {number : ℕ} {values other : List ℕ} → x ≡ Err (refusal.Broken number values)
       → y ≡ Err (refusal.Broken number other) → Alike x y
+  -- the same leaf fails, by runs that may be others
+  failed : {kind : Kind} {level : ℕ} {role : List ℕ} {leaf : ℕ} {rest other : List ℕ}
+      → x ≡ Ok (failed_leaf kind level role leaf rest)
+      → y ≡ Ok (failed_leaf kind level role leaf other) → Alike x y
 
 -- a search was given up
 abbrev pub IsGivenUp : Inputs → List Step → Result Report Refusal → Type 0

@@ -21,11 +21,20 @@ totals_of obligations net = record {
   obligations = obligations;
 }
 
-abbrev pub totals_line : Totals → List ℕ
-totals_line t =
-    codes "compiled switches " ++ (decimal t.switches ++ (codes " hosts " ++ (decimal t.hosts
+-- that of a network, behind what was done with it
+abbrev pub totals_line : (done : List ℕ) → Totals → List ℕ
+totals_line done t =
+    done ++ (codes " switches " ++ (decimal t.switches ++ (codes " hosts " ++ (decimal t.hosts
     ++ (codes " links " ++ (decimal t.links ++ (codes " obligations " ++ (decimal t.obligations
-    ++ codes "\n")))))))
+    ++ codes "\n"))))))))
+
+-- that of a network that was compiled
+abbrev pub compiled_line : Totals → List ℕ
+compiled_line t = totals_line (codes "compiled") t
+
+-- that of one that was updated
+abbrev pub updated_line : Totals → List ℕ
+updated_line t = totals_line (codes "updated") t
 
 -- that of a search on which conflicts were spent: the most of one search, and what it was about, by its kind and number
 abbrev pub budget_line : (conflicts : ℕ) → (kind : List ℕ) → (number : ℕ) → List ℕ

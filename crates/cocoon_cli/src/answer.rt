@@ -1,10 +1,11 @@
 //! What a command answers over what was read of its files.
 ghost use Rattle.std.specs.Prelude.{IfOk, string_bytes, ◌≡◌};
 ghost use Rattle.command_reports.specs.Report.{given_up};
+ghost use Rattle.cocoon_cli.specs.Answering.{failed_with};
 ghost use Rattle.cocoon_cli.specs.ReportLines.{budget_line};
 
 use cocoon_num::{List, NoMemory};
-use command_reports::{CommandFile, Report};
+use command_reports::{CommandFile, Report, Verdict};
 use p4_ir::NetData;
 use std::alloc::Global;
 
@@ -12,8 +13,9 @@ use std::alloc::Global;
 #[derive(Drop)]
 pub enum Writing<'w> {
     Nothing,
-    /// The bundle of this name, of a network, with the certificates of its design.
-    Bundle(&'w str, NetData, List<u8>),
+    /// The bundle of this name, of a network. The certificates of its design are written with it, if
+    /// there are any here.
+    Bundle(&'w str, NetData, Option<List<u8>>),
     /// One file with a name of its own.
     Own(CommandFile, List<u8>),
 }
@@ -34,6 +36,33 @@ impl<'w> Answer<'w> {
         Answer {
             report: Report::given_up(line.into_bytes()),
             writing: Writing::Own(CommandFile::Budget, List::from(file)),
+        }
+    }
+
+    /// That of a role that was refined by what it does not allow: its text.
+    pub fn refuted(text: Vec<u8>) -> Answer<'w>
+        ensures { result ≡ failed_with Verdict.Refuted text.items }
+    {
+        Answer::told(Verdict::Refuted, text)
+    }
+
+    /// That of a packet that may visit more roles than its block allows: its text.
+    pub fn hop_bound(text: Vec<u8>) -> Answer<'w>
+        ensures { result ≡ failed_with Verdict.HopBound text.items }
+    {
+        Answer::told(Verdict::HopBound, text)
+    }
+
+    /// That with this verdict and these lines. Nothing is written.
+    fn told(verdict: Verdict, text: Vec<u8>) -> Answer<'w>
+        ensures { result ≡ failed_with verdict text.items }
+    {
+        Answer {
+            report: Report {
+                verdict,
+                lines: List::from(text),
+            },
+            writing: Writing::Nothing,
         }
     }
 }

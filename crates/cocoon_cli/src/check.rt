@@ -31,15 +31,16 @@ pub fn check<'w>(alloc: Global, asked: &Check<'w>, design: &[u8]) -> Result<Answ
     requires some { 1 ≤ asked.now.conflicts }
     requires few { asked.now.conflicts ≤ most_conflicts }
     ensures asked { (inputs : Inputs) → inputs.file Design ≡ Some design.now
-        → Asked (spec.check asked.now.design.now asked.now.conflicts) inputs result }
+        → Asked (spec.check asked.now.design.now asked.now.conflicts asked.now.rounds)
+        inputs result }
     ensures plans { IfOk result (λ a.
         PlansBy (λ w. w ≡ Nothing) a.report.verdict a.writing) }
     ensures quiet { IfErr result IsQuiet }
 {
     let checked = read_checked(alloc, design)?;
-    let decided = decide_all(alloc, &checked, asked.conflicts)?;
+    let decided = decide_all(alloc, &checked, asked.conflicts, asked.rounds)?;
     match decided {
-        Refined::GivenUp(answer) => Ok(answer),
+        Refined::Ended(answer) => Ok(answer),
         Refined::Holds(certs) => {
             let obligations = certs.certs.items().len() as u64;
             let line = checked_line(alloc, checked.levels(), obligations)?;

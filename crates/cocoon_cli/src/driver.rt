@@ -1,12 +1,14 @@
 //! The top call: the words are read, the command is performed, and one report is printed.
 ghost use Rattle.std.specs.Prelude.{◌≡◌, map, string_bytes};
 ghost use Rattle.command_line.specs.Words.{command};
+ghost use Rattle.obligation_laws.specs.Obligations.{bounded, contained};
 ghost use Rattle.cocoon_cli.specs.Certified.{CertifiedOf};
 ghost use Rattle.cocoon_cli.specs.Checked.{RefinedOf};
+ghost use Rattle.cocoon_cli.specs.Failed.{FailedOf};
 ghost use Rattle.cocoon_cli.specs.Headline.{Headline};
 ghost use Rattle.cocoon_cli.specs.Run.{Keeps, count};
 
-use crate::laws::{checked_designs_are_refined, one_outcome};
+use crate::laws::{checked_designs_are_refined, one_outcome, reported_failures_are_real};
 use crate::shell::{names_of, perform};
 use cocoon_io::{Folder, Sink};
 use cocoon_num::NoMemory;
@@ -51,9 +53,19 @@ pub fn run<F: Folder, S: Sink>(
     ensures certified { result ≡ Status.Done
         → CertifiedOf (command (map string_bytes words.now))
         (F.content folder.old) (F.content folder.new) }
+
+    // where an obligation is reported not to hold, a run is printed that shows it, and definitions under
+    // which it does
+    ensures refuted { result ≡ Status.Refuted
+        → FailedOf (command (map string_bytes words.now)) (F.content folder.old) contained
+        (S.output out.old) (S.output out.new) }
+    ensures hop_bound { result ≡ Status.HopBound
+        → FailedOf (command (map string_bytes words.now)) (F.content folder.old) bounded
+        (S.output out.old) (S.output out.new) }
 {
     one_outcome();
     checked_designs_are_refined();
+    reported_failures_are_real();
     numbers_are_in_range();
     match parse_command(alloc, words) {
         Ok(Some(command)) => {

@@ -8,17 +8,19 @@ ghost use Rattle.cocoon_types.specs.Rules.{WellFormed};
 ghost use Rattle.cocoon_types.specs.Tables.{defs_of};
 ghost use Rattle.command_line.specs.Command as spec;
 ghost use Rattle.lowered.specs.Delivers.{DeliversExactly, DeliversWithin};
+ghost use Rattle.obligation_laws.specs.Obligations.{bounded, contained};
 ghost use Rattle.p4_ir.specs.NetTree.{NetData};
 ghost use Rattle.refinement.specs.Assumptions.{Meets};
 ghost use Rattle.refinement.specs.Owed.{Refines};
 ghost use Rattle.sound_types.specs.Literals.{DesignLiteralsFit, EntriesFit};
 ghost use Rattle.cocoon_cli.specs.Checked.{RefinedOf};
+ghost use Rattle.cocoon_cli.specs.Failed.{FailedOf};
 ghost use Rattle.cocoon_cli.specs.Outcomes.{HasOutcome};
 ghost use Rattle.command_line.specs.Words.{command};
 ghost use Rattle.cocoon_cli.specs.Run.{Call, CauseOf, IsOnly, KeepsMore};
 ghost use Rattle.cocoon_cli.specs.Steps.{Inputs};
 ghost use Rattle.command_reports.specs.declared.report.Report.{Report};
-ghost use Rattle.command_reports.specs.declared.status.Status.TheVariants.{Done};
+ghost use Rattle.command_reports.specs.declared.status.Status.TheVariants.{Done, HopBound, Refuted};
 ghost use Rattle.command_reports.specs.declared.refusal.Refusal.{Refusal};
 
 use bundle_reader::laws::one_reading;
@@ -30,6 +32,7 @@ use lower_p4::laws::one_lowering;
 use packet_runs::laws::one_report;
 use plain_parser::text_laws::{one_definitions_tree, one_tree};
 use refinement::laws::levels_compose;
+use verdicts::laws::failing_obligations_fail;
 
 /// By what is read of its files, a command has one outcome at most: the first step that refuses,
 /// with its status and its line, or its report. Of a command that reads a bundle it is said where the
@@ -51,6 +54,7 @@ pub fn one_outcome()
     one_step();
     one_reading();
     one_report();
+    failing_obligations_fail();
 }
 
 /// What follows from the cause of an answer: when the words are reported as no command, which statuses
@@ -67,6 +71,17 @@ pub fn checked_designs_are_refined()
 {
     one_tree();
 }
+
+/// Where a command reports that a design does not keep what it owes, it prints a failure of the design of
+/// its file.
+pub fn reported_failures_are_real()
+    ensures refuted { (c : Option spec.Command) (call : Call) → CauseOf c call
+        → call.status ≡ Refuted → FailedOf c call.content_before contained
+        call.output_before call.output_after }
+    ensures hop_bound { (c : Option spec.Command) (call : Call) → CauseOf c call
+        → call.status ≡ HopBound → FailedOf c call.content_before bounded
+        call.output_before call.output_after }
+{}
 
 /// What a network delivers that delivers exactly what the last level does, the topmost specification
 /// may make, if each block of the design is contained and bounded, under definitions that meet all

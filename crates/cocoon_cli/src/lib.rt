@@ -14,7 +14,9 @@ pub mod laws;
 pub mod obligations;
 pub mod reading;
 pub mod shell;
+pub mod standing;
 pub mod step;
+pub mod update;
 pub mod writing;
 
 pub use driver::run;

@@ -1,33 +1,38 @@
 //! The obligations of a design, each decided by a search for all definitions. What shows that they hold is
 //! kept, as certificates.
-ghost use Rattle.std.specs.Prelude.{[], ◌∷◌, ◌≡◌, ◌≤◌, ◌<◌, ◌++◌, ◌^◌, IfErr, IfOk, OnOk, codes, string_bytes};
+ghost use Rattle.std.specs.Prelude.{[], ◌∷◌, ◌≡◌, ◌≤◌, ◌<◌, ◌++◌, ◌^◌, IfErr, IfOk, OnOk, map, string_bytes};
+ghost use Rattle.budget_text.specs.BudgetJson.{IsBudgetFile};
 ghost use Rattle.budget_text.specs.Spent as spent;
-ghost use Rattle.certificates.specs.CertsOf.{log_of};
+ghost use Rattle.certificates.specs.CertsOf.{instance_of};
 ghost use Rattle.cocoon_syntax.specs.TreeOf.{design_of};
+ghost use Rattle.failures.specs.Found.{FailureFits, failure_of};
 ghost use Rattle.obligation_gen.specs.Counted.{AreFew, all_counts};
-ghost use Rattle.obligation_gen.specs.Shown.{ShowsObligations};
+ghost use Rattle.obligation_gen.specs.Shown.{kind_in, ShowsObligations};
 ghost use Rattle.obligation_laws.specs.Obligations as laws;
 ghost use Rattle.obligation_gen.specs.Owed.{IsOwed};
 ghost use Rattle.cocoon_cli.specs.Answering.{TellsSpent};
-ghost use Rattle.cocoon_cli.specs.Refining.{HasManyLeaves, IsRefined, NotAll, NotOne, NotRefined, SaysAll, SaysOne};
-ghost use Rattle.cocoon_cli.specs.ReportLines.{budget_line, rounds_line};
+ghost use Rattle.cocoon_cli.specs.Owing.{spent_line, spent_on};
+ghost use Rattle.cocoon_cli.specs.Refining.{HasManyLeaves, HasTables, IsRefined, NotAll, NotOne, NotRefined, SaysAll, SaysOne, TellsRun};
+ghost use Rattle.cocoon_cli.specs.ReportLines.{rounds_line};
 
 use crate::answer::{Answer, budget_line};
-use budget_text::{obligation_file, rounds_file};
+use budget_text::{candidate_file, obligation_file, rounds_file};
 use bv_terms::Terms;
-use certificates::{Cert, Certs};
+use certificates::{Cert, Certs, Instance};
 use cnf_core::Log;
 use cocoon_num::{LimitName, List, NoMemory};
 use cocoon_resolve::Checked;
 use command_reports::Refusal;
 use discharge::Budget;
+use failure_text::{over_text, refuted_text};
+use failures::Failure;
 use hop_inline::InlineFault;
-use obligation_gen::{Obligation, all_obligations};
+use obligation_gen::{Kind, Obligation, all_obligations};
 use obligation_laws::laws::blocks_that_never_fail_are_refined;
 use sound_types::laws::code_literals_fit;
 use std::alloc::Global;
 use verdict_certs::laws::shown_obligations_are_certified;
-use verdicts::{Verdict, decide};
+use verdicts::{Query, Verdict, decide};
 
 /// What a design owes, and the arena that holds its formulas.
 #[derive(Drop)]
@@ -58,28 +63,100 @@ fn rounds_line(alloc: Global, rounds: u32, number: u32) -> Result<String, NoMemo
     Ok(format!(in alloc; "budget rounds {rounds} obligation {number}\n")?)
 }
 
-/// The answer where conflicts were spent on the obligation of this number.
-fn spent_answer<'w>(
+/// The line where conflicts were spent on a query of the obligation of this number.
+fn spent_line(
     alloc: Global,
     conflicts: u32,
     number: u32,
+    query: &Query,
+) -> Result<String, NoMemory>
+    ensures { IfOk result (λ line. string_bytes line ≡ spent_line conflicts number query.now) }
+{
+    match query {
+        Query::Goal(_) => budget_line(alloc, conflicts, "obligation", number),
+        Query::Assumption(assumption, _, _) => {
+            budget_line(alloc, conflicts, "assumption", *assumption)
+        }
+    }
+}
+
+/// The file of that.
+fn spent_file(
+    alloc: Global,
+    checked: &Checked,
+    number: u32,
+    query: &Query,
+    log: &Log,
+) -> Result<Vec<u8>, NoMemory>
+    requires { HasTables (design_of checked.now) query.now }
+    ensures { IfOk result (λ bytes. IsBudgetFile
+        (spent_on (design_of checked.now) number query.now log.now) bytes.items) }
+{
+    match query {
+        Query::Goal(instances) => obligation_file(alloc, number, instances.items(), log),
+        Query::Assumption(assumption, defs, instances) => {
+            let instances = instances.items();
+            candidate_file(alloc, checked, *assumption, defs, number, instances, log)
+        }
+    }
+}
+
+/// The answer where conflicts were spent on a query of the obligation of this number.
+fn spent_answer<'w>(
+    alloc: Global,
+    checked: &Checked,
+    conflicts: u32,
+    number: u32,
+    query: &Query,
     log: &Log,
 ) -> Result<Answer<'w>, NoMemory>
-    ensures { IfOk result (TellsSpent (budget_line conflicts (codes "obligation") number)
-        (spent.asked number [] (log_of log.now))) }
+    requires { HasTables (design_of checked.now) query.now }
+    ensures { IfOk result (TellsSpent (spent_line conflicts number query.now)
+        (spent_on (design_of checked.now) number query.now log.now)) }
 {
-    let line = budget_line(alloc, conflicts, "obligation", number)?;
-    let file = obligation_file(alloc, number, &[], log)?;
+    let line = spent_line(alloc, conflicts, number, query)?;
+    let file = spent_file(alloc, checked, number, query, log)?;
     Ok(Answer::given_up(line, file))
 }
 
-/// The answer where the query of the obligation of this number can be satisfied.
-fn open_answer<'w>(alloc: Global, number: u32) -> Result<Answer<'w>, NoMemory>
-    ensures { IfOk result (TellsSpent (rounds_line 0 number) (spent.rounds number [])) }
+/// The answer where the rounds were spent on the obligation of this number.
+fn open_answer<'w>(
+    alloc: Global,
+    rounds: u32,
+    number: u32,
+    instances: &[Instance],
+) -> Result<Answer<'w>, NoMemory>
+    ensures { IfOk result (TellsSpent (rounds_line rounds number)
+        (spent.rounds number (map instance_of instances.now))) }
 {
-    let line = rounds_line(alloc, 0, number)?;
-    let file = rounds_file(alloc, number, &[])?;
+    let line = rounds_line(alloc, rounds, number)?;
+    let file = rounds_file(alloc, number, instances)?;
     Ok(Answer::given_up(line, file))
+}
+
+/// The answer where an obligation fails by this run.
+fn failed_answer<'w>(
+    alloc: Global,
+    checked: &Checked,
+    obligation: &Obligation,
+    failure: &Failure,
+) -> Result<Answer<'w>, NoMemory>
+    requires { FailureFits obligation.now.level (design_of checked.now) failure.now }
+    ensures { IfOk result (TellsRun (design_of checked.now) (kind_in obligation.now.kind)
+        obligation.now.level obligation.now.leaf
+        (failure_of (design_of checked.now) failure.now)) }
+{
+    let (level, leaf) = (obligation.level, obligation.leaf);
+    match obligation.kind {
+        Kind::Contained => {
+            let text = refuted_text(alloc, checked, level, leaf, failure)?;
+            Ok(Answer::refuted(text))
+        }
+        Kind::Bounded => {
+            let text = over_text(alloc, checked, level, leaf, failure)?;
+            Ok(Answer::hop_bound(text))
+        }
+    }
 }
 
 /// What is said of one obligation.
@@ -87,8 +164,8 @@ fn open_answer<'w>(alloc: Global, number: u32) -> Result<Answer<'w>, NoMemory>
 enum Shown<'w> {
     /// This shows it.
     Cert(Cert),
-    /// The search for it was given up.
-    GivenUp(Answer<'w>),
+    /// It fails, or the search for it was given up.
+    Ended(Answer<'w>),
 }
 
 /// What is said of the obligation of this number.
@@ -99,25 +176,34 @@ fn show_one<'w>(
     obligation: &Obligation,
     number: u32,
     conflicts: u32,
+    rounds: u32,
 ) -> Result<Shown<'w>, Refusal>
     requires owed { IsOwed (design_of checked.now) terms.now obligation.now }
     requires some { 1 ≤ conflicts }
     requires few { conflicts < 2 ^ 31 }
     ensures decided { IfOk result (SaysOne (design_of checked.now) terms.now obligation.now
-        conflicts number) }
-    ensures refused { IfErr result (NotOne (design_of checked.now) terms.now obligation.now) }
+        conflicts rounds number) }
+    ensures refused { IfErr result
+        (NotOne (design_of checked.now) terms.now obligation.now rounds) }
 {
     let budget = Budget {
         conflicts: u64::from(conflicts),
-        rounds: 0,
+        rounds,
     };
-    let verdict = decide(alloc, checked, terms, obligation, &budget)?;
-    match verdict {
+    match decide(alloc, checked, terms, obligation, &budget)? {
         Verdict::Holds(cert) => Ok(Shown::Cert(cert)),
-        Verdict::SpentConflicts(_, _, log) => {
-            Ok(Shown::GivenUp(spent_answer(alloc, conflicts, number, &log)?))
+        Verdict::Refuted(failure) | Verdict::Over(failure) => {
+            let answer = failed_answer(alloc, checked, obligation, &failure)?;
+            Ok(Shown::Ended(answer))
         }
-        Verdict::SpentRounds(_) => Ok(Shown::GivenUp(open_answer(alloc, number)?)),
+        Verdict::SpentConflicts(query, _, log) => {
+            let answer = spent_answer(alloc, checked, conflicts, number, &query, &log)?;
+            Ok(Shown::Ended(answer))
+        }
+        Verdict::SpentRounds(instances) => {
+            let answer = open_answer(alloc, rounds, number, instances.items())?;
+            Ok(Shown::Ended(answer))
+        }
         Verdict::Big(_, count) => Err(Refusal::OverLimit(LimitName::Clauses, count)),
     }
 }
@@ -145,8 +231,8 @@ fn keep(certs: &mut Vec<Cert>, cert: Cert) -> Result<(), NoMemory>
 pub enum Refined<'w> {
     /// Each holds, and these show it.
     Holds(Certs),
-    /// The search for one was given up.
-    GivenUp(Answer<'w>),
+    /// One fails, or the search for one was given up.
+    Ended(Answer<'w>),
 }
 
 /// What is said of all obligations. They are decided in order, and the first that is not shown to hold
@@ -157,22 +243,23 @@ fn show_all<'w>(
     terms: &Terms,
     obligations: &[Obligation],
     conflicts: u32,
+    rounds: u32,
 ) -> Result<Refined<'w>, Refusal>
     requires shown { ShowsObligations (design_of checked.now) terms.now obligations.now
         (laws.all_obligations (design_of checked.now)) }
     requires some { 1 ≤ conflicts }
     requires few { conflicts < 2 ^ 31 }
     ensures decided { IfOk result (SaysAll (design_of checked.now) terms.now obligations.now
-        conflicts) }
-    ensures refused { IfErr result (NotAll (design_of checked.now)) }
+        conflicts rounds) }
+    ensures refused { IfErr result (NotAll (design_of checked.now) rounds) }
 {
     let mut certs = Vec::<Cert>::new(alloc);
     for (index, obligation) in obligations.iter().enumerate() {
         let number = number_of(index)?;
-        let shown = show_one(alloc, checked, terms, obligation, number, conflicts)?;
+        let shown = show_one(alloc, checked, terms, obligation, number, conflicts, rounds)?;
         match shown {
             Shown::Cert(cert) => keep(&mut certs, cert)?,
-            Shown::GivenUp(answer) => return Ok(Refined::GivenUp(answer)),
+            Shown::Ended(answer) => return Ok(Refined::Ended(answer)),
         }
     }
     Ok(Refined::Holds(Certs {
@@ -181,22 +268,24 @@ fn show_all<'w>(
 }
 
 /// Whether the blocks of a design keep what they owe, for all definitions that meet its assumptions.
-/// All trees are made first; then each obligation is decided by a search of at most so many conflicts.
-/// What shows that each holds is kept, one certificate for each, in order.
+/// All trees are made first; then each obligation is decided in at most so many rounds, by searches of at
+/// most so many conflicts. What shows that each holds is kept, one certificate for each, in order.
 pub fn decide_all<'w>(
     alloc: Global,
     checked: &Checked,
     conflicts: u32,
+    rounds: u32,
 ) -> Result<Refined<'w>, Refusal>
     requires some { 1 ≤ conflicts }
     requires few { conflicts < 2 ^ 31 }
-    ensures decided { IfOk result (IsRefined (design_of checked.now) conflicts) }
-    ensures refused { IfErr result (NotRefined (design_of checked.now)) }
+    ensures decided { IfOk result (IsRefined (design_of checked.now) conflicts rounds) }
+    ensures refused { IfErr result (NotRefined (design_of checked.now) rounds) }
 {
     shown_obligations_are_certified();
     blocks_that_never_fail_are_refined();
     code_literals_fit();
     let _design = checked.design();
     let owed = all_owed(alloc, checked)?;
-    show_all(alloc, checked, &owed.terms, &owed.obligations, conflicts)
+    let obligations = &owed.obligations;
+    show_all(alloc, checked, &owed.terms, obligations, conflicts, rounds)
 }

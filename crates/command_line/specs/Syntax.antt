@@ -32,6 +32,14 @@ case_argument = codes "CASE"
 abbrev pub packets_argument : Text
 packets_argument = codes "PACKETS"
 
+-- that for a number of hosts
+abbrev pub hosts_argument : Text
+hosts_argument = codes "HOSTS"
+
+-- that for a number of packets
+abbrev pub count_argument : Text
+count_argument = codes "COUNT"
+
 -- an option `--NAME`, with one value
 abbrev pub option_argument : Text → Rule
 option_argument name = record (new_rule name) { long = Some name; action = Some Set }
@@ -43,6 +51,10 @@ hops_argument = codes "hops"
 -- that for a number of conflicts
 abbrev pub conflicts_argument : Text
 conflicts_argument = codes "conflicts"
+
+-- that for a number of rounds
+abbrev pub rounds_argument : Text
+rounds_argument = codes "rounds"
 
 -- a command with these arguments, in their order
 abbrev pub with_arguments : App → List Text → App

@@ -5,13 +5,13 @@ ghost use Rattle.clap.specs.Words.{app_of, found_of, rows_of};
 ghost use Rattle.clap.specs.declared.builder.Command.TheViews.{out-Command};
 ghost use Rattle.command_line.specs.Command as spec;
 ghost use Rattle.command_line.specs.Command.{stands_for};
-ghost use Rattle.command_line.specs.Subcommands.{check_app, check_of, cocoon_app, command_of, compile_app, compile_of, conflicts_in, forward_app, forward_of, hops_in, level_in, step_app, step_of};
+ghost use Rattle.command_line.specs.Subcommands.{check_app, check_of, cocoon_app, command_of, compile_app, compile_of, conflicts_in, forward_app, forward_of, gen_app, gen_of, hops_in, level_in, rounds_in, step_app, step_of, update_app, update_of, with_searches};
 
-use crate::arguments::{argument_name, number_up_to, option_number};
-use crate::command::{Check, Command, Compile, Forward, Step};
+use crate::arguments::{argument_name, argument_number, number_up_to, option_number};
+use crate::command::{Check, Command, Compile, Forward, Gen, Step, Update};
 use crate::syntax::{
-    CASE, CONFLICTS, DEFS, DESIGN, HOPS, LEVEL, OUT, PACKETS, with_arguments, with_option,
-    with_subcommand,
+    CASE, CONFLICTS, COUNT, DEFS, DESIGN, HOPS, HOSTS, LEVEL, OUT, PACKETS, ROUNDS, with_arguments,
+    with_option, with_subcommand,
 };
 use clap::ArgMatches;
 use cocoon_num::NoMemory;
@@ -32,6 +32,32 @@ fn conflicts<'w>(matches: &ArgMatches<'w>) -> Option<u32>
     option_number(matches, CONFLICTS, USUAL_CONFLICTS, MOST_CONFLICTS)
 }
 
+/// The most rounds of one obligation that may be asked for.
+const MOST_ROUNDS: u32 = 4096;
+
+/// How many are asked for if no word says it.
+const USUAL_ROUNDS: u32 = 64;
+
+/// The number of rounds of one obligation.
+fn rounds<'w>(matches: &ArgMatches<'w>) -> Option<u32>
+    ensures { result ≡ rounds_in (rows_of (found_of matches.now)) }
+{
+    option_number(matches, ROUNDS, USUAL_ROUNDS, MOST_ROUNDS)
+}
+
+/// The subcommand with the options of searches.
+fn with_searches<'w>(
+    alloc: Global,
+    command: clap::Command<'w>,
+) -> Result<clap::Command<'w>, NoMemory>
+    ensures app { IfOk result (λ c. app_of c ≡ with_searches (app_of command.entry)) }
+    ensures local { IfOk result (λ c. (out-Command c).has_globals
+        ≡ (out-Command command.entry).has_globals) }
+{
+    let command = with_option(alloc, command, CONFLICTS)?;
+    with_option(alloc, command, ROUNDS)
+}
+
 // ---- check
 
 /// The subcommand `check`.
@@ -40,17 +66,22 @@ fn check_app<'w>(alloc: Global) -> Result<clap::Command<'w>, NoMemory>
     ensures local { IfOk result (λ c. (out-Command c).has_globals ≡ false) }
 {
     let command = with_arguments(alloc, clap::Command::new(alloc, "check"), &[DESIGN])?;
-    with_option(alloc, command, CONFLICTS)
+    with_searches(alloc, command)
 }
 
 /// What a `check` is given, where each part has its form.
 fn check_of<'w>(matches: &ArgMatches<'w>) -> Option<Check<'w>>
-    ensures { option_map (λ c. spec.check c.design.now c.conflicts) result
+    ensures { option_map (λ c. spec.check c.design.now c.conflicts c.rounds) result
         ≡ check_of (rows_of (found_of matches.now)) }
 {
     let design = argument_name(matches, DESIGN)?;
     let conflicts = conflicts(matches)?;
-    Some(Check { design, conflicts })
+    let rounds = rounds(matches)?;
+    Some(Check {
+        design,
+        conflicts,
+        rounds,
+    })
 }
 
 // ---- compile
@@ -65,19 +96,54 @@ fn compile_app<'w>(alloc: Global) -> Result<clap::Command<'w>, NoMemory>
         clap::Command::new(alloc, "compile"),
         &[DESIGN, DEFS, OUT],
     )?;
-    with_option(alloc, command, CONFLICTS)
+    with_searches(alloc, command)
 }
 
 /// What a `compile` is given, where each part has its form.
 fn compile_of<'w>(matches: &ArgMatches<'w>) -> Option<Compile<'w>>
-    ensures { option_map (λ c. spec.compile c.design.now c.defs.now c.out.now c.conflicts) result
+    ensures { option_map (λ c.
+        spec.compile c.design.now c.defs.now c.out.now c.conflicts c.rounds) result
         ≡ compile_of (rows_of (found_of matches.now)) }
 {
     let design = argument_name(matches, DESIGN)?;
     let defs = argument_name(matches, DEFS)?;
     let out = argument_name(matches, OUT)?;
     let conflicts = conflicts(matches)?;
+    let rounds = rounds(matches)?;
     Some(Compile {
+        design,
+        defs,
+        out,
+        conflicts,
+        rounds,
+    })
+}
+
+// ---- update
+
+/// The subcommand `update`.
+fn update_app<'w>(alloc: Global) -> Result<clap::Command<'w>, NoMemory>
+    ensures app { IfOk result (λ c. app_of c ≡ update_app) }
+    ensures local { IfOk result (λ c. (out-Command c).has_globals ≡ false) }
+{
+    let command = with_arguments(
+        alloc,
+        clap::Command::new(alloc, "update"),
+        &[DESIGN, DEFS, OUT],
+    )?;
+    with_option(alloc, command, CONFLICTS)
+}
+
+/// What an `update` is given, where each part has its form.
+fn update_of<'w>(matches: &ArgMatches<'w>) -> Option<Update<'w>>
+    ensures { option_map (λ u. spec.update u.design.now u.defs.now u.out.now u.conflicts) result
+        ≡ update_of (rows_of (found_of matches.now)) }
+{
+    let design = argument_name(matches, DESIGN)?;
+    let defs = argument_name(matches, DEFS)?;
+    let out = argument_name(matches, OUT)?;
+    let conflicts = conflicts(matches)?;
+    Some(Update {
         design,
         defs,
         out,
@@ -163,6 +229,32 @@ fn forward_of<'w>(matches: &ArgMatches<'w>) -> Option<Forward<'w>>
     Some(Forward { out, packets, hops })
 }
 
+// ---- gen
+
+/// The most hosts that may be asked for.
+const MOST_HOSTS: u32 = 200;
+
+/// The most packets that may be asked for.
+const MOST_PACKETS: u32 = 100_000;
+
+/// The subcommand `gen`.
+fn gen_app<'w>(alloc: Global) -> Result<clap::Command<'w>, NoMemory>
+    ensures app { IfOk result (λ c. app_of c ≡ gen_app) }
+    ensures local { IfOk result (λ c. (out-Command c).has_globals ≡ false) }
+{
+    with_arguments(alloc, clap::Command::new(alloc, "gen"), &[HOSTS, COUNT])
+}
+
+/// What a `gen` is given, where each part has its form.
+fn gen_of<'w>(matches: &ArgMatches<'w>) -> Option<Gen>
+    ensures { option_map (λ g. spec.gen g.hosts g.packets) result
+        ≡ gen_of (rows_of (found_of matches.now)) }
+{
+    let hosts = argument_number(matches, HOSTS, MOST_HOSTS)?;
+    let packets = argument_number(matches, COUNT, MOST_PACKETS)?;
+    Some(Gen { hosts, packets })
+}
+
 // ---- all of them
 
 /// The whole command line.
@@ -172,8 +264,10 @@ pub fn cocoon_app<'w>(alloc: Global) -> Result<clap::Command<'w>, NoMemory>
     let command = clap::Command::new(alloc, "cocoon");
     let command = with_subcommand(command, check_app(alloc)?)?;
     let command = with_subcommand(command, compile_app(alloc)?)?;
+    let command = with_subcommand(command, update_app(alloc)?)?;
     let command = with_subcommand(command, step_app(alloc)?)?;
     let command = with_subcommand(command, forward_app(alloc)?)?;
+    let command = with_subcommand(command, gen_app(alloc)?)?;
     Ok(command)
 }
 
@@ -186,10 +280,14 @@ pub fn command_of<'w>(name: &str, matches: &ArgMatches<'w>) -> Option<Command<'w
         check_of(matches).map(Command::Check)
     } else if name == "compile" {
         compile_of(matches).map(Command::Compile)
+    } else if name == "update" {
+        update_of(matches).map(Command::Update)
     } else if name == "step" {
         step_of(matches).map(Command::Step)
     } else if name == "forward" {
         forward_of(matches).map(Command::Forward)
+    } else if name == "gen" {
+        gen_of(matches).map(Command::Gen)
     } else {
         None
     }

@@ -26,11 +26,20 @@ pub const CASE: &str = "CASE";
 /// That for the file of packets.
 pub const PACKETS: &str = "PACKETS";
 
+/// The argument for a number of hosts.
+pub const HOSTS: &str = "HOSTS";
+
+/// The argument for a number of packets.
+pub const COUNT: &str = "COUNT";
+
 /// The option for the number of visits.
 pub const HOPS: &str = "hops";
 
 /// That for the number of conflicts.
 pub const CONFLICTS: &str = "conflicts";
+
+/// That for the number of rounds.
+pub const ROUNDS: &str = "rounds";
 
 /// An argument that has to be there.
 fn required_argument<'w>(alloc: Global, id: &'w str) -> Arg<'w>

@@ -11,5 +11,7 @@ pub mod limits;
 mod links;
 pub mod lowering;
 mod switches;
+mod wires;
 
 pub use lowering::{LowerFault, first_switch, lower, program};
+pub use wires::wires;

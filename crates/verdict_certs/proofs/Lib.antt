@@ -1,2 +1,1 @@
 mod Certified
-mod Taken

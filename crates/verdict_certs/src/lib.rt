@@ -1,7 +1,4 @@
-//! The certificates of verdicts: what is kept of searches that show all that a design owes.
+//! What certificates show that searches found, one for each obligation.
 #![tactic(auto)]
 
-mod keeping;
 pub mod laws;
-
-pub use keeping::{Kept, keep};

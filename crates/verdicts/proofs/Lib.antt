@@ -1,1 +1,2 @@
-pub mod Answered
+pub mod Failing
+pub mod Found

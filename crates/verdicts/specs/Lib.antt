@@ -1,2 +1,3 @@
+pub mod Failing
 pub mod Deciding
 pub mod Telling

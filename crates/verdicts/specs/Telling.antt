@@ -1,14 +1,15 @@
--- Cited by private clauses: what the answer of a search says of an obligation.
-use Rattle.std.specs.Prelude.{◌≡◌, ℕ, []}
-use Rattle.cdcl.specs.declared.answer.Answer.{Answer}
-use Rattle.cdcl.specs.declared.answer.Answer.TheVariants.{Satisfied, Spent, Unsat}
-use Rattle.verdicts.specs.Deciding.{IsOwnGoal}
+-- Cited by private clauses: what is said of an obligation whose formula can be true.
+use Rattle.std.specs.Prelude.{List}
+use Rattle.bv_terms.specs.declared.node.Node.{Node}
+use Rattle.cocoon_num.specs.Tree.{Design}
+use Rattle.obligation_gen.specs.declared.obligation.Kind.TheVariants.{Contained, Bounded}
+use Rattle.obligation_gen.specs.declared.obligation.Obligation.{Obligation}
+use Rattle.verdicts.specs.Failing.{IsFailing}
 use Rattle.verdicts.specs.declared.deciding.Verdict.{Verdict}
-use Rattle.verdicts.specs.declared.deciding.Verdict.TheVariants.{Holds, SpentConflicts, SpentRounds, Big}
+use Rattle.verdicts.specs.declared.deciding.Verdict.TheVariants.{Refuted, Over}
 
--- the verdict by the answer of a search over so many variables
-abbrev pub IsTold : (vars : ℕ) → Answer → Verdict → Type 0
-IsTold vars (Satisfied assignment) (SpentRounds instances) = instances ≡ []
-IsTold vars (Unsat log) (Holds cert) = (cert.instances ≡ []) × (cert.log ≡ log)
-IsTold vars (Spent log) (SpentConflicts q n l) = IsOwnGoal q × (n ≡ vars) × (l ≡ log)
-IsTold vars answer verdict = ⊥
+-- it fails, by the run that the verdict tells
+abbrev pub TellsFailure : Design → List Node → Obligation → Verdict → Type 0
+TellsFailure d nodes o (Refuted failure) = IsFailing d nodes o Contained failure
+TellsFailure d nodes o (Over failure) = IsFailing d nodes o Bounded failure
+TellsFailure d nodes o verdict = ⊥

@@ -1,49 +1,79 @@
 //! Whether an obligation of a design holds.
-ghost use Rattle.std.specs.Prelude.{◌≡◌, ◌^◌, ◌<◌, ◌≤◌, [], IfOk};
+ghost use Rattle.std.specs.Prelude.{◌^◌, ◌<◌, ◌≤◌, IfOk};
 ghost use Rattle.cocoon_syntax.specs.TreeOf.{design_of};
+ghost use Rattle.failures.specs.Found.{CanFail};
 ghost use Rattle.obligation_gen.specs.Owed.{IsOwed};
-ghost use Rattle.verdicts.specs.Deciding.{Decides, IsOwnGoal};
-ghost use Rattle.verdicts.specs.Telling.{IsTold};
+ghost use Rattle.verdicts.specs.Deciding.{Decides};
+ghost use Rattle.verdicts.specs.Telling.{TellsFailure};
 
-use bit_blast::{BlastFault, blast};
 use bv_terms::Terms;
-use cdcl::{Answer, solve};
 use certificates::{Cert, Instance};
 use cnf_core::Log;
 use cocoon_num::{List, NoMemory};
 use cocoon_resolve::Checked;
 use discharge::Budget;
+use failure_reading::{InputValues, failure};
+use failures::Failure;
 use formula_functions::laws::{formulas_apply_declared_functions, obligations_have_levels};
-use obligation_gen::Obligation;
+use obligation_gen::{Kind, Obligation};
 use obligation_laws::laws::untrue_formulas_never_fail;
-use queries::query;
-use query_laws::laws::refuted_formulas_are_never_true;
+use rounds::{Found, Outcome, Query, search};
 use sound_types::laws::code_literals_fit;
 use std::alloc::Global;
-
-/// What is asked when an answer is not found.
-#[derive(Drop)]
-pub enum Query {
-    /// The obligation, with these instances of assumptions.
-    Goal(List<Instance>),
-}
 
 /// What a search says of an obligation.
 #[derive(Drop)]
 pub enum Verdict {
     /// It holds, and this shows it.
     Holds(Cert),
+    /// It does not: this run sends what the body of the level above does not.
+    Refuted(Failure),
+    /// It does not: this run stands at a new role after as many bodies as its block allows.
+    Over(Failure),
     /// The conflicts are spent on this query: how many variables it has, and the clauses that were
     /// learned.
     SpentConflicts(Query, u32, Log),
-    /// The rounds are spent: with these instances the query is satisfied.
+    /// The rounds are spent: with these instances the query is satisfied, and a candidate breaks an
+    /// assumption again.
     SpentRounds(List<Instance>),
     /// The query has so many clauses, more than 4,000,000.
     Big(Query, u64),
 }
 
-/// Whether an obligation of the design holds, by one search and without rounds. The arena holds its
-/// formula; the query stands in an arena of its own, and is counted before its clauses are made.
+/// What is said of an obligation whose formula is true under these definitions, which meet the
+/// assumptions up to its level: the run by which it fails.
+fn failing(
+    alloc: Global,
+    checked: &Checked,
+    terms: &Terms,
+    obligation: &Obligation,
+    found: Found,
+) -> Result<Verdict, NoMemory>
+    requires owed { IsOwed (design_of checked.now) terms.now obligation.now }
+    requires defs { CanFail obligation.now.level (design_of checked.now) found.defs }
+    ensures { IfOk result (TellsFailure (design_of checked.now) terms.now obligation.now) }
+{
+    let Found {
+        defs,
+        inputs,
+        values,
+        ..
+    } = found;
+    let values = InputValues {
+        inputs: inputs.items(),
+        values: values.items(),
+    };
+    let Some(failure) = failure(alloc, checked, obligation, &values, defs)? else {
+        return Err(NoMemory);
+    };
+    match obligation.kind {
+        Kind::Contained => Ok(Verdict::Refuted(failure)),
+        Kind::Bounded => Ok(Verdict::Over(failure)),
+    }
+}
+
+/// Whether an obligation of the design holds, by a search in rounds. The arena holds its formula; each
+/// query stands in an arena of its own, and is counted before its clauses are made.
 pub fn decide(
     alloc: Global,
     checked: &Checked,
@@ -54,58 +84,20 @@ pub fn decide(
     requires owed { IsOwed (design_of checked.now) terms.now obligation.now }
     requires some { 1 ≤ budget.now.conflicts }
     requires few { budget.now.conflicts < 2 ^ 31 }
-    requires rounds { budget.now.rounds ≡ 0 }
-    ensures { IfOk result (Decides (design_of checked.now) terms.now
-        obligation.now budget.now.conflicts) }
+    ensures { IfOk result (Decides (design_of checked.now) terms.now obligation.now
+        budget.now.conflicts budget.now.rounds) }
 {
     formulas_apply_declared_functions();
     obligations_have_levels();
-    refuted_formulas_are_never_true();
     untrue_formulas_never_fail();
     code_literals_fit();
     let _design = checked.design();
-    let own = query(
-        alloc,
-        checked,
-        terms,
-        obligation.level,
-        obligation.formula,
-        &[],
-    )?;
-    match blast(alloc, &own.terms, own.goal) {
-        Ok((cnf, _)) => {
-            let answer = solve(alloc, &cnf, budget.conflicts)?;
-            Ok(told(alloc, cnf.vars, answer))
-        }
-        Err(BlastFault::Clauses(count)) => Ok(Verdict::Big(own_goal(alloc), count)),
-        Err(BlastFault::NoMemory) => Err(NoMemory),
+    let (level, formula) = (obligation.level, obligation.formula);
+    match search(alloc, checked, terms, level, formula, budget)? {
+        Outcome::Holds(cert) => Ok(Verdict::Holds(cert)),
+        Outcome::Found(found) => failing(alloc, checked, terms, obligation, found),
+        Outcome::SpentConflicts(query, vars, log) => Ok(Verdict::SpentConflicts(query, vars, log)),
+        Outcome::SpentRounds(instances) => Ok(Verdict::SpentRounds(instances)),
+        Outcome::Big(query, count) => Ok(Verdict::Big(query, count)),
     }
-}
-
-/// What the answer of a search over so many variables says of its obligation.
-fn told(alloc: Global, vars: u32, answer: Answer) -> Verdict
-    ensures { IsTold vars answer result }
-{
-    match answer {
-        Answer::Satisfied(_) => Verdict::SpentRounds(no_instances(alloc)),
-        Answer::Unsat(log) => Verdict::Holds(Cert {
-            instances: no_instances(alloc),
-            log,
-        }),
-        Answer::Spent(log) => Verdict::SpentConflicts(own_goal(alloc), vars, log),
-    }
-}
-
-/// The obligation without instances.
-fn own_goal(alloc: Global) -> Query
-    ensures { IsOwnGoal result }
-{
-    Query::Goal(no_instances(alloc))
-}
-
-/// No instances.
-fn no_instances(alloc: Global) -> List<Instance>
-    ensures { result ≡ [] }
-{
-    List::from(Vec::new(alloc))
 }

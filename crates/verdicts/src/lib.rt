@@ -2,5 +2,7 @@
 #![tactic(auto)]
 
 mod deciding;
+pub mod laws;
 
-pub use deciding::{Query, Verdict, decide};
+pub use deciding::{Verdict, decide};
+pub use rounds::Query;

@@ -1,0 +1,11 @@
+use Rattle.std.proofs.lemmas.Result.{IfOk-weaker}
+use Rattle.text_printer.proofs.Printing.{followed}
+use Rattle.gen_texts.proofs.Whole.{is_all}
+use Rattle.gen_texts.proofs.definitions.definitions_text.Goals as goal
+
+pub returns : goal.returns
+returns c =
+    record { text = IfOk-weaker c.finish.result _ _ (λ v h.
+    is_all _ _ _ v.items c.new-out.ensures
+    (followed c.push.ensures (followed c.push-2.ensures (followed c.push_switch.ensures (followed c.push-3.ensures
+    (followed c.push-4.ensures c.push-5.ensures))))) h) c.finish.ensures }

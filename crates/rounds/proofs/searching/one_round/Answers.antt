@@ -1,0 +1,43 @@
+use Rattle.std.proofs.Common.{◌≡◌, sym, subst, ◌∙◌}
+use Rattle.bv_terms.specs.Arenas.{term_at}
+use Rattle.cocoon_syntax.specs.TreeOf.{design_of}
+use Rattle.discharge.specs.Answering.{IsSpentOn}
+use Rattle.query_laws.specs.Certified.{AllFit, HasTooMany}
+use Rattle.rounds.specs.Steps.{Says}
+use Rattle.rounds.specs.declared.asking.Searched.TheVariants.{Refuted, Spent, Big}
+use Rattle.rounds.proofs.Rounds.{goal_asked, shown}
+use Rattle.rounds.proofs.searching.one_round.Goals as goal
+
+pub ask-requires-clause-fit : goal.ask-requires-clause-fit
+ask-requires-clause-fit c =
+    subst (AllFit (design_of c.args.checked.now) c.args.level) (sym c.deref.ensures.value) c.requires.within.progress.fit
+
+pub returns-in-Refuted : goal.returns-in-Refuted
+returns-in-Refuted c =
+    let d = design_of c.args.checked.now in
+    let formula = term_at c.args.terms.now c.args.formula in
+    let given = c.args.instances.items in
+    let conflicts = c.args.budget.now.conflicts in
+    let said = subst (λ is. Says d c.args.level formula is conflicts c.in_ok-satisfied.field-0) c.deref.ensures.value c.in_ok-satisfied.ensures in
+    shown d c.args.level formula given conflicts c.args.budget.now.rounds c.requires.within c.in-Refuted.log
+    (subst (Says d c.args.level formula given conflicts) c.in-Refuted.is said) c.from-instances.result c.from-instances.ensures
+
+pub returns-in-Spent : goal.returns-in-Spent
+returns-in-Spent c =
+    let d = design_of c.args.checked.now in
+    let formula = term_at c.args.terms.now c.args.formula in
+    let given = c.args.instances.items in
+    let conflicts = c.args.budget.now.conflicts in
+    let said = subst (λ is. Says d c.args.level formula is conflicts c.in_ok-satisfied.field-0) c.deref.ensures.value c.in_ok-satisfied.ensures in
+    goal_asked d c.args.level formula given conflicts c.args.budget.now.rounds c.requires.within (λ g. IsSpentOn g conflicts c.in-Spent.vars c.in-Spent.log)
+    (subst (Says d c.args.level formula given conflicts) c.in-Spent.is said) c.from.result c.from.ensures
+
+pub returns-in-Big : goal.returns-in-Big
+returns-in-Big c =
+    let d = design_of c.args.checked.now in
+    let formula = term_at c.args.terms.now c.args.formula in
+    let given = c.args.instances.items in
+    let conflicts = c.args.budget.now.conflicts in
+    let said = subst (λ is. Says d c.args.level formula is conflicts c.in_ok-satisfied.field-0) c.deref.ensures.value c.in_ok-satisfied.ensures in
+    goal_asked d c.args.level formula given conflicts c.args.budget.now.rounds c.requires.within (λ g. HasTooMany g c.in-Big.count)
+    (subst (Says d c.args.level formula given conflicts) c.in-Big.is said) c.from-in-Big.result c.from-in-Big.ensures

@@ -1,0 +1,94 @@
+//! The candidates of an assignment, and whether each meets the assumptions.
+ghost use Rattle.std.specs.Prelude.{◌≤◌, ◌<◌, ◌^◌, IfOk};
+ghost use Rattle.cocoon_syntax.specs.TreeOf.{design_of};
+ghost use Rattle.cocoon_types.specs.Design.{last_level};
+ghost use Rattle.candidates.specs.Flat.{IsFlatGoal};
+ghost use Rattle.rounds.specs.Steps.{IsJudged};
+
+use crate::asking::Satisfied;
+use candidates::candidate;
+use cocoon_num::NoMemory;
+use cocoon_resolve::Checked;
+use discharge::{Budget, Met, meets_to};
+use literal_tables::Defaults;
+use runtime_defs::Defs;
+use std::alloc::Global;
+
+/// A candidate, and whether it meets the assumptions.
+#[derive(Drop)]
+pub(crate) struct Judged {
+    pub(crate) defs: Defs,
+    pub(crate) met: Met,
+}
+
+/// The candidate that an assignment gives with these defaults.
+fn judge_one(
+    alloc: Global,
+    checked: &Checked,
+    level: u32,
+    satisfied: &Satisfied,
+    defaults: Defaults,
+    budget: &Budget,
+) -> Result<Judged, NoMemory>
+    requires level { level ≤ last_level (design_of checked.now) }
+    requires flat { IsFlatGoal (design_of checked.now) satisfied.now.own.terms
+        satisfied.now.own.applied satisfied.now.inputs }
+    requires some { 1 ≤ budget.now.conflicts }
+    requires few { budget.now.conflicts < 2 ^ 31 }
+    ensures { IfOk result (IsJudged (design_of checked.now) level satisfied.now
+        budget.now.conflicts) }
+{
+    let defs = candidate(
+        alloc,
+        checked,
+        &satisfied.own.terms,
+        satisfied.own.applied.items(),
+        &satisfied.inputs,
+        &satisfied.assignment,
+        defaults,
+    )?;
+    let met = meets_to(alloc, checked, &defs, level, budget)?;
+    Ok(Judged { defs, met })
+}
+
+/// How much is known of a candidate: most, if it meets all assumptions, and least, if a search was
+/// given up.
+fn rank(met: &Met) -> u32 {
+    match met {
+        Met::Yes => 2,
+        Met::Broken(_, _) => 1,
+        Met::SpentConflicts(_, _, _) | Met::Big(_, _) => 0,
+    }
+}
+
+/// Of the candidates that this round tries the first that meets all assumptions; else the first that
+/// breaks one; else the first.
+pub(crate) fn judge(
+    alloc: Global,
+    checked: &Checked,
+    level: u32,
+    satisfied: &Satisfied,
+    round: u32,
+    budget: &Budget,
+) -> Result<Judged, NoMemory>
+    requires level { level ≤ last_level (design_of checked.now) }
+    requires flat { IsFlatGoal (design_of checked.now) satisfied.now.own.terms
+        satisfied.now.own.applied satisfied.now.inputs }
+    requires some { 1 ≤ budget.now.conflicts }
+    requires few { budget.now.conflicts < 2 ^ 31 }
+    ensures { IfOk result (IsJudged (design_of checked.now) level satisfied.now
+        budget.now.conflicts) }
+{
+    let tries = Defaults::tries(round);
+    let mut best = judge_one(alloc, checked, level, satisfied, tries[0], budget)?;
+    for at in 1..tries.len() {
+        if rank(&best.met) == 2 {
+            return Ok(best);
+        }
+        let next = judge_one(alloc, checked, level, satisfied, tries[at], budget)?;
+        if rank(&next.met) > rank(&best.met) {
+            best = next;
+        }
+    }
+    Ok(best)
+}
