@@ -101,8 +101,8 @@ def compared(reading, room):
     first, told = text.split("\n")[0], told.split("\n")[0]
     kind = " ".join(first.split(" ")[:2 if status == 6 else 1])
     wrong = judged(reading, room, text) if status in (1, 5) else None
-    # The reading may spend its rounds where the program does not.
-    if (status, first) != (wanted, told) and wanted != 6 and not {status, wanted} <= {1, 5, 6}:
+    # One may spend its rounds where the other does not.
+    if (status, first) != (wanted, told) and 6 not in (status, wanted) and not {status, wanted} <= {1, 5}:
         wrong = wrong or f"wanted {wanted} {told!r}"
     if (status, first) != (wanted, told):
         kind += f", where the reading says {told.split(' ')[0]}"
