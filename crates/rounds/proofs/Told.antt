@@ -1,10 +1,9 @@
 -- The values that are told of the inputs of a formula.
-use Rattle.std.proofs.Common.{◌≡◌, ◌⊎◌, inl, inr, ℕ, zero, suc, ◌==◌, ◌<◌, ◌≤◌, ◌^◌, ℤ, Bool, true, List, [], ◌∷◌, fold, length, map, take, Option, Some, refl, sym, ap, subst, ◌∙◌, arith}
+use Rattle.std.proofs.Common.{◌≡◌, inl, inr, ℕ, zero, suc, ◌<◌, ◌≤◌, ◌^◌, ℤ, Bool, true, List, [], ◌∷◌, fold, length, map, take, Option, Some, refl, sym, ap, subst, ◌∙◌, arith}
 use Rattle.std.specs.Prelude.{nat_lt, option_map, slice_get, unwrap_or}
-use Rattle.std.proofs.lemmas.Bool.{cases_Bool, cond-false, eqb-true, ltb-true}
+use Rattle.std.proofs.lemmas.Bool.{cases_Bool, ltb-true}
 use Rattle.std.proofs.lemmas.List.{length-take-le}
-use Rattle.std.proofs.lemmas.Nat.{pow_pos}
-use Rattle.std.proofs.lemmas.Option.{slice_get_past, slice_get_within}
+use Rattle.std.proofs.lemmas.Option.{slice_get_within}
 use Rattle.bit_blast.specs.Blasting.{InputRow}
 use Rattle.bit_blast.specs.Readings.{number_read}
 use Rattle.bv_terms.specs.Arenas.{IsArena}
@@ -13,7 +12,6 @@ use Rattle.bv_terms.specs.Needed.{IsAmong}
 use Rattle.bv_terms.specs.TermTrees.{Term, binary, input}
 use Rattle.bv_terms.specs.TermValues.{Inputs}
 use Rattle.bv_terms.specs.Walks.{is_among, walk}
-use Rattle.bv_terms.specs.declared.node.Node.{Node}
 use Rattle.bv_terms.specs.declared.node.TermOp.TheVariants.{And}
 use Rattle.bv_terms.proofs.ArenaFacts.{inputs-few}
 use Rattle.bv_terms.proofs.Subterms.{Each, in-walk, walk-has}
@@ -30,14 +28,14 @@ use Rattle.candidates.specs.Flat.{MakesFormulaTrue}
 use Rattle.candidates.proofs.Inputs.{IsNode, has-nodes}
 use Rattle.candidates.proofs.Lists.{at-there}
 use Rattle.candidates.proofs.TrueQueries.{numbers-are}
+use Rattle.input_values.specs.Values.{values_of}
 use Rattle.query_laws.specs.OwnNames.{in_own_arena, inputs_of, own_name}
 use Rattle.query_laws.specs.Queries.{added, asked}
 use Rattle.query_laws.proofs.InputNumbers.{are_inputs, mentioned_in}
 use Rattle.query_laws.proofs.Renaming.{from_zero, index_below, index_there, value_agrees}
 use Rattle.sound_types.proofs.Members.{at_place}
 use Rattle.table_terms.specs.WithRows.{Tables}
-use Rattle.term_copy.specs.Copies.{AreRising, index_in, new_name}
-use Rattle.rounds.specs.Outcomes.{values_of}
+use Rattle.term_copy.specs.Copies.{AreRising, index_in}
 use Rattle.rounds.specs.Steps.{IsOf, IsSolved}
 use Rattle.rounds.specs.declared.asking.Satisfied.{Satisfied as Solved}
 use Rattle.rounds.specs.declared.outcome.Found.{Found}
@@ -70,17 +68,6 @@ as-far (x ∷ xs) r n h =
     let l = h at.0 (length xs, at.1) in
     let e = own-place (x ∷ xs) r (length xs) at.0 at.1 in
     omega (arith, l, e)
-
--- a number has a place, or that behind them all
-place-or-none : (xs : List ℕ) (i : ℕ) → IsAmong xs i ⊎ (index_in xs i ≡ length xs)
-place-or-none [] i = inr refl
-place-or-none (x ∷ xs) i = elim (cases_Bool (x == i)) [
-  | inl t ↦ inl (zero, ap Some (eqb-true x i t))
-  | inr f ↦ elim (place-or-none xs i) [
-    | inl a ↦ inl (suc a.0, a.1)
-    | inr e ↦ inr (cond-false (x == i) 0 (suc (index_in xs i)) f ∙ ap suc e)
-  ]
-]
 
 -- ---- truth at other inputs
 
@@ -147,17 +134,3 @@ module _ (d : Design) (level : ℕ) (formula : Term) (instances : List Instance)
     formula-true makes =
         subst (λ ts. MakeTrue ts (values_of f.inputs f.values) formula) (sym told.defs)
         (same-true tables (λ i. assigned (makes_true m.assignment) m.inputs (own_name formula i)) (values_of f.inputs f.values) formula value-is (makes level formula instances solved.satisfied))
-
--- ---- what an input is told as
-
--- an input that the formula has with no other width has a number that fits this one
-pub fits-each : (tables : Tables) (formula : Term) (f : Found) → f.inputs ≡ inputs_of formula → length f.values ≡ length f.inputs → MakeTrue tables (values_of f.inputs f.values) formula
-    → (i w : ℕ) → ((v : ℕ) → Mentions formula i v → v ≡ w) → FitsWidth w (values_of f.inputs f.values i)
-fits-each tables formula f inputs values makes i w only = elim (place-or-none f.inputs i) [
-  | inl a ↦
-      let m = (are_inputs formula).only i (subst (λ (xs : List ℕ). IsAmong xs i) inputs a) in
-      subst (λ v. FitsWidth v (values_of f.inputs f.values i)) (only m.0 m.1) (makes.fit i m.0 m.1)
-  | inr e ↦
-      let behind : length f.values ≤ new_name 0 f.inputs i = omega (arith, e, values) in
-      subst (FitsWidth w) (sym (ap (λ (o : Option Bits). unwrap_or (option_map (λ (b : Bits). b.value) o) 0) (slice_get_past f.values (new_name 0 f.inputs i) behind))) (pow_pos w)
-]

@@ -1,7 +1,6 @@
 -- Cited by the clause of `search`: when each answer comes.
-use Rattle.std.specs.Prelude.{◌≡◌, ℕ, List, length, option_map, slice_get, unwrap_or}
+use Rattle.std.specs.Prelude.{◌≡◌, ℕ, List, length}
 use Rattle.bv_terms.specs.TermTrees.{Term}
-use Rattle.bv_terms.specs.TermValues.{Inputs}
 use Rattle.candidate_laws.specs.Candidates.{IsCandidate, MakeTrue}
 use Rattle.candidate_laws.specs.Rounds.{Asked, of_goal, of_assumption, IsAllowed, IsWithin, Progress}
 use Rattle.cdcl.specs.Answering.{Refutation}
@@ -10,17 +9,16 @@ use Rattle.certificates.specs.declared.Instance.{Instance}
 use Rattle.cnf_core.specs.declared.clauses.Cnf.{Cnf}
 use Rattle.cnf_core.specs.declared.log.Log.{Log}
 use Rattle.cocoon_num.specs.Tree.{Design}
-use Rattle.cocoon_num.specs.declared.bits.Bits.{Bits}
 use Rattle.discharge.specs.Answering.{IsSpentOn}
 use Rattle.discharge.specs.Meeting.{OfTables}
 use Rattle.discharge.specs.Queries.{assumption_query}
 use Rattle.fun_instances.specs.Taking.{OfAssumption}
+use Rattle.input_values.specs.Values.{values_of}
 use Rattle.obligation_laws.specs.Failing.{NeverTrue}
 use Rattle.query_laws.specs.Certified.{HasClauses, HasTooMany, IsCert, IsSatisfiable}
 use Rattle.query_laws.specs.OwnNames.{inputs_of}
 use Rattle.query_laws.specs.Queries.{query}
 use Rattle.refinement.specs.Assumptions.{Meets}
-use Rattle.term_copy.specs.Copies.{new_name}
 use Rattle.rounds.specs.declared.outcome.Found.{Found}
 use Rattle.rounds.specs.declared.outcome.Outcome.{Outcome}
 use Rattle.rounds.specs.declared.outcome.Outcome.TheVariants.{Holds, SpentConflicts, SpentRounds, Big}
@@ -58,10 +56,6 @@ pub record IsShown (d : Design) (level : ℕ) (formula : Term) (conflicts rounds
   pub certified : IsCert d level formula cert
   pub refuted : IsRefutedWithin (query d level formula cert.instances) conflicts cert.log
   pub never_true : NeverTrue level d formula
-
--- the number of an input, by its place among these; 0, if it is not there
-abbrev pub values_of : (inputs : List ℕ) → (values : List Bits) → Inputs
-values_of inputs values i = unwrap_or (option_map (λ (b : Bits). b.value) (slice_get values (new_name 0 inputs i))) 0
 
 -- The definitions are a candidate and meet the assumptions. Under them the formula is true at the numbers that are told of its
 -- inputs, one of each.

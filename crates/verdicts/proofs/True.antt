@@ -22,7 +22,7 @@ use Rattle.query_laws.proofs.InputNumbers.{are_inputs}
 use Rattle.query_laws.proofs.Renaming.{from_zero}
 use Rattle.query_laws.specs.OwnNames.{inputs_of}
 use Rattle.role_meaning.specs.Located.{loc_of, sent_of}
-use Rattle.rounds.specs.Outcomes.{values_of}
+use Rattle.input_values.specs.Values.{values_of}
 use Rattle.failures.specs.Failures.{OfLevel}
 use Rattle.table_terms.specs.WithRows.{Tables}
 use Rattle.term_copy.specs.Copies.{index_in}

@@ -5,7 +5,7 @@ ghost use Rattle.candidate_laws.specs.Candidates.{MakeTrue};
 ghost use Rattle.cocoon_syntax.specs.TreeOf.{design_of};
 ghost use Rattle.failures.specs.Found.{CanFail};
 ghost use Rattle.obligation_gen.specs.Owed.{IsOwed};
-ghost use Rattle.rounds.specs.Outcomes.{values_of};
+ghost use Rattle.input_values.specs.Values.{values_of};
 ghost use Rattle.verdicts.specs.Deciding.{Decides};
 ghost use Rattle.verdicts.specs.Telling.{IsElsewhereNothing, IsTold, TellsFailure};
 
