@@ -26,11 +26,11 @@ use Rattle.formula_functions.specs.LeafTerms as applies
 use Rattle.hop_inline.specs.Shown.{HasInput, ShowsInputs, ShowsLeaves}
 use Rattle.hop_inline.specs.declared.tree.Leaf.{Leaf as CodeLeaf}
 use Rattle.leaf_laws.specs.LeafShown.{LeafShown}
-use Rattle.obligation_gen.specs.Shown.{ShowsObligation}
+use Rattle.obligation_gen.specs.Shown.{ShowsObligation, kind_in}
 use Rattle.obligation_gen.specs.declared.obligation.Obligation.{Obligation}
 use Rattle.obligation_laws.specs.Formulas.{formula}
 use Rattle.obligation_laws.specs.Obligations as laws
-use Rattle.obligation_laws.specs.Obligations.{all_obligations, kind_of, old_tree, refined_tree}
+use Rattle.obligation_laws.specs.Obligations.{all_obligations, old_tree, refined_tree}
 use Rattle.refinement.specs.Assumptions.{AreDefinitions, Meets}
 use Rattle.refinement.specs.Owed.{Given}
 use Rattle.refinement.specs.Segments.{is_new}
@@ -247,7 +247,7 @@ module _ (d : Design) (cited : Laws d) (tables : List (Option FunTable)) (o : Ob
         behind = level_is;
         there = own.at;
         fails = failing.fails own.above d own.block defs ins own.role tree own.leaf fails_here own.refined some (cited.related own.above own.block defs) ends leaf_shown.role leaf_shown.declared here
-            o.kind (shown.kind_ ∙ ap (λ (x : laws.Obligation). x.kind) own.is);
+            (kind_in o.kind) (shown.kind_ ∙ ap (λ (x : laws.Obligation). x.kind) own.is);
       };
       along = record {
         above = own.above;
@@ -258,5 +258,5 @@ module _ (d : Design) (cited : Laws d) (tables : List (Option FunTable)) (o : Ob
       };
     }
 
-    pub not_none : NoneBegins (Fails o.kind) o.level d tables (begin_of ins o) → ⊥
+    pub not_none : NoneBegins (Fails (kind_in o.kind)) o.level d tables (begin_of ins o) → ⊥
     not_none none = none has_failure.failure has_failure.begins has_failure.fails

@@ -13,6 +13,7 @@ use Rattle.failures.specs.Failures.{OfLevel}
 use Rattle.failures.specs.Found.{BeginsSo}
 use Rattle.failures.specs.declared.failure.Begin.{Begin}
 use Rattle.obligation_gen.specs.Owed.{IsOwed}
+use Rattle.obligation_gen.specs.Shown.{kind_in}
 use Rattle.obligation_gen.specs.declared.obligation.Obligation.{Obligation}
 use Rattle.refinement.specs.Ways.{Way, hops_by}
 use Rattle.table_terms.specs.WithRows.{Tables}
@@ -42,5 +43,5 @@ pub record HasFailure (d : Design) (tables : Tables) (o : Obligation) (way : Way
     : Type 0 where
   pub failure : laws.Failure
   pub begins : BeginsSo d tables b failure
-  pub fails : OfLevel (Fails o.kind) o.level d failure
+  pub fails : OfLevel (Fails (kind_in o.kind)) o.level d failure
   pub along : OfLevel (GoesBy way) o.level d failure

@@ -4,6 +4,7 @@ ghost use Rattle.cocoon_num.specs.Tree.{Design};
 ghost use Rattle.cocoon_resolve.specs.Resolved.{WasRead};
 ghost use Rattle.cocoon_types.specs.Rules.{WellFormed};
 ghost use Rattle.failures.specs.Found.{BeginFits, CanFail, NoneBegins};
+ghost use Rattle.obligation_gen.specs.Shown.{kind_in};
 ghost use Rattle.obligation_gen.specs.declared.obligation.Obligation.{Obligation};
 ghost use Rattle.sound_types.specs.Literals.{DesignLiteralsFit};
 ghost use Rattle.table_terms.specs.WithRows.{Tables};
@@ -37,7 +38,7 @@ pub fn true_formulas_are_failures()
     ensures found { (d : Design) → WasRead d → WellFormed d → DesignLiteralsFit d
         → (tables : Tables) (o : Obligation) (ins : Inputs) → IsTrueFor d tables o ins
         → CanFail o.level d tables
-        → NoneBegins (Fails o.kind) o.level d tables (begin_of ins o) → ⊥ }
+        → NoneBegins (Fails (kind_in o.kind)) o.level d tables (begin_of ins o) → ⊥ }
 {
     declarations_are_typed();
     design_terms_apply_alike();

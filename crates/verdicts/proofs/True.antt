@@ -31,7 +31,7 @@ use Rattle.verdicts.specs.Telling.{IsElsewhereNothing, IsTold, TellsFailure}
 use Rattle.verdicts.specs.declared.deciding.Verdict.{Verdict}
 use Rattle.verdicts.specs.declared.deciding.Verdict.TheVariants.{Refuted, Over}
 use Rattle.verdicts.proofs.Along.{Computed, goes}
-use Rattle.verdicts.proofs.Failing.{GoesHere, is_failing, of_kind}
+use Rattle.verdicts.proofs.Failing.{GoesHere, is_failing}
 
 -- ---- inputs that are not there
 
@@ -69,7 +69,7 @@ pub record Laws (d : Design) (tables : Tables) (o : Obligation) (ins : Inputs) :
   pub fits : IsTrueFor d tables o ins → BeginFits o.level d (begin_of ins o)
   pub short : IsTrueFor d tables o ins → AreShort (begin_of ins o)
   pub fails : (h : IsTrueFor d tables o ins) → CanFail o.level d tables → HasFailure d tables o h.owed.owed.leaf.way (begin_of ins o)
-  pub found : IsTrueFor d tables o ins → CanFail o.level d tables → NoneBegins (Fails o.kind) o.level d tables (begin_of ins o) → ⊥
+  pub found : IsTrueFor d tables o ins → CanFail o.level d tables → NoneBegins (Fails (kind_in o.kind)) o.level d tables (begin_of ins o) → ⊥
   pub computed : Computed
 
 module _ (d : Design) (tables : Tables) (o : Obligation) (nodes : List Node) (ins : Inputs) (laws : Laws d tables o ins) (arena : IsArena nodes) (is_true : MakeTrue tables ins (term_at nodes o.formula))
@@ -78,7 +78,7 @@ module _ (d : Design) (tables : Tables) (o : Obligation) (nodes : List Node) (in
   true_for h = record { nodes = nodes; arena = arena; owed = h; fit = is_true.fit; true_ = is_true.is_true; others = others }
 
   -- a failure is found
-  pub is_found : IsOwed d nodes o → (IsBegin d (begin_of ins o) → NoneBegins (Fails o.kind) o.level d tables (begin_of ins o)) → ⊥
+  pub is_found : IsOwed d nodes o → (IsBegin d (begin_of ins o) → NoneBegins (Fails (kind_in o.kind)) o.level d tables (begin_of ins o)) → ⊥
   is_found owed none =
       let h = true_for owed in
       laws.found h can (none (record { short = laws.short h; fields = (laws.fits h).fields }))
@@ -91,7 +91,7 @@ module _ (d : Design) (tables : Tables) (o : Obligation) (nodes : List Node) (in
       let x = laws.fails h can in
       subst (λ l. OfLevel (GoesBy owed.leaf.way) l d (failure_of d f)) shows.level_
       (goes laws.computed d (failure_of d f) x.failure (x.begins.defs ∙ ap (defined d) (sym begins.defs)) (x.begins.at ∙ ap (loc_of d) (sym begins.at)) (x.begins.packet ∙ ap (sent_of d) (sym begins.packet))
-      (x.begins.choices ∙ sym begins.choices) owed.leaf.way (kind_in o.kind) o.level (of_kind d o.level (failure_of d f) o.kind fails.fails) x.along)
+      (x.begins.choices ∙ sym begins.choices) owed.leaf.way (kind_in o.kind) o.level fails.fails x.along)
 
   pub told : (f : code.Failure) → FailsIn d o f → FailureFits o.level d f → (AreShort (begin_of ins o) → BeginsAt tables (begin_of ins o) f) → (v : Verdict) → IsTold o f v → TellsFailure d nodes o v
   told f fails fits begins (Refuted g) (k, e) = subst (IsFailing d nodes o Contained) (sym e) (is_failing d nodes o Contained f k fails (goes_here f fails begins) fits)
