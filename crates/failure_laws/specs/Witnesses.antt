@@ -3,9 +3,10 @@
 use Rattle.std.specs.Prelude.{◌≡◌, ℕ, List, [], Some}
 use Rattle.bv_terms.specs.declared.node.Node.{Node}
 use Rattle.bv_terms.specs.Arenas.{IsArena, term_at}
-use Rattle.bv_terms.specs.Inputs.{InputsFit, Mentions}
+use Rattle.bv_terms.specs.Inputs.{Mentions}
+use Rattle.bv_terms.specs.TermTrees.{Term}
 use Rattle.bv_terms.specs.TermValues.{Inputs}
-use Rattle.candidate_laws.specs.Candidates.{IsTrueAt}
+use Rattle.candidate_laws.specs.Candidates.{MakeTrue}
 use Rattle.cocoon_num.specs.Tree.{Design, Refine}
 pub use Rattle.failure_reading.specs.OfObligation.{AreShort, begin_of, choices_of, Fails}
 use Rattle.failures.specs.Failures as laws
@@ -20,15 +21,18 @@ use Rattle.table_terms.specs.WithRows.{Tables}
 
 -- ---- inputs
 
+-- inputs that the term does not have are 0
+abbrev pub OthersAreZero : Term → Inputs → Type 0
+OthersAreZero t ins = (i : ℕ) → ((w : ℕ) → Mentions t i w → ⊥) → ins i ≡ 0
+
 -- In an arena the design owes the obligation. Its formula is true under the tables at these numbers, which fit it; those of all
 -- other inputs are 0.
 pub record IsTrueFor (d : Design) (tables : Tables) (o : Obligation) (ins : Inputs) : Type 0 where
   pub nodes : List Node
   pub arena : IsArena nodes
   pub owed : IsOwed d nodes o
-  pub fit : InputsFit (term_at nodes o.formula) ins
-  pub true_ : IsTrueAt tables ins (term_at nodes o.formula)
-  pub others : (i : ℕ) → ((w : ℕ) → Mentions (term_at nodes o.formula) i w → ⊥) → ins i ≡ 0
+  pub true_ : MakeTrue tables ins (term_at nodes o.formula)
+  pub others : OthersAreZero (term_at nodes o.formula) ins
 
 -- ---- how it fails
 

@@ -10,7 +10,7 @@ use Rattle.bv_terms.specs.declared.node.Node.{Node}
 use Rattle.candidate_laws.specs.Candidates.{MakeTrue}
 use Rattle.cocoon_num.specs.Tree.{Design}
 use Rattle.cocoon_num.specs.declared.bits.Bits.{Bits}
-use Rattle.failure_laws.specs.Witnesses.{HasFailure, IsTrueFor}
+use Rattle.failure_laws.specs.Witnesses.{HasFailure, IsTrueFor, OthersAreZero}
 use Rattle.failure_reading.specs.OfObligation.{AreShort, begin_of, Fails, FailsIn, IsBegin}
 use Rattle.failures.specs.Found.{BeginFits, BeginsAt, CanFail, defined, FailureFits, failure_of, NoneBegins}
 use Rattle.failures.specs.declared.failure.Failure as code
@@ -27,7 +27,7 @@ use Rattle.failures.specs.Failures.{OfLevel}
 use Rattle.table_terms.specs.WithRows.{Tables}
 use Rattle.term_copy.specs.Copies.{index_in}
 use Rattle.verdicts.specs.Failing.{GoesBy, IsFailing}
-use Rattle.verdicts.specs.Telling.{IsElsewhereNothing, IsTold, TellsFailure}
+use Rattle.verdicts.specs.Telling.{IsTold, TellsFailure}
 use Rattle.verdicts.specs.declared.deciding.Verdict.{Verdict}
 use Rattle.verdicts.specs.declared.deciding.Verdict.TheVariants.{Refuted, Over}
 use Rattle.verdicts.proofs.Along.{Computed, goes}
@@ -51,7 +51,7 @@ nothing_at : (inputs : List ℕ) (values : List Bits) (i : ℕ) → length value
 nothing_at inputs values i e absent =
     ap (λ (o : Option Bits). unwrap_or (option_map (λ (b : Bits). b.value) o) 0) (ap (slice_get values) (from_zero inputs i) ∙ none_at inputs values i e absent)
 
-pub elsewhere : (formula : Term) (inputs : List ℕ) (values : List Bits) → inputs ≡ inputs_of formula → length values ≡ length inputs → IsElsewhereNothing formula (values_of inputs values)
+pub elsewhere : (formula : Term) (inputs : List ℕ) (values : List Bits) → inputs ≡ inputs_of formula → length values ≡ length inputs → OthersAreZero formula (values_of inputs values)
 elsewhere formula inputs values are e = λ i absent.
     nothing_at inputs values i e (λ among.
     let m = (are_inputs formula).only i (subst (λ xs. IsAmong xs i) are among) in absent m.0 m.1)
@@ -60,8 +60,8 @@ elsewhere formula inputs values are e = λ i absent.
 pub true_by : (tables : Tables) (t : Term) (xs ys : List ℕ) (vs ws : List Bits) → xs ≡ ys → vs ≡ ws → MakeTrue tables (values_of ys ws) t → MakeTrue tables (values_of xs vs) t
 true_by tables t xs ys vs ws e f h = subst (λ zs. MakeTrue tables (values_of zs vs) t) (sym e) (subst (λ us. MakeTrue tables (values_of ys us) t) (sym f) h)
 
-pub others_by : (t : Term) (xs ys : List ℕ) (vs ws : List Bits) → xs ≡ ys → vs ≡ ws → IsElsewhereNothing t (values_of ys ws) → IsElsewhereNothing t (values_of xs vs)
-others_by t xs ys vs ws e f h = subst (λ zs. IsElsewhereNothing t (values_of zs vs)) (sym e) (subst (λ us. IsElsewhereNothing t (values_of ys us)) (sym f) h)
+pub others_by : (t : Term) (xs ys : List ℕ) (vs ws : List Bits) → xs ≡ ys → vs ≡ ws → OthersAreZero t (values_of ys ws) → OthersAreZero t (values_of xs vs)
+others_by t xs ys vs ws e f h = subst (λ zs. OthersAreZero t (values_of zs vs)) (sym e) (subst (λ us. OthersAreZero t (values_of ys us)) (sym f) h)
 
 -- ---- the laws that are cited
 
@@ -73,9 +73,9 @@ pub record Laws (d : Design) (tables : Tables) (o : Obligation) (ins : Inputs) :
   pub computed : Computed
 
 module _ (d : Design) (tables : Tables) (o : Obligation) (nodes : List Node) (ins : Inputs) (laws : Laws d tables o ins) (arena : IsArena nodes) (is_true : MakeTrue tables ins (term_at nodes o.formula))
-    (others : IsElsewhereNothing (term_at nodes o.formula) ins) (can : CanFail o.level d tables) where
+    (others : OthersAreZero (term_at nodes o.formula) ins) (can : CanFail o.level d tables) where
   abbrev true_for : IsOwed d nodes o → IsTrueFor d tables o ins
-  true_for h = record { nodes = nodes; arena = arena; owed = h; fit = is_true.fit; true_ = is_true.is_true; others = others }
+  true_for h = record { nodes = nodes; arena = arena; owed = h; true_ = is_true; others = others }
 
   -- a failure is found
   pub is_found : IsOwed d nodes o → (IsBegin d (begin_of ins o) → NoneBegins (Fails (kind_in o.kind)) o.level d tables (begin_of ins o)) → ⊥

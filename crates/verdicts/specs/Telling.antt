@@ -1,8 +1,5 @@
 -- Cited by private clauses: what is said of an obligation whose formula can be true.
-use Rattle.std.specs.Prelude.{◌≡◌, ℕ, List}
-use Rattle.bv_terms.specs.Inputs.{Mentions}
-use Rattle.bv_terms.specs.TermTrees.{Term}
-use Rattle.bv_terms.specs.TermValues.{Inputs}
+use Rattle.std.specs.Prelude.{◌≡◌, List}
 use Rattle.bv_terms.specs.declared.node.Node.{Node}
 use Rattle.cocoon_num.specs.Tree.{Design}
 use Rattle.failures.specs.declared.failure.Failure.{Failure}
@@ -11,10 +8,6 @@ use Rattle.obligation_gen.specs.declared.obligation.Obligation.{Obligation}
 use Rattle.verdicts.specs.Failing.{IsFailing}
 use Rattle.verdicts.specs.declared.deciding.Verdict.{Verdict}
 use Rattle.verdicts.specs.declared.deciding.Verdict.TheVariants.{Refuted, Over}
-
--- inputs that the term does not have are 0
-abbrev pub IsElsewhereNothing : Term → Inputs → Type 0
-IsElsewhereNothing t ins = (i : ℕ) → ((w : ℕ) → Mentions t i w → ⊥) → ins i ≡ 0
 
 -- the verdict of a failure, by the obligation's kind
 abbrev pub IsTold : Obligation → Failure → Verdict → Type 0

@@ -3,11 +3,12 @@ ghost use Rattle.std.specs.Prelude.{◌^◌, ◌<◌, ◌≤◌, IfOk};
 ghost use Rattle.bv_terms.specs.Arenas.{term_at};
 ghost use Rattle.candidate_laws.specs.Candidates.{MakeTrue};
 ghost use Rattle.cocoon_syntax.specs.TreeOf.{design_of};
+ghost use Rattle.failure_laws.specs.Witnesses.{OthersAreZero};
 ghost use Rattle.failures.specs.Found.{CanFail};
 ghost use Rattle.obligation_gen.specs.Owed.{IsOwed};
 ghost use Rattle.input_values.specs.Values.{values_of};
 ghost use Rattle.verdicts.specs.Deciding.{Decides};
-ghost use Rattle.verdicts.specs.Telling.{IsElsewhereNothing, IsTold, TellsFailure};
+ghost use Rattle.verdicts.specs.Telling.{IsTold, TellsFailure};
 
 use bv_terms::Terms;
 use certificates::{Cert, Instance};
@@ -69,7 +70,7 @@ fn failing(
     requires defs { CanFail obligation.now.level (design_of checked.now) found.defs }
     requires true_ { MakeTrue found.defs (values_of found.inputs found.values)
         (term_at terms.now obligation.now.formula) }
-    requires others { IsElsewhereNothing (term_at terms.now obligation.now.formula)
+    requires others { OthersAreZero (term_at terms.now obligation.now.formula)
         (values_of found.inputs found.values) }
     ensures { IfOk result (TellsFailure (design_of checked.now) terms.now obligation.now) }
 {
