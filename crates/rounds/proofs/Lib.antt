@@ -1,3 +1,3 @@
 pub mod Queries
-pub mod Told
+pub mod Witnesses
 pub mod Rounds

@@ -17,7 +17,7 @@ pub enum Query {
 
 /// Definitions that meet the assumptions, and values at which the formula is true under them.
 #[derive(Drop)]
-pub struct Found {
+pub struct Witness {
     pub defs: Defs,
     /// The instances with which they were found.
     pub instances: List<Instance>,
@@ -33,7 +33,7 @@ pub enum Outcome {
     /// It is never true, and this shows it.
     Holds(Cert),
     /// It is true under these definitions.
-    Found(Found),
+    Found(Witness),
     /// The conflicts are spent on this query: how many variables it has, and the clauses that were
     /// learned.
     SpentConflicts(Query, u32, Log),

@@ -15,7 +15,7 @@ use Rattle.obligation_laws.specs.Obligations.{Kind, contained, bounded, Obligati
 use Rattle.refinement.specs.Owed.{Contained as IsContained, Refines, Within}
 use Rattle.role_meaning.proofs.Guards.{role_name_of}
 use Rattle.role_meaning.specs.Located.{role_name}
-use Rattle.verdicts.specs.Failing.{Fails, FailsBy, FailsHere, GoesBy, IsFailing}
+use Rattle.verdicts.specs.Failing.{Fails, FailsBy, FailsHere, GoesBy, IsFailureOf}
 use Rattle.verdicts.proofs.Along.{beside}
 
 -- ---- of the code
@@ -32,9 +32,9 @@ fails_here d nodes o f h goes = λ n owed at shows. record {
   along = goes n owed at shows;
 }
 
-pub is_failing : (d : Design) (nodes : List Node) (o : code_obligation.Obligation) (kind : code_kind.Kind) (f : code.Failure) → o.kind ≡ kind → FailsIn d o f → GoesHere d nodes o (failure_of d f) → FailureFits o.level d f
-    → IsFailing d nodes o kind f
-is_failing d nodes o kind f e h goes fits = record { kind_ = e; fits = fits; fails = fails_here d nodes o f h goes }
+pub is_failure_of : (d : Design) (nodes : List Node) (o : code_obligation.Obligation) (kind : code_kind.Kind) (f : code.Failure) → o.kind ≡ kind → FailsIn d o f → GoesHere d nodes o (failure_of d f) → FailureFits o.level d f
+    → IsFailureOf d nodes o kind f
+is_failure_of d nodes o kind f e h goes fits = record { kind_ = e; fits = fits; fails = fails_here d nodes o f h goes }
 
 -- ---- the law
 

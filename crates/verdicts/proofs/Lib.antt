@@ -1,4 +1,4 @@
 pub mod Along
 pub mod Failing
-pub mod Found
+pub mod Outcomes
 pub mod True

@@ -26,12 +26,12 @@ use Rattle.input_values.specs.Values.{values_of}
 use Rattle.failures.specs.Failures.{OfLevel}
 use Rattle.table_terms.specs.WithRows.{Tables}
 use Rattle.term_copy.specs.Copies.{index_in}
-use Rattle.verdicts.specs.Failing.{GoesBy, IsFailing}
-use Rattle.verdicts.specs.Telling.{IsTold, TellsFailure}
+use Rattle.verdicts.specs.Failing.{GoesBy, IsFailureOf}
+use Rattle.verdicts.specs.Telling.{IsVerdictOn, SaysItFails}
 use Rattle.verdicts.specs.declared.deciding.Verdict.{Verdict}
 use Rattle.verdicts.specs.declared.deciding.Verdict.TheVariants.{Refuted, Over}
 use Rattle.verdicts.proofs.Along.{Computed, goes}
-use Rattle.verdicts.proofs.Failing.{GoesHere, is_failing}
+use Rattle.verdicts.proofs.Failing.{GoesHere, is_failure_of}
 
 -- ---- inputs that are not there
 
@@ -93,7 +93,7 @@ module _ (d : Design) (tables : Tables) (o : Obligation) (nodes : List Node) (in
       (goes laws.computed d (failure_of d f) x.failure (x.begins.defs ∙ ap (defined d) (sym begins.defs)) (x.begins.at ∙ ap (loc_of d) (sym begins.at)) (x.begins.packet ∙ ap (sent_of d) (sym begins.packet))
       (x.begins.choices ∙ sym begins.choices) owed.leaf.way (kind_in o.kind) o.level fails.fails x.along)
 
-  pub told : (f : code.Failure) → FailsIn d o f → FailureFits o.level d f → (AreShort (begin_of ins o) → BeginsAt tables (begin_of ins o) f) → (v : Verdict) → IsTold o f v → TellsFailure d nodes o v
-  told f fails fits begins (Refuted g) (k, e) = subst (IsFailing d nodes o Contained) (sym e) (is_failing d nodes o Contained f k fails (goes_here f fails begins) fits)
-  told f fails fits begins (Over g) (k, e) = subst (IsFailing d nodes o Bounded) (sym e) (is_failing d nodes o Bounded f k fails (goes_here f fails begins) fits)
-  told f fails fits begins v h = absurd h
+  pub says_it_fails : (f : code.Failure) → FailsIn d o f → FailureFits o.level d f → (AreShort (begin_of ins o) → BeginsAt tables (begin_of ins o) f) → (v : Verdict) → IsVerdictOn o f v → SaysItFails d nodes o v
+  says_it_fails f fails fits begins (Refuted g) (k, e) = subst (IsFailureOf d nodes o Contained) (sym e) (is_failure_of d nodes o Contained f k fails (goes_here f fails begins) fits)
+  says_it_fails f fails fits begins (Over g) (k, e) = subst (IsFailureOf d nodes o Bounded) (sym e) (is_failure_of d nodes o Bounded f k fails (goes_here f fails begins) fits)
+  says_it_fails f fails fits begins v h = absurd h

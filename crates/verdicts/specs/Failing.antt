@@ -28,7 +28,7 @@ FailsHere d nodes o f =
     → ShowsObligation d nodes o owed → FailsBy d owed f
 
 -- an obligation of this kind fails by a run that is of the design and of its level
-pub record IsFailing (d : Design) (nodes : List Node) (o : code_obligation.Obligation) (kind : code_kind.Kind) (f : code.Failure) : Type 0 where
+pub record IsFailureOf (d : Design) (nodes : List Node) (o : code_obligation.Obligation) (kind : code_kind.Kind) (f : code.Failure) : Type 0 where
   pub kind_ : o.kind ≡ kind
   pub fits : FailureFits o.level d f
   pub fails : FailsHere d nodes o (failure_of d f)

@@ -1,4 +1,4 @@
--- The values that are told of the inputs of a formula.
+-- The values that a witness gives the inputs of a formula.
 use Rattle.std.proofs.Common.{◌≡◌, inl, inr, ℕ, zero, suc, ◌<◌, ◌≤◌, ◌^◌, ℤ, Bool, true, List, [], ◌∷◌, fold, length, map, take, Option, Some, refl, sym, ap, subst, ◌∙◌, arith}
 use Rattle.std.specs.Prelude.{nat_lt, option_map, slice_get, unwrap_or}
 use Rattle.std.proofs.lemmas.Bool.{cases_Bool, ltb-true}
@@ -38,7 +38,7 @@ use Rattle.table_terms.specs.WithRows.{Tables}
 use Rattle.term_copy.specs.Copies.{AreRising, index_in}
 use Rattle.rounds.specs.Steps.{IsOf, IsSolved}
 use Rattle.rounds.specs.declared.asking.Satisfied.{Satisfied as Solved}
-use Rattle.rounds.specs.declared.outcome.Found.{Found}
+use Rattle.rounds.specs.declared.outcome.Witness.{Witness}
 
 -- ---- lists
 
@@ -81,7 +81,7 @@ first-each : (P : Term → Type 0) (t : Term) (ts : List Term) → Each P (fold 
 first-each P t [] h = h
 first-each P t (u ∷ us) h = (first-each P (binary And t u) us h).0
 
--- ---- what is told
+-- ---- what a witness is
 
 module _ (d : Design) (level : ℕ) (formula : Term) (instances : List Instance) (m : Solved) (solved : IsSolved d level formula instances m) where
   module _ (arena : IsArena m.own.terms) where
@@ -106,9 +106,9 @@ module _ (d : Design) (level : ℕ) (formula : Term) (instances : List Instance)
         let k = arena.small in
         omega (arith, e, l, k)
 
-  module _ (tables : Tables) (is : List Instance) (f : Found) (told : IsOf m tables is f) where
+  module _ (tables : Tables) (is : List Instance) (f : Witness) (witness : IsOf m tables is f) where
     pub as-many : length m.own.inputs ≤ length m.inputs → length f.values ≡ length f.inputs
-    as-many h = same-length f.values (take (length m.own.inputs) m.inputs) told.values ∙ length-take-le (length m.own.inputs) m.inputs h ∙ ap (λ (xs : List ℕ). length xs) (sym told.inputs)
+    as-many h = same-length f.values (take (length m.own.inputs) m.inputs) witness.values ∙ length-take-le (length m.own.inputs) m.inputs h ∙ ap (λ (xs : List ℕ). length xs) (sym witness.inputs)
       where
         same-length : (bits : List Bits) (rows : List InputRow) → map value_of bits ≡ map (row_value (makes_true m.assignment)) rows → length bits ≡ length rows
         same-length [] [] e = refl
@@ -117,7 +117,7 @@ module _ (d : Design) (level : ℕ) (formula : Term) (instances : List Instance)
         same-length (b ∷ bits) (row ∷ rows) e = let rest : map value_of bits ≡ map (row_value (makes_true m.assignment)) rows = cc in ap suc (same-length bits rows rest)
 
     pub its-inputs : f.inputs ≡ inputs_of formula
-    its-inputs = told.inputs ∙ solved.inputs
+    its-inputs = witness.inputs ∙ solved.inputs
 
     value-is : (i w : ℕ) → Mentions formula i w → assigned (makes_true m.assignment) m.inputs (own_name formula i) ≡ values_of f.inputs f.values i
     value-is i w k =
@@ -127,10 +127,10 @@ module _ (d : Design) (level : ℕ) (formula : Term) (instances : List Instance)
         let below : own_name formula i < n = subst (λ (ys : List ℕ). own_name formula i < length ys) (sym solved.inputs)
         (subst (λ j. j < length xs) (sym (from_zero xs i)) (index_below xs i (mentioned_in formula i w k))) in
         sym (assigned-taken v m.inputs n (own_name formula i) below)
-        ∙ sym (numbers-are v f.values (take n m.inputs) told.values (own_name formula i))
+        ∙ sym (numbers-are v f.values (take n m.inputs) witness.values (own_name formula i))
         ∙ ap (λ ys. values_of ys f.values i) (sym its-inputs)
 
     pub formula-true : MakesFormulaTrue d m.own.terms m.own.applied m.inputs m.assignment tables → MakeTrue f.defs (values_of f.inputs f.values) formula
     formula-true makes =
-        subst (λ ts. MakeTrue ts (values_of f.inputs f.values) formula) (sym told.defs)
+        subst (λ ts. MakeTrue ts (values_of f.inputs f.values) formula) (sym witness.defs)
         (same-true tables (λ i. assigned (makes_true m.assignment) m.inputs (own_name formula i)) (values_of f.inputs f.values) formula value-is (makes level formula instances solved.satisfied))
