@@ -1,12 +1,11 @@
 -- One round: what a candidate tells of the formula.
-use Rattle.std.proofs.Common.{◌≡◌, ◌⊎◌, ℕ, ◌+◌, ◌<◌, ◌≤◌, List, [], ◌∷◌, ◌++◌, length, Option, Some, None, refl, sym, ap, subst, ◌∙◌, arith, inl, inr}
+use Rattle.std.proofs.Common.{◌≡◌, ◌⊎◌, ℕ, ◌+◌, ◌<◌, ◌≤◌, List, [], ◌∷◌, ◌++◌, length, Option, Some, None, sym, ap, subst, ◌∙◌, arith, inl, inr}
 use Rattle.std.specs.Prelude.{slice_get}
 use Rattle.std.proofs.lemmas.List.{length-append}
 use Rattle.bv_terms.specs.TermTrees.{IsTerm, Term, constant}
 use Rattle.candidate_laws.specs.Broken.{IsBroken as Breaks}
 use Rattle.candidate_laws.specs.Candidates.{IsCandidate, IsFalseBy}
-use Rattle.certificates.specs.declared.Cert.{Cert}
-use Rattle.candidate_laws.specs.Rounds.{IsWithin, of_assumption, of_goal, Progress}
+use Rattle.candidate_laws.specs.Rounds.{IsWithin, of_goal, Progress}
 use Rattle.certificates.specs.declared.Instance.{Instance}
 use Rattle.cnf_core.specs.declared.log.Log.{Log}
 use Rattle.cocoon_num.specs.Tree.{AssumeDecl, Design}
@@ -23,7 +22,7 @@ use Rattle.refinement.specs.Assumptions.{Meets}
 use Rattle.table_terms.specs.WithRows.{Tables}
 use Rattle.candidates.specs.Flat.{MakesFormulaTrue}
 use Rattle.rounds.specs.Outcomes.{IsAsked, IsSpentAfter, ShowsNeverTrue, Tells}
-use Rattle.rounds.specs.Steps.{IsBroken, IsFoundBy, IsInstance, IsOf, IsRefuted, IsSolved}
+use Rattle.rounds.specs.Steps.{IsBroken, IsFoundBy, IsInstance, IsRefuted, IsSolved}
 use Rattle.rounds.specs.declared.asking.Satisfied.{Satisfied as Solved}
 use Rattle.rounds.specs.declared.judging.Judged.{Judged}
 use Rattle.rounds.specs.declared.outcome.Witness.{Witness}
