@@ -25,7 +25,6 @@ use Rattle.rounds.specs.Outcomes.{IsAsked, IsSpentAfter, ShowsNeverTrue, Tells}
 use Rattle.rounds.specs.Steps.{IsBroken, IsFoundBy, IsInstance, IsRefuted, IsSolved}
 use Rattle.rounds.specs.declared.asking.Satisfied.{Satisfied as Solved}
 use Rattle.rounds.specs.declared.judging.Judged.{Judged}
-use Rattle.rounds.specs.declared.outcome.Witness.{Witness}
 use Rattle.rounds.specs.declared.outcome.Outcome.{Outcome}
 use Rattle.rounds.specs.declared.outcome.Outcome.TheVariants as outcome
 use Rattle.rounds.specs.declared.outcome.Query.TheVariants.{Assumption, Goal}
