@@ -10,7 +10,12 @@
     bench/search.py FOLDER hosts READING [COUNT..]
                                      in place of it searches through the assumption of a design over so many hosts, 10 to 1,000 if no counts are
                                      given, whose clauses another reading of designs in the folder READING makes
+    bench/search.py FOLDER owed READING DESIGN..
+                                     in place of it searches through what each obligation of these designs asks, whose clauses that reading makes
+    bench/search.py FOLDER count ..  what the words behind `count` say, with instructions in place of time, by valgrind: other work on the machine does
+                                     not change these
 
+At the end it tells what all lists together take beside MiniSat without its preprocessor, and which of those that take long take over three times as much.
 It copies the crates that it needs, with the program `search.rt.txt`, and has `rt run` prove and build what is not kept on this machine. `cc` compiles
 `check_log.c` and `refuse.c`. MiniSat and CaDiCaL are asked if they are there; GNU time tells the peaks of memory.
 """
@@ -48,6 +53,11 @@ SOLVERS = [
 MOST_SECONDS = 300
 # The least time of so many runs counts, of fewer where all would take longer than this.
 RUNS, ALL_MILLIS = 15, 3000
+# A list is long if it takes longer than this, or more instructions. It should take at most so many times what MiniSat takes.
+LONG_MILLIS, LONG_COUNT, MOST_TIMES = 50, 100_000_000, 3
+COUNTED = ["valgrind", "--tool=cachegrind", "--cache-sim=no", "--cachegrind-out-file=/dev/null"]
+# A process takes so many times as long under valgrind, at most.
+SLOWER = 40
 HOSTS = ["10", "40", "100", "200", "500", "1000"]
 # So many conflicts are allowed where a list is not hostile.
 CONFLICTS = 1_000_000
@@ -125,16 +135,29 @@ def solved(program, text, conflicts=CONFLICTS):
     return Solved(answer, int(steps), int(micros), log, (used.ru_utime + used.ru_stime) * 1000, kibibytes)
 
 
-def ended(words, given=None):
+def ended(words, given=None, seconds=MOST_SECONDS):
     """What a process says, and what it used, from its start to its end."""
-    process = subprocess.Popen(["timeout", str(MOST_SECONDS), *words], stdin=given, stdout=subprocess.PIPE, stderr=subprocess.STDOUT, text=True)
+    process = subprocess.Popen(["timeout", str(seconds), *words], stdin=given, stdout=subprocess.PIPE, stderr=subprocess.STDOUT, text=True)
     said = process.stdout.read()
     _, status, used = os.wait4(process.pid, 0)
     process.returncode = 0
     process.stdout.close()
     if os.waitstatus_to_exitcode(status) == 124:
-        raise subprocess.TimeoutExpired(words, MOST_SECONDS)
+        raise subprocess.TimeoutExpired(words, seconds)
     return said, used
+
+
+def counted(words, given=None):
+    """What a process says, and its instructions."""
+    with tempfile.NamedTemporaryFile("r") as log:
+        said, _ = ended([*COUNTED, f"--log-file={log.name}", *words], given, MOST_SECONDS * SLOWER)
+        return said, int(re.search(r"I +refs: +([\d,]+)", log.read())[1].replace(",", ""))
+
+
+def told_by(said):
+    """The answer and the conflicts of another solver."""
+    found = re.search(r"conflicts *: *(\d+)", said)
+    return "unsat" if "UNSAT" in said else "sat", found[1] if found else "0"
 
 
 def processor_time(words):
@@ -158,8 +181,7 @@ def in_turn(program, text, conflicts):
                 except subprocess.TimeoutExpired:
                     asked.remove((name, words))
                     continue
-                found = re.search(r"conflicts *: *(\d+)", said)
-                again = ("unsat" if "UNSAT" in said else "sat", found[1] if found else "0", millis)
+                again = (*told_by(said), millis)
                 others[name] = min(others.get(name, again), again, key=lambda result: result[2])
             ours = min(ours, solved(program, text, conflicts), key=lambda result: result.millis)
     return ours, {name: others[name] for name, _ in asked}
@@ -351,39 +373,85 @@ def time_checks(program, checker):
             print(f"    {ours // 2:,} instructions, in C {theirs:,}, ratio {ours / 2 / theirs:.2f}")
 
 
-def time_search(program, checker, name, text, conflicts=CONFLICTS):
-    try:
-        given, others = in_turn(program, text, conflicts)
-    except subprocess.TimeoutExpired:
-        print(f"{name}: longer than {MOST_SECONDS} s", flush=True)
-        return False
+def sizes_of(text):
     head = re.search(r"^p cnf (\d+) (\d+)$", text, re.MULTILINE)
-    if any(other != given.answer for other, _, _ in others.values()):
-        sys.exit(f"{name}: {given.answer}, but {others}")
-    if given.answer == "unsat" and run([checker], f"{text.strip()}\n{given.log}").split()[0] != "true":
-        sys.exit(f"{name}: the log does not derive the empty clause")
-    literals, hints = given.a_step()
-    log = f" of {literals:.1f} literals and {hints:.1f} hints" if given.log else ""
-    beside = "".join(f", {solver} {conflicts} conflicts {millis:.1f} ms, {given.millis / max(millis, 0.1):.2f} times" for solver, (_, conflicts, millis) in others.items())
-    print(
-        f"{name}: {int(head[1]):,} variables, {int(head[2]):,} clauses, {given.answer}, {given.steps:,} steps{log}, {given.micros / 1000:.1f} ms,"
-        f" {given.millis:.1f} ms of a processor in all, {given.peak / 1024:.0f} MiB{beside}",
-        flush=True,
-    )
-    return True
+    return f"{int(head[1]):,} variables, {int(head[2]):,} clauses"
+
+
+@dataclasses.dataclass
+class Series:
+    """Searches through lists, one after the other, and what each took beside MiniSat without its preprocessor: its name, ours and theirs."""
+    program: pathlib.Path
+    checker: pathlib.Path
+    counts: bool
+    beside: list = dataclasses.field(default_factory=list)
+
+    def search(self, name, text, conflicts=CONFLICTS):
+        """Whether it did not take too long."""
+        try:
+            said = self.count(name, text, conflicts) if self.counts else self.time(name, text, conflicts)
+        except subprocess.TimeoutExpired:
+            print(f"{name}: longer than {MOST_SECONDS} s", flush=True)
+            return False
+        print(f"{name}: {sizes_of(text)}, {said}", flush=True)
+        return True
+
+    def time(self, name, text, conflicts):
+        given, others = in_turn(self.program, text, conflicts)
+        if any(other != given.answer for other, _, _ in others.values()):
+            sys.exit(f"{name}: {given.answer}, but {others}")
+        if given.answer == "unsat" and run([self.checker], f"{text.strip()}\n{given.log}").split()[0] != "true":
+            sys.exit(f"{name}: the log does not derive the empty clause")
+        if "minisat" in others:
+            self.beside.append((name, given.millis, others["minisat"][2]))
+        literals, hints = given.a_step()
+        log = f" of {literals:.1f} literals and {hints:.1f} hints" if given.log else ""
+        beside = "".join(f", {solver} {conflicts} conflicts {millis:.1f} ms, {given.millis / max(millis, 0.1):.2f} times" for solver, (_, conflicts, millis) in others.items())
+        return (
+            f"{given.answer}, {given.steps:,} steps{log}, {given.micros / 1000:.1f} ms, {given.millis:.1f} ms of a processor in all,"
+            f" {given.peak / 1024:.0f} MiB{beside}"
+        )
+
+    def count(self, name, text, conflicts):
+        with tempfile.NamedTemporaryFile("w+", suffix=".cnf") as file:
+            file.write(text)
+            file.seek(0)
+            said, ours = counted([self.program, str(conflicts)], file)
+            answer, steps = said.split(" ")[1:3]
+            line = f"{answer}, {int(steps):,} steps, {ours / 1e6:,.1f} million instructions"
+            if answer == "spent" or not shutil.which("minisat"):
+                return line
+            said, theirs = counted([*SOLVERS[0][1], file.name])
+        other, found = told_by(said)
+        if other != answer:
+            sys.exit(f"{name}: {answer}, but {other}")
+        self.beside.append((name, ours, theirs))
+        return f"{line}, minisat {found} conflicts {theirs / 1e6:,.1f} million, {ours / theirs:.2f} times"
+
+    def tell(self):
+        """What all lists take together, and which long ones take too many times as much."""
+        if len(self.beside) < 2:
+            return
+        times = sum(ours for _, ours, _ in self.beside) / sum(theirs for _, _, theirs in self.beside)
+        print(f"{len(self.beside)} lists together: {times:.2f} times minisat")
+        least = LONG_COUNT if self.counts else LONG_MILLIS
+        for name, ours, theirs in self.beside:
+            if ours > max(least, MOST_TIMES * theirs):
+                print(f"over {MOST_TIMES} times: {name}, {ours / theirs:.2f} times")
 
 
 def dimacs(variables, clauses):
     return "\n".join([f"p cnf {variables} {len(clauses)}", *(" ".join(map(str, [*clause, 0])) for clause in clauses)]) + "\n"
 
 
-def pigeonholes(holes):
-    """One pigeon more than there are holes, each in one, and no two in one."""
+def pigeonholes(holes, units=0):
+    """One pigeon more than there are holes, each in one, and no two in one; behind these so many other variables, each in a clause of its own."""
     place = lambda pigeon, hole: pigeon * holes + hole + 1
     clauses = [[place(pigeon, hole) for hole in range(holes)] for pigeon in range(holes + 1)]
     pairs = [(one, two) for one in range(holes + 1) for two in range(one)]
     clauses += [[-place(one, hole), -place(two, hole)] for hole in range(holes) for one, two in pairs]
-    return dimacs((holes + 1) * holes, clauses)
+    last = (holes + 1) * holes
+    return dimacs(last + units, clauses + [[last + name] for name in range(1, units + 1)])
 
 
 def threes(variables, seed):
@@ -394,9 +462,9 @@ def threes(variables, seed):
 
 def made():
     """Names and texts of lists that ask for a search."""
-    for holes in (6, 7, 8, 9):
+    for holes in (6, 7, 8, 9, 10):
         yield f"pigeonholes {holes}", pigeonholes(holes)
-    for variables in (100, 150, 200, 250):
+    for variables in (100, 150, 200, 250, 300):
         for seed in (1, 2):
             yield f"threes {variables} {seed}", threes(variables, seed)
 
@@ -405,7 +473,8 @@ def hostile():
     """Names, texts and budgets of lists that ask for much."""
     for holes in (9, 10):
         yield f"pigeonholes {holes}", pigeonholes(holes), 20_000
-    yield "threes 400", threes(400, 1), 200_000
+    for seed in (1, 2):
+        yield f"threes 400 {seed}", threes(400, seed), 200_000
     many = 4_000_000
     yield "a unit against the last of its clauses", dimacs(many, [[1], *([-1, name] for name in range(2, many)), [-1, -2]]), CONFLICTS
     long = 1_000_000
@@ -416,6 +485,7 @@ def hostile():
     yield "a long clause whose last literals become false first", dimacs(some, [list(range(1, some + 1)), [-1], *([one, -next] for one, next in zip(order, order[1:]))]), CONFLICTS
     yield "a long clause whose literals become false in their order", dimacs(long, [list(range(1, long + 1)), [-1], *([name, -name - 1] for name in range(1, long))]), CONFLICTS
     yield "units", dimacs(1 << 20, [[name] for name in range(1, (1 << 20) + 1)]), CONFLICTS
+    yield "pigeonholes 8 with units beside", pigeonholes(8, 1 << 20), 20_000
     yield "clauses that have one literal", dimacs(200_001, [[1, -2 * name, 2 * name + 1] for name in range(1, 100_001)]), CONFLICTS
 
 
@@ -447,14 +517,14 @@ def refuse_allocations(program, folder):
         print(f"{name}: {last} allocations, each refused, alone and with all after it: {dict(ends)}", flush=True)
 
 
-def time_goals(program, checker):
+def search_goals(series):
     for kind, sizes in FORMULAS:
         for size in sizes:
-            if not time_search(program, checker, f"{kind} {size}", run([program, "clauses"], f"{kind} {size}")):
+            if not series.search(f"{kind} {size}", run([series.program, "clauses"], f"{kind} {size}")):
                 break
 
 
-def time_hosts(program, checker, folder, reading, counts):
+def search_hosts(series, folder, reading, *counts):
     """Searches for a host that does not meet the assumption of the design that `refcli.py` of the reading makes, with its definitions."""
     sys.path.insert(0, reading)
     texts = importlib.import_module("refcli").gen_texts
@@ -464,31 +534,50 @@ def time_hosts(program, checker, folder, reading, counts):
             path.write_bytes(text)
         asked = [sys.executable, f"{reading}/verify.py", "acnf", *files, "0", "--dimacs"]
         clauses = subprocess.run(asked, stdout=subprocess.PIPE, text=True, check=True).stdout
-        time_search(program, checker, f"an assumption over {count} hosts", clauses)
+        series.search(f"an assumption over {count} hosts", clauses)
 
 
-def time_searches(program, checker):
-    time_goals(program, checker)
+def search_owed(series, reading, *designs):
+    made = importlib.import_module("scale").Reading(reading)
+    for design in map(pathlib.Path, designs):
+        for number, clauses in enumerate(made.lists(design.read_text(), None, 1)):
+            series.search(f"obligation {number} of {design.stem}", clauses)
+
+
+def search_all(series):
+    search_goals(series)
     for file in ("searches", "random"):
         for case in (DATA / f"{file}.dimacs").read_text().split("\n\n"):
             head = case.partition("\n")[0].split(" ", 2)
-            time_search(program, checker, head[2], case.strip() + "\n")
-    time_lists(program, checker, ["made"])
+            series.search(head[2], case.strip() + "\n")
+    search_lists(series, ["made"])
 
 
-def time_lists(program, checker, names):
+def search_lists(series, names):
     for name in names:
         if name == "made":
             for title, text in made():
-                time_search(program, checker, title, text)
+                series.search(title, text)
         elif name == "goals":
-            time_goals(program, checker)
+            search_goals(series)
         elif name == "hostile":
             for title, text, conflicts in hostile():
-                time_search(program, checker, title, text, conflicts)
+                series.search(title, text, conflicts)
         else:
             path = pathlib.Path(name)
-            time_search(program, checker, path.stem, path.read_text())
+            series.search(path.stem, path.read_text())
+
+
+def search_named(series, folder, *lists):
+    if lists[:1] == ("hosts",):
+        search_hosts(series, folder, *lists[1:])
+    elif lists[:1] == ("owed",):
+        search_owed(series, *lists[1:])
+    elif lists:
+        search_lists(series, lists)
+    else:
+        search_all(series)
+    series.tell()
 
 
 def measure(folder, *lists):
@@ -496,17 +585,14 @@ def measure(folder, *lists):
     checker = folder / "check_log"
     subprocess.run(["cc", "-O2", "-o", checker, TOP / "bench" / "check_log.c"], check=True)
     if lists == ("refused",):
-        refuse_allocations(program, folder)
-    elif lists[:1] == ("hosts",):
-        time_hosts(program, checker, folder, lists[1], lists[2:])
-    elif len(lists) == 1 and lists[0].isdigit():
-        try_lists(program, checker, int(lists[0]), folder)
-    elif lists:
-        time_lists(program, checker, lists)
-    else:
+        return refuse_allocations(program, folder)
+    if len(lists) == 1 and lists[0].isdigit():
+        return try_lists(program, checker, int(lists[0]), folder)
+    counts = lists[:1] == ("count",)
+    if not lists:
         judge_logs(program, checker)
         time_checks(program, checker)
-        time_searches(program, checker)
+    search_named(Series(program, checker, counts), folder, *lists[1 if counts else 0 :])
 
 
 def main():
