@@ -5,8 +5,8 @@
     bench/search.py FOLDER           the same, with the crates and the built program kept in this folder, for a later run
     bench/search.py FOLDER LISTS     in place of it searches through this many small lists of clauses, made by chance
     bench/search.py FOLDER refused   in place of it refuses each allocation of some searches in turn
-    bench/search.py FOLDER NAME..    in place of it searches through these lists alone: `made`, those that this script makes; `hostile`, those that ask
-                                     for much; `goals`, those of terms; or a file of DIMACS
+    bench/search.py FOLDER NAME..    in place of it searches through these lists alone: `made`, those that this script makes; `hard`, larger ones, which
+                                     may take minutes; `hostile`, those that ask for much; `goals`, those of terms; or a file of DIMACS
     bench/search.py FOLDER hosts READING [COUNT..]
                                      in place of it searches through the assumption of a design over so many hosts, 10 to 1,000 if no counts are
                                      given, whose clauses another reading of designs in the folder READING makes
@@ -462,11 +462,17 @@ def threes(variables, seed):
 
 def made():
     """Names and texts of lists that ask for a search."""
-    for holes in (6, 7, 8, 9, 10):
+    for holes in (6, 7, 8, 9):
         yield f"pigeonholes {holes}", pigeonholes(holes)
-    for variables in (100, 150, 200, 250, 300):
+    for variables in (100, 150, 200, 250):
         for seed in (1, 2):
             yield f"threes {variables} {seed}", threes(variables, seed)
+
+
+def hard():
+    yield "pigeonholes 10", pigeonholes(10)
+    for seed in (1, 2):
+        yield f"threes 300 {seed}", threes(300, seed)
 
 
 def hostile():
@@ -555,8 +561,8 @@ def search_all(series):
 
 def search_lists(series, names):
     for name in names:
-        if name == "made":
-            for title, text in made():
+        if name in ("made", "hard"):
+            for title, text in made() if name == "made" else hard():
                 series.search(title, text)
         elif name == "goals":
             search_goals(series)
