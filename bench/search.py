@@ -17,7 +17,7 @@
 
 At the end it tells what all lists together take beside MiniSat without its preprocessor, and which of those that take long take over three times as much.
 It copies the crates that it needs, with the program `search.rt.txt`, and has `rt run` prove and build what is not kept on this machine. `cc` compiles
-`check_log.c` and `refuse.c`. MiniSat and CaDiCaL are asked if they are there; GNU time tells the peaks of memory.
+`search.c`, the same search in C, which has to make the same log to the byte, `check_log.c` and `refuse.c`. MiniSat and CaDiCaL are asked if they are there; GNU time tells the peaks of memory.
 """
 
 import collections
@@ -112,8 +112,8 @@ class Solved:
     steps: int
     micros: int
     log: str
-    millis: float
-    peak: int
+    millis: float = 0
+    peak: int = 0
 
     def a_step(self):
         """How many literals and hints a step has, on the average."""
@@ -130,9 +130,13 @@ def solved(program, text, conflicts=CONFLICTS):
         # What a process of this script's own has at its start would count as its peak.
         said, used = ended(["/usr/bin/time", "-f", "%M", "-o", peak.name, program, str(conflicts)], file)
         kibibytes = int(peak.read())
+    return dataclasses.replace(answer_of(said), millis=(used.ru_utime + used.ru_stime) * 1000, peak=kibibytes)
+
+
+def answer_of(said):
     head, _, log = said.partition("\n")
     _, answer, steps, micros = head.split(" ")
-    return Solved(answer, int(steps), int(micros), log, (used.ru_utime + used.ru_stime) * 1000, kibibytes)
+    return Solved(answer, int(steps), int(micros), log)
 
 
 def ended(words, given=None, seconds=MOST_SECONDS):
@@ -160,21 +164,34 @@ def told_by(said):
     return "unsat" if "UNSAT" in said else "sat", found[1] if found else "0"
 
 
-def processor_time(words):
+def processor_time(words, given=None):
     """What a process says, and its milliseconds of processor time."""
-    said, used = ended(words)
+    said, used = ended(words, given)
     return said, (used.ru_utime + used.ru_stime) * 1000
 
 
-def in_turn(program, text, conflicts):
-    """What our search and other solvers say of clauses, with the least processor time of whole processes. They run one after the other, again and again, so that
-    all meet the same other work on the machine. Of others the answers, the conflicts and the milliseconds."""
+def in_c(plain, conflicts, file, ours, run_of):
+    """What a run of the search in C takes, whose answer and log have to be these."""
+    # (a process that read it before has moved its place)
+    os.lseek(file.fileno(), 0, os.SEEK_SET)
+    said, took = run_of([plain, str(conflicts)], file)
+    head, _, log = said.partition("\n")
+    if (head.split(" ")[1:3], log) != ([ours.answer, str(ours.steps)], ours.log):
+        sys.exit(f"the search in C has another answer or log, {head}")
+    return took
+
+
+def in_turn(program, plain, text, conflicts):
+    """What our search, the same in C and other solvers say of clauses, with the least processor time of whole processes. They run one after the other, again and
+    again, so that all meet the same other work on the machine. Of others the answers, the conflicts and the milliseconds."""
     ours, others = solved(program, text, conflicts), {}
     asked = [(name, words) for name, words in SOLVERS if shutil.which(words[0]) and ours.answer != "spent"]
-    with tempfile.NamedTemporaryFile("w", suffix=".cnf") as file:
+    with tempfile.NamedTemporaryFile("w+", suffix=".cnf") as file:
         file.write(text)
         file.flush()
         for _ in range(max(1, min(RUNS, int(ALL_MILLIS / ours.millis)))):
+            again = ours.answer, str(ours.steps), in_c(plain, conflicts, file, ours, processor_time)
+            others["in C"] = min(others.get("in C", again), again, key=lambda result: result[2])
             for name, words in [*asked]:
                 try:
                     said, millis = processor_time([*words, file.name])
@@ -184,7 +201,7 @@ def in_turn(program, text, conflicts):
                 again = (*told_by(said), millis)
                 others[name] = min(others.get(name, again), again, key=lambda result: result[2])
             ours = min(ours, solved(program, text, conflicts), key=lambda result: result.millis)
-    return ours, {name: others[name] for name, _ in asked}
+    return ours, {name: others[name] for name in ["in C", *(name for name, _ in asked)]}
 
 
 def compared(program, checker, text):
@@ -382,6 +399,7 @@ def sizes_of(text):
 class Series:
     """Searches through lists, one after the other, and what each took beside MiniSat without its preprocessor: its name, ours and theirs."""
     program: pathlib.Path
+    plain: pathlib.Path
     checker: pathlib.Path
     counts: bool
     beside: list = dataclasses.field(default_factory=list)
@@ -397,7 +415,7 @@ class Series:
         return True
 
     def time(self, name, text, conflicts):
-        given, others = in_turn(self.program, text, conflicts)
+        given, others = in_turn(self.program, self.plain, text, conflicts)
         if any(other != given.answer for other, _, _ in others.values()):
             sys.exit(f"{name}: {given.answer}, but {others}")
         if given.answer == "unsat" and run([self.checker], f"{text.strip()}\n{given.log}").split()[0] != "true":
@@ -417,14 +435,15 @@ class Series:
             file.write(text)
             file.seek(0)
             said, ours = counted([self.program, str(conflicts)], file)
-            answer, steps = said.split(" ")[1:3]
-            line = f"{answer}, {int(steps):,} steps, {ours / 1e6:,.1f} million instructions"
-            if answer == "spent" or not shutil.which("minisat"):
+            given = answer_of(said)
+            plain = in_c(self.plain, conflicts, file, given, counted)
+            line = f"{given.answer}, {given.steps:,} steps, {ours / 1e6:,.1f} million instructions, in C {plain / 1e6:,.1f} million, {ours / plain:.2f} times"
+            if given.answer == "spent" or not shutil.which("minisat"):
                 return line
             said, theirs = counted([*SOLVERS[0][1], file.name])
         other, found = told_by(said)
-        if other != answer:
-            sys.exit(f"{name}: {answer}, but {other}")
+        if other != given.answer:
+            sys.exit(f"{name}: {given.answer}, but {other}")
         self.beside.append((name, ours, theirs))
         return f"{line}, minisat {found} conflicts {theirs / 1e6:,.1f} million, {ours / theirs:.2f} times"
 
@@ -594,11 +613,13 @@ def measure(folder, *lists):
         return refuse_allocations(program, folder)
     if len(lists) == 1 and lists[0].isdigit():
         return try_lists(program, checker, int(lists[0]), folder)
+    plain = folder / "search"
+    subprocess.run(["cc", "-O2", "-o", plain, TOP / "bench" / "search.c"], check=True)
     counts = lists[:1] == ("count",)
     if not lists:
         judge_logs(program, checker)
         time_checks(program, checker)
-    search_named(Series(program, checker, counts), folder, *lists[1 if counts else 0 :])
+    search_named(Series(program, plain, checker, counts), folder, *lists[1 if counts else 0 :])
 
 
 def main():
