@@ -164,9 +164,9 @@ def told_by(said):
     return "unsat" if "UNSAT" in said else "sat", found[1] if found else "0"
 
 
-def processor_time(words, given=None):
+def processor_time(words, given=None, seconds=MOST_SECONDS):
     """What a process says, and its milliseconds of processor time."""
-    said, used = ended(words, given)
+    said, used = ended(words, given, seconds)
     return said, (used.ru_utime + used.ru_stime) * 1000
 
 
@@ -185,6 +185,8 @@ def in_turn(program, plain, text, conflicts):
     """What our search, the same in C and other solvers say of clauses, with the least processor time of whole processes. They run one after the other, again and
     again, so that all meet the same other work on the machine. Of others the answers, the conflicts and the milliseconds."""
     ours, others = solved(program, text, conflicts), {}
+    # (some lists that cost us a second others do not end at)
+    most = int(min(MOST_SECONDS, max(60, ours.millis / 50)))
     asked = [(name, words) for name, words in SOLVERS if shutil.which(words[0]) and ours.answer != "spent"]
     with tempfile.NamedTemporaryFile("w+", suffix=".cnf") as file:
         file.write(text)
@@ -194,7 +196,7 @@ def in_turn(program, plain, text, conflicts):
             others["in C"] = min(others.get("in C", again), again, key=lambda result: result[2])
             for name, words in [*asked]:
                 try:
-                    said, millis = processor_time([*words, file.name])
+                    said, millis = processor_time([*words, file.name], None, most)
                 except subprocess.TimeoutExpired:
                     asked.remove((name, words))
                     continue
