@@ -54,7 +54,7 @@ MOST_SECONDS = 300
 # The least time of so many runs counts, of fewer where all would take longer than this.
 RUNS, ALL_MILLIS = 15, 3000
 # A list is long if it takes longer than this, or more instructions. It should take at most so many times what MiniSat takes.
-LONG_MILLIS, LONG_COUNT, MOST_TIMES = 50, 100_000_000, 3
+LONG_MILLIS, LONG_COUNT, MOST_TIMES = 50, 200_000_000, 3
 COUNTED = ["valgrind", "--tool=cachegrind", "--cache-sim=no", "--cachegrind-out-file=/dev/null"]
 # A process takes so many times as long under valgrind, at most.
 SLOWER = 40
