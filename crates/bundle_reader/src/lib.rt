@@ -8,7 +8,6 @@ mod files;
 pub mod laws;
 pub mod reading;
 mod switches;
-mod wires;
 
 pub use certificates::read_certificates;
 pub use fault::ReadFault;

@@ -1,5 +1,5 @@
 mod Accepting
-mod OneCert
+pub mod OneCert
 mod Showing
 pub mod SideBySide
 mod Telling

@@ -1,4 +1,5 @@
 pub mod Over
 pub mod Still
 pub mod Leading
+pub mod Wiring
 pub mod Ranging

@@ -2,3 +2,4 @@ pub mod Limits
 pub mod Refused
 pub mod Idle
 pub mod Led
+pub mod Wired

@@ -1,3 +1,4 @@
+pub mod BareNumbers
 mod Differing
 mod ItemByItem
 mod OtherTrees

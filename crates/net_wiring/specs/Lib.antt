@@ -1,2 +1,3 @@
+pub mod Bare
 pub mod Differences
 pub mod SameTrees
