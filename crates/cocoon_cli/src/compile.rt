@@ -1,16 +1,19 @@
 //! `compile`: a network is made of a design whose blocks keep what they owe, and definitions that meet
 //! its assumptions, and its bundle is written, with the certificates of what the blocks keep.
 ghost use Rattle.std.specs.Prelude.{◌≡◌, ◌≤◌, ◌<◌, ◌^◌, ℕ, IfErr, IfOk, List, Some, length, string_bytes};
+ghost use Rattle.cocoon_num.specs.Tree.{DefsText};
 ghost use Rattle.cocoon_syntax.specs.TreeOf.{design_of};
 ghost use Rattle.cocoon_types.specs.Design.{last_level};
 ghost use Rattle.command_line.specs.Command as spec;
 ghost use Rattle.command_line.specs.Subcommands.{most_conflicts};
 ghost use Rattle.discharge.specs.Meeting.{OfTables};
+ghost use Rattle.lower_p4.specs.Lowering.{AreOfText};
+ghost use Rattle.lower_p4.specs.Lowers.{Lowers};
 ghost use Rattle.obligation_gen.specs.Counted.{AreFew, all_counts};
-ghost use Rattle.p4_ir.specs.NetOf.{net_of};
 ghost use Rattle.refinement.specs.Assumptions.{Meets};
 ghost use Rattle.refinement.specs.Owed.{Refines};
 ghost use Rattle.runtime_defs.specs.Fitting.{FitsDesign};
+ghost use Rattle.shared_net.specs.Shared.{shared_of};
 ghost use Rattle.cocoon_cli.specs.Answering.{PlansBy};
 ghost use Rattle.cocoon_cli.specs.Compiling.{Compiles, LowersDesign, NotLowered};
 ghost use Rattle.design_texts.specs.DesignTexts.{BindsTables};
@@ -31,12 +34,12 @@ use design_texts::{Bound, bound_texts};
 use lower_p4::{LowerFault, lower};
 use net_bundle::laws::rows_are_long;
 use net_bundle::{BundleFault, BundleFile};
-use p4_ir::NetData;
+use shared_net::SharedNet;
 use sound_types::laws::code_literals_fit;
 use std::alloc::Global;
 
 /// The network of a design whose blocks keep what they owe, and definitions that meet its assumptions.
-fn lower_bound(alloc: Global, bound: &Bound) -> Result<NetData, Refusal>
+pub fn lower_bound(alloc: Global, bound: &Bound) -> Result<SharedNet, Refusal>
     requires fit { FitsDesign (design_of bound.now.checked) bound.now.defs }
     requires few { AreFew (all_counts (design_of bound.now.checked)) }
     requires refines { Refines (design_of bound.now.checked) }
@@ -44,10 +47,13 @@ fn lower_bound(alloc: Global, bound: &Bound) -> Result<NetData, Refusal>
         (Meets (last_level (design_of bound.now.checked)) (design_of bound.now.checked)) }
     ensures lowers { IfOk result (λ net. (design defs : List ℕ)
         → BindsTables design defs (design_of bound.now.checked) bound.now.defs
-        → LowersDesign design defs (design_of bound.now.checked) (net_of net)) }
+        → LowersDesign design defs (design_of bound.now.checked) (shared_of net)) }
+    ensures network { IfOk result (λ net. (text : DefsText)
+        → AreOfText (design_of bound.now.checked) text bound.now.defs
+        → Lowers (design_of bound.now.checked) text (shared_of net)) }
     ensures refused { IfErr result (λ refusal. (design defs : List ℕ)
         → BindsTables design defs (design_of bound.now.checked) bound.now.defs
-        → NotLowered design defs refusal) }
+        → NotLowered design defs (design_of bound.now.checked) bound.now.defs refusal) }
 {
     code_literals_fit();
     deliveries_stay_within();
@@ -78,20 +84,20 @@ pub struct Totals {
 }
 
 /// How many of each thing a network has whose design has so many obligations.
-fn count_parts(net: &NetData, obligations: u64) -> Totals
-    ensures { result ≡ totals_of obligations (net_of net.now) }
+pub fn count_parts(net: &SharedNet, obligations: u64) -> Totals
+    ensures { result ≡ totals_of obligations (shared_of net.now) }
 {
     Totals {
-        switches: net.switches.items().len() as u64,
+        switches: net.switches.numbers.items().len() as u64,
         hosts: net.hosts.items().len() as u64,
         links: net.links.items().len() as u64,
         obligations,
     }
 }
 
-/// The line of a network that was compiled.
-fn totals_line(alloc: Global, totals: Totals) -> Result<String, NoMemory>
-    ensures { IfOk result (λ line. string_bytes line ≡ totals_line totals) }
+/// The line of a network, behind what was done with it.
+pub fn totals_line(alloc: Global, done: &str, totals: Totals) -> Result<String, NoMemory>
+    ensures { IfOk result (λ line. string_bytes line ≡ totals_line done.now totals) }
 {
     let Totals {
         switches,
@@ -100,7 +106,7 @@ fn totals_line(alloc: Global, totals: Totals) -> Result<String, NoMemory>
         obligations,
     } = totals;
     Ok(format!(in alloc;
-        "compiled switches {switches} hosts {hosts} links {links} obligations {obligations}\n"
+        "{done} switches {switches} hosts {hosts} links {links} obligations {obligations}\n"
     )?)
 }
 
@@ -136,12 +142,12 @@ pub fn compile<'w>(
         Refined::Holds(certs) => {
             let net = lower_bound(alloc, &bound)?;
             let obligations = certs.certs.items().len() as u64;
-            let line = totals_line(alloc, count_parts(&net, obligations))?;
+            let line = totals_line(alloc, "compiled", count_parts(&net, obligations))?;
             let text = to_json(alloc, &certs)?;
             let certificates = List::from(text);
             Ok(Answer {
                 report: Report::success(line.into_bytes()),
-                writing: Writing::Bundle(asked.out, net, certificates),
+                writing: Writing::Bundle(asked.out, net, Some(certificates)),
             })
         }
     }

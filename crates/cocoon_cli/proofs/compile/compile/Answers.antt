@@ -3,7 +3,7 @@ use Rattle.std.specs.Prelude.{Vec, ℕ}
 use Rattle.std.specs.declared.alloc.Global.{Global}
 use Rattle.cocoon_syntax.specs.TreeOf.{design_of}
 use Rattle.command_line.specs.Command.{compile as command}
-use Rattle.p4_ir.specs.NetOf.{net_of}
+use Rattle.shared_net.specs.Shared.{shared_of}
 use Rattle.command_reports.specs.Report.{success}
 use Rattle.command_reports.specs.declared.report.Report.{Report}
 use Rattle.command_reports.specs.declared.refusal.Refusal.TheVariants as refusal
@@ -13,7 +13,7 @@ use Rattle.cocoon_cli.specs.Compiling.{Compiles, CompilesTexts}
 use Rattle.cocoon_cli.specs.Deciding.{AnswersUnmet}
 use Rattle.cocoon_cli.specs.Outcomes.{good, no_memory, none}
 use Rattle.cocoon_cli.specs.Refining.{IsEnded, IsRefined, KeepsAll}
-use Rattle.cocoon_cli.specs.ReportLines.{totals_line}
+use Rattle.cocoon_cli.specs.ReportLines.{compiled_line}
 use Rattle.cocoon_cli.specs.Shell.{Asked}
 use Rattle.cocoon_cli.specs.Steps.{lowering_within}
 use Rattle.cocoon_cli.proofs.Assuming.{all_met_good, is_found, is_none, not_met}
@@ -84,7 +84,7 @@ returns-in_err-net-in-Holds-clause-asked c = λ inputs design defs.
     let met = all_met_good inputs x c.args.defs.now n d c.in_ok-bound.bound.defs c.in_ok-answer.field-0 g binds (c.code_literals_fit.ensures.designs c.in_ok-bound.bound.checked) (is_none c.in_ok-answer.field-0 c.in_default.not-Some) c.in_ok-answer.ensures.decided in
     let kept : KeepsAll d c.in-Holds.certs.certs = subst (IsRefined d n m) c.in-Holds.is c.in_ok-decided.ensures.decided in
     passed (Asked (command asked.design.now asked.defs.now asked.out.now asked.conflicts asked.rounds) inputs) _ r c.from_residual-in_err-net-in-Holds.ensures.1
-    (not_lowered inputs x c.args.defs.now n m r g (good met (refined_good inputs x n m [] d design binds.binds.checked kept.few kept.refines none)) (c.in_err-net-in-Holds.ensures.refused x c.args.defs.now binds))
+    (not_lowered inputs x c.args.defs.now n m d c.in_ok-bound.bound.defs r g (good met (refined_good inputs x n m [] d design binds.binds.checked kept.few kept.refines none)) (c.in_err-net-in-Holds.ensures.refused x c.args.defs.now binds))
 
 pub returns-in_err-line-in-Holds-clause-asked : goal.returns-in_err-line-in-Holds-clause-asked
 returns-in_err-line-in-Holds-clause-asked c = λ inputs design defs.
@@ -97,7 +97,7 @@ returns-clause-asked c = λ inputs design defs.
     let n = asked.conflicts in
     let m = asked.rounds in
     let d = design_of c.in_ok-bound.bound.checked in
-    let net = net_of c.in_ok-net-in-Holds.net in
+    let net = shared_of c.in_ok-net-in-Holds.net in
     let g : Texts inputs c.args.design.now c.args.defs.now = record { design = design; defs = defs } in
     let lowers = c.in_ok-net-in-Holds.ensures.lowers c.args.design.now c.args.defs.now c.in_ok-bound.ensures.binds in
     let kept : KeepsAll d c.in-Holds.certs.certs = subst (IsRefined d n m) c.in-Holds.is c.in_ok-decided.ensures.decided in
@@ -105,7 +105,7 @@ returns-clause-asked c = λ inputs design defs.
     inl (
       asks_good asked.design.now asked.defs.now asked.out.now n m inputs c.args.design.now c.args.defs.now net g lowers.0,
       reports asked.design.now asked.defs.now asked.out.now n m inputs c.args.design.now c.args.defs.now d (length c.items.result.now) net _ g lowers (same ∙ kept.counted)
-          (c.success.ensures ∙ ap success (ap (λ (v : Vec ℕ Global). v.items) c.into_bytes.ensures.value ∙ c.in_ok-line-in-Holds.ensures ∙ ap totals_line c.count_parts.ensures)),
+          (c.success.ensures ∙ ap success (ap (λ (v : Vec ℕ Global). v.items) c.into_bytes.ensures.value ∙ c.in_ok-line-in-Holds.ensures ∙ ap compiled_line c.count_parts.ensures)),
     )
 
 pub returns-in_err-text-in-Holds-clause-asked : goal.returns-in_err-text-in-Holds-clause-asked
@@ -120,7 +120,7 @@ returns-clause-plans c =
     let x = c.args.design.now in
     let y = c.args.defs.now in
     let d = design_of c.in_ok-bound.bound.checked in
-    let net = net_of c.in_ok-net-in-Holds.net in
+    let net = shared_of c.in_ok-net-in-Holds.net in
     let kept : KeepsAll d c.in-Holds.certs.certs = subst (IsRefined d n m) c.in-Holds.is c.in_ok-decided.ensures.decided in
     let lowers = c.in_ok-net-in-Holds.ensures.lowers x y c.in_ok-bound.ensures.binds in
     let made = compiles_texts x y d net c.in-Holds.certs.certs c.in_ok-text-in-Holds.text.items lowers kept c.in_ok-text-in-Holds.ensures.reads in

@@ -1,3 +1,4 @@
+use Rattle.cocoon_cli.proofs.OneStep.{Laws}
 use Rattle.completeness_laws.proofs.Ending.{ends_well}
 use Rattle.completeness_laws.proofs.laws.searches_end.Goals as goal
 
@@ -17,6 +18,8 @@ returns c = ends_well (record {
   one_over = c.one_lowering.ensures.one_limit;
   one_step = c.one_step.ensures;
   one_reading = c.one_reading.ensures;
+  one_wiring = c.one_wiring.ensures;
+  one_difference = c.one_first_difference.ensures;
   same_report = c.one_report.ensures;
   no_over = c.one_lowering.ensures.no_limit;
   no_failure = c.failing_obligations_fail.ensures.fails;
