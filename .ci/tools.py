@@ -17,7 +17,7 @@ TOP = pathlib.Path(__file__).resolve().parent.parent
 EXAMPLES, TOOLS = TOP / "examples", TOP / "tools"
 NETWORKS = sorted(path.parent.name for path in EXAMPLES.glob("*/network.ccn"))
 # Those whose packets are followed, by their folder and the name of their texts; `every` has each statement and expression of the language.
-FOLLOWED = {**{name: EXAMPLES / name / "network" for name in NETWORKS}, "evening": EXAMPLES / "mistakes" / "evening", "every": TOP / "bench" / "every" / "network"}
+FOLLOWED = {**{name: EXAMPLES / name / "network" for name in NETWORKS}, "evening": EXAMPLES / "leaf-spine" / "evening", "every": TOP / "bench" / "every" / "network"}
 # Of each network.
 PACKETS = 1_000
 

@@ -5,13 +5,14 @@ ghost use Rattle.net_run.specs.Following.{CanFollow, FollowStops, IsFollowed, Is
 ghost use Rattle.net_run.specs.Delivering.{delivery_of};
 ghost use Rattle.net_run.specs.Ends.{ends};
 ghost use Rattle.net_run.specs.RunCounts.{runs};
+ghost use Rattle.net_run.specs.Stations.{StationsFit};
 ghost use Rattle.net_run.specs.UnderWay.{stack_ends, stack_runs};
 
 use crate::delivering::Delivery;
 use crate::fault::{MOST_RUNS, RunFault};
 use crate::standing::Standing;
 use crate::stations::Stations;
-use cocoon_num::{List, NoMemory, Text};
+use cocoon_num::{List, NoMemory};
 use loaded_net::Net;
 use p4_ir::LinkEnd;
 use std::alloc::Global;
@@ -56,15 +57,15 @@ fn first_stack(
 }
 
 /// The delivery of a copy at a host.
-fn delivery(alloc: Global, host: u64, copy: Standing) -> Result<Delivery, NoMemory>
-    ensures { IfOk result (λ d. delivery_of d
-        ≡ record { host = host; choices = copy.choices.items; bytes = copy.bytes.items }) }
+fn delivery(host: u64, copy: Standing) -> Delivery
+    ensures { delivery_of result
+        ≡ record { host = host; choices = copy.choices.items; bytes = copy.bytes.items } }
 {
-    Ok(Delivery {
+    Delivery {
         host,
         choices: List::from(copy.choices),
-        bytes: Text::from(alloc, &copy.bytes)?,
-    })
+        bytes: List::from(copy.bytes),
+    }
 }
 
 impl<'n> Walk<'n> {
@@ -72,10 +73,12 @@ impl<'n> Walk<'n> {
     pub(crate) fn start(
         alloc: Global,
         net: &'n Net,
+        stations: Stations<'n>,
         host: u64,
         bytes: &[u8],
         hops: u32,
     ) -> Result<Walk<'n>, NoMemory>
+        requires { StationsFit net.now stations }
         ensures { IfOk result (IsUnderWay net.now host bytes.now hops) }
     {
         Ok(Walk {
@@ -83,7 +86,7 @@ impl<'n> Walk<'n> {
             delivered: Vec::new(alloc),
             travelling: 0,
             runs: 0,
-            stations: Stations::new(alloc),
+            stations,
         })
     }
 
@@ -124,7 +127,7 @@ impl<'n> Walk<'n> {
     {
         match copy.at {
             LinkEnd::Host(host) => {
-                self.delivered.push(delivery(alloc, host, copy)?)?;
+                self.delivered.push(delivery(host, copy))?;
                 Ok(())
             }
             LinkEnd::Switch(switch, port) => {

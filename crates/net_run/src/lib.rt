@@ -7,9 +7,10 @@ pub mod fault;
 mod following;
 pub mod laws;
 mod standing;
-mod stations;
+pub mod stations;
 pub mod visiting;
 
-pub use delivering::{Delivery, Outcome, deliver};
+pub use delivering::{Delivered, Delivery, Outcome, deliver, deliver_in};
 pub use departed::{Departed, Visited};
 pub use fault::{MOST_RUNS, RunFault};
+pub use stations::Stations;

@@ -1,7 +1,8 @@
 //! Switches that copies have visited, each with a frame for its runs.
-ghost use Rattle.std.specs.Prelude.{◌≡◌, ◌≤◌, ◌<◌, [], IfErr, IfOk, length, map, OnOk};
+ghost use Rattle.std.specs.Prelude.{◌≡◌, ◌≤◌, ◌<◌, IfErr, IfOk, length, map, OnOk};
 ghost use Rattle.std.specs.List.{All};
 ghost use Rattle.loaded_net.specs.Nets.{net_in};
+ghost use Rattle.loaded_net.specs.declared.net.Net.{Net as NetOf};
 ghost use Rattle.net_run.specs.Departures.{departures_at};
 ghost use Rattle.net_run.specs.DepartedOf.{departed_of, VisitStops};
 ghost use Rattle.net_run.specs.RunCounts.{visit_runs};
@@ -24,15 +25,16 @@ struct Station<'n> {
     frame: Frame,
 }
 
-/// The switches that were visited, in ascending order of their numbers.
+/// The switches that were visited, in ascending order of their numbers, each with its frame.
 #[derive(Drop)]
-pub(crate) struct Stations<'n> {
+pub struct Stations<'n> {
     visited: Vec<Station<'n>>,
 }
 
 impl<'n> Stations<'n> {
-    pub(crate) fn new(alloc: Global) -> Stations<'n>
-        ensures { result.visited.items ≡ [] }
+    /// Before any visit.
+    pub fn new(alloc: Global) -> Stations<'n>
+        ensures { (net : NetOf) → StationsFit net result }
     {
         Stations {
             visited: Vec::new(alloc),

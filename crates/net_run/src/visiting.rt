@@ -17,7 +17,8 @@ use std::alloc::Global;
 fn departing_bytes(alloc: Global, headers: &[u8], bytes: &[u8]) -> Result<Vec<u8>, NoMemory>
     ensures { IfOk result (λ v. v.items ≡ headers.now ++ drop (length headers.now) bytes.now) }
 {
-    let mut all = headers.to_vec(alloc)?;
+    let mut all = Vec::with_capacity(alloc, bytes.len())?;
+    all.extend_from_slice(headers)?;
     if headers.len() < bytes.len() {
         all.extend_from_slice(&bytes[headers.len()..])?;
     }

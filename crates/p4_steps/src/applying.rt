@@ -7,7 +7,7 @@ ghost use Rattle.p4_steps.specs.Effects.{applied_to};
 
 use crate::codes::Application;
 use cocoon_num::NoMemory;
-use flat_rows::FlatRows;
+use grouped_rows::GroupedRows;
 use p4_ir::{Table, TableRows};
 use std::alloc::Global;
 
@@ -27,7 +27,7 @@ impl Application {
             (map key_row_of rows.now.rows) rows.now.default (keyed meta table.now.keys))) }
     {
         let keys = table.keys.items().to_vec(alloc)?;
-        let rows = FlatRows::new(alloc, keys.len(), rows)?;
+        let rows = GroupedRows::new(alloc, keys.len(), rows)?;
         Ok(Application {
             rows,
             keys,

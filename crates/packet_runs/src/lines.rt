@@ -1,5 +1,5 @@
 //! The lines of what becomes of a packet.
-ghost use Rattle.std.specs.Prelude.{◌≡◌, ◌++◌, IfOk, map, OnOk, string_bytes};
+ghost use Rattle.std.specs.Prelude.{◌≡◌, ◌++◌, codes, decimal, IfOk, map, OnOk, string_bytes};
 ghost use Rattle.net_run.specs.Delivering.{delivery_of};
 ghost use Rattle.packet_runs.specs.Growing.{outcome_of};
 ghost use Rattle.packet_runs.specs.Reports.{bytes_text, delivery_line, delivery_lines, outcome_line, outcome_lines};
@@ -31,13 +31,25 @@ fn bytes_text(alloc: Global, bytes: &[u8]) -> Result<String, NoMemory>
     }
 }
 
-/// The line of a delivery.
-fn delivery_line(alloc: Global, delivery: &Delivery) -> Result<String, NoMemory>
-    ensures { IfOk result (λ line. string_bytes line ≡ delivery_line (delivery_of delivery.now)) }
+/// How the line of a delivery at a host begins.
+fn line_front(alloc: Global, host: u64) -> Result<String, NoMemory>
+    ensures { IfOk result (λ front. string_bytes front
+        ≡ codes "> " ++ (decimal host ++ codes " ")) }
 {
-    let host = delivery.host;
-    let bytes = bytes_text(alloc, delivery.bytes.bytes())?;
-    Ok(format!(in alloc; "> {host} {bytes}\n")?)
+    Ok(format!(in alloc; "> {host} ")?)
+}
+
+/// The line of a delivery.
+fn push_delivery(alloc: Global, report: &mut Vec<u8>, delivery: &Delivery) -> Result<(), NoMemory>
+    ensures { OnOk result (report.new.items
+        ≡ report.old.items ++ delivery_line (delivery_of delivery.now)) }
+{
+    let front = line_front(alloc, delivery.host)?;
+    let bytes = bytes_text(alloc, delivery.bytes.items())?;
+    report.extend_from_slice(front.as_bytes())?;
+    report.extend_from_slice(bytes.as_bytes())?;
+    report.push(b'\n')?;
+    Ok(())
 }
 
 /// The lines of some deliveries, in their order.
@@ -50,7 +62,7 @@ fn push_deliveries(
         ≡ report.old.items ++ delivery_lines (map delivery_of deliveries.now)) }
 {
     for delivery in deliveries {
-        report.extend_from_slice(delivery_line(alloc, delivery)?.as_bytes())?;
+        push_delivery(alloc, report, delivery)?;
     }
     Ok(())
 }
