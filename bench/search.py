@@ -5,19 +5,14 @@
     bench/search.py FOLDER           the same, with the crates and the built program kept in this folder, for a later run
     bench/search.py FOLDER LISTS     in place of it searches through this many small lists of clauses, made by chance
     bench/search.py FOLDER refused   in place of it refuses each allocation of some searches in turn
-    bench/search.py FOLDER NAME..    in place of it searches through these lists alone: `made`, those that this script makes; `hard`, larger ones, which
-                                     may take minutes; `hostile`, those that ask for much; `goals`, those of terms; or a file of DIMACS
+    bench/search.py FOLDER NAME..    in place of it searches through these lists alone: `made`, those that this script makes; `hostile`, those that ask
+                                     for much; `goals`, those of terms; or a file of DIMACS
     bench/search.py FOLDER hosts READING [COUNT..]
                                      in place of it searches through the assumption of a design over so many hosts, 10 to 1,000 if no counts are
                                      given, whose clauses another reading of designs in the folder READING makes
-    bench/search.py FOLDER owed READING DESIGN..
-                                     in place of it searches through what each obligation of these designs asks, whose clauses that reading makes
-    bench/search.py FOLDER count ..  what the words behind `count` say, with instructions in place of time, by valgrind: other work on the machine does
-                                     not change these
 
-At the end it tells what all lists together take beside MiniSat without its preprocessor, and which of those that take long take over three times as much.
 It copies the crates that it needs, with the program `search.rt.txt`, and has `rt run` prove and build what is not kept on this machine. `cc` compiles
-`search.c`, the same search in C, which has to make the same log to the byte, `check_log.c` and `refuse.c`. MiniSat and CaDiCaL are asked if they are there; GNU time tells the peaks of memory.
+`check_log.c` and `refuse.c`. MiniSat and CaDiCaL are asked if they are there; GNU time tells the peaks of memory.
 """
 
 import collections
@@ -53,11 +48,6 @@ SOLVERS = [
 MOST_SECONDS = 300
 # The least time of so many runs counts, of fewer where all would take longer than this.
 RUNS, ALL_MILLIS = 15, 3000
-# A list is long if it takes longer than this, or more instructions. It should take at most so many times what MiniSat takes.
-LONG_MILLIS, LONG_COUNT, MOST_TIMES = 50, 200_000_000, 3
-COUNTED = ["valgrind", "--tool=cachegrind", "--cache-sim=no", "--cachegrind-out-file=/dev/null"]
-# A process takes so many times as long under valgrind, at most.
-SLOWER = 40
 HOSTS = ["10", "40", "100", "200", "500", "1000"]
 # So many conflicts are allowed where a list is not hostile.
 CONFLICTS = 1_000_000
@@ -112,8 +102,8 @@ class Solved:
     steps: int
     micros: int
     log: str
-    millis: float = 0
-    peak: int = 0
+    millis: float
+    peak: int
 
     def a_step(self):
         """How many literals and hints a step has, on the average."""
@@ -130,80 +120,49 @@ def solved(program, text, conflicts=CONFLICTS):
         # What a process of this script's own has at its start would count as its peak.
         said, used = ended(["/usr/bin/time", "-f", "%M", "-o", peak.name, program, str(conflicts)], file)
         kibibytes = int(peak.read())
-    return dataclasses.replace(answer_of(said), millis=(used.ru_utime + used.ru_stime) * 1000, peak=kibibytes)
-
-
-def answer_of(said):
     head, _, log = said.partition("\n")
     _, answer, steps, micros = head.split(" ")
-    return Solved(answer, int(steps), int(micros), log)
+    return Solved(answer, int(steps), int(micros), log, (used.ru_utime + used.ru_stime) * 1000, kibibytes)
 
 
-def ended(words, given=None, seconds=MOST_SECONDS):
+def ended(words, given=None):
     """What a process says, and what it used, from its start to its end."""
-    process = subprocess.Popen(["timeout", str(seconds), *words], stdin=given, stdout=subprocess.PIPE, stderr=subprocess.STDOUT, text=True)
+    process = subprocess.Popen(["timeout", str(MOST_SECONDS), *words], stdin=given, stdout=subprocess.PIPE, stderr=subprocess.STDOUT, text=True)
     said = process.stdout.read()
     _, status, used = os.wait4(process.pid, 0)
     process.returncode = 0
     process.stdout.close()
     if os.waitstatus_to_exitcode(status) == 124:
-        raise subprocess.TimeoutExpired(words, seconds)
+        raise subprocess.TimeoutExpired(words, MOST_SECONDS)
     return said, used
 
 
-def counted(words, given=None):
-    """What a process says, and its instructions."""
-    with tempfile.NamedTemporaryFile("r") as log:
-        said, _ = ended([*COUNTED, f"--log-file={log.name}", *words], given, MOST_SECONDS * SLOWER)
-        return said, int(re.search(r"I +refs: +([\d,]+)", log.read())[1].replace(",", ""))
-
-
-def told_by(said):
-    """The answer and the conflicts of another solver."""
-    found = re.search(r"conflicts *: *(\d+)", said)
-    return "unsat" if "UNSAT" in said else "sat", found[1] if found else "0"
-
-
-def processor_time(words, given=None, seconds=MOST_SECONDS):
+def processor_time(words):
     """What a process says, and its milliseconds of processor time."""
-    said, used = ended(words, given, seconds)
+    said, used = ended(words)
     return said, (used.ru_utime + used.ru_stime) * 1000
 
 
-def in_c(plain, conflicts, file, ours, run_of):
-    """What a run of the search in C takes, whose answer and log have to be these."""
-    # (a process that read it before has moved its place)
-    os.lseek(file.fileno(), 0, os.SEEK_SET)
-    said, took = run_of([plain, str(conflicts)], file)
-    head, _, log = said.partition("\n")
-    if (head.split(" ")[1:3], log) != ([ours.answer, str(ours.steps)], ours.log):
-        sys.exit(f"the search in C has another answer or log, {head}")
-    return took
-
-
-def in_turn(program, plain, text, conflicts):
-    """What our search, the same in C and other solvers say of clauses, with the least processor time of whole processes. They run one after the other, again and
-    again, so that all meet the same other work on the machine. Of others the answers, the conflicts and the milliseconds."""
+def in_turn(program, text, conflicts):
+    """What our search and other solvers say of clauses, with the least processor time of whole processes. They run one after the other, again and again, so that
+    all meet the same other work on the machine. Of others the answers, the conflicts and the milliseconds."""
     ours, others = solved(program, text, conflicts), {}
-    # (some lists that cost us a second others do not end at)
-    most = int(min(MOST_SECONDS, max(60, ours.millis / 50)))
     asked = [(name, words) for name, words in SOLVERS if shutil.which(words[0]) and ours.answer != "spent"]
-    with tempfile.NamedTemporaryFile("w+", suffix=".cnf") as file:
+    with tempfile.NamedTemporaryFile("w", suffix=".cnf") as file:
         file.write(text)
         file.flush()
         for _ in range(max(1, min(RUNS, int(ALL_MILLIS / ours.millis)))):
-            again = ours.answer, str(ours.steps), in_c(plain, conflicts, file, ours, processor_time)
-            others["in C"] = min(others.get("in C", again), again, key=lambda result: result[2])
             for name, words in [*asked]:
                 try:
-                    said, millis = processor_time([*words, file.name], None, most)
+                    said, millis = processor_time([*words, file.name])
                 except subprocess.TimeoutExpired:
                     asked.remove((name, words))
                     continue
-                again = (*told_by(said), millis)
+                found = re.search(r"conflicts *: *(\d+)", said)
+                again = ("unsat" if "UNSAT" in said else "sat", found[1] if found else "0", millis)
                 others[name] = min(others.get(name, again), again, key=lambda result: result[2])
             ours = min(ours, solved(program, text, conflicts), key=lambda result: result.millis)
-    return ours, {name: others[name] for name in ["in C", *(name for name, _ in asked)]}
+    return ours, {name: others[name] for name, _ in asked}
 
 
 def compared(program, checker, text):
@@ -392,87 +351,39 @@ def time_checks(program, checker):
             print(f"    {ours // 2:,} instructions, in C {theirs:,}, ratio {ours / 2 / theirs:.2f}")
 
 
-def sizes_of(text):
+def time_search(program, checker, name, text, conflicts=CONFLICTS):
+    try:
+        given, others = in_turn(program, text, conflicts)
+    except subprocess.TimeoutExpired:
+        print(f"{name}: longer than {MOST_SECONDS} s", flush=True)
+        return False
     head = re.search(r"^p cnf (\d+) (\d+)$", text, re.MULTILINE)
-    return f"{int(head[1]):,} variables, {int(head[2]):,} clauses"
-
-
-@dataclasses.dataclass
-class Series:
-    """Searches through lists, one after the other, and what each took beside MiniSat without its preprocessor: its name, ours and theirs."""
-    program: pathlib.Path
-    plain: pathlib.Path
-    checker: pathlib.Path
-    counts: bool
-    beside: list = dataclasses.field(default_factory=list)
-
-    def search(self, name, text, conflicts=CONFLICTS):
-        """Whether it did not take too long."""
-        try:
-            said = self.count(name, text, conflicts) if self.counts else self.time(name, text, conflicts)
-        except subprocess.TimeoutExpired:
-            print(f"{name}: longer than {MOST_SECONDS} s", flush=True)
-            return False
-        print(f"{name}: {sizes_of(text)}, {said}", flush=True)
-        return True
-
-    def time(self, name, text, conflicts):
-        given, others = in_turn(self.program, self.plain, text, conflicts)
-        if any(other != given.answer for other, _, _ in others.values()):
-            sys.exit(f"{name}: {given.answer}, but {others}")
-        if given.answer == "unsat" and run([self.checker], f"{text.strip()}\n{given.log}").split()[0] != "true":
-            sys.exit(f"{name}: the log does not derive the empty clause")
-        if "minisat" in others:
-            self.beside.append((name, given.millis, others["minisat"][2]))
-        literals, hints = given.a_step()
-        log = f" of {literals:.1f} literals and {hints:.1f} hints" if given.log else ""
-        beside = "".join(f", {solver} {conflicts} conflicts {millis:.1f} ms, {given.millis / max(millis, 0.1):.2f} times" for solver, (_, conflicts, millis) in others.items())
-        return (
-            f"{given.answer}, {given.steps:,} steps{log}, {given.micros / 1000:.1f} ms, {given.millis:.1f} ms of a processor in all,"
-            f" {given.peak / 1024:.0f} MiB{beside}"
-        )
-
-    def count(self, name, text, conflicts):
-        with tempfile.NamedTemporaryFile("w+", suffix=".cnf") as file:
-            file.write(text)
-            file.seek(0)
-            said, ours = counted([self.program, str(conflicts)], file)
-            given = answer_of(said)
-            plain = in_c(self.plain, conflicts, file, given, counted)
-            line = f"{given.answer}, {given.steps:,} steps, {ours / 1e6:,.1f} million instructions, in C {plain / 1e6:,.1f} million, {ours / plain:.2f} times"
-            if given.answer == "spent" or not shutil.which("minisat"):
-                return line
-            said, theirs = counted([*SOLVERS[0][1], file.name])
-        other, found = told_by(said)
-        if other != given.answer:
-            sys.exit(f"{name}: {given.answer}, but {other}")
-        self.beside.append((name, ours, theirs))
-        return f"{line}, minisat {found} conflicts {theirs / 1e6:,.1f} million, {ours / theirs:.2f} times"
-
-    def tell(self):
-        """What all lists take together, and which long ones take too many times as much."""
-        if len(self.beside) < 2:
-            return
-        times = sum(ours for _, ours, _ in self.beside) / sum(theirs for _, _, theirs in self.beside)
-        print(f"{len(self.beside)} lists together: {times:.2f} times minisat")
-        least = LONG_COUNT if self.counts else LONG_MILLIS
-        for name, ours, theirs in self.beside:
-            if ours > max(least, MOST_TIMES * theirs):
-                print(f"over {MOST_TIMES} times: {name}, {ours / theirs:.2f} times")
+    if any(other != given.answer for other, _, _ in others.values()):
+        sys.exit(f"{name}: {given.answer}, but {others}")
+    if given.answer == "unsat" and run([checker], f"{text.strip()}\n{given.log}").split()[0] != "true":
+        sys.exit(f"{name}: the log does not derive the empty clause")
+    literals, hints = given.a_step()
+    log = f" of {literals:.1f} literals and {hints:.1f} hints" if given.log else ""
+    beside = "".join(f", {solver} {conflicts} conflicts {millis:.1f} ms, {given.millis / max(millis, 0.1):.2f} times" for solver, (_, conflicts, millis) in others.items())
+    print(
+        f"{name}: {int(head[1]):,} variables, {int(head[2]):,} clauses, {given.answer}, {given.steps:,} steps{log}, {given.micros / 1000:.1f} ms,"
+        f" {given.millis:.1f} ms of a processor in all, {given.peak / 1024:.0f} MiB{beside}",
+        flush=True,
+    )
+    return True
 
 
 def dimacs(variables, clauses):
     return "\n".join([f"p cnf {variables} {len(clauses)}", *(" ".join(map(str, [*clause, 0])) for clause in clauses)]) + "\n"
 
 
-def pigeonholes(holes, units=0):
-    """One pigeon more than there are holes, each in one, and no two in one; behind these so many other variables, each in a clause of its own."""
+def pigeonholes(holes):
+    """One pigeon more than there are holes, each in one, and no two in one."""
     place = lambda pigeon, hole: pigeon * holes + hole + 1
     clauses = [[place(pigeon, hole) for hole in range(holes)] for pigeon in range(holes + 1)]
     pairs = [(one, two) for one in range(holes + 1) for two in range(one)]
     clauses += [[-place(one, hole), -place(two, hole)] for hole in range(holes) for one, two in pairs]
-    last = (holes + 1) * holes
-    return dimacs(last + units, clauses + [[last + name] for name in range(1, units + 1)])
+    return dimacs((holes + 1) * holes, clauses)
 
 
 def threes(variables, seed):
@@ -490,18 +401,11 @@ def made():
             yield f"threes {variables} {seed}", threes(variables, seed)
 
 
-def hard():
-    yield "pigeonholes 10", pigeonholes(10)
-    for seed in (1, 2):
-        yield f"threes 300 {seed}", threes(300, seed)
-
-
 def hostile():
     """Names, texts and budgets of lists that ask for much."""
     for holes in (9, 10):
         yield f"pigeonholes {holes}", pigeonholes(holes), 20_000
-    for seed in (1, 2):
-        yield f"threes 400 {seed}", threes(400, seed), 200_000
+    yield "threes 400", threes(400, 1), 200_000
     many = 4_000_000
     yield "a unit against the last of its clauses", dimacs(many, [[1], *([-1, name] for name in range(2, many)), [-1, -2]]), CONFLICTS
     long = 1_000_000
@@ -512,7 +416,6 @@ def hostile():
     yield "a long clause whose last literals become false first", dimacs(some, [list(range(1, some + 1)), [-1], *([one, -next] for one, next in zip(order, order[1:]))]), CONFLICTS
     yield "a long clause whose literals become false in their order", dimacs(long, [list(range(1, long + 1)), [-1], *([name, -name - 1] for name in range(1, long))]), CONFLICTS
     yield "units", dimacs(1 << 20, [[name] for name in range(1, (1 << 20) + 1)]), CONFLICTS
-    yield "pigeonholes 8 with units beside", pigeonholes(8, 1 << 20), 20_000
     yield "clauses that have one literal", dimacs(200_001, [[1, -2 * name, 2 * name + 1] for name in range(1, 100_001)]), CONFLICTS
 
 
@@ -544,14 +447,14 @@ def refuse_allocations(program, folder):
         print(f"{name}: {last} allocations, each refused, alone and with all after it: {dict(ends)}", flush=True)
 
 
-def search_goals(series):
+def time_goals(program, checker):
     for kind, sizes in FORMULAS:
         for size in sizes:
-            if not series.search(f"{kind} {size}", run([series.program, "clauses"], f"{kind} {size}")):
+            if not time_search(program, checker, f"{kind} {size}", run([program, "clauses"], f"{kind} {size}")):
                 break
 
 
-def search_hosts(series, folder, reading, *counts):
+def time_hosts(program, checker, folder, reading, counts):
     """Searches for a host that does not meet the assumption of the design that `refcli.py` of the reading makes, with its definitions."""
     sys.path.insert(0, reading)
     texts = importlib.import_module("refcli").gen_texts
@@ -561,50 +464,31 @@ def search_hosts(series, folder, reading, *counts):
             path.write_bytes(text)
         asked = [sys.executable, f"{reading}/verify.py", "acnf", *files, "0", "--dimacs"]
         clauses = subprocess.run(asked, stdout=subprocess.PIPE, text=True, check=True).stdout
-        series.search(f"an assumption over {count} hosts", clauses)
+        time_search(program, checker, f"an assumption over {count} hosts", clauses)
 
 
-def search_owed(series, reading, *designs):
-    made = importlib.import_module("scale").Reading(reading)
-    for design in map(pathlib.Path, designs):
-        for number, clauses in enumerate(made.lists(design.read_text(), None, 1)):
-            series.search(f"obligation {number} of {design.stem}", clauses)
-
-
-def search_all(series):
-    search_goals(series)
+def time_searches(program, checker):
+    time_goals(program, checker)
     for file in ("searches", "random"):
         for case in (DATA / f"{file}.dimacs").read_text().split("\n\n"):
             head = case.partition("\n")[0].split(" ", 2)
-            series.search(head[2], case.strip() + "\n")
-    search_lists(series, ["made"])
+            time_search(program, checker, head[2], case.strip() + "\n")
+    time_lists(program, checker, ["made"])
 
 
-def search_lists(series, names):
+def time_lists(program, checker, names):
     for name in names:
-        if name in ("made", "hard"):
-            for title, text in made() if name == "made" else hard():
-                series.search(title, text)
+        if name == "made":
+            for title, text in made():
+                time_search(program, checker, title, text)
         elif name == "goals":
-            search_goals(series)
+            time_goals(program, checker)
         elif name == "hostile":
             for title, text, conflicts in hostile():
-                series.search(title, text, conflicts)
+                time_search(program, checker, title, text, conflicts)
         else:
             path = pathlib.Path(name)
-            series.search(path.stem, path.read_text())
-
-
-def search_named(series, folder, *lists):
-    if lists[:1] == ("hosts",):
-        search_hosts(series, folder, *lists[1:])
-    elif lists[:1] == ("owed",):
-        search_owed(series, *lists[1:])
-    elif lists:
-        search_lists(series, lists)
-    else:
-        search_all(series)
-    series.tell()
+            time_search(program, checker, path.stem, path.read_text())
 
 
 def measure(folder, *lists):
@@ -612,16 +496,17 @@ def measure(folder, *lists):
     checker = folder / "check_log"
     subprocess.run(["cc", "-O2", "-o", checker, TOP / "bench" / "check_log.c"], check=True)
     if lists == ("refused",):
-        return refuse_allocations(program, folder)
-    if len(lists) == 1 and lists[0].isdigit():
-        return try_lists(program, checker, int(lists[0]), folder)
-    plain = folder / "search"
-    subprocess.run(["cc", "-O2", "-o", plain, TOP / "bench" / "search.c"], check=True)
-    counts = lists[:1] == ("count",)
-    if not lists:
+        refuse_allocations(program, folder)
+    elif lists[:1] == ("hosts",):
+        time_hosts(program, checker, folder, lists[1], lists[2:])
+    elif len(lists) == 1 and lists[0].isdigit():
+        try_lists(program, checker, int(lists[0]), folder)
+    elif lists:
+        time_lists(program, checker, lists)
+    else:
         judge_logs(program, checker)
         time_checks(program, checker)
-    search_named(Series(program, plain, checker, counts), folder, *lists[1 if counts else 0 :])
+        time_searches(program, checker)
 
 
 def main():

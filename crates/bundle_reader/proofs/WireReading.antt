@@ -7,8 +7,6 @@ use Rattle.cocoon_io.specs.declared.folder.FolderFault.TheVariants.{Failed, TooL
 use Rattle.p4_ir.specs.NetFits.{switch_numbers, wiring_of}
 use Rattle.p4_ir.specs.NetTree.{NetData, SwitchFiles}
 use Rattle.p4_ir.specs.Wiring.{wiring_fits}
-use Rattle.net_wiring.specs.Bare.{bare_switch}
-use Rattle.net_wiring.proofs.BareNumbers.{bare_numbers}
 use Rattle.net_bundle.specs.Bundle.{whole_name}
 use Rattle.net_bundle.specs.NetJson.{KeptDigest, NetFile}
 use Rattle.net_bundle.specs.Network.{file_wiring, is_digest}
@@ -16,7 +14,7 @@ use Rattle.net_bundle.specs.Writing.{most_of}
 use Rattle.net_bundle.specs.declared.file.BundleFile.TheVariants.{Network}
 use Rattle.bundle_forms.specs.NetForm.{file_fits, net_form}
 use Rattle.json_forms.specs.declared.fault.FormFault.TheVariants as form
-use Rattle.bundle_reader.specs.Alone.{IsOfFile, OneWiring, WiresRead, bare_net, wires_of}
+use Rattle.bundle_reader.specs.Alone.{IsOfFile, OneWiring, WiresRead, bare_net, bare_switch, wires_of}
 use Rattle.bundle_reader.specs.OneReading.{IsOfFiles}
 use Rattle.bundle_reader.specs.Readings.{Held, IsFirstFault, NoProgram, FilesNotLoaded, ReadsAs, Turn, Unformed}
 use Rattle.bundle_reader.specs.declared.fault.ReadFault.{ReadFault}
@@ -26,6 +24,10 @@ use Rattle.bundle_reader.proofs.OneReading.{AllRead, Laws, given, network_or_fai
 use Rattle.bundle_reader.proofs.Whole.{net_with, wires_fit}
 
 -- ---- its wires fit
+
+bare_numbers : (numbers : List ℕ) → switch_numbers (map bare_switch numbers) ≡ numbers
+bare_numbers [] = refl
+bare_numbers (n ∷ ns) = ap (λ ms. n ∷ ms) (bare_numbers ns)
 
 pub bare_fits : (file : NetFile) → IsTrue (file_fits file) → IsTrue (wiring_fits (wiring_of (bare_net file)))
 bare_fits file h =

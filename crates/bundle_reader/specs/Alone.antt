@@ -1,12 +1,13 @@
 -- Files of a bundle that are read alone: the certificates, and of the file of the network the wires. The clauses of
 -- `read_certificates` and `read_wiring` cite it, and so does the law `one_wiring`.
-use Rattle.std.specs.Prelude.{◌≡◌, ℕ, ◌<◌, List, map, length, Option, Some, None}
+use Rattle.std.specs.Prelude.{◌≡◌, ℕ, ◌<◌, List, [], map, length, Option, Some, None}
 use Rattle.std.specs.FinMap.{get}
 use Rattle.cocoon_io.specs.Files.{Files}
 use Rattle.cocoon_io.specs.declared.folder.FolderFault.TheVariants.{Failed, TooLong}
 use Rattle.p4_ir.specs.NetFits.{switch_numbers}
-use Rattle.p4_ir.specs.NetTree.{NetData}
-use Rattle.net_wiring.specs.Bare.{bare_switch}
+use Rattle.p4_ir.specs.NetTree.{NetData, SwitchFiles}
+use Rattle.p4_ir.specs.NoRows.{no_rows}
+use Rattle.p4_ir.specs.P4Tree.{Control, Program, p_done}
 use Rattle.net_bundle.specs.Bundle.{whole_name}
 use Rattle.net_bundle.specs.NetJson.{NetFile}
 use Rattle.net_bundle.specs.Writing.{most_of}
@@ -42,7 +43,17 @@ IsOfFile file NoMemory = Unit {0}
 
 -- ---- wires
 
--- the network that this file names, of switches of which only the numbers count
+abbrev pub no_control : Control
+no_control = record { tables = []; body = p_done }
+
+abbrev pub no_program : Program
+no_program = record { headers = []; meta = []; ingress = no_control; egress = no_control }
+
+-- a switch of this number, with an empty program and no rows
+abbrev pub bare_switch : ℕ → SwitchFiles
+bare_switch number = record { number = number; program = no_program; rows = no_rows }
+
+-- the network that this file names, of such switches
 abbrev pub bare_net : NetFile → NetData
 bare_net file = record { ports = file.ports; switches = map bare_switch file.switches; links = file.links; hosts = file.hosts }
 

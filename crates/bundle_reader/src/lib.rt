@@ -8,6 +8,7 @@ mod files;
 pub mod laws;
 pub mod reading;
 mod switches;
+mod wires;
 
 pub use certificates::read_certificates;
 pub use fault::ReadFault;

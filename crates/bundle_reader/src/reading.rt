@@ -15,6 +15,7 @@ ghost use Rattle.p4_ir.specs.Wiring.{wiring_fits};
 use crate::fault::ReadFault;
 use crate::files::{form_fault, read_file};
 use crate::switches::read_switches;
+use crate::wires::bare_switches;
 use bundle_forms::laws::net_form_is_exact;
 use bundle_forms::read_net;
 use cocoon_io::Folder;
@@ -22,7 +23,6 @@ use cocoon_num::List;
 use loaded_net::Net;
 use net_bundle::BundleFile;
 use net_bundle::net_json::NetFile;
-use net_wiring::bare_switches;
 use p4_ir::NetData;
 use std::alloc::Global;
 

@@ -1,5 +1,5 @@
 mod Accepting
-pub mod OneCert
+mod OneCert
 mod Showing
 pub mod SideBySide
 mod Telling

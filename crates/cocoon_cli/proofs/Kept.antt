@@ -102,7 +102,7 @@ tells_run d o kind f answer text is made tells =
     (subst (TellsRun d (kind_in kind) o.level o.leaf (failure_of d f)) (sym made) (record { verdict_ = refl; lines_ = tells; written = refl }))
 
 -- a run by which it fails is told
-fails_told : (d : Design) (nodes : List Node) (o : Obligation) (k : ℕ) (f : Failure) (answer : Answer) → IsNext d nodes o k → verdicts.IsFailureOf d nodes o o.kind f → TellsRun d (kind_in o.kind) o.level o.leaf (failure_of d f) answer
+fails_told : (d : Design) (nodes : List Node) (o : Obligation) (k : ℕ) (f : Failure) (answer : Answer) → IsNext d nodes o k → verdicts.IsFailing d nodes o o.kind f → TellsRun d (kind_in o.kind) o.level o.leaf (failure_of d f) answer
     → IsFailing d k answer.report
 fails_told d nodes o k f answer n h tells =
     let run = failure_of d f in
@@ -137,9 +137,9 @@ pub is_shown : (d : Design) (nodes : List Node) (o : Obligation) (conflicts roun
 is_shown d nodes o conflicts rounds cert h = record { certified = h.certified; never_fails = h.never_fails }
 
 -- or does not
-pub failing : (d : Design) (nodes : List Node) (o : Obligation) (conflicts rounds k : ℕ) (kind : Kind) (f : Failure) (answer : Answer) → verdicts.IsFailureOf d nodes o kind f → TellsRun d (kind_in o.kind) o.level o.leaf (failure_of d f) answer
+pub failing : (d : Design) (nodes : List Node) (o : Obligation) (conflicts rounds k : ℕ) (kind : Kind) (f : Failure) (answer : Answer) → verdicts.IsFailing d nodes o kind f → TellsRun d (kind_in o.kind) o.level o.leaf (failure_of d f) answer
     → IsUnshown d nodes o conflicts rounds k answer
-failing d nodes o conflicts rounds k kind f answer h tells = refining.by_run f (subst (λ x. verdicts.IsFailureOf d nodes o x f) (sym h.kind_) h) tells
+failing d nodes o conflicts rounds k kind f answer h tells = refining.by_run f (subst (λ x. verdicts.IsFailing d nodes o x f) (sym h.kind_) h) tells
 
 pub unshown_by : (d : Design) (nodes : List Node) (o : Obligation) (conflicts rounds budget k : ℕ) (q : Query) (vars : ℕ) (log : Log) (answer : Answer) → budget ≡ conflicts → Decides d nodes o budget rounds (SpentConflicts q vars log)
     → TellsSpent (spent_line conflicts k q) (spent_on d k q log) answer → IsUnshown d nodes o conflicts rounds k answer

@@ -69,7 +69,7 @@ HasTables d (Assumption i tables instances) = FitsDesign d tables
 -- it fails, or the search for it was given up
 pub data IsUnshown (d : Design) (nodes : List Node) (o : Obligation) (conflicts rounds number : ℕ)
     (answer : Answer) : Type 0 where
-  by_run : (f : Failure) → verdicts.IsFailureOf d nodes o o.kind f
+  by_run : (f : Failure) → verdicts.IsFailing d nodes o o.kind f
       → TellsRun d (kind_in o.kind) o.level o.leaf (failure_of d f) answer
       → IsUnshown d nodes o conflicts rounds number answer
   by_conflicts : (q : Query) (vars : ℕ) (log : Log)

@@ -7,21 +7,21 @@ use Rattle.cocoon_io.specs.Files.{Files}
 use Rattle.command_line.specs.Command.{Command}
 use Rattle.command_line.specs.Words.{command}
 use Rattle.command_reports.specs.FileNames.{HasName, bundle_in}
-use Rattle.command_reports.specs.Report.{Ending, Prints, all, a_prefix, nothing, fault_in, fault_of, given_up as gave_up, line_of, refusal_status, status_of, verdict_status}
+use Rattle.command_reports.specs.Report.{Ending, IsEnding, Prints, Puts, all, a_prefix, nothing, fault_in, fault_of, given_up as gave_up, line_of, refusal_status, status_of, verdict_status}
 use Rattle.command_reports.specs.declared.files.CommandFile.TheVariants.{Budget}
 use Rattle.command_reports.specs.declared.refusal.Refusal.{Refusal}
 use Rattle.command_reports.specs.declared.report.Report.{Report}
 use Rattle.command_reports.specs.declared.status.Status.{Status}
 use Rattle.command_reports.specs.declared.status.Status.TheVariants as status
-use Rattle.cocoon_cli.specs.Commands.{files_of}
-use Rattle.cocoon_cli.specs.Outcomes.{no_memory, at_step, at_fault, EndsAt, FirstWith, here, later, ReportsOutcome, StopsAt, is_any_searched, steps}
+use Rattle.cocoon_cli.specs.Commands.{Reports, files_of}
+use Rattle.cocoon_cli.specs.Outcomes.{Answers, Ends, no_memory, at_step, at_fault, EndsAt, FirstWith, here, later, ReportsOutcome, StopsAt, is_any_searched, steps}
 use Rattle.cocoon_cli.specs.Owing.{by_conflicts, by_rounds, spent_line}
 use Rattle.cocoon_cli.specs.ReportLines.{budget_line, rounds_line}
 use Rattle.cocoon_cli.specs.Run.{Call, Cause, CauseOf, Counted, CountsFault, DoneOf, InputsAre, IsKnown, IsSpentAt, KeepsMore, SpentOf, inputs_of}
 use Rattle.cocoon_cli.specs.Steps.{Decides, GivesUp, Inputs, IsTooLarge, Spends, Step, Stops, is_searched, is_there, assumptions_met, obligations_hold, bundle_reads, certificates_within, bundle_written}
 use Rattle.cocoon_cli.proofs.Commands.{report_done, steps_decided}
 use Rattle.cocoon_cli.proofs.OneStep.{AllDecided, Decided, Laws, good_or_judged, good_or_refused}
-use Rattle.completeness_laws.specs.Endings.{EndsWell, done, given_up, too_large, GivenUpBy, SpendsConflicts, SpendsRounds}
+use Rattle.completeness_laws.specs.Endings.{EndsWell, done, given_up, too_large, GivenUpBy, IsTooLargeAt, SpendsConflicts, SpendsRounds}
 use Rattle.completeness_laws.specs.Endings as endings
 use Rattle.completeness_laws.specs.Enough.{AreEnoughConflicts, AreEnoughRounds, HasConflicts, HasRounds}
 use Rattle.completeness_laws.specs.Sound.{IsSound, Sound}

@@ -1,7 +1,7 @@
 -- With enough conflicts no query spends them, and with enough rounds no search spends those.
-use Rattle.std.proofs.Common.{◌≡◌, ◌≤◌, ◌<◌, ◌+◌, ◌^◌, ℕ, zero, suc, List, [], ◌∷◌, length, All, Option, Some, None, refl, ap, subst, arith}
+use Rattle.std.proofs.Common.{◌≡◌, ◌≤◌, ◌<◌, ◌+◌, ◌^◌, ℕ, zero, suc, List, [], ◌∷◌, length, map, All, Option, Some, None, refl, sym, ap, subst, ◌∙◌, arith}
 use Rattle.std.specs.Prelude.{slice_get}
-use Rattle.std.specs.List.{sum_by}
+use Rattle.std.specs.List.{sum, sum_by}
 use Rattle.std.proofs.lemmas.List.Elements.{All-head, All-tail}
 use Rattle.std.proofs.lemmas.List.Sums.{sum-map, sum_by-cons}
 use Rattle.bit_blast.specs.Clauses.{vars_of}
@@ -30,7 +30,7 @@ use Rattle.rounds.specs.Outcomes.{IsAsked, IsSpentAfter}
 use Rattle.rounds.specs.declared.outcome.Query.{Query}
 use Rattle.rounds.specs.declared.outcome.Query.TheVariants.{Goal, Assumption}
 use Rattle.verdicts.specs.Deciding.{Decides, formula_in}
-use Rattle.verdicts.specs.Failing.{FailsBy, IsFailureOf}
+use Rattle.verdicts.specs.Failing.{FailsBy, IsFailing}
 use Rattle.failures.specs.declared.failure.Failure as read
 use Rattle.verdicts.specs.declared.deciding.Verdict.{Verdict}
 use Rattle.verdicts.specs.declared.deciding.Verdict.TheVariants as verdict
@@ -132,7 +132,7 @@ obligation_not_open short d rounds number bytes many spent =
 abbrev pub Fails : Type 0
 Fails = (d : tree.Design) (o : Obligation) (f : Failure) → FailsBy d o f → NeverFails d o → ⊥
 
-failing : Fails → (d : tree.Design) (nodes : List Node) (o : code.Obligation) (k : Kind) (f : read.Failure) → IsOwed d nodes o → IsFailureOf d nodes o k f → ¬ NeverFailsHere d nodes o
+failing : Fails → (d : tree.Design) (nodes : List Node) (o : code.Obligation) (k : Kind) (f : read.Failure) → IsOwed d nodes o → IsFailing d nodes o k f → ¬ NeverFailsHere d nodes o
 failing fails d nodes o k f owed says = λ never.
     fails d owed.owed (failure_of d f) (says.fails owed.number owed.owed owed.there owed.shown) (never owed.number owed.owed owed.there owed.shown)
 

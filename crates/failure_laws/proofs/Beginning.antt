@@ -4,11 +4,9 @@ use Rattle.std.specs.Prelude.{slice_get}
 use Rattle.std.specs.List.{AllByRecursion}
 use Rattle.std.proofs.lemmas.List.Elements.{All-from_recursion}
 use Rattle.bv_terms.specs.Arenas.{term_at}
-use Rattle.bv_terms.specs.TermTrees.{IsTerm, Term}
+use Rattle.bv_terms.specs.TermTrees.{Term}
 use Rattle.bv_terms.specs.TermValues.{Inputs}
 use Rattle.bv_terms.specs.declared.node.Node.{Node}
-use Rattle.candidate_laws.specs.Broken.{IsMeantTrue}
-use Rattle.candidate_laws.specs.Candidates.{MakeTrue}
 use Rattle.cocoon_num.specs.PacketForms.{FieldsFit}
 use Rattle.cocoon_num.specs.Tree.{DefsText, Design, Refine, Role}
 use Rattle.cocoon_num.specs.declared.fun_table.FunTable.{FunTable}
@@ -28,11 +26,11 @@ use Rattle.formula_functions.specs.LeafTerms as applies
 use Rattle.hop_inline.specs.Shown.{HasInput, ShowsInputs, ShowsLeaves}
 use Rattle.hop_inline.specs.declared.tree.Leaf.{Leaf as CodeLeaf}
 use Rattle.leaf_laws.specs.LeafShown.{LeafShown}
-use Rattle.obligation_gen.specs.Shown.{ShowsObligation, kind_in}
+use Rattle.obligation_gen.specs.Shown.{ShowsObligation}
 use Rattle.obligation_gen.specs.declared.obligation.Obligation.{Obligation}
 use Rattle.obligation_laws.specs.Formulas.{formula}
 use Rattle.obligation_laws.specs.Obligations as laws
-use Rattle.obligation_laws.specs.Obligations.{all_obligations, old_tree, refined_tree}
+use Rattle.obligation_laws.specs.Obligations.{all_obligations, kind_of, old_tree, refined_tree}
 use Rattle.refinement.specs.Assumptions.{AreDefinitions, Meets}
 use Rattle.refinement.specs.Owed.{Given}
 use Rattle.refinement.specs.Segments.{is_new}
@@ -55,6 +53,7 @@ use Rattle.failure_laws.proofs.Failing.{Related}
 use Rattle.failure_laws.proofs.Inputs.{all_fit, member}
 use Rattle.failure_laws.proofs.Narrow.{AllNarrow, LeafNarrow, leaf_narrow}
 use Rattle.failure_laws.proofs.Owned.{Owned, owned}
+use Rattle.failure_laws.proofs.Values.{ValueLaws, true_by}
 
 -- ---- numbers of inputs
 
@@ -87,8 +86,7 @@ pub record Laws (d : Design) : Type 0 where
   pub literals : DesignLiteralsFit d
   pub definitions : (tables : List (Option FunTable)) → FitsDesign d tables → AreDefinitions d (defined d tables)
   pub stands : (tables : List (Option FunTable)) → FitsDesign d tables → All IsMasked tables → Stands d tables (defined d tables)
-  pub stay_true : (tables : List (Option FunTable)) → FitsDesign d tables → (t : Term) → applies.Stands d 1 t → IsTerm t
-      → (ins : Inputs) → MakeTrue tables ins t → IsMeantTrue d tables ins t
+  pub values : (tables : List (Option FunTable)) (defs : Defs) → FitsDesign d tables → Stands d tables defs → ValueLaws d tables defs
   pub applies_ : (n : ℕ) (o : laws.Obligation) → slice_get (all_obligations d) n ≡ Some o → applies.Stands d 1 o.formula
   pub typed : (level : ℕ) (name : List ℕ) (r : Role) → role_at level d name ≡ Some r → IsTypedRole d level r
   pub exact_ : (es : DefsText) → HasDefinitions d es → (above : ℕ) (block : Refine) → slice_get d.refines above ≡ Some block
@@ -123,7 +121,7 @@ module _ (d : Design) (cited : Laws d) (tables : List (Option FunTable)) (o : Ob
   own = owned d h.owed.number owed h.owed.there
 
   fit : (is : List NewInput) → ((i : NewInput) → In i is → HasInput h.nodes i) → AllFit ins is
-  fit is here = all_fit h.nodes h.arena o.formula shown.formula_.there ins h.true_.fit h.others is here
+  fit is here = all_fit h.nodes h.arena o.formula shown.formula_.there ins h.fit h.others is here
 
   choice_there : (leaves : List CodeLeaf) → ShowsLeaves d h.nodes leaves (owed.leaf ∷ []) → (i : NewInput) → In i owed.leaf.choices → HasInput h.nodes i
   choice_there [] s i m = absurd s
@@ -206,8 +204,9 @@ module _ (d : Design) (cited : Laws d) (tables : List (Option FunTable)) (o : Ob
     holds =
         let is = shown.formula_.term in
         subst (IsOne (functions_by d defs) ins) is
-        (cited.stay_true tables can.fit t (subst (applies.Stands d 1) (sym is) (cited.applies_ h.owed.number owed h.owed.there))
-        (h.arena.terms o.formula shown.formula_.there) ins h.true_ es has stands)
+        (true_by d tables defs (cited.values tables defs can.fit stands) t (h.arena.terms o.formula shown.formula_.there)
+        (subst (applies.AppliesDeclared d) (sym is) (cited.applies_ h.owed.number owed h.owed.there).1)
+        ins h.fit h.true_)
 
     fails_here : exact.Fails d defs ins own.above own.block own.role tree own.leaf
     fails_here =
@@ -248,7 +247,7 @@ module _ (d : Design) (cited : Laws d) (tables : List (Option FunTable)) (o : Ob
         behind = level_is;
         there = own.at;
         fails = failing.fails own.above d own.block defs ins own.role tree own.leaf fails_here own.refined some (cited.related own.above own.block defs) ends leaf_shown.role leaf_shown.declared here
-            (kind_in o.kind) (shown.kind_ ∙ ap (λ (x : laws.Obligation). x.kind) own.is);
+            o.kind (shown.kind_ ∙ ap (λ (x : laws.Obligation). x.kind) own.is);
       };
       along = record {
         above = own.above;
@@ -259,5 +258,5 @@ module _ (d : Design) (cited : Laws d) (tables : List (Option FunTable)) (o : Ob
       };
     }
 
-    pub not_none : NoneBegins (Fails (kind_in o.kind)) o.level d tables (begin_of ins o) → ⊥
+    pub not_none : NoneBegins (Fails o.kind) o.level d tables (begin_of ins o) → ⊥
     not_none none = none has_failure.failure has_failure.begins has_failure.fails

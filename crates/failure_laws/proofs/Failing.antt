@@ -11,8 +11,12 @@ use Rattle.cocoon_types.specs.Taken.{Used}
 use Rattle.exactness_laws.specs.FailingRuns.{Fails as FailsHere}
 use Rattle.expr_term_laws.specs.Shown.{functions_by}
 use Rattle.failures.specs.Failures.{Failure, IsOver, IsRefuted}
+use Rattle.obligation_gen.specs.Shown.{kind_in}
+use Rattle.obligation_gen.specs.declared.obligation.Kind.{Kind}
+use Rattle.obligation_gen.specs.declared.obligation.Kind.TheVariants.{Contained, Bounded}
 use Rattle.obligation_laws.specs.Failing.{IsKept}
-use Rattle.obligation_laws.specs.Obligations.{Kind, contained, bounded, kind_of}
+use Rattle.obligation_laws.specs.Obligations as laws
+use Rattle.obligation_laws.specs.Obligations.{contained, bounded, kind_of, refined_tree}
 use Rattle.refinement.specs.Owed.{Given}
 use Rattle.refinement.specs.Segments.{IsNew, IsRefined, Segment, is_new, is_old}
 use Rattle.refinement.specs.Ways.{Arrival, hops_by}
@@ -84,7 +88,7 @@ module _ (above : ℕ) (d : Design) (block : Refine) (defs : Defs) (ins : Inputs
         stops = λ new. s.2.3 new ∙ sym e;
       }
 
-  abbrev Kept : Kind → Type 0
+  abbrev Kept : laws.Kind → Type 0
   Kept k = IsKept above d defs k from packet led
 
   refuted : (x : List ℕ) → end_role leaf.end ≡ x → is_new above d x ≡ false → (Kept contained → ⊥) → IsRefuted above d block failure
@@ -110,11 +114,11 @@ module _ (above : ℕ) (d : Design) (block : Refine) (defs : Defs) (ins : Inputs
         new = new;
       }
 
-  pub fails : (k : Kind) → k ≡ kind_of leaf.end → Fails k above d block failure
+  pub fails : (k : Kind) → kind_in k ≡ kind_of leaf.end → Fails k above d block failure
   fails k e = by k leaf.end refl ends failing.fails e
     where
-      by : (k : Kind) (end : End) → leaf.end ≡ end → EndsBy (is_new above d) end → (Kept (kind_of end) → ⊥) → k ≡ kind_of end → Fails k above d block failure
-      by contained (sent_to x vs fs) is n unsent same = refuted x (ap end_role is) n unsent
-      by contained (inside x vs fs) is n unsent same = absurd (cc)
-      by bounded (sent_to x vs fs) is n unsent same = absurd (cc)
-      by bounded (inside x vs fs) is n unsent same = over x (ap end_role is) n
+      by : (k : Kind) (end : End) → leaf.end ≡ end → EndsBy (is_new above d) end → (Kept (kind_of end) → ⊥) → kind_in k ≡ kind_of end → Fails k above d block failure
+      by Contained (sent_to x vs fs) is n unsent same = refuted x (ap end_role is) n unsent
+      by Contained (inside x vs fs) is n unsent same = absurd (cc)
+      by Bounded (sent_to x vs fs) is n unsent same = absurd (cc)
+      by Bounded (inside x vs fs) is n unsent same = over x (ap end_role is) n

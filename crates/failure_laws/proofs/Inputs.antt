@@ -15,7 +15,6 @@ use Rattle.hop_inline.specs.Shown.{HasInput}
 use Rattle.sound_types.proofs.Members.{In}
 use Rattle.symbolic_laws.specs.Meant.{AllFit}
 use Rattle.symbolic_laws.specs.States.{NewInput}
-use Rattle.failure_laws.specs.Witnesses.{OthersAreZero}
 use Rattle.failure_laws.proofs.Arenas.{is_node, one_width}
 
 -- ---- lists
@@ -28,7 +27,7 @@ pub member : {A : Type 0} (P : A → Type 0) (xs : List A) → All P xs → (x :
 member P xs h = each_of P xs (recursion_from_All P xs h)
 
 module _ (nodes : List Node) (arena : IsArena nodes) (k : ℕ) (stands : k < length nodes) (ins : Inputs) (fit : InputsFit (term_at nodes k) ins)
-    (others : OthersAreZero (term_at nodes k) ins) where
+    (others : (i : ℕ) → ((w : ℕ) → Mentions (term_at nodes k) i w → ⊥) → ins i ≡ 0) where
   abbrev t : Term
   t = term_at nodes k
 

@@ -2,5 +2,6 @@ pub mod Owned
 pub mod Arenas
 pub mod Inputs
 pub mod Narrow
+pub mod Values
 pub mod Failing
 pub mod Beginning

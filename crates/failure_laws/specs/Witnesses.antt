@@ -3,10 +3,9 @@
 use Rattle.std.specs.Prelude.{◌≡◌, ℕ, List, [], Some}
 use Rattle.bv_terms.specs.declared.node.Node.{Node}
 use Rattle.bv_terms.specs.Arenas.{IsArena, term_at}
-use Rattle.bv_terms.specs.Inputs.{Mentions}
-use Rattle.bv_terms.specs.TermTrees.{Term}
+use Rattle.bv_terms.specs.Inputs.{InputsFit, Mentions}
 use Rattle.bv_terms.specs.TermValues.{Inputs}
-use Rattle.candidate_laws.specs.Candidates.{MakeTrue}
+use Rattle.candidate_laws.specs.Candidates.{IsTrueAt}
 use Rattle.cocoon_num.specs.Tree.{Design, Refine}
 pub use Rattle.failure_reading.specs.OfObligation.{AreShort, begin_of, choices_of, Fails}
 use Rattle.failures.specs.Failures as laws
@@ -14,16 +13,11 @@ use Rattle.failures.specs.Failures.{OfLevel}
 use Rattle.failures.specs.Found.{BeginsSo}
 use Rattle.failures.specs.declared.failure.Begin.{Begin}
 use Rattle.obligation_gen.specs.Owed.{IsOwed}
-use Rattle.obligation_gen.specs.Shown.{kind_in}
 use Rattle.obligation_gen.specs.declared.obligation.Obligation.{Obligation}
 use Rattle.refinement.specs.Ways.{Way, hops_by}
 use Rattle.table_terms.specs.WithRows.{Tables}
 
 -- ---- inputs
-
--- inputs that the term does not have are 0
-abbrev pub OthersAreZero : Term → Inputs → Type 0
-OthersAreZero t ins = (i : ℕ) → ((w : ℕ) → Mentions t i w → ⊥) → ins i ≡ 0
 
 -- In an arena the design owes the obligation. Its formula is true under the tables at these numbers, which fit it; those of all
 -- other inputs are 0.
@@ -31,8 +25,9 @@ pub record IsTrueFor (d : Design) (tables : Tables) (o : Obligation) (ins : Inpu
   pub nodes : List Node
   pub arena : IsArena nodes
   pub owed : IsOwed d nodes o
-  pub true_ : MakeTrue tables ins (term_at nodes o.formula)
-  pub others : OthersAreZero (term_at nodes o.formula) ins
+  pub fit : InputsFit (term_at nodes o.formula) ins
+  pub true_ : IsTrueAt tables ins (term_at nodes o.formula)
+  pub others : (i : ℕ) → ((w : ℕ) → Mentions (term_at nodes o.formula) i w → ⊥) → ins i ≡ 0
 
 -- ---- how it fails
 
@@ -47,5 +42,5 @@ pub record HasFailure (d : Design) (tables : Tables) (o : Obligation) (way : Way
     : Type 0 where
   pub failure : laws.Failure
   pub begins : BeginsSo d tables b failure
-  pub fails : OfLevel (Fails (kind_in o.kind)) o.level d failure
+  pub fails : OfLevel (Fails o.kind) o.level d failure
   pub along : OfLevel (GoesBy way) o.level d failure

@@ -4,19 +4,20 @@ ghost use Rattle.cocoon_num.specs.Tree.{Design};
 ghost use Rattle.cocoon_resolve.specs.Resolved.{WasRead};
 ghost use Rattle.cocoon_types.specs.Rules.{WellFormed};
 ghost use Rattle.failures.specs.Found.{BeginFits, CanFail, NoneBegins};
-ghost use Rattle.obligation_gen.specs.Shown.{kind_in};
 ghost use Rattle.obligation_gen.specs.declared.obligation.Obligation.{Obligation};
 ghost use Rattle.sound_types.specs.Literals.{DesignLiteralsFit};
 ghost use Rattle.table_terms.specs.WithRows.{Tables};
 ghost use Rattle.failure_laws.specs.Witnesses.{AreShort, begin_of, Fails, HasFailure, IsTrueFor};
 
-use candidate_laws::laws::formulas_stay_true;
+use application_laws::laws::{tables_keep_values, tables_take_the_place};
 use exactness_laws::laws::formulas_are_failures;
 use formula_functions::laws::formulas_apply_declared_functions;
 use leaf_laws::laws::leaves_have_values;
+use pattern_laws::over::design_terms_apply_alike;
 use refinement::laws::{levels_keep_roles, segments_are_hops};
 use sound_types::laws::declarations_are_typed;
 use symbolic_laws::laws::leaves_end_by_role;
+use table_terms::laws::rows_keep_values;
 use tables_stand::laws::tables_are_definitions;
 
 /// In a design that was read, where the formula of an obligation is true under tables: the run that
@@ -36,15 +37,18 @@ pub fn true_formulas_are_failures()
     ensures found { (d : Design) → WasRead d → WellFormed d → DesignLiteralsFit d
         → (tables : Tables) (o : Obligation) (ins : Inputs) → IsTrueFor d tables o ins
         → CanFail o.level d tables
-        → NoneBegins (Fails (kind_in o.kind)) o.level d tables (begin_of ins o) → ⊥ }
+        → NoneBegins (Fails o.kind) o.level d tables (begin_of ins o) → ⊥ }
 {
     declarations_are_typed();
+    design_terms_apply_alike();
     formulas_apply_declared_functions();
     formulas_are_failures();
-    formulas_stay_true();
     leaves_end_by_role();
     leaves_have_values();
     levels_keep_roles();
+    rows_keep_values();
     segments_are_hops();
     tables_are_definitions();
+    tables_keep_values();
+    tables_take_the_place();
 }

@@ -12,7 +12,6 @@ use Rattle.failures.specs.Found.{BeginFits, BeginsAt, NoneBegins, failure_of}
 use Rattle.failures.specs.declared.failure.Begin.{Begin}
 use Rattle.failures.specs.declared.failure.Failure.{Failure}
 use Rattle.failure_reading.specs.OfObligation.{AreShort, Fails, FailsIn, IsBegin, begin_of, choices_of}
-use Rattle.obligation_gen.specs.Shown.{kind_in}
 use Rattle.obligation_gen.specs.declared.obligation.Kind.{Kind}
 use Rattle.obligation_gen.specs.declared.obligation.Kind.TheVariants.{Contained, Bounded}
 use Rattle.obligation_gen.specs.declared.obligation.Obligation.{Obligation}
@@ -66,27 +65,26 @@ module _ (d : Design) (o : Obligation) (values : Inputs) (b : Begin) (is : AreSh
     begins_by (Ok None) h = tt
     begins_by (Ok (Some f)) h = λ short. subst (λ (x : Begin). BeginsAt tables x f) (is short) h
 
-    none_of : (k : Kind) → o.kind ≡ k → NoneBegins (Fails (kind_in k)) o.level d tables b → IsBegin d (begin_of values o)
-        → NoneBegins (Fails (kind_in o.kind)) o.level d tables (begin_of values o)
+    none_of : (k : Kind) → o.kind ≡ k → NoneBegins (Fails k) o.level d tables b → IsBegin d (begin_of values o)
+        → NoneBegins (Fails o.kind) o.level d tables (begin_of values o)
     none_of k e h begins =
-        subst (λ (x : Begin). NoneBegins (Fails (kind_in o.kind)) o.level d tables x) (is begins.short)
-        (subst (λ (x : Kind). NoneBegins (Fails (kind_in x)) o.level d tables b) (sym e) h)
+        subst (λ (x : Begin). NoneBegins (Fails o.kind) o.level d tables x) (is begins.short) (subst (λ (x : Kind). NoneBegins (Fails x) o.level d tables b) (sym e) h)
 
     pub none_refuted : o.kind ≡ Contained → (r : Result (Option Failure) NoMemory) → IfOk r (λ x. x ≡ None → NoneBegins IsRefuted o.level d tables b)
-        → IfOk r (λ x. x ≡ None → IsBegin d (begin_of values o) → NoneBegins (Fails (kind_in o.kind)) o.level d tables (begin_of values o))
+        → IfOk r (λ x. x ≡ None → IsBegin d (begin_of values o) → NoneBegins (Fails o.kind) o.level d tables (begin_of values o))
     none_refuted e (Err x) h = tt
     none_refuted e (Ok x) h = λ none. none_of Contained e (h none)
 
     pub none_over : o.kind ≡ Bounded → (r : Result (Option Failure) NoMemory) → IfOk r (λ x. x ≡ None → NoneBegins IsOver o.level d tables b)
-        → IfOk r (λ x. x ≡ None → IsBegin d (begin_of values o) → NoneBegins (Fails (kind_in o.kind)) o.level d tables (begin_of values o))
+        → IfOk r (λ x. x ≡ None → IsBegin d (begin_of values o) → NoneBegins (Fails o.kind) o.level d tables (begin_of values o))
     none_over e (Err x) h = tt
     none_over e (Ok x) h = λ none. none_of Bounded e (h none)
 
 module _ (d : Design) (o : Obligation) (b : Begin) (role : b.at.role ≡ o.role) (tables : List (Option FunTable)) where
-  of_kind : (k : Kind) → o.kind ≡ k → (f : Failure) → OfLevel (Fails (kind_in k)) o.level d (failure_of d f) → BeginsAt tables b f → FailsIn d o f
+  of_kind : (k : Kind) → o.kind ≡ k → (f : Failure) → OfLevel (Fails k) o.level d (failure_of d f) → BeginsAt tables b f → FailsIn d o f
   of_kind k e f h s = record {
     role = ap (λ (l : Loc). l.role) s.at ∙ role;
-    fails = subst (λ (x : Kind). OfLevel (Fails (kind_in x)) o.level d (failure_of d f)) (sym e) h;
+    fails = subst (λ (x : Kind). OfLevel (Fails x) o.level d (failure_of d f)) (sym e) h;
   }
 
   pub by_refuted : o.kind ≡ Contained → (r : Result (Option Failure) NoMemory) → IfOk r (λ x. IfSome x (λ f. OfLevel IsRefuted o.level d (failure_of d f)))

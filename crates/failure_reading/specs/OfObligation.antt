@@ -12,9 +12,9 @@ use Rattle.failures.specs.declared.failure.Begin.{Begin}
 use Rattle.failures.specs.declared.failure.Failure.{Failure}
 use Rattle.hop_inline.specs.declared.tree.Leaf.{Leaf}
 use Rattle.obligation_gen.specs.Owed.{IsOwed}
-use Rattle.obligation_gen.specs.Shown.{kind_in}
+use Rattle.obligation_gen.specs.declared.obligation.Kind.{Kind}
+use Rattle.obligation_gen.specs.declared.obligation.Kind.TheVariants.{Contained, Bounded}
 use Rattle.obligation_gen.specs.declared.obligation.Obligation.{Obligation}
-use Rattle.obligation_laws.specs.Obligations.{Kind, contained, bounded}
 
 -- the design owes it, with its formula in some arena
 abbrev pub IsOwedSomewhere : Design → Obligation → Type 0
@@ -48,12 +48,12 @@ pub record IsBegin (d : Design) (b : Begin) : Type 0 where
 
 -- ---- how it fails
 
--- how a block fails of which this is owed: a run leads where the body above sends nothing, or it goes on for too long
+-- how a block fails of which this is owed
 abbrev pub Fails : Kind → (above : ℕ) → Design → Refine → laws.Failure → Type 0
-Fails contained = IsRefuted
-Fails bounded = IsOver
+Fails Contained above d block f = IsRefuted above d block f
+Fails Bounded above d block f = IsOver above d block f
 
 -- the block of the obligation's level fails, by a run of its role
 pub record FailsIn (d : Design) (o : Obligation) (f : Failure) : Type 0 where
   pub role : f.at.role ≡ o.role
-  pub fails : OfLevel (Fails (kind_in o.kind)) o.level d (failure_of d f)
+  pub fails : OfLevel (Fails o.kind) o.level d (failure_of d f)

@@ -6,7 +6,6 @@ ghost use Rattle.cocoon_types.specs.Design.{last_level};
 ghost use Rattle.failures.specs.Found.{BeginsAt, CanFail, FailureFits, IsOfBlock, NoneBegins};
 ghost use Rattle.failures.specs.declared.failure.Begin.{Begin as AsBegin};
 ghost use Rattle.input_values.specs.Values.{values_of};
-ghost use Rattle.obligation_gen.specs.Shown.{kind_in};
 ghost use Rattle.failure_reading.specs.OfObligation as spec;
 ghost use Rattle.failure_reading.specs.OfObligation.{AreShort, Fails, FailsIn, IsBegin, IsOwedSomewhere};
 
@@ -53,8 +52,7 @@ pub fn failure(
         (spec.begin_of (values_of values.now.inputs.now values.now.values.now) obligation.now) f)) }
     ensures none { IfOk result (λ failure. failure ≡ None → IsBegin (design_of checked.now)
         (spec.begin_of (values_of values.now.inputs.now values.now.values.now) obligation.now)
-        → NoneBegins (Fails (kind_in obligation.now.kind)) obligation.now.level
-        (design_of checked.now) defs
+        → NoneBegins (Fails obligation.now.kind) obligation.now.level (design_of checked.now) defs
         (spec.begin_of (values_of values.now.inputs.now values.now.values.now) obligation.now)) }
 {
     know_block(checked, obligation);

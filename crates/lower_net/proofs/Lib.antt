@@ -1,5 +1,4 @@
 pub mod Over
 pub mod Still
 pub mod Leading
-pub mod Wiring
 pub mod Ranging

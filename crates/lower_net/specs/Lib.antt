@@ -2,4 +2,3 @@ pub mod Limits
 pub mod Refused
 pub mod Idle
 pub mod Led
-pub mod Wired

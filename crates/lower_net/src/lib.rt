@@ -11,7 +11,5 @@ pub mod limits;
 mod links;
 pub mod lowering;
 mod switches;
-mod wired;
 
 pub use lowering::{LowerFault, first_switch, lower, program};
-pub use wired::wires;

@@ -4,9 +4,7 @@
 
 pub mod laws;
 pub mod lowering;
-mod wiring;
 
 pub use lower_net::LowerFault;
 pub use lower_net::limits::{MOST_HOSTS, MOST_MEMBERS, MOST_SITES, MOST_SWITCHES, MOST_TABLES};
 pub use lowering::lower;
-pub use wiring::wires;

@@ -1,4 +1,3 @@
-pub mod BareNumbers
 mod Differing
 mod ItemByItem
 mod OtherTrees

@@ -1,3 +1,2 @@
-pub mod Bare
 pub mod Differences
 pub mod SameTrees

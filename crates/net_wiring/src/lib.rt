@@ -1,8 +1,6 @@
-//! Two networks compared: the first difference of their wires and programs. Rows are not compared, and no memory is taken. A
-//! network of which only the wires are known has bare switches.
+//! Two networks compared: the first difference of their wires and programs. Rows are not compared. No memory is taken.
 #![tactic(auto)]
 
-pub mod bare;
 mod exprs;
 pub mod laws;
 mod lists;
@@ -11,6 +9,5 @@ pub mod programs;
 mod stmts;
 pub mod wiring;
 
-pub use bare::bare_switches;
 pub use programs::same_program;
 pub use wiring::{Wiring, wiring_differs, wiring_only};

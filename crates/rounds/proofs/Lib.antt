@@ -1,3 +1,3 @@
 pub mod Queries
-pub mod Witnesses
+pub mod Told
 pub mod Rounds

@@ -1,5 +1,5 @@
 -- What a search says of a query.
-use Rattle.std.proofs.Common.{◌≡◌, ℕ, List, refl, sym, subst}
+use Rattle.std.proofs.Common.{◌≡◌, ℕ, List, refl, sym, subst, ◌∙◌}
 use Rattle.bit_blast.specs.Blasting.{InputRow, IsClauses, IsFault, MapsInputs}
 use Rattle.bit_blast.specs.declared.blasting.BlastFault.{BlastFault}
 use Rattle.bit_blast.specs.declared.blasting.BlastFault.TheVariants.{Clauses, NoMemory}
@@ -25,6 +25,7 @@ use Rattle.query_laws.specs.OwnNames.{input_count}
 use Rattle.query_laws.specs.Queries.{asked, query}
 use Rattle.rounds.specs.Steps.{IsSearched, Refuses, Says}
 use Rattle.rounds.specs.declared.asking.Searched.{Searched}
+use Rattle.rounds.specs.declared.asking.Searched.TheVariants.{Big}
 
 module _ (d : Design) (level : ℕ) (formula : Term) (instances : List Instance) (own : OwnGoal) (is : IsQuery d level formula instances own) where
   -- where there are too many clauses

@@ -1,11 +1,12 @@
 -- One round: what a candidate tells of the formula.
-use Rattle.std.proofs.Common.{◌≡◌, ◌⊎◌, ℕ, ◌+◌, ◌<◌, ◌≤◌, List, [], ◌∷◌, ◌++◌, length, Option, Some, None, sym, ap, subst, ◌∙◌, arith, inl, inr}
+use Rattle.std.proofs.Common.{◌≡◌, ◌⊎◌, ℕ, ◌+◌, ◌<◌, ◌≤◌, List, [], ◌∷◌, ◌++◌, length, Option, Some, None, refl, sym, ap, subst, ◌∙◌, arith, inl, inr}
 use Rattle.std.specs.Prelude.{slice_get}
 use Rattle.std.proofs.lemmas.List.{length-append}
 use Rattle.bv_terms.specs.TermTrees.{IsTerm, Term, constant}
 use Rattle.candidate_laws.specs.Broken.{IsBroken as Breaks}
 use Rattle.candidate_laws.specs.Candidates.{IsCandidate, IsFalseBy}
-use Rattle.candidate_laws.specs.Rounds.{IsWithin, of_goal, Progress}
+use Rattle.certificates.specs.declared.Cert.{Cert}
+use Rattle.candidate_laws.specs.Rounds.{IsWithin, of_assumption, of_goal, Progress}
 use Rattle.certificates.specs.declared.Instance.{Instance}
 use Rattle.cnf_core.specs.declared.log.Log.{Log}
 use Rattle.cocoon_num.specs.Tree.{AssumeDecl, Design}
@@ -21,16 +22,17 @@ use Rattle.query_laws.specs.Queries.{Fits, instance_term, query}
 use Rattle.refinement.specs.Assumptions.{Meets}
 use Rattle.table_terms.specs.WithRows.{Tables}
 use Rattle.candidates.specs.Flat.{MakesFormulaTrue}
-use Rattle.rounds.specs.Outcomes.{IsAsked, IsSpentAfter, ShowsNeverTrue, Tells}
-use Rattle.rounds.specs.Steps.{IsBroken, IsFoundBy, IsInstance, IsRefuted, IsSolved}
+use Rattle.rounds.specs.Outcomes.{IsAsked, IsShown, IsSpentAfter, Tells}
+use Rattle.rounds.specs.Steps.{IsBroken, IsFoundBy, IsInstance, IsOf, IsRefuted, IsSolved}
 use Rattle.rounds.specs.declared.asking.Satisfied.{Satisfied as Solved}
 use Rattle.rounds.specs.declared.judging.Judged.{Judged}
+use Rattle.rounds.specs.declared.outcome.Found.{Found}
 use Rattle.rounds.specs.declared.outcome.Outcome.{Outcome}
 use Rattle.rounds.specs.declared.outcome.Outcome.TheVariants as outcome
 use Rattle.rounds.specs.declared.outcome.Query.TheVariants.{Assumption, Goal}
-use Rattle.rounds.proofs.Witnesses.{as-many, formula-true, its-inputs}
+use Rattle.rounds.proofs.Told.{as-many, formula-true, its-inputs}
 
--- ---- which of two candidates it is
+-- ---- which candidate is told of
 
 pub either : (P : Judged → Type 0) (a b r : Judged) → P a → P b → (r ≡ a) ⊎ (r ≡ b) → P r
 either P a b r p q (inl e) = subst P (sym e) p
@@ -44,8 +46,8 @@ its_term d i a at = ap (λ (o : Option AssumeDecl). elim o as (λ x. Term) [ Non
 -- ---- what a query tells
 
 module _ (d : Design) (level : ℕ) (formula : Term) (instances : List Instance) (conflicts rounds : ℕ) (within : IsWithin d level formula rounds (of_goal instances)) where
-  pub shows_never_true : (log : Log) → IsRefuted d level formula instances conflicts log → (is : List Instance) → is ≡ instances → ShowsNeverTrue d level formula conflicts rounds (record { instances = is; log = log })
-  shows_never_true log h is same = subst (λ xs. ShowsNeverTrue d level formula conflicts rounds (record { instances = xs; log = log })) (sym same) (record {
+  pub shown : (log : Log) → IsRefuted d level formula instances conflicts log → (is : List Instance) → is ≡ instances → IsShown d level formula conflicts rounds (record { instances = is; log = log })
+  shown log h is same = subst (λ xs. IsShown d level formula conflicts rounds (record { instances = xs; log = log })) (sym same) (record {
     within = within;
     certified = record { fit = within.progress.fit; derives = record { cnf = h.refuted.cnf; clauses = h.refuted.clauses; derives = h.refuted.refutation.derives } };
     refuted = h.refuted;
@@ -71,8 +73,8 @@ module _ (d : Design) (level : ℕ) (formula : Term) where
   pub one_more : (given is pushed : List Instance) (i : Instance) → IsBroken d level formula given is i → pushed ≡ is ++ i ∷ [] → Progress d level formula pushed
   one_more given is pushed i h e = subst (Progress d level formula) (sym (e ∙ ap (λ xs. xs ++ i ∷ []) h.same)) h.progress
 
-  pub spent_rounds : (given is spent : List Instance) (i : Instance) (rounds : ℕ) → length given ≡ rounds → Progress d level formula given → IsBroken d level formula given is i → spent ≡ is → IsSpentAfter d level formula rounds spent
-  spent_rounds given is spent i rounds all progress h e =
+  pub spent_rounds : (given is told : List Instance) (i : Instance) (rounds : ℕ) → length given ≡ rounds → Progress d level formula given → IsBroken d level formula given is i → told ≡ is → IsSpentAfter d level formula rounds told
+  spent_rounds given is told i rounds all progress h e =
       subst (IsSpentAfter d level formula rounds) (sym (e ∙ h.same)) (record { all = all; progress = progress; satisfiable = h.satisfiable })
 
 -- ---- what a candidate tells

@@ -1,6 +1,7 @@
 -- Cited by the clause of `search`: when each answer comes.
-use Rattle.std.specs.Prelude.{◌≡◌, ℕ, List, length}
+use Rattle.std.specs.Prelude.{◌≡◌, ℕ, List, length, option_map, slice_get, unwrap_or}
 use Rattle.bv_terms.specs.TermTrees.{Term}
+use Rattle.bv_terms.specs.TermValues.{Inputs}
 use Rattle.candidate_laws.specs.Candidates.{IsCandidate, MakeTrue}
 use Rattle.candidate_laws.specs.Rounds.{Asked, of_goal, of_assumption, IsAllowed, IsWithin, Progress}
 use Rattle.cdcl.specs.Answering.{Refutation}
@@ -9,17 +10,18 @@ use Rattle.certificates.specs.declared.Instance.{Instance}
 use Rattle.cnf_core.specs.declared.clauses.Cnf.{Cnf}
 use Rattle.cnf_core.specs.declared.log.Log.{Log}
 use Rattle.cocoon_num.specs.Tree.{Design}
+use Rattle.cocoon_num.specs.declared.bits.Bits.{Bits}
 use Rattle.discharge.specs.Answering.{IsSpentOn}
 use Rattle.discharge.specs.Meeting.{OfTables}
 use Rattle.discharge.specs.Queries.{assumption_query}
 use Rattle.fun_instances.specs.Taking.{OfAssumption}
-use Rattle.input_values.specs.Values.{values_of}
 use Rattle.obligation_laws.specs.Failing.{NeverTrue}
 use Rattle.query_laws.specs.Certified.{HasClauses, HasTooMany, IsCert, IsSatisfiable}
 use Rattle.query_laws.specs.OwnNames.{inputs_of}
 use Rattle.query_laws.specs.Queries.{query}
 use Rattle.refinement.specs.Assumptions.{Meets}
-use Rattle.rounds.specs.declared.outcome.Witness.{Witness}
+use Rattle.term_copy.specs.Copies.{new_name}
+use Rattle.rounds.specs.declared.outcome.Found.{Found}
 use Rattle.rounds.specs.declared.outcome.Outcome.{Outcome}
 use Rattle.rounds.specs.declared.outcome.Outcome.TheVariants.{Holds, SpentConflicts, SpentRounds, Big}
 use Rattle.rounds.specs.declared.outcome.Outcome.TheVariants as outcome
@@ -51,21 +53,25 @@ pub record IsRefutedWithin (goal : Term) (conflicts : ℕ) (log : Log) : Type 0 
   pub refutation : Refutation cnf conflicts log
 
 -- the certificate shows that the formula is never true, with instances that so many rounds add
-pub record ShowsNeverTrue (d : Design) (level : ℕ) (formula : Term) (conflicts rounds : ℕ) (cert : Cert) : Type 0 where
+pub record IsShown (d : Design) (level : ℕ) (formula : Term) (conflicts rounds : ℕ) (cert : Cert) : Type 0 where
   pub within : IsWithin d level formula rounds (of_goal cert.instances)
   pub certified : IsCert d level formula cert
   pub refuted : IsRefutedWithin (query d level formula cert.instances) conflicts cert.log
   pub never_true : NeverTrue level d formula
 
--- The definitions are a candidate and meet the assumptions. Under them the formula is true at the values of its inputs, one of
--- each.
-pub record IsWitness (d : Design) (level : ℕ) (formula : Term) (rounds : ℕ) (w : Witness) : Type 0 where
-  pub within : IsWithin d level formula rounds (of_goal w.instances)
-  pub candidate : IsCandidate d level formula w.instances w.defs
-  pub met : OfTables d w.defs (Meets level d)
-  pub inputs : w.inputs ≡ inputs_of formula
-  pub values : length w.values ≡ length w.inputs
-  pub formula_ : MakeTrue w.defs (values_of w.inputs w.values) formula
+-- the number of an input, by its place among these; 0, if it is not there
+abbrev pub values_of : (inputs : List ℕ) → (values : List Bits) → Inputs
+values_of inputs values i = unwrap_or (option_map (λ (b : Bits). b.value) (slice_get values (new_name 0 inputs i))) 0
+
+-- The definitions are a candidate and meet the assumptions. Under them the formula is true at the numbers that are told of its
+-- inputs, one of each.
+pub record IsFound (d : Design) (level : ℕ) (formula : Term) (rounds : ℕ) (f : Found) : Type 0 where
+  pub within : IsWithin d level formula rounds (of_goal f.instances)
+  pub candidate : IsCandidate d level formula f.instances f.defs
+  pub met : OfTables d f.defs (Meets level d)
+  pub inputs : f.inputs ≡ inputs_of formula
+  pub values : length f.values ≡ length f.inputs
+  pub formula_ : MakeTrue f.defs (values_of f.inputs f.values) formula
 
 -- as many instances as rounds, with which the query can still be true
 pub record IsSpentAfter (d : Design) (level : ℕ) (formula : Term) (rounds : ℕ) (instances : List Instance) : Type 0 where
@@ -74,8 +80,8 @@ pub record IsSpentAfter (d : Design) (level : ℕ) (formula : Term) (rounds : �
   pub satisfiable : IsSatisfiable (query d level formula instances)
 
 abbrev pub Tells : Design → (level : ℕ) → (formula : Term) → (conflicts rounds : ℕ) → Outcome → Type 0
-Tells d level formula conflicts rounds (Holds cert) = ShowsNeverTrue d level formula conflicts rounds cert
-Tells d level formula conflicts rounds (outcome.Found witness) = IsWitness d level formula rounds witness
+Tells d level formula conflicts rounds (Holds cert) = IsShown d level formula conflicts rounds cert
+Tells d level formula conflicts rounds (outcome.Found found) = IsFound d level formula rounds found
 Tells d level formula conflicts rounds (SpentConflicts q vars log) =
     IsAsked d level formula rounds q (λ goal. IsSpentOn goal conflicts vars log)
 Tells d level formula conflicts rounds (SpentRounds instances) = IsSpentAfter d level formula rounds instances

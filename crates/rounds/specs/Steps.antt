@@ -26,7 +26,7 @@ use Rattle.queries.specs.declared.asking.OwnGoal.{OwnGoal}
 use Rattle.table_terms.specs.WithRows.{Tables}
 use Rattle.rounds.specs.Outcomes.{IsRefutedWithin, Tells}
 use Rattle.rounds.specs.declared.outcome.Outcome.{Outcome}
-use Rattle.rounds.specs.declared.outcome.Witness.{Witness}
+use Rattle.rounds.specs.declared.outcome.Found.{Found}
 use Rattle.rounds.specs.declared.outcome.Outcome.TheVariants as outcome
 use Rattle.rounds.specs.declared.asking.Satisfied.{Satisfied as Solved}
 use Rattle.rounds.specs.declared.asking.Searched.{Searched}
@@ -79,9 +79,9 @@ pub record IsInstance (d : Design) (number : ℕ) (values : List ℕ) (i : Insta
   pub of : i ≡ record { number = number; values = values }
   pub term : IsTerm (instance_term d i)
 
--- it has these definitions and instances, and the values that the assignment gives the inputs of the formula, which are the first
--- ones
-pub record IsOf (m : Solved) (tables : Tables) (instances : List Instance) (f : Witness) : Type 0 where
+-- the definitions with these instances are told of, and the values that the assignment gives the inputs of the formula, which are
+-- the first ones
+pub record IsOf (m : Solved) (tables : Tables) (instances : List Instance) (f : Found) : Type 0 where
   pub defs : f.defs ≡ tables
   pub instances_ : f.instances ≡ instances
   pub inputs : f.inputs ≡ m.own.inputs

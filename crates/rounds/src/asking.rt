@@ -69,7 +69,7 @@ pub(crate) fn ask(
         Err(fault) => return refused(fault),
     };
     let answer = solve(alloc, &cnf, conflicts)?;
-    Ok(said_by(own, inputs, cnf.vars, answer))
+    Ok(told_by(own, inputs, cnf.vars, answer))
 }
 
 /// What is said where the query has no list of clauses.
@@ -83,7 +83,7 @@ fn refused(fault: BlastFault) -> Result<Searched, NoMemory>
 }
 
 /// What the answer of the search over so many variables says.
-fn said_by(own: OwnGoal, inputs: InputMap, vars: u32, answer: Answer) -> Searched
+fn told_by(own: OwnGoal, inputs: InputMap, vars: u32, answer: Answer) -> Searched
     ensures { IsSearched own inputs vars answer result }
 {
     match answer {

@@ -51,23 +51,13 @@ fn judge_one(
     Ok(Judged { defs, met })
 }
 
-/// How much is known of a candidate, from the least to the most.
-#[derive(Drop, PartialEq, PartialOrd)]
-enum Known {
-    /// A search was given up.
-    Undecided,
-    /// It breaks an assumption.
-    Broken,
-    /// It meets all assumptions.
-    Met,
-}
-
-/// How much is known of a candidate of which this is said.
-fn known_of(met: &Met) -> Known {
+/// How much is known of a candidate: most, if it meets all assumptions, and least, if a search was
+/// given up.
+fn rank(met: &Met) -> u32 {
     match met {
-        Met::Yes => Known::Met,
-        Met::Broken(_, _) => Known::Broken,
-        Met::SpentConflicts(_, _, _) | Met::Big(_, _) => Known::Undecided,
+        Met::Yes => 2,
+        Met::Broken(_, _) => 1,
+        Met::SpentConflicts(_, _, _) | Met::Big(_, _) => 0,
     }
 }
 
@@ -75,7 +65,7 @@ fn known_of(met: &Met) -> Known {
 fn better(first: Judged, second: Judged) -> Judged
     ensures { (result ≡ first) ⊎ (result ≡ second) }
 {
-    if known_of(&second.met) > known_of(&first.met) {
+    if rank(&second.met) > rank(&first.met) {
         second
     } else {
         first
@@ -103,7 +93,7 @@ pub(crate) fn judge(
     let tries = Defaults::tries(round);
     let mut best = judge_one(alloc, checked, level, satisfied, tries[0], budget)?;
     for at in 1..tries.len() {
-        if known_of(&best.met) == Known::Met {
+        if rank(&best.met) == 2 {
             return Ok(best);
         }
         let next = judge_one(alloc, checked, level, satisfied, tries[at], budget)?;

@@ -8,5 +8,5 @@ mod judging;
 pub mod outcome;
 pub mod searching;
 
-pub use outcome::{Outcome, Query, Witness};
+pub use outcome::{Found, Outcome, Query};
 pub use searching::search;

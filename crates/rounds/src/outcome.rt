@@ -1,4 +1,8 @@
 //! What a search in rounds comes to.
+ghost use Rattle.std.specs.Prelude.{◌≡◌};
+ghost use Rattle.term_copy.specs.Copies.{new_name};
+ghost use Rattle.rounds.specs.Outcomes.{values_of};
+
 use bv_terms::InputId;
 use certificates::{Cert, Instance};
 use cnf_core::Log;
@@ -17,7 +21,7 @@ pub enum Query {
 
 /// Definitions that meet the assumptions, and values at which the formula is true under them.
 #[derive(Drop)]
-pub struct Witness {
+pub struct Found {
     pub defs: Defs,
     /// The instances with which they were found.
     pub instances: List<Instance>,
@@ -27,13 +31,37 @@ pub struct Witness {
     pub values: List<Bits>,
 }
 
+impl Found {
+    /// The value of an input of the formula: 0, if it has no such input.
+    pub fn value(&self, input: InputId) -> u128
+        ensures { result ≡ values_of self.now.inputs self.now.values input }
+    {
+        match self.values.items().get(place(self.inputs.items(), input)) {
+            Some(bits) => bits.value,
+            None => 0,
+        }
+    }
+}
+
+/// The place of an input among these: behind them all, if it is not there.
+fn place(inputs: &[InputId], input: InputId) -> usize
+    ensures { result ≡ new_name 0 inputs.now input }
+{
+    for at in 0..inputs.len() {
+        if inputs[at] == input {
+            return at;
+        }
+    }
+    inputs.len()
+}
+
 /// What a search in rounds says of a formula.
 #[derive(Drop)]
 pub enum Outcome {
     /// It is never true, and this shows it.
     Holds(Cert),
     /// It is true under these definitions.
-    Found(Witness),
+    Found(Found),
     /// The conflicts are spent on this query: how many variables it has, and the clauses that were
     /// learned.
     SpentConflicts(Query, u32, Log),

@@ -14,7 +14,7 @@ ghost use Rattle.rounds.specs.Steps.{ComesTo, IsFoundBy, IsSolved};
 use crate::asking::{Satisfied, Searched, ask};
 use crate::breaking::broken;
 use crate::judging::{Judged, judge};
-use crate::outcome::{Outcome, Query, Witness};
+use crate::outcome::{Found, Outcome, Query};
 use bv_terms::{TermId, Terms};
 use candidate_laws::laws::{
     broken_assumptions_are_false_instances, broken_instances_keep_progress,
@@ -64,7 +64,7 @@ fn found(
     ensures { IfOk result (IsFoundBy satisfied defs instances.items) }
 {
     let values = values(alloc, &satisfied)?;
-    Ok(Outcome::Found(Witness {
+    Ok(Outcome::Found(Found {
         defs,
         instances: List::from(instances),
         inputs: satisfied.own.inputs,

@@ -11,7 +11,7 @@ use Rattle.failures.specs.Failures.{Failure, OfLevel}
 use Rattle.obligation_laws.specs.Obligations.{Kind, contained, bounded}
 use Rattle.refinement.specs.Segments.{IsNew, Segment, is_old}
 use Rattle.refinement.specs.Ways.{Arrival, Way, hops_by}
-use Rattle.verdicts.specs.Failing.{Fails, GoesBy}
+use Rattle.verdicts.specs.Failing.{GoesBy, fault_of}
 
 -- ---- of one level
 
@@ -71,11 +71,11 @@ module _ (computed : Computed) (d : Design) (f x : Failure) (defs : x.defs ≡ f
       let same : c.0 ≡ way = ap way_of (sym run ∙ led) in
       subst (λ w. hops_by above d f.defs block.within f.at f.packet f.choices ≡ Some (record { to = f.to; sent = f.sent; rest = []; way = w })) same run
 
-  by_kind : (k : Kind) (above : ℕ) (block : Refine) → Fails k above d block f × Led above d block f → GoesBy way above d block f
+  by_kind : (k : Kind) (above : ℕ) (block : Refine) → fault_of k above d block f × Led above d block f → GoesBy way above d block f
   by_kind contained above block (h, led) = same_way above block h.bodies h.segment h.within (λ new. absurd (new_or_old (is_some (role_at (suc above) d f.to.role)) (is_old above d f.to.role) new h.old)) led
   by_kind bounded above block (h, led) = same_way above block block.within h.segment (omega arith) (λ new. refl) led
 
-  pub goes : (k : Kind) (level : ℕ) → OfLevel (Fails k) level d f → OfLevel (GoesBy way) level d x → OfLevel (GoesBy way) level d f
+  pub goes : (k : Kind) (level : ℕ) → OfLevel (fault_of k) level d f → OfLevel (GoesBy way) level d x → OfLevel (GoesBy way) level d f
   goes k level h led =
-      let both = beside (Fails k) Led level d f h (led_by level led) in
+      let both = beside (fault_of k) Led level d f h (led_by level led) in
       record { above = both.above; block = both.block; behind = both.behind; there = both.there; fails = by_kind k both.above both.block both.fails }

@@ -1,4 +1,4 @@
 pub mod Along
 pub mod Failing
-pub mod Outcomes
+pub mod Found
 pub mod True

@@ -10,7 +10,7 @@ use Rattle.bv_terms.specs.declared.node.Node.{Node}
 use Rattle.candidate_laws.specs.Candidates.{MakeTrue}
 use Rattle.cocoon_num.specs.Tree.{Design}
 use Rattle.cocoon_num.specs.declared.bits.Bits.{Bits}
-use Rattle.failure_laws.specs.Witnesses.{HasFailure, IsTrueFor, OthersAreZero}
+use Rattle.failure_laws.specs.Witnesses.{HasFailure, IsTrueFor}
 use Rattle.failure_reading.specs.OfObligation.{AreShort, begin_of, Fails, FailsIn, IsBegin}
 use Rattle.failures.specs.Found.{BeginFits, BeginsAt, CanFail, defined, FailureFits, failure_of, NoneBegins}
 use Rattle.failures.specs.declared.failure.Failure as code
@@ -22,16 +22,16 @@ use Rattle.query_laws.proofs.InputNumbers.{are_inputs}
 use Rattle.query_laws.proofs.Renaming.{from_zero}
 use Rattle.query_laws.specs.OwnNames.{inputs_of}
 use Rattle.role_meaning.specs.Located.{loc_of, sent_of}
-use Rattle.input_values.specs.Values.{values_of}
+use Rattle.rounds.specs.Outcomes.{values_of}
 use Rattle.failures.specs.Failures.{OfLevel}
 use Rattle.table_terms.specs.WithRows.{Tables}
 use Rattle.term_copy.specs.Copies.{index_in}
-use Rattle.verdicts.specs.Failing.{GoesBy, IsFailureOf}
-use Rattle.verdicts.specs.Telling.{IsVerdictOn, SaysItFails}
+use Rattle.verdicts.specs.Failing.{GoesBy, IsFailing}
+use Rattle.verdicts.specs.Telling.{IsElsewhereNothing, IsTold, TellsFailure}
 use Rattle.verdicts.specs.declared.deciding.Verdict.{Verdict}
 use Rattle.verdicts.specs.declared.deciding.Verdict.TheVariants.{Refuted, Over}
 use Rattle.verdicts.proofs.Along.{Computed, goes}
-use Rattle.verdicts.proofs.Failing.{GoesHere, is_failure_of}
+use Rattle.verdicts.proofs.Failing.{GoesHere, is_failing, of_kind}
 
 -- ---- inputs that are not there
 
@@ -51,7 +51,7 @@ nothing_at : (inputs : List ℕ) (values : List Bits) (i : ℕ) → length value
 nothing_at inputs values i e absent =
     ap (λ (o : Option Bits). unwrap_or (option_map (λ (b : Bits). b.value) o) 0) (ap (slice_get values) (from_zero inputs i) ∙ none_at inputs values i e absent)
 
-pub elsewhere : (formula : Term) (inputs : List ℕ) (values : List Bits) → inputs ≡ inputs_of formula → length values ≡ length inputs → OthersAreZero formula (values_of inputs values)
+pub elsewhere : (formula : Term) (inputs : List ℕ) (values : List Bits) → inputs ≡ inputs_of formula → length values ≡ length inputs → IsElsewhereNothing formula (values_of inputs values)
 elsewhere formula inputs values are e = λ i absent.
     nothing_at inputs values i e (λ among.
     let m = (are_inputs formula).only i (subst (λ xs. IsAmong xs i) are among) in absent m.0 m.1)
@@ -60,8 +60,8 @@ elsewhere formula inputs values are e = λ i absent.
 pub true_by : (tables : Tables) (t : Term) (xs ys : List ℕ) (vs ws : List Bits) → xs ≡ ys → vs ≡ ws → MakeTrue tables (values_of ys ws) t → MakeTrue tables (values_of xs vs) t
 true_by tables t xs ys vs ws e f h = subst (λ zs. MakeTrue tables (values_of zs vs) t) (sym e) (subst (λ us. MakeTrue tables (values_of ys us) t) (sym f) h)
 
-pub others_by : (t : Term) (xs ys : List ℕ) (vs ws : List Bits) → xs ≡ ys → vs ≡ ws → OthersAreZero t (values_of ys ws) → OthersAreZero t (values_of xs vs)
-others_by t xs ys vs ws e f h = subst (λ zs. OthersAreZero t (values_of zs vs)) (sym e) (subst (λ us. OthersAreZero t (values_of ys us)) (sym f) h)
+pub others_by : (t : Term) (xs ys : List ℕ) (vs ws : List Bits) → xs ≡ ys → vs ≡ ws → IsElsewhereNothing t (values_of ys ws) → IsElsewhereNothing t (values_of xs vs)
+others_by t xs ys vs ws e f h = subst (λ zs. IsElsewhereNothing t (values_of zs vs)) (sym e) (subst (λ us. IsElsewhereNothing t (values_of ys us)) (sym f) h)
 
 -- ---- the laws that are cited
 
@@ -69,16 +69,16 @@ pub record Laws (d : Design) (tables : Tables) (o : Obligation) (ins : Inputs) :
   pub fits : IsTrueFor d tables o ins → BeginFits o.level d (begin_of ins o)
   pub short : IsTrueFor d tables o ins → AreShort (begin_of ins o)
   pub fails : (h : IsTrueFor d tables o ins) → CanFail o.level d tables → HasFailure d tables o h.owed.owed.leaf.way (begin_of ins o)
-  pub found : IsTrueFor d tables o ins → CanFail o.level d tables → NoneBegins (Fails (kind_in o.kind)) o.level d tables (begin_of ins o) → ⊥
+  pub found : IsTrueFor d tables o ins → CanFail o.level d tables → NoneBegins (Fails o.kind) o.level d tables (begin_of ins o) → ⊥
   pub computed : Computed
 
 module _ (d : Design) (tables : Tables) (o : Obligation) (nodes : List Node) (ins : Inputs) (laws : Laws d tables o ins) (arena : IsArena nodes) (is_true : MakeTrue tables ins (term_at nodes o.formula))
-    (others : OthersAreZero (term_at nodes o.formula) ins) (can : CanFail o.level d tables) where
+    (others : IsElsewhereNothing (term_at nodes o.formula) ins) (can : CanFail o.level d tables) where
   abbrev true_for : IsOwed d nodes o → IsTrueFor d tables o ins
-  true_for h = record { nodes = nodes; arena = arena; owed = h; true_ = is_true; others = others }
+  true_for h = record { nodes = nodes; arena = arena; owed = h; fit = is_true.fit; true_ = is_true.is_true; others = others }
 
   -- a failure is found
-  pub is_found : IsOwed d nodes o → (IsBegin d (begin_of ins o) → NoneBegins (Fails (kind_in o.kind)) o.level d tables (begin_of ins o)) → ⊥
+  pub is_found : IsOwed d nodes o → (IsBegin d (begin_of ins o) → NoneBegins (Fails o.kind) o.level d tables (begin_of ins o)) → ⊥
   is_found owed none =
       let h = true_for owed in
       laws.found h can (none (record { short = laws.short h; fields = (laws.fits h).fields }))
@@ -91,9 +91,9 @@ module _ (d : Design) (tables : Tables) (o : Obligation) (nodes : List Node) (in
       let x = laws.fails h can in
       subst (λ l. OfLevel (GoesBy owed.leaf.way) l d (failure_of d f)) shows.level_
       (goes laws.computed d (failure_of d f) x.failure (x.begins.defs ∙ ap (defined d) (sym begins.defs)) (x.begins.at ∙ ap (loc_of d) (sym begins.at)) (x.begins.packet ∙ ap (sent_of d) (sym begins.packet))
-      (x.begins.choices ∙ sym begins.choices) owed.leaf.way (kind_in o.kind) o.level fails.fails x.along)
+      (x.begins.choices ∙ sym begins.choices) owed.leaf.way (kind_in o.kind) o.level (of_kind d o.level (failure_of d f) o.kind fails.fails) x.along)
 
-  pub says_it_fails : (f : code.Failure) → FailsIn d o f → FailureFits o.level d f → (AreShort (begin_of ins o) → BeginsAt tables (begin_of ins o) f) → (v : Verdict) → IsVerdictOn o f v → SaysItFails d nodes o v
-  says_it_fails f fails fits begins (Refuted g) (k, e) = subst (IsFailureOf d nodes o Contained) (sym e) (is_failure_of d nodes o Contained f k fails (goes_here f fails begins) fits)
-  says_it_fails f fails fits begins (Over g) (k, e) = subst (IsFailureOf d nodes o Bounded) (sym e) (is_failure_of d nodes o Bounded f k fails (goes_here f fails begins) fits)
-  says_it_fails f fails fits begins v h = absurd h
+  pub told : (f : code.Failure) → FailsIn d o f → FailureFits o.level d f → (AreShort (begin_of ins o) → BeginsAt tables (begin_of ins o) f) → (v : Verdict) → IsTold o f v → TellsFailure d nodes o v
+  told f fails fits begins (Refuted g) (k, e) = subst (IsFailing d nodes o Contained) (sym e) (is_failing d nodes o Contained f k fails (goes_here f fails begins) fits)
+  told f fails fits begins (Over g) (k, e) = subst (IsFailing d nodes o Bounded) (sym e) (is_failing d nodes o Bounded f k fails (goes_here f fails begins) fits)
+  told f fails fits begins v h = absurd h

@@ -3,12 +3,11 @@ ghost use Rattle.std.specs.Prelude.{◌^◌, ◌<◌, ◌≤◌, IfOk};
 ghost use Rattle.bv_terms.specs.Arenas.{term_at};
 ghost use Rattle.candidate_laws.specs.Candidates.{MakeTrue};
 ghost use Rattle.cocoon_syntax.specs.TreeOf.{design_of};
-ghost use Rattle.failure_laws.specs.Witnesses.{OthersAreZero};
 ghost use Rattle.failures.specs.Found.{CanFail};
 ghost use Rattle.obligation_gen.specs.Owed.{IsOwed};
-ghost use Rattle.input_values.specs.Values.{values_of};
+ghost use Rattle.rounds.specs.Outcomes.{values_of};
 ghost use Rattle.verdicts.specs.Deciding.{Decides};
-ghost use Rattle.verdicts.specs.Telling.{IsVerdictOn, SaysItFails};
+ghost use Rattle.verdicts.specs.Telling.{IsElsewhereNothing, IsTold, TellsFailure};
 
 use bv_terms::Terms;
 use certificates::{Cert, Instance};
@@ -24,7 +23,7 @@ use input_values::InputValues;
 use obligation_gen::{Kind, Obligation};
 use obligation_laws::laws::untrue_formulas_never_fail;
 use refinement::laws::segments_are_hops;
-use rounds::{Outcome, Query, Witness, search};
+use rounds::{Found, Outcome, Query, search};
 use sound_types::laws::code_literals_fit;
 use std::alloc::Global;
 
@@ -48,8 +47,8 @@ pub enum Verdict {
 }
 
 /// The verdict on an obligation that fails by this run.
-fn verdict_on(obligation: &Obligation, failure: Failure) -> Verdict
-    ensures { IsVerdictOn obligation.now failure result }
+fn told(obligation: &Obligation, failure: Failure) -> Verdict
+    ensures { IsTold obligation.now failure result }
 {
     match obligation.kind {
         Kind::Contained => Verdict::Refuted(failure),
@@ -64,15 +63,15 @@ fn failing(
     checked: &Checked,
     terms: &Terms,
     obligation: &Obligation,
-    witness: Witness,
+    found: Found,
 ) -> Result<Verdict, NoMemory>
     requires owed { IsOwed (design_of checked.now) terms.now obligation.now }
-    requires defs { CanFail obligation.now.level (design_of checked.now) witness.defs }
-    requires true_ { MakeTrue witness.defs (values_of witness.inputs witness.values)
+    requires defs { CanFail obligation.now.level (design_of checked.now) found.defs }
+    requires true_ { MakeTrue found.defs (values_of found.inputs found.values)
         (term_at terms.now obligation.now.formula) }
-    requires others { OthersAreZero (term_at terms.now obligation.now.formula)
-        (values_of witness.inputs witness.values) }
-    ensures { IfOk result (SaysItFails (design_of checked.now) terms.now obligation.now) }
+    requires others { IsElsewhereNothing (term_at terms.now obligation.now.formula)
+        (values_of found.inputs found.values) }
+    ensures { IfOk result (TellsFailure (design_of checked.now) terms.now obligation.now) }
 {
     true_formulas_are_failures();
     segments_are_hops();
@@ -80,19 +79,19 @@ fn failing(
     let _design = checked.design();
     checked.know_reading();
     let _count = terms.count();
-    let Witness {
+    let Found {
         defs,
         inputs,
         values,
         ..
-    } = witness;
+    } = found;
     let values = InputValues {
         inputs: inputs.items(),
         values: values.items(),
     };
     let failed = failure(alloc, checked, obligation, &values, defs)?;
     match failed {
-        Some(failure) => Ok(verdict_on(obligation, failure)),
+        Some(failure) => Ok(told(obligation, failure)),
         None => unreachable!(),
     }
 }
@@ -121,7 +120,7 @@ pub fn decide(
     let outcome = search(alloc, checked, terms, level, formula, budget)?;
     match outcome {
         Outcome::Holds(cert) => Ok(Verdict::Holds(cert)),
-        Outcome::Found(witness) => failing(alloc, checked, terms, obligation, witness),
+        Outcome::Found(found) => failing(alloc, checked, terms, obligation, found),
         Outcome::SpentConflicts(query, vars, log) => Ok(Verdict::SpentConflicts(query, vars, log)),
         Outcome::SpentRounds(instances) => Ok(Verdict::SpentRounds(instances)),
         Outcome::Big(query, count) => Ok(Verdict::Big(query, count)),

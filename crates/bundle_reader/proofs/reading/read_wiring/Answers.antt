@@ -3,7 +3,7 @@ use Rattle.p4_ir.specs.NetFits.{wiring_of}
 use Rattle.p4_ir.specs.NetOf.{host_port_of, link_of, switch_of}
 use Rattle.p4_ir.specs.Wiring.{wiring_fits}
 use Rattle.net_bundle.specs.NetFileOf.{net_file_of}
-use Rattle.net_wiring.specs.Bare.{bare_switch}
+use Rattle.bundle_reader.specs.Alone.{bare_switch}
 use Rattle.bundle_reader.proofs.Whole.{same_parts}
 use Rattle.bundle_reader.proofs.WireReading.{bare_fits}
 use Rattle.bundle_reader.proofs.reading.read_wiring.Goals as goal

@@ -1,4 +1,5 @@
 use Rattle.completeness_laws.proofs.Ending.{by_conflicts_alone, by_none, by_rounds_alone}
+use Rattle.completeness_laws.proofs.Spending.{Short}
 use Rattle.completeness_laws.proofs.laws.budgets_suffice.Goals as goal
 
 pub returns-clause-conflicts : goal.returns-clause-conflicts

@@ -1,4 +1,4 @@
-use Rattle.completeness_laws.proofs.Spending.{decided}
+use Rattle.completeness_laws.proofs.Spending.{Short, decided}
 use Rattle.completeness_laws.proofs.laws.searches_decide.Goals as goal
 
 pub returns : goal.returns

@@ -1,3 +1,4 @@
+use Rattle.cocoon_cli.proofs.OneStep.{Laws}
 use Rattle.completeness_laws.proofs.Ending.{ends_well}
 use Rattle.completeness_laws.proofs.laws.searches_end.Goals as goal
 

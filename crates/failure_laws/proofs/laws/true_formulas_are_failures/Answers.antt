@@ -1,6 +1,7 @@
 use Rattle.cocoon_num.specs.Tree.{Design}
 use Rattle.cocoon_resolve.specs.Resolved.{WasRead}
 use Rattle.cocoon_types.specs.Rules.{WellFormed}
+use Rattle.formula_functions.specs.LeafTerms.{any_input}
 use Rattle.sound_types.specs.Literals.{DesignLiteralsFit}
 use Rattle.failure_laws.proofs.Beginning.{Laws, begin_fits, begin_short, has_failure, not_none}
 use Rattle.failure_laws.proofs.laws.true_formulas_are_failures.Goals as goal
@@ -13,7 +14,12 @@ returns c =
       typed = c.declarations_are_typed.ensures.roles d rules literals;
       definitions = λ tables. c.tables_are_definitions.ensures.definitions d tables rules;
       stands = λ tables. c.tables_are_definitions.ensures.stands d tables rules;
-      stay_true = c.formulas_stay_true.ensures d;
+      values = λ tables defs fit stands. record {
+        others = c.design_terms_apply_alike.ensures.others d any_input;
+        fit = c.tables_take_the_place.ensures.fit d tables fit;
+        rows = λ ins t is fits none. c.rows_keep_values.ensures.values tables none ins t is fits;
+        by_definitions = c.tables_keep_values.ensures d tables defs fit stands;
+      };
       applies_ = c.formulas_apply_declared_functions.ensures d rules literals;
       exact_ = c.formulas_are_failures.ensures read.0 d read.1;
       ends = c.leaves_end_by_role.ensures.inlined d;

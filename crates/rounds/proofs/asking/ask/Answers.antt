@@ -33,4 +33,4 @@ returns c =
           c.refuted_formulas_are_never_true.ensures.certified d rules literals level formula c.requires.stands cert
           (subst (λ xs. IsTerm (asked d level formula xs)) (sym same) query.asked_) it;
     }) c.in-Ok.made.0 c.in-Ok.ensures.clauses c.in-Ok.ensures.named c.in-Ok.made.1 c.in-Ok.ensures.inputs
-    c.args.conflicts c.in_ok-answer.answer c.in_ok-answer.ensures c.said_by.result c.said_by.ensures
+    c.args.conflicts c.in_ok-answer.answer c.in_ok-answer.ensures c.told_by.result c.told_by.ensures

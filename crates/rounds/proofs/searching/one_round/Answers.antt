@@ -5,7 +5,7 @@ use Rattle.discharge.specs.Answering.{IsSpentOn}
 use Rattle.query_laws.specs.Certified.{AllFit, HasTooMany}
 use Rattle.rounds.specs.Steps.{Says}
 use Rattle.rounds.specs.declared.asking.Searched.TheVariants.{Refuted, Spent, Big}
-use Rattle.rounds.proofs.Rounds.{goal_asked, shows_never_true}
+use Rattle.rounds.proofs.Rounds.{goal_asked, shown}
 use Rattle.rounds.proofs.searching.one_round.Goals as goal
 
 pub ask-requires-clause-fit : goal.ask-requires-clause-fit
@@ -28,7 +28,7 @@ returns-in-Refuted c =
     let given = c.args.instances.items in
     let conflicts = c.args.budget.now.conflicts in
     let said = subst (λ is. Says d c.args.level formula is conflicts c.in_ok-satisfied.field-0) c.deref.ensures.value c.in_ok-satisfied.ensures in
-    shows_never_true d c.args.level formula given conflicts c.args.budget.now.rounds c.requires.within c.in-Refuted.log
+    shown d c.args.level formula given conflicts c.args.budget.now.rounds c.requires.within c.in-Refuted.log
     (subst (Says d c.args.level formula given conflicts) c.in-Refuted.is said) c.from-instances.result c.from-instances.ensures
 
 pub returns-in-Spent : goal.returns-in-Spent

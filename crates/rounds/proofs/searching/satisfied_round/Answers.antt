@@ -6,7 +6,7 @@ use Rattle.discharge.specs.Answering.{AnswersTo}
 use Rattle.query_laws.specs.OwnNames.{input_count}
 use Rattle.query_laws.specs.Queries.{asked}
 use Rattle.rounds.proofs.Rounds.{big, found, numbers_fit, round, spent}
-use Rattle.rounds.proofs.Witnesses.{all-there, few}
+use Rattle.rounds.proofs.Told.{all-there, few}
 use Rattle.rounds.proofs.searching.satisfied_round.Goals as goal
 
 pub judge-requires-clause-flat : goal.judge-requires-clause-flat

@@ -5,7 +5,7 @@ use Rattle.formula_functions.specs.LeafTerms.{Stands}
 use Rattle.obligation_gen.proofs.OwedFormulas.{can_ask}
 use Rattle.rounds.specs.Outcomes.{Tells}
 use Rattle.verdicts.specs.Deciding.{formula_in}
-use Rattle.verdicts.proofs.Outcomes.{can_fail, decided, holds_by}
+use Rattle.verdicts.proofs.Found.{can_fail, decided, shown}
 use Rattle.verdicts.proofs.True.{elsewhere}
 use Rattle.verdicts.proofs.deciding.decide.Goals as goal
 
@@ -34,7 +34,7 @@ failing-requires-clause-defs c =
     let d = design_of c.args.checked.now in
     let o = c.args.obligation.now in
     let formula = formula_in c.args.terms.now o in
-    can_fail d o.level formula c.args.budget.now.rounds c.in-Found.witness
+    can_fail d o.level formula c.args.budget.now.rounds c.in-Found.found
     (subst (Tells d o.level formula c.args.budget.now.conflicts c.args.budget.now.rounds) c.in-Found.is c.in_ok-outcome.ensures)
 
 pub failing-requires-clause-true_ : goal.failing-requires-clause-true_
@@ -49,8 +49,8 @@ failing-requires-clause-others c =
     let d = design_of c.args.checked.now in
     let o = c.args.obligation.now in
     let formula = formula_in c.args.terms.now o in
-    let is = subst (Tells d o.level formula c.args.budget.now.conflicts c.args.budget.now.rounds) c.in-Found.is c.in_ok-outcome.ensures in
-    elsewhere formula c.in-Found.witness.inputs c.in-Found.witness.values is.inputs is.values
+    let found = subst (Tells d o.level formula c.args.budget.now.conflicts c.args.budget.now.rounds) c.in-Found.is c.in_ok-outcome.ensures in
+    elsewhere formula c.in-Found.found.inputs c.in-Found.found.values found.inputs found.values
 
 pub returns-in-Found : goal.returns-in-Found
 returns-in-Found c =
@@ -61,6 +61,6 @@ returns-in-Holds c =
     let d = design_of c.args.checked.now in
     let o = c.args.obligation.now in
     let formula = formula_in c.args.terms.now o in
-    holds_by d c.args.terms.now o c.args.budget.now.conflicts c.args.budget.now.rounds c.in-Holds.cert
+    shown d c.args.terms.now o c.args.budget.now.conflicts c.args.budget.now.rounds c.in-Holds.cert
     (c.untrue_formulas_never_fail.ensures.all d c.design-design.ensures.resolves.rules (c.code_literals_fit.ensures.designs c.args.checked.now))
     (subst (Tells d o.level formula c.args.budget.now.conflicts c.args.budget.now.rounds) c.in-Holds.is c.in_ok-outcome.ensures)

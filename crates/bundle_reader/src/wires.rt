@@ -1,6 +1,6 @@
-//! Switches without programs and rows, for networks of which only the wires are known.
+//! Switches without programs and rows.
 ghost use Rattle.std.specs.Prelude.{◌≡◌, IfOk, map};
-ghost use Rattle.net_wiring.specs.Bare as spec;
+ghost use Rattle.bundle_reader.specs.Alone as spec;
 ghost use Rattle.p4_ir.specs.NetOf.{rows_of, switch_of};
 ghost use Rattle.p4_ir.specs.NoRows as none;
 ghost use Rattle.p4_ir.specs.Program.{control_of, program_of};
@@ -49,7 +49,7 @@ fn bare_switch(alloc: Global, number: u16) -> SwitchFiles
 }
 
 /// Switches of these numbers, without programs and rows.
-pub fn bare_switches(alloc: Global, numbers: &[u16]) -> Result<Vec<SwitchFiles>, NoMemory>
+pub(crate) fn bare_switches(alloc: Global, numbers: &[u16]) -> Result<Vec<SwitchFiles>, NoMemory>
     ensures { IfOk result (λ list. map switch_of list.items ≡ map spec.bare_switch numbers.now) }
 {
     let mut switches = Vec::new(alloc);

@@ -1,9 +1,10 @@
--- The values that a witness gives the inputs of a formula.
-use Rattle.std.proofs.Common.{◌≡◌, inl, inr, ℕ, zero, suc, ◌<◌, ◌≤◌, ◌^◌, ℤ, Bool, true, List, [], ◌∷◌, fold, length, map, take, Option, Some, refl, sym, ap, subst, ◌∙◌, arith}
+-- The values that are told of the inputs of a formula.
+use Rattle.std.proofs.Common.{◌≡◌, ◌⊎◌, inl, inr, ℕ, zero, suc, ◌==◌, ◌<◌, ◌≤◌, ◌^◌, ℤ, Bool, true, List, [], ◌∷◌, fold, length, map, take, Option, Some, refl, sym, ap, subst, ◌∙◌, arith}
 use Rattle.std.specs.Prelude.{nat_lt, option_map, slice_get, unwrap_or}
-use Rattle.std.proofs.lemmas.Bool.{cases_Bool, ltb-true}
+use Rattle.std.proofs.lemmas.Bool.{cases_Bool, cond-false, eqb-true, ltb-true}
 use Rattle.std.proofs.lemmas.List.{length-take-le}
-use Rattle.std.proofs.lemmas.Option.{slice_get_within}
+use Rattle.std.proofs.lemmas.Nat.{pow_pos}
+use Rattle.std.proofs.lemmas.Option.{slice_get_past, slice_get_within}
 use Rattle.bit_blast.specs.Blasting.{InputRow}
 use Rattle.bit_blast.specs.Readings.{number_read}
 use Rattle.bv_terms.specs.Arenas.{IsArena}
@@ -12,6 +13,7 @@ use Rattle.bv_terms.specs.Needed.{IsAmong}
 use Rattle.bv_terms.specs.TermTrees.{Term, binary, input}
 use Rattle.bv_terms.specs.TermValues.{Inputs}
 use Rattle.bv_terms.specs.Walks.{is_among, walk}
+use Rattle.bv_terms.specs.declared.node.Node.{Node}
 use Rattle.bv_terms.specs.declared.node.TermOp.TheVariants.{And}
 use Rattle.bv_terms.proofs.ArenaFacts.{inputs-few}
 use Rattle.bv_terms.proofs.Subterms.{Each, in-walk, walk-has}
@@ -28,17 +30,17 @@ use Rattle.candidates.specs.Flat.{MakesFormulaTrue}
 use Rattle.candidates.proofs.Inputs.{IsNode, has-nodes}
 use Rattle.candidates.proofs.Lists.{at-there}
 use Rattle.candidates.proofs.TrueQueries.{numbers-are}
-use Rattle.input_values.specs.Values.{values_of}
 use Rattle.query_laws.specs.OwnNames.{in_own_arena, inputs_of, own_name}
 use Rattle.query_laws.specs.Queries.{added, asked}
 use Rattle.query_laws.proofs.InputNumbers.{are_inputs, mentioned_in}
 use Rattle.query_laws.proofs.Renaming.{from_zero, index_below, index_there, value_agrees}
 use Rattle.sound_types.proofs.Members.{at_place}
 use Rattle.table_terms.specs.WithRows.{Tables}
-use Rattle.term_copy.specs.Copies.{AreRising, index_in}
+use Rattle.term_copy.specs.Copies.{AreRising, index_in, new_name}
+use Rattle.rounds.specs.Outcomes.{values_of}
 use Rattle.rounds.specs.Steps.{IsOf, IsSolved}
 use Rattle.rounds.specs.declared.asking.Satisfied.{Satisfied as Solved}
-use Rattle.rounds.specs.declared.outcome.Witness.{Witness}
+use Rattle.rounds.specs.declared.outcome.Found.{Found}
 
 -- ---- lists
 
@@ -69,6 +71,17 @@ as-far (x ∷ xs) r n h =
     let e = own-place (x ∷ xs) r (length xs) at.0 at.1 in
     omega (arith, l, e)
 
+-- a number has a place, or that behind them all
+place-or-none : (xs : List ℕ) (i : ℕ) → IsAmong xs i ⊎ (index_in xs i ≡ length xs)
+place-or-none [] i = inr refl
+place-or-none (x ∷ xs) i = elim (cases_Bool (x == i)) [
+  | inl t ↦ inl (zero, ap Some (eqb-true x i t))
+  | inr f ↦ elim (place-or-none xs i) [
+    | inl a ↦ inl (suc a.0, a.1)
+    | inr e ↦ inr (cond-false (x == i) 0 (suc (index_in xs i)) f ∙ ap suc e)
+  ]
+]
+
 -- ---- truth at other inputs
 
 same-true : (tables : Tables) (f g : Inputs) (t : Term) → ((i w : ℕ) → Mentions t i w → f i ≡ g i) → MakeTrue tables f t → MakeTrue tables g t
@@ -81,7 +94,7 @@ first-each : (P : Term → Type 0) (t : Term) (ts : List Term) → Each P (fold 
 first-each P t [] h = h
 first-each P t (u ∷ us) h = (first-each P (binary And t u) us h).0
 
--- ---- what a witness is
+-- ---- what is told
 
 module _ (d : Design) (level : ℕ) (formula : Term) (instances : List Instance) (m : Solved) (solved : IsSolved d level formula instances m) where
   module _ (arena : IsArena m.own.terms) where
@@ -106,9 +119,9 @@ module _ (d : Design) (level : ℕ) (formula : Term) (instances : List Instance)
         let k = arena.small in
         omega (arith, e, l, k)
 
-  module _ (tables : Tables) (is : List Instance) (f : Witness) (witness : IsOf m tables is f) where
+  module _ (tables : Tables) (is : List Instance) (f : Found) (told : IsOf m tables is f) where
     pub as-many : length m.own.inputs ≤ length m.inputs → length f.values ≡ length f.inputs
-    as-many h = same-length f.values (take (length m.own.inputs) m.inputs) witness.values ∙ length-take-le (length m.own.inputs) m.inputs h ∙ ap (λ (xs : List ℕ). length xs) (sym witness.inputs)
+    as-many h = same-length f.values (take (length m.own.inputs) m.inputs) told.values ∙ length-take-le (length m.own.inputs) m.inputs h ∙ ap (λ (xs : List ℕ). length xs) (sym told.inputs)
       where
         same-length : (bits : List Bits) (rows : List InputRow) → map value_of bits ≡ map (row_value (makes_true m.assignment)) rows → length bits ≡ length rows
         same-length [] [] e = refl
@@ -117,7 +130,7 @@ module _ (d : Design) (level : ℕ) (formula : Term) (instances : List Instance)
         same-length (b ∷ bits) (row ∷ rows) e = let rest : map value_of bits ≡ map (row_value (makes_true m.assignment)) rows = cc in ap suc (same-length bits rows rest)
 
     pub its-inputs : f.inputs ≡ inputs_of formula
-    its-inputs = witness.inputs ∙ solved.inputs
+    its-inputs = told.inputs ∙ solved.inputs
 
     value-is : (i w : ℕ) → Mentions formula i w → assigned (makes_true m.assignment) m.inputs (own_name formula i) ≡ values_of f.inputs f.values i
     value-is i w k =
@@ -127,10 +140,24 @@ module _ (d : Design) (level : ℕ) (formula : Term) (instances : List Instance)
         let below : own_name formula i < n = subst (λ (ys : List ℕ). own_name formula i < length ys) (sym solved.inputs)
         (subst (λ j. j < length xs) (sym (from_zero xs i)) (index_below xs i (mentioned_in formula i w k))) in
         sym (assigned-taken v m.inputs n (own_name formula i) below)
-        ∙ sym (numbers-are v f.values (take n m.inputs) witness.values (own_name formula i))
+        ∙ sym (numbers-are v f.values (take n m.inputs) told.values (own_name formula i))
         ∙ ap (λ ys. values_of ys f.values i) (sym its-inputs)
 
     pub formula-true : MakesFormulaTrue d m.own.terms m.own.applied m.inputs m.assignment tables → MakeTrue f.defs (values_of f.inputs f.values) formula
     formula-true makes =
-        subst (λ ts. MakeTrue ts (values_of f.inputs f.values) formula) (sym witness.defs)
+        subst (λ ts. MakeTrue ts (values_of f.inputs f.values) formula) (sym told.defs)
         (same-true tables (λ i. assigned (makes_true m.assignment) m.inputs (own_name formula i)) (values_of f.inputs f.values) formula value-is (makes level formula instances solved.satisfied))
+
+-- ---- what an input is told as
+
+-- an input that the formula has with no other width has a number that fits this one
+pub fits-each : (tables : Tables) (formula : Term) (f : Found) → f.inputs ≡ inputs_of formula → length f.values ≡ length f.inputs → MakeTrue tables (values_of f.inputs f.values) formula
+    → (i w : ℕ) → ((v : ℕ) → Mentions formula i v → v ≡ w) → FitsWidth w (values_of f.inputs f.values i)
+fits-each tables formula f inputs values makes i w only = elim (place-or-none f.inputs i) [
+  | inl a ↦
+      let m = (are_inputs formula).only i (subst (λ (xs : List ℕ). IsAmong xs i) inputs a) in
+      subst (λ v. FitsWidth v (values_of f.inputs f.values i)) (only m.0 m.1) (makes.fit i m.0 m.1)
+  | inr e ↦
+      let behind : length f.values ≤ new_name 0 f.inputs i = omega (arith, e, values) in
+      subst (FitsWidth w) (sym (ap (λ (o : Option Bits). unwrap_or (option_map (λ (b : Bits). b.value) o) 0) (slice_get_past f.values (new_name 0 f.inputs i) behind))) (pow_pos w)
+]
