@@ -5,6 +5,8 @@
 #include <string.h>
 #include <time.h>
 
+#include "read_all.h"
+
 typedef struct { int *items; size_t count, room; } ints;
 
 static void push(ints *list, int item) {
@@ -60,19 +62,6 @@ __attribute__((noinline)) static int derives(size_t steps) {
   for (size_t index = 0; index < steps; index++)
     if (!follows(index, (int)index + 1)) return 0;
   return 1;
-}
-
-static char *read_all(FILE *file) {
-  size_t room = 1 << 16, count = 0;
-  char *text = malloc(room);
-  while (text) {
-    count += fread(text + count, 1, room - count - 1, file);
-    if (count + 1 < room) break;
-    text = realloc(text, room *= 2);
-  }
-  if (!text) exit(2);
-  text[count] = 0;
-  return text;
 }
 
 static void read_clause(char *line) {

@@ -6,6 +6,8 @@
 #include <string.h>
 #include <time.h>
 
+#include "read_all.h"
+
 typedef unsigned long long u64;
 typedef struct { int *items; size_t count, room; } ints;
 /* The watched literals of a clause, and where in it the next look for one begins. */
@@ -289,19 +291,6 @@ static const char *solve(size_t conflicts, int conflict) {
 }
 
 /* ---- texts */
-
-static char *read_all(FILE *file) {
-  size_t room = 1 << 16, length = 0;
-  char *text = malloc(room);
-  while (text) {
-    length += fread(text + length, 1, room - length - 1, file);
-    if (length + 1 < room) break;
-    text = realloc(text, room *= 2);
-  }
-  if (!text) exit(2);
-  text[length] = 0;
-  return text;
-}
 
 static void read_clauses(char *text) {
   while (*text) {
