@@ -15,7 +15,7 @@ use Rattle.net_bundle.specs.Writing.{ContentHolds, Holds, with_files}
 use Rattle.net_bundle.specs.declared.file.BundleFile.TheVariants as file
 use Rattle.p4_ir.specs.NetOf.{net_of}
 use Rattle.p4_ir.specs.NetTree.{NetData}
-use Rattle.command_line.specs.Command.{Command, check, compile, step, forward}
+use Rattle.command_line.specs.Command.{Command, check, compile, update, step, forward, gen}
 use Rattle.command_reports.specs.declared.report.Verdict.{Verdict}
 use Rattle.command_reports.specs.declared.report.Verdict.TheVariants as verdict
 use Rattle.cocoon_cli.specs.declared.answer.Answer.{Answer}
@@ -24,8 +24,10 @@ use Rattle.cocoon_cli.specs.declared.answer.Writing.TheVariants as written
 use Rattle.cocoon_cli.specs.declared.reading.Read.{Read}
 use Rattle.cocoon_cli.specs.Answering.{PlansBy}
 use Rattle.cocoon_cli.specs.Certified.{Certified, CertifiedOf}
-use Rattle.cocoon_cli.specs.Commands.{Plans, PlansDone, files_of}
+use Rattle.cocoon_cli.specs.Commands.{Plans, PlansDone, StandsFor, files_of}
 use Rattle.cocoon_cli.specs.Compiling.{CompilesTexts}
+use Rattle.cocoon_cli.proofs.Headlines.{recertified_by}
+use Rattle.cocoon_cli.specs.Updating.{Stands}
 use Rattle.cocoon_cli.specs.Run.{inputs_of}
 use Rattle.cocoon_cli.specs.Shell.{AllWritten, HoldsNet, IsGiven, ReadsAll, writing_of}
 use Rattle.cocoon_cli.specs.Steps.{Inputs}
@@ -93,21 +95,34 @@ content_certified (Some before) None d e o n rounds read net certs g made put h 
 content_certified (Some before) (Some after) d e o n rounds read net certs g made put h =
     certified before after d e o n rounds read net certs (subst (λ (i : Inputs). IsGiven (files_of (compile d e o n rounds)) i read) g.inputs_are g.given) made put h
 
+-- of an `update`, over the certificates that stood there
+content_recertified : (before after : Option Files) (d e o : List ℕ) (n : ℕ) (read : Read) (net : NetData) → ReadsAll (files_of (update d e o n)) before read → ((files : Files) → before ≡ Some files → Stands files o read.design.items net)
+    → ContentHolds before after o read.design.items net None → CertifiedOf (Some (update d e o n)) before after
+content_recertified None after d e o n read net g s h = tt
+content_recertified (Some before) None d e o n read net g s h = h
+content_recertified (Some before) (Some after) d e o n read net g s h =
+    let given = subst (λ (i : Inputs). IsGiven (files_of (update d e o n)) i read) g.inputs_are g.given in
+    recertified_by before after d o read.design.items net given.design.0 h (s before refl)
+
 -- where it is written, what a command plans certifies its design
-certified_done : (c : Command) (before mid after : Option Files) (read : Read) (w : Written) → mid ≡ before → ReadsAll (files_of c) before read → PlansDone c read w → AllWritten (writing_of (files_of c) read w) mid after → HoldsNet read w mid after
+certified_done : (c : Command) (before mid after : Option Files) (read : Read) (w : Written) → mid ≡ before → ReadsAll (files_of c) before read → PlansDone c read w → StandsFor c before read w → AllWritten (writing_of (files_of c) read w) mid after → HoldsNet read w mid after
     → CertifiedOf (Some c) before after
-certified_done (compile d e o n rounds) before mid after read (written.Bundle name net certs) same g p all h =
+certified_done (compile d e o n rounds) before mid after read (written.Bundle name net (Some certs)) same g p s all h =
     let bundle = bundle_of.bundle read.design.items (net_of net) (Some certs) in
     content_certified before after d e o n rounds read (net_of net) certs g p.1
     (subst (λ out. after ≡ with_files out bundle before) p.0 (subst (λ content. after ≡ with_files name.now bundle content) same all.stands))
     (subst (λ out. ContentHolds before after out read.design.items (net_of net) (Some certs)) p.0 (subst (λ content. ContentHolds content after name.now read.design.items (net_of net) (Some certs)) same h))
-certified_done (compile d e o n rounds) before mid after read written.Nothing same g p all h = absurd p
-certified_done (compile d e o n rounds) before mid after read (written.Own file bytes) same g p all h = absurd p
-certified_done (check d n rounds) before mid after read w same g p all h = tt
-certified_done (step d e l f) before mid after read w same g p all h = tt
-certified_done (forward o q n) before mid after read w same g p all h = tt
+certified_done (compile d e o n rounds) before mid after read w same g p s all h = absurd p
+certified_done (update d e o n) before mid after read (written.Bundle name net None) same g p s all h =
+    content_recertified before after d e o n read (net_of net) g s
+    (subst (λ out. ContentHolds before after out read.design.items (net_of net) None) p.0 (subst (λ content. ContentHolds content after name.now read.design.items (net_of net) None) same h))
+certified_done (update d e o n) before mid after read w same g p s all h = absurd p
+certified_done (check d n rounds) before mid after read w same g p s all h = tt
+certified_done (step d e l f) before mid after read w same g p s all h = tt
+certified_done (forward o q n) before mid after read w same g p s all h = tt
+certified_done (gen hosts packets) before mid after read w same g p s all h = tt
 
-pub certified_of : (c : Command) (before mid after : Option Files) (read : Read) (answer : Answer) → mid ≡ before → ReadsAll (files_of c) before read → Plans c read answer → answer.report.verdict ≡ verdict.Done
+pub certified_of : (c : Command) (before mid after : Option Files) (read : Read) (answer : Answer) → mid ≡ before → ReadsAll (files_of c) before read → Plans c read answer → answer.report.verdict ≡ verdict.Done → StandsFor c before read answer.writing
     → AllWritten (writing_of (files_of c) read answer.writing) mid after → HoldsNet read answer.writing mid after → CertifiedOf (Some c) before after
-certified_of c before mid after read answer same g p is all h =
-    certified_done c before mid after read answer.writing same g (subst (λ (v : Verdict). PlansBy (λ w. PlansDone c read w) v answer.writing) is p) all h
+certified_of c before mid after read answer same g p is s all h =
+    certified_done c before mid after read answer.writing same g (subst (λ (v : Verdict). PlansBy (λ w. PlansDone c read w) v answer.writing) is p) s all h

@@ -23,7 +23,7 @@ use Rattle.cocoon_cli.specs.Commands.{Reports, asks, owed_steps, text_steps}
 use Rattle.cocoon_cli.specs.Compiling.{CompilesTexts, LowersDesign, LowersTexts, NotLowered}
 use Rattle.cocoon_cli.specs.Outcomes.{AllGood, none, good, Ends, FirstWith, later, no_memory}
 use Rattle.cocoon_cli.specs.Refining.{IsEnded, KeepsAll, NotRefined}
-use Rattle.cocoon_cli.specs.ReportLines.{totals_line, totals_of}
+use Rattle.cocoon_cli.specs.ReportLines.{compiled_line, totals_of}
 use Rattle.cocoon_cli.specs.Steps.{Inputs, OfNetwork, Step, IsGood, assumptions_met, bundle_written, certificates_within, lowering_within, network_file_within, switch_files_within}
 use Rattle.cocoon_cli.specs.Answering.{IsFound, PlansBy}
 use Rattle.cocoon_cli.specs.declared.answer.Answer.{Answer}
@@ -57,18 +57,18 @@ ended_found i x y k m rest t p answer g b met few h =
     (later met (is_ended i x k m rest t answer g.design b.binds.checked few h))
 
 -- why no network is made of both
-pub not_lowered : (i : Inputs) (x y : List ℕ) (k m : ℕ) (r : Refusal) → Texts i x y → AllGood i (deciding k m) → NotLowered x y r → Ends i (Err r) (text_steps (assuming k m))
-not_lowered i x y k m (refusal.OverLimit l n) g a (t, p, h, over) =
+pub not_lowered : (i : Inputs) (x y : List ℕ) (k m : ℕ) (t : Design) (p : Places) (r : Refusal) → Texts i x y → AllGood i (deciding k m) → NotLowered x y t p r → Ends i (Err r) (text_steps (assuming k m))
+not_lowered i x y k m t p (refusal.OverLimit l n) g a (h, over) =
     after_texts i x y (assuming k m) t p _ g h (ends_after i _ (deciding k m) lowering a (refused i _ lowering_within _ (on_both i x y t h.entries g h.binds (l, n, over, refl))))
-not_lowered i x y k m (refusal.TooLong file most) g a h =
+not_lowered i x y k m t p (refusal.TooLong file most) g a h =
     let es = h.binds.entries in
-    after_texts i x y (assuming k m) h.tree h.tables _ g h.binds
+    after_texts i x y (assuming k m) t p _ g h.binds
     (ends_after i _ (deciding k m) lowering a
-    (next i _ lowering_within _ (on_both i x y h.tree es g h.binds.binds (h.net, h.lowers, h.within))
-    (refused i _ switch_files_within _ (on_both i x y h.tree es g h.binds.binds
+    (next i _ lowering_within _ (on_both i x y t es g h.binds.binds (h.net, h.lowers, h.within))
+    (refused i _ switch_files_within _ (on_both i x y t es g h.binds.binds
     (h.net, h.lowers, (h.first, h.long, ap₂ (λ (f : CommandFile) (n : ℕ). refusal.TooLong f n) h.names h.limit))))))
-not_lowered i x y k m refusal.NoMemory g a h = no_memory refl
-not_lowered i x y k m r g a h = absurd h
+not_lowered i x y k m t p refusal.NoMemory g a h = no_memory refl
+not_lowered i x y k m t p r g a h = absurd h
 
 -- ---- a network that is made
 
@@ -92,7 +92,7 @@ pub plans_done : (P : Written → Type 0) (v : Verdict) (w : Written) → v ≡ 
 plans_done P v w done p = subst (λ (u : Verdict). PlansBy P u w) (sym done) p
 
 pub reports : (d e o : List ℕ) (n rounds : ℕ) (i : Inputs) (x y : List ℕ) (t : Design) (count : ℕ) (net : NetData) (report : Report) → Texts i x y → LowersDesign x y t net → count ≡ length (all_obligations t)
-    → report ≡ success (totals_line (totals_of count net)) → Reports (compile d e o n rounds) i report
+    → report ≡ success (compiled_line (totals_of count net)) → Reports (compile d e o n rounds) i report
 reports d e o n rounds i x y t count net report g (h, same) counted said =
     let owed : count ≡ length (all_obligations h.tree) = counted ∙ ap (λ (u : Design). length (all_obligations u)) (sym same) in
-    on_both i x y h.tree h.binds.entries g h.binds.binds (net, h.lowers, said ∙ ap (λ (m : ℕ). success (totals_line (totals_of m net))) owed)
+    on_both i x y h.tree h.binds.entries g h.binds.binds (net, h.lowers, said ∙ ap (λ (m : ℕ). success (compiled_line (totals_of m net))) owed)

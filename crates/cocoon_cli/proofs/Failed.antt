@@ -8,7 +8,7 @@ use Rattle.cocoon_num.specs.Reads.{Reads}
 use Rattle.cocoon_types.specs.Rules.{WellFormed}
 use Rattle.failure_text.specs.Told.{Tells}
 use Rattle.obligation_laws.specs.Obligations.{Kind, contained, bounded}
-use Rattle.command_line.specs.Command.{Command, check, compile, step, forward}
+use Rattle.command_line.specs.Command.{Command, check, compile, update, step, forward, gen}
 use Rattle.command_reports.specs.FileNames.{name_of}
 use Rattle.command_reports.specs.declared.files.CommandFile.TheVariants.{Design}
 use Rattle.command_reports.specs.Report.{verdict_status}
@@ -24,7 +24,7 @@ use Rattle.cocoon_cli.specs.Failed.{Failed, FailedFile, FailedOf}
 use Rattle.cocoon_cli.specs.Outcomes.{Answers, EndsAt, FirstWith, here, later, StopsAt, no_memory, at_step, at_fault, steps}
 use Rattle.cocoon_cli.specs.Owing.{IsFailing, verdict_of, word_of}
 use Rattle.cocoon_cli.specs.Run.{Call, CauseOf, InputsAre, Performs}
-use Rattle.cocoon_cli.specs.Steps.{Inputs, IsGood, Judges, OfDesign, Step, obligations_hold}
+use Rattle.cocoon_cli.specs.Steps.{Inputs, IsGood, Judges, OfDesign, Step, generated, generated_design, obligations_hold, of_generated}
 use Rattle.cocoon_cli.proofs.Commands.{report_done}
 use Rattle.cocoon_cli.proofs.Ending.{first_gives, first_map}
 use Rattle.cocoon_cli.proofs.Finding.{spends_budget}
@@ -36,6 +36,7 @@ use Rattle.cocoon_cli.proofs.Running.{failure_told, no_command}
 
 abbrev is_judging : Step → Bool
 is_judging (obligations_hold n m) = true
+is_judging (of_generated hosts s) = is_judging s
 is_judging s = false
 
 abbrev is_any_judging : List Step → Bool
@@ -44,6 +45,7 @@ is_any_judging (s ∷ ss) = is_judging s || is_any_judging ss
 
 judges : (i : Inputs) (report : Report) (s : Step) (b : Bool) → Judges i s report → (is_judging s || b) ≡ true
 judges i report (obligations_hold n m) b h = refl
+judges i report (of_generated hosts s) b h = judges (generated hosts) report s b h
 judges i report s b h = absurd h
 
 or_second : (a b : Bool) → b ≡ true → (a || b) ≡ true
@@ -103,6 +105,12 @@ failed_file one c name (Some files) i kind report are named v w r = (
   failed_text one i kind report v w r,
 )
 
+-- of the design that is generated
+failed_generated : OneTree → (hosts : ℕ) (kind : Kind) (report : Report) → report.verdict ≡ verdict_of kind → OfDesign (generated hosts) (λ _ d. WellFormed d) → OfDesign (generated hosts) (λ _ d. (number : ℕ) × IsFailing d number report)
+    → Failed generated_design kind report.lines
+failed_generated one hosts kind report v w r =
+    subst (λ (t : List ℕ). Failed t kind report.lines) (same_some ((generated hosts).file Design) r.text generated_design r.is refl) (failed_text one (generated hosts) kind report v w r)
+
 -- ---- of a command
 
 -- the steps of what both commands read of the design, up to its rules
@@ -130,8 +138,19 @@ failed_by one (compile d e o n rounds) content i kind report before after are v 
     let met = passed i report _ _ rows.1 (λ j. j) in
     let trees = passed i report _ _ met.1 (λ j. j) in
     (report.lines, failed_file one (compile d e o n rounds) d content i kind report are refl v rules.0 (reached i report _ _ trees.1 refl), printed)
+failed_by one (update d e o n) content i kind report before after are v printed h = let no : false ≡ true = judged_any i report (steps (update d e o n)) h in cc
 failed_by one (step d e l f) content i kind report before after are v printed h = let no : false ≡ true = judged_any i report (steps (step d e l f)) h in cc
 failed_by one (forward o p n) content i kind report before after are v printed h = let no : false ≡ true = judged_any i report (steps (forward o p n)) h in cc
+failed_by one (gen hosts packets) content i kind report before after are v printed h =
+    let reads = passed i report _ _ h (λ j. j) in
+    let rules = passed i report _ _ reads.1 (λ j. j) in
+    let limits = passed i report _ _ rules.1 (λ j. j) in
+    let defs = passed i report _ _ limits.1 (λ j. j) in
+    let fit = passed i report _ _ defs.1 (λ j. j) in
+    let rows = passed i report _ _ fit.1 (λ j. j) in
+    let met = passed i report _ _ rows.1 (λ j. j) in
+    let trees = passed i report _ _ met.1 (λ j. j) in
+    (report.lines, failed_generated one hosts kind report v rules.0 (reached i report _ _ trees.1 refl), printed)
 
 -- ---- of a call
 

@@ -20,7 +20,7 @@ use Rattle.cocoon_cli.specs.Leaves.{EndsWriting, LeavesFault}
 use Rattle.cocoon_cli.specs.Outcomes.{Ends, EndsAt, FirstWith, StopsAt, here, later, no_memory, at_fault, steps}
 use Rattle.cocoon_cli.specs.Shell.{NotAllWritten, own_file, writing_of}
 use Rattle.cocoon_cli.specs.Owing.{verdict_of}
-use Rattle.cocoon_cli.specs.Steps.{Inputs, Judges, Step, Spends, Stops, assumptions_met, obligations_hold}
+use Rattle.cocoon_cli.specs.Steps.{Inputs, Judges, Step, Spends, Stops, assumptions_met, generated, obligations_hold, of_generated}
 use Rattle.cocoon_cli.specs.Writing.{own}
 use Rattle.cocoon_cli.proofs.Commands.{all_tell}
 use Rattle.cocoon_cli.proofs.Ending.{first_gives, first_map}
@@ -37,6 +37,7 @@ told_map names i P Q f (s ∷ ss) t (later g h) = later g (told_map names i P Q 
 pub spends_budget : (i : Inputs) (s : Step) (report : Report) (bytes : List ℕ) → Spends i s report bytes → report.verdict ≡ verdict.Budget
 spends_budget i (assumptions_met n) report bytes h = ap (λ (r : Report). r.verdict) h.holds.holds.2
 spends_budget i (obligations_hold n m) report bytes h = owed_budget h.design n m report bytes h.holds
+spends_budget i (of_generated hosts s) report bytes h = spends_budget (generated hosts) s report bytes h
 spends_budget i s report bytes h = absurd h
 
 -- a verdict on what a design owes is one of a failure
@@ -52,18 +53,21 @@ of_failure bounded = tt
 pub judges_failure : (i : Inputs) (s : Step) (report : Report) → Judges i s report → IsOfFailure report.verdict
 judges_failure i (obligations_hold n m) report h =
     let says = h.holds.1.says in subst IsOfFailure (sym says.verdict_) (of_failure h.holds.1.obligation.kind)
+judges_failure i (of_generated hosts s) report h = judges_failure (generated hosts) s report h
 judges_failure i s report h = absurd h
 
 -- its file has a name
 spends_named : (names : FileNames) (i : Inputs) (s : Step) (report : Report) (bytes : List ℕ) → Tells names s → Spends i s report bytes → Named names Budget
 spends_named names i (assumptions_met n) report bytes t h = t
 spends_named names i (obligations_hold n m) report bytes t h = t
+spends_named names i (of_generated hosts s) report bytes t h = spends_named names (generated hosts) s report bytes t h
 spends_named names i s report bytes t h = absurd h
 
 -- a fault of its write stops the step
 spends_stops : (i : Inputs) (s : Step) (report : Report) (bytes : List ℕ) → Spends i s report bytes → Stops i s (refusal.WriteFault Budget)
 spends_stops i (assumptions_met n) report bytes h = (refl, (report, bytes, h))
 spends_stops i (obligations_hold n m) report bytes h = (refl, (report, bytes, h))
+spends_stops i (of_generated hosts s) report bytes h = spends_stops (generated hosts) s report bytes h
 spends_stops i s report bytes h = absurd h
 
 -- ---- one step

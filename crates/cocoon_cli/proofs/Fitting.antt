@@ -16,11 +16,11 @@ use Rattle.cocoon_cli.proofs.TextSteps.{Texts, on_design}
 
 -- ---- files
 
-fit_parts : (fs gs : List MadeFile) → AllFit (fs ++ gs) → AllFit fs × AllFit gs
+pub fit_parts : (fs gs : List MadeFile) → AllFit (fs ++ gs) → AllFit fs × AllFit gs
 fit_parts [] gs h = (tt, h)
 fit_parts (f ∷ fs) gs h = let rest = fit_parts fs gs h.1 in ((h.0, rest.0), rest.1)
 
-over_parts : (fs gs : List MadeFile) (f : BundleFile) → FirstOver (fs ++ gs) f → FirstOver fs f ⊎ (AllFit fs × FirstOver gs f)
+pub over_parts : (fs gs : List MadeFile) (f : BundleFile) → FirstOver (fs ++ gs) f → FirstOver fs f ⊎ (AllFit fs × FirstOver gs f)
 over_parts [] gs f h = inr (tt, h)
 over_parts (g ∷ fs) gs f (inl h) = inl (inl h)
 over_parts (g ∷ fs) gs f (inr (fits, h)) = elim (over_parts fs gs f h) [

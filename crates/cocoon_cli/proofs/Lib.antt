@@ -4,12 +4,18 @@ pub mod Assuming
 pub mod Owing
 pub mod Kept
 pub mod Compiling
+pub mod Headlines
+pub mod Updating
 pub mod Fitting
+pub mod Refitting
 pub mod Stepped
 pub mod Forwarded
 pub mod Counted
+pub mod Calling
+pub mod Rewiring
 pub mod Readings
 pub mod RuleValues
+pub mod OneStanding
 pub mod OneStep
 pub mod Telling
 pub mod Commands
@@ -19,4 +25,6 @@ pub mod OneOutcome
 pub mod Performing
 pub mod Running
 pub mod Refined
+pub mod Generating
+pub mod Generated
 pub mod Failed

@@ -1,13 +1,12 @@
 -- By what is read of its files, a command has one outcome at most, or such as agree.
 use Rattle.std.proofs.Common.{◌≡◌, ◌⊎◌, ◌||◌, Bool, true, false, refl, List, [], ◌∷◌, Result, Ok, Err, ap, inl, inr}
 use Rattle.command_line.specs.Command.{Command}
-use Rattle.command_reports.specs.FileNames.{bundle_in}
 use Rattle.command_reports.specs.declared.refusal.Refusal.{Refusal}
 use Rattle.command_reports.specs.declared.report.Report.{Report}
-use Rattle.cocoon_cli.specs.Commands.{files_of}
+use Rattle.cocoon_cli.specs.Commands.{standing_of}
 use Rattle.cocoon_cli.specs.Outcomes.{AllGood, good, FirstWith, here, later, EndsAt, Agree, Alike, equal, HasOutcome, IsGivenUp, ReportsOutcome, is_any_searched, steps}
 use Rattle.cocoon_cli.specs.Run.{IsKnown, IsOnly}
-use Rattle.cocoon_cli.specs.Steps.{Inputs, Step, Decides, GivesUp, IsGood, Judges, assumptions_met, certificates_within, obligations_hold, is_searched}
+use Rattle.cocoon_cli.specs.Steps.{Inputs, Step, Decides, GivesUp, IsGood, Judges, assumptions_met, certificates_within, obligations_hold, of_generated, generated, is_searched}
 use Rattle.cocoon_cli.proofs.Commands.{one_report, steps_decided}
 use Rattle.cocoon_cli.proofs.OneStep.{AllDecided, Decided, Laws, Once, good_or_judged, good_or_refused, judged_or_refused, judges_once, refuses_once}
 
@@ -28,18 +27,28 @@ searched : (i : Inputs) (s : Step) (x : Result Report Refusal) → GivesUp i s x
 searched i (assumptions_met n) x h = refl
 searched i (obligations_hold n m) x h = refl
 searched i certificates_within x h = refl
+searched i (of_generated hosts s) x h = searched (generated hosts) s x h
 searched i s (Ok r) h = absurd h.1
 searched i s (Err r) h = absurd h
 
 -- so is one with a verdict
 judged : (i : Inputs) (s : Step) (r : Report) → Judges i s r → is_searched s ≡ true
 judged i (obligations_hold n m) r h = refl
+judged i (of_generated hosts s) r h = judged (generated hosts) s r h
 judged i s r h = absurd h
+
+-- two refusals of a step are one, or alike where it is decided by a search
+once_alike : (s : Step) (r q : Refusal) → Once s r q → (r ≡ q) ⊎ ((is_searched s ≡ true) × Alike (Err r) (Err q))
+once_alike (assumptions_met n) r q h = inr (refl, h)
+once_alike (of_generated hosts s) r q h = once_alike s r q h
+once_alike s r q h = inl h
 
 -- each of these steps is decided by the content that is known
 once_two : (i : Inputs) (s : Step) (ss : List Step) (r q : Refusal) → Once s r q → Two (is_any_searched (s ∷ ss)) i (s ∷ ss) (Err r) (Err q)
-once_two i (assumptions_met n) ss r q h = inr (refl, inl h)
-once_two i s ss r q h = inl (ap Err h)
+once_two i s ss r q h = elim (once_alike s r q h) [
+  | inl e ↦ inl (ap Err e)
+  | inr (t, a) ↦ inr (or_first (is_searched s) (is_any_searched ss) t, inl a)
+]
 
 decides_once : Laws → (i : Inputs) (s : Step) (ss : List Step) (x y : Result Report Refusal) → Decided i s → Decides i s x → Decides i s y → Two (is_any_searched (s ∷ ss)) i (s ∷ ss) x y
 decides_once laws i s ss (Ok r) (Ok q) b h k = inr (or_first (is_searched s) (is_any_searched ss) (judged i s r h), inl (judges_once laws i s r q h k))
@@ -75,12 +84,12 @@ all_good_or_ends laws i (s ∷ ss) x a (good g gs) (here (inr h)) = (or_first (i
 all_good_or_ends laws i (s ∷ ss) x a (good g gs) (later m h) =
     let rest = all_good_or_ends laws i ss x a.1 gs h in (or_second (is_searched s) (is_any_searched ss) rest.0, later m rest.1)
 
-two_reports : Laws → (c : Command) (i : Inputs) (x y : Result Report Refusal) → IsKnown (bundle_in (files_of c)) i → ReportsOutcome c i x → ReportsOutcome c i y → x ≡ y
+two_reports : Laws → (c : Command) (i : Inputs) (x y : Result Report Refusal) → IsKnown (standing_of c) i → ReportsOutcome c i x → ReportsOutcome c i y → x ≡ y
 two_reports laws c i (Ok r) (Ok q) b h k = ap Ok (one_report laws c i r q b h k)
 two_reports laws c i (Ok r) (Err q) b h k = absurd k
 two_reports laws c i (Err r) y b h k = absurd h
 
-two : Laws → (c : Command) (i : Inputs) (x y : Result Report Refusal) → IsKnown (bundle_in (files_of c)) i → HasOutcome c i x → HasOutcome c i y → Two (is_any_searched (steps c)) i (steps c) x y
+two : Laws → (c : Command) (i : Inputs) (x y : Result Report Refusal) → IsKnown (standing_of c) i → HasOutcome c i x → HasOutcome c i y → Two (is_any_searched (steps c)) i (steps c) x y
 two laws c i x y b (inl h) (inl k) = two_ends laws i (steps c) x y (steps_decided laws c i b) h k
 two laws c i x y b (inl h) (inr k) = let u = all_good_or_ends laws i (steps c) x (steps_decided laws c i b) k.0 h in inr (u.0, inr (inl u.1))
 two laws c i x y b (inr h) (inl k) = let u = all_good_or_ends laws i (steps c) y (steps_decided laws c i b) h.0 k in inr (u.0, inr (inr u.1))

@@ -20,13 +20,18 @@ use Rattle.cocoon_types.specs.declared.fault.TypeRule.{TypeRule}
 use Rattle.cocoon_io.specs.Files.{Files}
 use Rattle.p4_ir.specs.NetTree.{NetData}
 use Rattle.p4_ir.specs.Wiring.{host_numbers}
+use Rattle.bundle_reader.specs.Alone.{OneWiring}
 use Rattle.bundle_reader.specs.OneReading as reading
 use Rattle.bundle_reader.specs.OneReading.{OneReading}
 use Rattle.bundle_reader.specs.Readings.{ContentFault, ContentReads}
 use Rattle.bundle_reader.specs.declared.fault.ReadFault.{ReadFault}
 use Rattle.bundle_reader.specs.declared.fault.ReadFault.TheVariants as read
 use Rattle.cocoon_io.specs.declared.folder.FolderFault.TheVariants.{Failed, NoMemory as Wanting}
+use Rattle.certificates.specs.declared.Cert.{Cert}
+use Rattle.gen_runs.specs.Stopping as sent
 use Rattle.net_run.specs.RunCounts.{most_runs, runs}
+use Rattle.net_wiring.specs.Differences.{FirstDifference}
+use Rattle.net_wiring.specs.declared.wiring.Wiring.{Wiring}
 use Rattle.packet_file.specs.Packets.{Packet, packets_in}
 use Rattle.packet_file.specs.declared.packet.PacketFault.{PacketFault}
 use Rattle.packet_runs.specs.Reports.{IsReport}
@@ -59,6 +64,7 @@ use Rattle.discharge.specs.Meeting.{IsFalseAt}
 use Rattle.command_reports.specs.Refusals.{IsOfFiles, unread_as}
 use Rattle.command_reports.specs.declared.files.CommandFile.{CommandFile}
 use Rattle.command_reports.specs.declared.files.CommandFile.TheVariants.{Design, Definitions, Case as CaseFile, Packets as PacketsFile}
+use Rattle.command_reports.specs.declared.refusal.BundleCause.TheVariants as cause
 use Rattle.command_reports.specs.declared.refusal.InputFault.TheVariants.{NoTree, Rule}
 use Rattle.command_reports.specs.declared.refusal.DefinitionsFault.TheVariants as definitions
 use Rattle.command_reports.specs.declared.refusal.Refusal.{Refusal}
@@ -66,10 +72,11 @@ use Rattle.command_reports.specs.declared.refusal.Refusal.TheVariants as refusal
 use Rattle.command_reports.specs.declared.report.Report.{Report}
 use Rattle.command_reports.specs.declared.report.Verdict.{Verdict}
 use Rattle.design_texts.specs.DesignTexts.{told}
-use Rattle.cocoon_cli.specs.Steps.{Inputs, OfBundle, OfDefinitions, OfDesign, OfPackets, OfText, Step, is_there, is_within, design_reads, design_well_formed, design_within, definitions_read, definitions_fit, definitions_within, assumptions_met, trees_within, obligations_hold, lowering_within, level_there, lines_formed, bundle_reads, packets_judged, copies_within, switch_files_within, certificates_within, network_file_within, bundle_written, is_long, packets_refusal, IsGood, Judges, Refuses}
+use Rattle.cocoon_cli.specs.Steps.{Inputs, OfBundle, OfCertified, OfDefinitions, OfDesign, OfPackets, OfStandingCertificates, OfStandingWires, OfText, Step, is_there, is_within, design_reads, design_well_formed, design_within, definitions_read, definitions_fit, definitions_within, assumptions_met, trees_within, obligations_hold, certificates_read, certificates_counted, certificates_accepted, wires_read, wires_same, lowering_within, level_there, lines_formed, bundle_reads, packets_judged, copies_within, switch_files_within, certificates_within, network_file_within, bundle_written, sent_within, of_generated, generated, is_long, packets_refusal, IsGood, Judges, Refuses}
 use Rattle.cocoon_cli.specs.Assumed.{IsBroken}
 use Rattle.cocoon_cli.specs.Owing.{IsFailing, TellsFailure, word_of}
 use Rattle.cocoon_cli.specs.Outcomes.{Alike, broken, failed, failed_leaf}
+use Rattle.cocoon_cli.proofs.OneStanding.{accepted_or_not, of_networks, one_certificates, one_certificates_fault, one_unaccepted, read_or_fault, same_or_differ}
 use Rattle.cocoon_cli.proofs.RuleValues.{same_rule}
 
 -- that texts have one tree or one first fault, that a design keeps the rules or breaks one first and so with the limits, that
@@ -89,6 +96,8 @@ pub record Laws : Type 0 where
   pub one_over : (d : tree.Design) (e : tree.DefsText) (x y : LimitName) (m n : ℕ) → IsOver d e x m → IsOver d e y n → (x ≡ y) × (m ≡ n)
   pub one_step : (level : ℕ) (d : tree.Design) (defs : tables.Defs) (case : Case) (told other : Option Sent) → Steps level d defs case told → Steps level d defs case other → other ≡ told
   pub one_reading : (files : Files) (out : List ℕ) → OneReading files out
+  pub one_wiring : (files : Files) (out : List ℕ) → OneWiring files out
+  pub one_difference : (old new : NetData) (v w : Wiring) → FirstDifference old new v → FirstDifference old new w → v ≡ w
   pub same_report : (net : NetData) (hops : ℕ) (ps : List Packet) (lines other : List ℕ) → IsReport net hops ps lines → IsReport net hops ps other → lines ≡ other
   pub no_over : (d : tree.Design) (e : tree.DefsText) (x : LimitName) (n : ℕ) → IsWithin d e → IsOver d e x n → ⊥
   pub no_failure : (d : tree.Design) (o : Obligation) (f : Failure) → FailsBy d o f → NeverFails d o → ⊥
@@ -142,6 +151,21 @@ on_bundle {P = P} i out (files, is, one) f h k =
     let same = one.one_network h.net k.net (subst (λ content. ContentReads content out h.net) is h.reads) (subst (λ content. ContentReads content out k.net) is k.reads) in
     f k.net (subst P same h.holds) k.holds
 
+-- so have the certificates and the wires that stand
+abbrev pub HasWiring : Inputs → (out : List ℕ) → Type 0
+HasWiring i out = (files : Files) × (i.content ≡ Some files) × OneWiring files out
+
+on_certificates : {P Q : List Cert → Type 0} {R : Type 0} (i : Inputs) (out : List ℕ) → HasWiring i out → ((certs : List Cert) → P certs → Q certs → R) → OfStandingCertificates i out P → OfStandingCertificates i out Q → R
+on_certificates {P = P} i out (files, is, one) f h k =
+    f k.certs (subst P (one_certificates files out h.certs k.certs (h.given files is) (k.given files is)) h.holds) k.holds
+
+pub on_certified : {P Q : tree.Design → List Cert → Type 0} {R : Type 0} → Laws → (i : Inputs) (out : List ℕ) → HasWiring i out → ((d : tree.Design) (certs : List Cert) → P d certs → Q d certs → R) → OfCertified i out P → OfCertified i out Q → R
+on_certified laws i out b f h k = on_design laws i (λ _ d u v. on_certificates i out b (f d) u v) h k
+
+on_wires : {P Q : NetData → Type 0} {R : Type 0} (i : Inputs) (out : List ℕ) → HasWiring i out → ((wires : NetData) → P wires → Q wires → R) → OfStandingWires i out P → OfStandingWires i out Q → R
+on_wires {P = P} i out (files, is, one) f h k =
+    f k.wires (subst P (one.one_wiring h.wires k.wires (h.given files is) (k.given files is)) h.holds) k.holds
+
 abbrev judged_by : NetData → List ℕ → Result (List Packet) PacketFault
 judged_by net text = packets_in (host_numbers net.hosts) text
 
@@ -151,8 +175,14 @@ on_packets {P = P} i out r f h k =
 
 abbrev pub Decided : Inputs → Step → Type 0
 Decided i (bundle_reads out) = HasReading i out
+Decided i (certificates_read out) = HasWiring i out
+Decided i (certificates_counted out) = HasWiring i out
+Decided i (certificates_accepted out) = HasWiring i out
+Decided i (wires_read out) = HasWiring i out
+Decided i (wires_same out) = HasWiring i out
 Decided i (packets_judged out) = HasReading i out
 Decided i (copies_within out hops) = HasReading i out
+Decided i (of_generated hosts s) = Decided (generated hosts) s
 Decided i s = Unit {0}
 
 abbrev pub AllDecided : Inputs → List Step → Type 0
@@ -170,6 +200,10 @@ all_or_over : (net : NetData) (hops : ℕ) (ps : List Packet) → AllWithin net 
 all_or_over net hops [] a h = h
 all_or_over net hops (p ∷ ps) a (inl h) = let b : runs net p.host p.bytes hops ≤ most_runs = a.0 in let c : most_runs < runs net p.host p.bytes hops = h in omega arith
 all_or_over net hops (p ∷ ps) a (inr h) = all_or_over net hops ps a.1 h
+
+none_sent_over : (net : NetData) (hosts packets : ℕ) → sent.AllWithin net hosts packets → sent.SomeOver net hosts packets → ⊥
+none_sent_over net hosts packets all (k, few, over) =
+    let a : sent.runs_of net hosts k ≤ most_runs = all k few in let b : most_runs < sent.runs_of net hosts k = over in omega arith
 
 -- ---- refusals
 
@@ -281,22 +315,26 @@ two_failing laws d m n r q h k = same_failing d n r q (subst (λ x. IsFailing d 
 -- two verdicts of a step are alike
 pub judges_once : Laws → (i : Inputs) (s : Step) (r q : Report) → Judges i s r → Judges i s q → Alike (Ok r) (Ok q)
 judges_once laws i (obligations_hold conflicts rounds) r q h k = on_design laws i (λ _ d (m, x) (n, y). two_failing laws d m n r q x y) h k
+judges_once laws i (of_generated hosts s) r q h k = judges_once laws (generated hosts) s r q h k
 judges_once laws i s r q h k = absurd h
 
 -- it gives none where it refuses
 pub judged_or_refused : (i : Inputs) (s : Step) (r : Report) (q : Refusal) → Judges i s r → Refuses i s q → ⊥
 judged_or_refused i (obligations_hold conflicts rounds) r q h k = k
+judged_or_refused i (of_generated hosts s) r q h k = judged_or_refused (generated hosts) s r q h k
 judged_or_refused i s r q h k = absurd h
 
 -- and none where it is good
 pub good_or_judged : Laws → (i : Inputs) (s : Step) (r : Report) → IsGood i s → Judges i s r → ⊥
 good_or_judged laws i (obligations_hold conflicts rounds) r g h =
     on_design laws i (λ _ d refines (n, x). laws.no_refuted d x.obligation x.says.failure x.says.fails refines) g h
+good_or_judged laws i (of_generated hosts s) r g h = good_or_judged laws (generated hosts) s r g h
 good_or_judged laws i s r g h = absurd h
 
 -- of two refusals of a step: they are one, or are alike where the step is decided by a search
 abbrev pub Once : Step → (r q : Refusal) → Type 0
 Once (assumptions_met conflicts) r q = Alike (Err r) (Err q)
+Once (of_generated hosts s) r q = Once s r q
 Once s r q = r ≡ q
 
 pub refuses_once : Laws → (i : Inputs) (s : Step) (r q : Refusal) → Decided i s → Refuses i s r → Refuses i s q → Once s r q
@@ -322,6 +360,20 @@ refuses_once laws i trees_within r q b h k =
     on_design laws i (λ _ d (m, first, x) (n, other, y).
     x ∙ ap (λ (c : ℕ). refusal.OverLimit Leaves (reported c)) (same_some (first_above most_leaves (all_counts d)) m n first other) ∙ sym y) h k
 refuses_once laws i (obligations_hold conflicts rounds) r q b h k = absurd h
+refuses_once laws i (certificates_read out) r q b h k =
+    h.2 ∙ ap unread_as (one_certificates_fault b.0 out h.0 k.0 (h.1 b.0 b.1) (k.1 b.0 b.1)) ∙ sym k.2
+refuses_once laws i (certificates_counted out) r q b h k =
+    on_certified laws i out b (λ d certs (f, w, x, e) (g, v, y, z).
+    e ∙ ap₂ (λ (m n : ℕ). refusal.Unread files.Certificates (cause.Count m n)) (x.found_ ∙ sym y.found_) (x.wanted_ ∙ sym y.wanted_) ∙ sym z) h k
+refuses_once laws i (certificates_accepted out) r q b h k = on_certified laws i out b (λ d certs x y. one_unaccepted d certs r q x y) h k
+refuses_once laws i (wires_read out) r q b h k =
+    h.2
+    ∙ ap unread_as ((laws.one_reading b.0 out).one_fault h.0 k.0 (of_files h.0 (subst IsOfFiles h.2 h.3)) (of_files k.0 (subst IsOfFiles k.2 k.3))
+    (subst (λ content. ContentFault content out h.0) b.1 h.1.0) (subst (λ content. ContentFault content out k.0) b.1 k.1.0))
+    ∙ sym k.2
+refuses_once laws i (wires_same out) r q b h k =
+    on_net laws i (λ t net u v. on_wires i out b (λ old (w, x, e) (z, y, f).
+    e ∙ ap (λ (d : Wiring). refusal.Unread files.Network (cause.Wiring d)) (laws.one_difference old net w z (of_networks old net w x) (of_networks old net z y)) ∙ sym f) u v) h k
 refuses_once laws i lowering_within r q b h k =
     on_both laws i (λ _ d _ e (l, m, over, x) (o, n, one, y).
     let same = laws.one_over d e l o m n over one in
@@ -343,6 +395,8 @@ refuses_once laws i switch_files_within r q b h k =
 refuses_once laws i certificates_within r q b h k = absurd h
 refuses_once laws i network_file_within r q b h k = on_net laws i (λ t n (_, x) (_, y). x ∙ sym y) h k
 refuses_once laws i bundle_written r q b h k = absurd h
+refuses_once laws i (sent_within hosts packets) r q b h k = on_net laws i (λ t n (_, x) (_, y). x ∙ sym y) h k
+refuses_once laws i (of_generated hosts s) r q b h k = refuses_once laws (generated hosts) s r q b h k
 
 pub good_or_refused : Laws → (i : Inputs) (s : Step) (r : Refusal) → Decided i s → IsGood i s → Refuses i s r → ⊥
 good_or_refused laws i (is_there file) r b g h = let no : ◌≡◌ {A = Option (List ℕ)} (Some g.text) None = sym g.is ∙ h.0 in cc
@@ -362,6 +416,12 @@ good_or_refused laws i (assumptions_met conflicts) r b g h =
 good_or_refused laws i trees_within r b g h =
     on_design laws i (λ _ d few (n, first, _). let no : ◌≡◌ {A = Option ℕ} None (Some n) = sym few ∙ first in cc) g h
 good_or_refused laws i (obligations_hold conflicts rounds) r b g h = h
+good_or_refused laws i (certificates_read out) r b g h = read_or_fault b.0 out g.certs h.0 (g.given b.0 b.1) (h.1 b.0 b.1)
+good_or_refused laws i (certificates_counted out) r b g h = on_certified laws i out b (λ d certs many (f, w, x, e). x.differ many) g h
+good_or_refused laws i (certificates_accepted out) r b g h = on_certified laws i out b (λ d certs all x. accepted_or_not d certs r all.0 x) g h
+good_or_refused laws i (wires_read out) r b g h =
+    b.2.no_fault g.wires h.0 (of_files h.0 (subst IsOfFiles h.2 h.3)) h.1.1 (g.given b.0 b.1) (subst (λ content. ContentFault content out h.0) b.1 h.1.0)
+good_or_refused laws i (wires_same out) r b g h = on_net laws i (λ t net u v. on_wires i out b (λ old same (w, x, e). same_or_differ old net w same x) u v) g h
 good_or_refused laws i lowering_within r b g h = on_both laws i (λ _ d _ e (_, _, within) (l, n, over, _). laws.no_over d e l n within over) g h
 good_or_refused laws i (level_there level) r b g h =
     on_design laws i (λ _ d there (over, _). let x : level ≤ last_level d = there in let y : last_level d < level = over in omega arith) g h
@@ -376,3 +436,5 @@ good_or_refused laws i certificates_within r b g h = h
 good_or_refused laws i network_file_within r b g h =
     on_net laws i (λ t n short (long, _). let few : length (net_text t n) ≤ most_of files.Network = short in let many : most_of files.Network < length (net_text t n) = long in omega arith) g h
 good_or_refused laws i bundle_written r b g h = h
+good_or_refused laws i (sent_within hosts packets) r b g h = on_net laws i (λ t n within (over, _). none_sent_over n hosts packets within over) g h
+good_or_refused laws i (of_generated hosts s) r b g h = good_or_refused laws (generated hosts) s r b g h

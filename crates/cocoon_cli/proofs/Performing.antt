@@ -12,7 +12,7 @@ use Rattle.cocoon_cli.specs.Commands.{Plans, PlansDone, Reports, asks, files_of,
 use Rattle.cocoon_cli.specs.Leaves.{LeavesFault}
 use Rattle.cocoon_cli.specs.Outcomes.{AllGood, Answers, FirstWith, at_step, reads, steps}
 use Rattle.cocoon_cli.specs.Run.{Performs}
-use Rattle.cocoon_cli.specs.Shell.{AllWritten, Asked, IsGiven, IsNoFault, IsQuiet, IsReading, NotAllWritten, ReadsAll, ReadsNot, writing_of}
+use Rattle.cocoon_cli.specs.Shell.{AllWritten, Asked, IsGiven, IsReading, NotAllWritten, ReadsAll, ReadsNot, writing_of}
 use Rattle.cocoon_cli.specs.Steps.{Inputs, Step}
 use Rattle.cocoon_cli.specs.Writing.{with_writing}
 use Rattle.cocoon_cli.proofs.Commands.{all_tell, not_written, planned_done, writes_good, writes_it}
@@ -29,10 +29,6 @@ left_same c i before after (by_write file) q same = absurd q
 left_same c i before after by_memory q same = inl same
 left_same c i before after no_fault q same = same
 
-quiet_reading : (f : Fault) → IsNoFault f → IsReading f
-quiet_reading (by_write file) q = q
-quiet_reading f q = tt
-
 -- ---- what is read
 
 pub unread : (c : Command) (before after : Option Files) (r : Refusal) → after ≡ before → ReadsNot (files_of c) before r → Performs c before after (Err r)
@@ -45,12 +41,12 @@ unread c before after r same h = record {
 
 -- ---- what is answered
 
-pub unanswered : (c : Command) (before after : Option Files) (read : Read) (r : Refusal) → after ≡ before → ReadsAll (files_of c) before read → IsQuiet r → ((i : Inputs) → IsGiven (files_of c) i read → Asked c i (Err r)) → Performs c before after (Err r)
-unanswered c before after read r same g quiet h = record {
+pub unanswered : (c : Command) (before after : Option Files) (read : Read) (r : Refusal) → after ≡ before → ReadsAll (files_of c) before read → IsReading (fault_of r) → ((i : Inputs) → IsGiven (files_of c) i read → i.content ≡ before → Asked c i (Err r)) → Performs c before after (Err r)
+unanswered c before after read r same g reading h = record {
   inputs = g.inputs;
   inputs_are = g.inputs_are;
-  answers = inl (ends_after g.inputs (Err r) (reads (files_of c)) (asks c ++ writes c) g.good (h g.inputs g.given));
-  leaves = left_same c g.inputs before after (fault_of r) (quiet_reading (fault_of r) quiet) same;
+  answers = inl (ends_after g.inputs (Err r) (reads (files_of c)) (asks c ++ writes c) g.good (h g.inputs g.given g.content_is));
+  leaves = left_same c g.inputs before after (fault_of r) reading same;
 }
 
 -- ---- what is written
@@ -93,10 +89,10 @@ found_done c before mid after read answer same g f w =
       );
     }
 
-pub done : (c : Command) (before mid after : Option Files) (read : Read) (answer : Answer) → mid ≡ before → ReadsAll (files_of c) before read → ((i : Inputs) → IsGiven (files_of c) i read → Asked c i (Ok answer)) → Plans c read answer
+pub done : (c : Command) (before mid after : Option Files) (read : Read) (answer : Answer) → mid ≡ before → ReadsAll (files_of c) before read → ((i : Inputs) → IsGiven (files_of c) i read → i.content ≡ before → Asked c i (Ok answer)) → Plans c read answer
     → AllWritten (writing_of (files_of c) read answer.writing) mid after → Performs c before after (Ok answer.report)
 done c before mid after read answer same g h p w =
-    elim (h g.inputs g.given) [
+    elim (h g.inputs g.given g.content_is) [
       | inl (a, k) ↦ all_done c before mid after read answer same g a k (planned_done c g.inputs read answer k p) w
       | inr f ↦ found_done c before mid after read answer same g f w
     ]
@@ -120,11 +116,11 @@ found_unwritten c before after read answer r g f n =
     let u = not_found c i before after read answer.report answer.writing r (of_all c before read g (IsFound i answer.report answer.writing) f) n in
     record { inputs = i; inputs_are = g.inputs_are; answers = inl u.ends; leaves = u.leaves }
 
-pub unwritten : (c : Command) (before mid after : Option Files) (read : Read) (answer : Answer) (r : Refusal) → mid ≡ before → ReadsAll (files_of c) before read → ((i : Inputs) → IsGiven (files_of c) i read → Asked c i (Ok answer)) → Plans c read answer
+pub unwritten : (c : Command) (before mid after : Option Files) (read : Read) (answer : Answer) (r : Refusal) → mid ≡ before → ReadsAll (files_of c) before read → ((i : Inputs) → IsGiven (files_of c) i read → i.content ≡ before → Asked c i (Ok answer)) → Plans c read answer
     → NotAllWritten (writing_of (files_of c) read answer.writing) mid after r → Performs c before after (Err r)
 unwritten c before mid after read answer r same g h p n =
     let here = subst (λ content. NotAllWritten (writing_of (files_of c) read answer.writing) content after r) same n in
-    elim (h g.inputs g.given) [
+    elim (h g.inputs g.given g.content_is) [
       | inl (a, k) ↦ all_unwritten c before after read answer r g a k (planned_done c g.inputs read answer k p) here
       | inr f ↦ found_unwritten c before after read answer r g f here
     ]

@@ -1,5 +1,5 @@
 -- What is read for a command, file after file.
-use Rattle.std.proofs.Common.{◌≡◌, ◌<◌, ℕ, zero, suc, List, [], ◌∷◌, ◌++◌, length, replicate, Option, Some, None, Result, Err, refl, sym, ap, ap₂, subst, ◌∙◌, ◌⊎◌, inl, inr, arith, option_and_then, option_map}
+use Rattle.std.proofs.Common.{◌≡◌, ◌<◌, Bool, true, false, if◌then◌else◌, ℕ, zero, suc, List, [], ◌∷◌, ◌++◌, length, replicate, Option, Some, None, Result, Err, refl, sym, ap, ap₂, subst, ◌∙◌, ◌⊎◌, inl, inr, arith, option_and_then, option_map}
 use Rattle.std.specs.FinMap.{get}
 use Rattle.cocoon_io.specs.Files.{Files}
 use Rattle.cocoon_io.specs.declared.folder.FolderFault.TheVariants.{Failed, TooLong as Long, NoMemory as Wanting}
@@ -54,13 +54,14 @@ content_is ns None x y z w = refl
 content_is ns (Some files) x y z w = refl
 
 -- the name of a file that is read
-read_name : (most : Option ℕ) (o : Option (List ℕ)) (name : List ℕ) (m : ℕ) → with_most most o ≡ Some (name, m) → o ≡ Some name
-read_name (Some k) (Some x) name m e = ap (option_map (λ (p : List ℕ × ℕ). p.0)) e
-read_name (Some k) None name m e = cc
-read_name None o name m e = cc
+read_name : (made : Bool) (most : Option ℕ) (o : Option (List ℕ)) (name : List ℕ) (m : ℕ) → (if made then None else with_most most o) ≡ Some (name, m) → o ≡ Some name
+read_name true most o name m e = cc
+read_name false (Some k) (Some x) name m e = ap (option_map (λ (p : List ℕ × ℕ). p.0)) e
+read_name false (Some k) None name m e = cc
+read_name false None o name m e = cc
 
 at_name : (ns : FileNames) (files : Files) (file : CommandFile) (name : List ℕ) (most : ℕ) → wanted ns file ≡ Some (name, most) → (inputs_of ns files).file file ≡ get files name
-at_name ns files file name most q = ap (option_and_then (get files)) (read_name _ (name_of ns file) name most q)
+at_name ns files file name most q = ap (option_and_then (get files)) (read_name ns.makes_texts _ (name_of ns file) name most q)
 
 there : (ns : FileNames) (content : Option Files) (a : Inputs) (file : CommandFile) (name : List ℕ) (most : ℕ) (bytes : List ℕ) → wanted ns file ≡ Some (name, most) → a.file file ≡ Some bytes → HasFile content name most bytes → (pick ns content a).file file ≡ Some bytes
 there ns None a file name most bytes q e h = e
@@ -266,6 +267,7 @@ all_read ns content of g h =
     record {
       inputs = i;
       inputs_are = picked ns content a;
+      content_is = content_is ns content (Some x) (Some y) (Some z) (Some w);
       good = all_good i _ _ (file_good ns content a Design x refl g.design)
           (all_good i _ _ (file_good ns content a Definitions y refl g.definitions)
           (all_good i _ _ (file_good ns content a Case z refl g.case) (all_good i _ _ (file_good ns content a Packets w refl g.packets) (net_good i (bundle_in ns) of.net n))));

@@ -8,7 +8,7 @@ use Rattle.cocoon_num.specs.Reads.{Reads}
 use Rattle.cocoon_num.specs.Tree as tree
 use Rattle.cocoon_types.specs.Rules.{WellFormed}
 use Rattle.refinement.specs.Owed.{Refines}
-use Rattle.command_line.specs.Command.{Command, check, compile, step, forward}
+use Rattle.command_line.specs.Command.{Command, check, compile, update, step, forward, gen}
 use Rattle.command_reports.specs.FileNames.{name_of}
 use Rattle.command_reports.specs.declared.files.CommandFile.TheVariants.{Design}
 use Rattle.command_reports.specs.declared.status.Status.{Status}
@@ -55,8 +55,14 @@ refined_by one (compile d e o n rounds) content i are g =
     let rules = tail_good (tail_good (tail_good (tail_good (tail_good g)))) in
     let owed = tail_good (tail_good (tail_good (tail_good (tail_good (tail_good (tail_good rules)))))) in
     checked_file one (compile d e o n rounds) d content i are refl (head_good rules) (head_good owed)
+refined_by one (update d e o n) content i are g =
+    let rules = tail_good (tail_good (tail_good (tail_good (tail_good g)))) in
+    let owed = head_good (tail_good (tail_good (tail_good (tail_good (tail_good (tail_good (tail_good (tail_good (tail_good rules))))))))) in
+    checked_file one (update d e o n) d content i are refl (head_good rules)
+    (record { text = owed.text; is = owed.is; design = owed.design; reads = owed.reads; holds = owed.holds.holds.1 })
 refined_by one (step d e l f) content i are g = tt
 refined_by one (forward o p n) content i are g = tt
+refined_by one (gen hosts packets) content i are g = tt
 
 pub refined_of : OneTree → (c : Option Command) (call : Call) → CauseOf c call → call.status ≡ Done → RefinedOf c call.content_before
 refined_of one None call h done = let no : ◌≡◌ {A = Status} Done Usage = no_command call Done tt h done in cc

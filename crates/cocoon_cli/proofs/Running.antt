@@ -5,6 +5,7 @@ use Rattle.cocoon_io.specs.Files.{Files}
 use Rattle.cocoon_io.specs.Calls.{appended}
 use Rattle.net_bundle.specs.Bundle.{MadeFile}
 use Rattle.net_bundle.specs.declared.file.BundleFile.{BundleFile}
+use Rattle.net_bundle.specs.declared.file.BundleFile.TheVariants as at_file
 use Rattle.net_bundle.specs.Writing.{SomeWritten, StopsAt, with_files}
 use Rattle.obligation_laws.specs.Obligations.{Kind, contained, bounded}
 use Rattle.command_line.specs.Command.{Command}
@@ -26,7 +27,7 @@ use Rattle.cocoon_cli.specs.Outcomes.{FirstWith, no_memory as out_of_memory, at_
 use Rattle.cocoon_cli.specs.Run.{Call, Cause, Counted, CountsFault, Uncounted, MayCount, of_read, of_write, of_memory, Count, inputs_of, InputsAre, Performs, IsOnly, CauseOf, LineNames, NamesFault, EndsWith, Yields, to_read_fault, to_write_fault, to_no_memory, TheOutcome, OutcomeOf, DoneOf, IsSpentAt, SpentOf, LeavesOf, MayWrite, failed, spent, UsageOf, Keeps, KeepsMore}
 use Rattle.cocoon_cli.specs.Run as run
 use Rattle.cocoon_cli.specs.Owing.{verdict_of}
-use Rattle.cocoon_cli.specs.Steps.{Inputs, Step, assumptions_met, obligations_hold, is_there, bundle_reads, bundle_written}
+use Rattle.cocoon_cli.specs.Steps.{Inputs, Step, generated, of_generated, assumptions_met, obligations_hold, is_there, bundle_reads, bundle_written, certificates_read, wires_read}
 use Rattle.cocoon_cli.specs.Writing.{Writing, nothing as nothing_written, bundle, own, SomeOf, StopsIn, with_writing}
 use Rattle.cocoon_cli.proofs.Commands.{report_done, report_writes}
 use Rattle.cocoon_cli.proofs.Ending.{first_gives, first_map}
@@ -113,7 +114,10 @@ stopped i (Err r) (is_there file) h = (file, inl (ap Err h))
 stopped i (Err r) (bundle_reads out) (file, h) = (BundleOf file, inl (ap Err h))
 stopped i (Err r) (assumptions_met conflicts) h = (BudgetFile, inr (ap Err h.0))
 stopped i (Err r) (obligations_hold conflicts rounds) h = (BudgetFile, inr (ap Err h.0))
+stopped i (Err r) (certificates_read out) h = (BundleOf at_file.Certificates, inl (ap Err h))
+stopped i (Err r) (wires_read out) h = (BundleOf at_file.Network, inl (ap Err h))
 stopped i (Err r) bundle_written (file, h) = (BundleOf file, inr (ap Err h))
+stopped i (Err r) (of_generated hosts s) h = stopped (generated hosts) (Err r) s h
 stopped i (Err r) s h = absurd h
 
 -- the answer yields to it

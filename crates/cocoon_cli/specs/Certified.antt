@@ -11,7 +11,7 @@ use Rattle.net_bundle.specs.Bundle.{certificates_name}
 use Rattle.net_bundle.specs.BundleNames.{digest_of, file_name, net_name}
 use Rattle.net_bundle.specs.NetJson.{NetFile, net_data}
 use Rattle.cert_text.specs.Certifying.{Certifies}
-use Rattle.command_line.specs.Command.{Command, compile}
+use Rattle.command_line.specs.Command.{Command, compile, update}
 
 -- The files hold `after` a `compile` certificates of the design that stood in the files `before`: by the file of the network it
 -- is this design.
@@ -31,11 +31,20 @@ pub record Certified (before after : Files) (design_name out : List ℕ) : Type 
   pub json : IsJson network_text (net_data network)
   pub digest : network.design ≡ digest_of text
 
--- the same of a command; of one that writes no certificates there is nothing to say
+-- The same after an `update`. The certificates were there before, whoever made them, and nothing of them was changed.
+pub record Recertified (before after : Files) (design_name out : List ℕ) : Type 0 where
+  pub certified : Certified before after design_name out
+  pub stood : get before (file_name out certificates_name) ≡ Some certified.certificates
+
+-- the same of a command; of one that leaves no certificates there is nothing to say
 abbrev pub CertifiedOf : Option Command → Option Files → Option Files → Type 0
 CertifiedOf None before after = ⊥
 CertifiedOf (Some (compile design defs out conflicts rounds)) None after = Unit {0}
 CertifiedOf (Some (compile design defs out conflicts rounds)) (Some before) None = ⊥
 CertifiedOf (Some (compile design defs out conflicts rounds)) (Some before) (Some after) =
     Certified before after design out
+CertifiedOf (Some (update design defs out conflicts)) None after = Unit {0}
+CertifiedOf (Some (update design defs out conflicts)) (Some before) None = ⊥
+CertifiedOf (Some (update design defs out conflicts)) (Some before) (Some after) =
+    Recertified before after design out
 CertifiedOf (Some asked) before after = Unit {0}

@@ -1,6 +1,6 @@
 -- Cited by the clauses of compile.rt. The network that is made of the two texts of a `compile`, with the
 -- certificates of its design, or why there is none.
-use Rattle.std.specs.Prelude.{◌≡◌, ℕ, List}
+use Rattle.std.specs.Prelude.{◌≡◌, ℕ, List, Some}
 use Rattle.cocoon_num.specs.Tree.{Design}
 use Rattle.cocoon_types.specs.Design.{last_level}
 use Rattle.cocoon_types.specs.Tables.{defs_of}
@@ -51,14 +51,13 @@ pub record CompilesTexts (design defs : List ℕ) (net : NetData) (certificates 
 
 -- this is written: the bundle of them under the given name
 abbrev pub Compiles : (out design defs : List ℕ) → Writing → Type 0
-Compiles out design defs (written.Bundle name net certificates) =
+Compiles out design defs (written.Bundle name net (Some certificates)) =
     (name.now ≡ out) × CompilesTexts design defs (net_of net) certificates
 Compiles out design defs w = ⊥
 
 -- of the files of the switches of their network, this is the first that is over its limit
-pub record LongFile (design defs : List ℕ) (file : CommandFile) (most : ℕ) : Type 0 where
-  pub tree : Design
-  pub tables : Places
+pub record LongFile (design defs : List ℕ) (tree : Design) (tables : Places) (file : CommandFile)
+    (most : ℕ) : Type 0 where
   pub binds : BindsTables design defs tree tables
   pub first : BundleFile
   pub names : file ≡ Bundle first
@@ -69,10 +68,9 @@ pub record LongFile (design defs : List ℕ) (file : CommandFile) (most : ℕ) :
   pub long : FirstOver (all_switch_files net.switches) first
 
 -- why no network is made of a design and definitions that fit it
-abbrev pub NotLowered : (design defs : List ℕ) → Refusal → Type 0
-NotLowered design defs (TooLong file most) = LongFile design defs file most
-NotLowered design defs (OverLimit limit count) =
-    (tree : Design) × (tables : Places) × (binds : BindsTables design defs tree tables)
-    × IsOver tree binds.entries limit count
-NotLowered design defs NoMemory = Unit {0}
-NotLowered design defs _ = ⊥
+abbrev pub NotLowered : (design defs : List ℕ) → Design → Places → Refusal → Type 0
+NotLowered design defs tree tables (TooLong file most) = LongFile design defs tree tables file most
+NotLowered design defs tree tables (OverLimit limit count) =
+    (binds : BindsTables design defs tree tables) × IsOver tree binds.entries limit count
+NotLowered design defs tree tables NoMemory = Unit {0}
+NotLowered design defs tree tables _ = ⊥

@@ -12,8 +12,9 @@ use Rattle.failure_text.specs.Told.{Tells}
 use Rattle.obligation_laws.specs.Failing.{NeverFails}
 use Rattle.obligation_laws.specs.Obligations.{Kind, Obligation, all_obligations}
 use Rattle.verdicts.specs.Failing.{FailsBy}
-use Rattle.command_line.specs.Command.{Command, check, compile}
+use Rattle.command_line.specs.Command.{Command, check, compile, gen}
 use Rattle.cocoon_cli.specs.Owing.{word_of}
+use Rattle.cocoon_cli.specs.Steps.{generated_design}
 
 -- The lines tell a failure of this kind of the design of the text.
 pub record Failed (text : List ℕ) (kind : Kind) (lines : List ℕ) : Type 0 where
@@ -43,4 +44,6 @@ FailedOf (Some (check design conflicts rounds)) content kind before after =
     (lines : List ℕ) × FailedFile design content kind lines × (after ≡ appended before lines)
 FailedOf (Some (compile design defs out conflicts rounds)) content kind before after =
     (lines : List ℕ) × FailedFile design content kind lines × (after ≡ appended before lines)
+FailedOf (Some (gen hosts packets)) content kind before after =
+    (lines : List ℕ) × Failed generated_design kind lines × (after ≡ appended before lines)
 FailedOf asked content kind before after = ⊥

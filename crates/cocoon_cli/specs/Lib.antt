@@ -7,9 +7,11 @@ pub mod Deciding
 pub mod Refining
 pub mod Forwarding
 pub mod Reading
+pub mod Standing
 pub mod Steps
 pub mod Writing
 pub mod Answering
+pub mod Updating
 pub mod Commands
 pub mod Outcomes
 pub mod Leaves
@@ -19,3 +21,5 @@ pub mod Certified
 pub mod Failed
 pub mod Run
 pub mod Shell
+pub mod Generated
+pub mod Generating

@@ -1,6 +1,6 @@
 -- Cited by the clauses of the commands and of answer.rt, and through Outcomes.antt by `keeps` of `run`. The
 -- reports of commands that succeed, and of searches that are given up. It follows "Reports" in docs/FORMATS.md.
-use Rattle.std.specs.Prelude.{ℕ, List, ◌++◌, length, Option, Some, None, codes, decimal}
+use Rattle.std.specs.Prelude.{ℕ, ◌-◌, List, ◌++◌, length, Option, Some, None, codes, decimal}
 use Rattle.p4_ir.specs.NetTree.{NetData}
 use Rattle.case_runs.specs.declared.sent.Sent.{Sent}
 use Rattle.command_reports.specs.Report.{list_text}
@@ -21,11 +21,27 @@ totals_of obligations net = record {
   obligations = obligations;
 }
 
-abbrev pub totals_line : Totals → List ℕ
-totals_line t =
-    codes "compiled switches " ++ (decimal t.switches ++ (codes " hosts " ++ (decimal t.hosts
+-- that of a network, behind what was done with it
+abbrev pub totals_line : (done : List ℕ) → Totals → List ℕ
+totals_line done t =
+    done ++ (codes " switches " ++ (decimal t.switches ++ (codes " hosts " ++ (decimal t.hosts
     ++ (codes " links " ++ (decimal t.links ++ (codes " obligations " ++ (decimal t.obligations
-    ++ codes "\n")))))))
+    ++ codes "\n"))))))))
+
+-- that of a network that was compiled
+abbrev pub compiled_line : Totals → List ℕ
+compiled_line t = totals_line (codes "compiled") t
+
+-- that of one that was updated
+abbrev pub updated_line : Totals → List ℕ
+updated_line t = totals_line (codes "updated") t
+
+-- that of a network that was generated for so many hosts: how many of its packets were delivered, and how many not
+abbrev pub generated_line : (hosts packets delivered : ℕ) → List ℕ
+generated_line hosts packets delivered =
+    codes "gen hosts " ++ (decimal hosts ++ (codes " packets " ++ (decimal packets
+    ++ (codes " delivered " ++ (decimal delivered ++ (codes " dropped "
+    ++ (decimal (packets - delivered) ++ codes "\n")))))))
 
 -- that of a search on which conflicts were spent: the most of one search, and what it was about, by its kind and number
 abbrev pub budget_line : (conflicts : ℕ) → (kind : List ℕ) → (number : ℕ) → List ℕ

@@ -12,8 +12,8 @@ use Rattle.command_reports.specs.declared.status.Status.{Status}
 use Rattle.command_reports.specs.declared.status.Status.TheVariants.{Done, Usage, ReadFault, WriteFault, NoMemory, Budget as BudgetSpent}
 use Rattle.command_line.specs.Command.{Command}
 use Rattle.command_line.specs.Words.{command}
-use Rattle.command_reports.specs.FileNames.{FileNames, HasName, bundle_in, name_of}
-use Rattle.cocoon_cli.specs.Commands.{Reports, files_of}
+use Rattle.command_reports.specs.FileNames.{FileNames, HasName, name_of}
+use Rattle.cocoon_cli.specs.Commands.{Reports, files_of, standing_of}
 use Rattle.cocoon_cli.specs.Leaves.{Leaves, LeavesSome, LeavesWhole}
 use Rattle.cocoon_cli.specs.Outcomes.{Agree, Answers, FirstWith, HasOutcome, is_any_searched, steps}
 use Rattle.command_reports.specs.Report.{Ending, Fault, IsEnding, by_read, by_write, by_memory, no_fault, Prints, fault_in, line_with, usage}
@@ -121,7 +121,7 @@ pub data Yields (call : Call) : Type 0 where
   to_write_fault : call.status ≡ WriteFault → Counted call.writes ⊎ Counted call.puts → Yields call
   to_no_memory : call.status ≡ NoMemory → Yields call
 
--- The content of the folder is known, if the command reads a bundle from it.
+-- The content of the folder is known, if the steps of the command speak of a bundle in it.
 abbrev pub IsKnown : Option (List ℕ) → Inputs → Type 0
 IsKnown None inputs = Unit {0}
 IsKnown (Some out) inputs = (files : Files) × (inputs.content ≡ Some files)
@@ -129,7 +129,7 @@ IsKnown (Some out) inputs = (files : Files) × (inputs.content ≡ Some files)
 -- A command has no other outcome, where it is decided without a search; else any other agrees with it.
 abbrev pub IsOnly : Command → Inputs → Result Report Refusal → Type 0
 IsOnly c inputs outcome =
-    IsKnown (bundle_in (files_of c)) inputs → (other : Result Report Refusal) → HasOutcome c inputs other
+    IsKnown (standing_of c) inputs → (other : Result Report Refusal) → HasOutcome c inputs other
     → Agree (is_any_searched (steps c)) inputs (steps c) other outcome
 
 -- the outcome of a command over known files, and its ending

@@ -77,6 +77,12 @@ pub record Called {A : Type 0} (last_failure : List ℕ → Type 0) (names : Fil
   pub counts : CountsFault reads writes (fault_in answer)
   pub named : NamesFault last_failure names (fault_in answer)
 
+-- the same of calls on files of the bundle of this name, whatever other files the command has
+abbrev pub CalledUnder : {A : Type 0} → (last_failure : List ℕ → Type 0) → (out : List ℕ)
+    → (reads writes : Count) → Result A Refusal → Type 0
+CalledUnder last_failure out reads writes answer =
+    (names : FileNames) → names.bundle ≡ Some out → Called last_failure names reads writes answer
+
 -- ---- what was read
 
 -- these bytes were read of a file, if it is read
@@ -108,6 +114,7 @@ pub record IsShort (read : Read) : Type 0 where
 pub record ReadsAll (names : FileNames) (content : Option Files) (read : Read) : Type 0 where
   pub inputs : Inputs
   pub inputs_are : InputsAre names content inputs
+  pub content_is : inputs.content ≡ content
   pub good : AllGood inputs (reads names)
   pub given : IsGiven names inputs read
 
@@ -142,7 +149,7 @@ own_file file (Some name) bytes = own file name bytes
 abbrev pub writing_of : FileNames → Read → Written → Writing
 writing_of names read written.Nothing = nothing
 writing_of names read (written.Bundle name net certificates) =
-    bundle name.now (bundle_of.bundle read.design.items (net_of net) (Some certificates))
+    bundle name.now (bundle_of.bundle read.design.items (net_of net) certificates)
 writing_of names read (written.Own file bytes) = own_file file (name_of names file) bytes
 
 -- it may be written: a bundle is the one that is named, and can be read back
@@ -165,7 +172,7 @@ pub record AllWritten (w : Writing) (before after : Option Files) : Type 0 where
 -- a bundle that was written gives its network
 abbrev pub HoldsNet : Read → Written → (before after : Option Files) → Type 0
 HoldsNet read (written.Bundle name net certificates) before after =
-    ContentHolds before after name.now read.design.items (net_of net) (Some certificates)
+    ContentHolds before after name.now read.design.items (net_of net) certificates
 HoldsNet read w before after = Unit {0}
 
 -- why it was not all written

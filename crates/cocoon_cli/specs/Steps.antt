@@ -3,7 +3,10 @@
 -- command's files; each is a case of its own. A new rule or limit of designs adds none. It follows
 -- "Statuses" in docs/FORMATS.md.
 use Rattle.std.specs.Prelude.{◌≡◌, ◌≤◌, ◌<◌, ℕ, suc, Bool, true, false, List, length, Option, Some, None, Result, Ok, Err, codes}
+use Rattle.std.specs.List.{AllZip}
 use Rattle.cert_text.specs.Certifying.{Certifies}
+use Rattle.cert_text.specs.Rechecking.{AreNotAsMany, IsAccepted}
+use Rattle.certificates.specs.declared.Cert.{Cert as Certificate}
 use Rattle.cocoon_num.specs.Lists.{first_of}
 use Rattle.cocoon_num.specs.Tree as tree
 use Rattle.cocoon_num.specs.declared.limit_name.LimitName.{LimitName}
@@ -25,7 +28,12 @@ use Rattle.p4_ir.specs.NetTree.{NetData}
 use Rattle.p4_ir.specs.Wiring.{host_numbers}
 use Rattle.bundle_reader.specs.Readings.{ContentFault, ContentReads}
 use Rattle.bundle_reader.specs.declared.fault.ReadFault.{ReadFault}
+use Rattle.gen_runs.specs.Stopping as sent
+use Rattle.gen_texts.specs.Definitions.{definitions_text}
+use Rattle.gen_texts.specs.Design.{design_text}
 use Rattle.net_run.specs.RunCounts.{most_runs}
+use Rattle.net_wiring.specs.Differences.{FirstOfWires, SameWires}
+use Rattle.net_wiring.specs.declared.wiring.Wiring.{Wiring}
 use Rattle.packet_file.specs.Packets.{Packet, packets_in}
 use Rattle.packet_file.specs.declared.packet.PacketFault.{PacketFault}
 use Rattle.packet_file.specs.declared.packet.PacketFault.TheVariants as packets
@@ -36,6 +44,7 @@ use Rattle.net_bundle.specs.declared.file.BundleFile.{BundleFile}
 use Rattle.net_bundle.specs.declared.file.BundleFile.TheVariants as files
 use Rattle.hop_inline.specs.Counted.{most_leaves}
 use Rattle.obligation_gen.specs.Counted.{AreFew, all_counts}
+use Rattle.obligation_laws.specs.Obligations.{all_obligations}
 use Rattle.refinement.specs.Assumptions.{Meets}
 use Rattle.refinement.specs.Owed.{Refines}
 use Rattle.runtime_defs.specs.Bound.{most_rows, row_count}
@@ -43,6 +52,7 @@ use Rattle.lower_p4.specs.Lowers.{Lowers}
 use Rattle.lower_p4.specs.LowerLimits.{IsOver, IsWithin}
 use Rattle.command_reports.specs.declared.files.CommandFile.{CommandFile}
 use Rattle.command_reports.specs.declared.files.CommandFile.TheVariants.{Design, Definitions, Bundle, Case, Packets, Budget}
+use Rattle.command_reports.specs.declared.refusal.BundleCause.TheVariants as cause
 use Rattle.command_reports.specs.declared.refusal.InputFault.TheVariants.{NoTree, Rule}
 use Rattle.command_reports.specs.declared.refusal.DefinitionsFault.TheVariants as definitions
 use Rattle.command_reports.specs.declared.refusal.Refusal.{Refusal}
@@ -58,6 +68,7 @@ use Rattle.cocoon_cli.specs.Assumed.{IsBig, IsBroken, IsSpent}
 use Rattle.cocoon_cli.specs.Owing as owing
 use Rattle.cocoon_cli.specs.Owing.{IsFailing, IsGivenUpOn}
 use Rattle.cocoon_cli.specs.ReportLines.{budget_line}
+use Rattle.cocoon_cli.specs.Standing.{GivesCertificates, GivesWires, LacksCertificates, LacksWires, NotAccepted}
 use Rattle.design_texts.specs.DesignTexts.{told}
 
 -- What is read of each file of a command, nothing where it is not there; and the content in which the files of a bundle
@@ -65,6 +76,22 @@ use Rattle.design_texts.specs.DesignTexts.{told}
 pub record Inputs : Type 0 where
   pub file : CommandFile → Option (List ℕ)
   pub content : Option Files
+
+-- the texts of the network that is generated for so many hosts
+unfoldable pub generated_design : List ℕ
+generated_design = design_text
+
+unfoldable pub generated_definitions : (hosts : ℕ) → List ℕ
+generated_definitions hosts = definitions_text hosts
+
+-- they are read in the place of files
+abbrev pub generated_text : (hosts : ℕ) → CommandFile → Option (List ℕ)
+generated_text hosts Design = Some generated_design
+generated_text hosts Definitions = Some (generated_definitions hosts)
+generated_text hosts file = None
+
+abbrev pub generated : (hosts : ℕ) → Inputs
+generated hosts = record { file = generated_text hosts; content = None }
 
 pub data Step : Type 0 where
   -- the file is there
@@ -81,8 +108,18 @@ pub data Step : Type 0 where
   trees_within : Step
   -- each block of the design keeps what it owes, decided for each obligation in so many rounds, by searches of so many conflicts
   obligations_hold : (conflicts rounds : ℕ) → Step
+  -- the file of certificates of the bundle OUT is there, and of its form
+  certificates_read : (out : List ℕ) → Step
+  -- there are as many of them as the design has obligations
+  certificates_counted : (out : List ℕ) → Step
+  -- each shows its own
+  certificates_accepted : (out : List ℕ) → Step
+  -- the file of the network of OUT gives wires
+  wires_read : (out : List ℕ) → Step
   -- the network is within the limits
   lowering_within : Step
+  -- its wires are those of OUT
+  wires_same : (out : List ℕ) → Step
   -- the level is one of the design
   level_there : (level : ℕ) → Step
   -- the lines of the case are of their forms, at this level
@@ -101,6 +138,10 @@ pub data Step : Type 0 where
   network_file_within : Step
   -- the files of the bundle are written
   bundle_written : Step
+  -- the copies of each of so many packets that are sent to so many hosts make no more runs than they may
+  sent_within : (hosts packets : ℕ) → Step
+  -- the same step, of the texts that are generated for so many hosts
+  of_generated : (hosts : ℕ) (step : Step) → Step
 
 -- ---- what the files say
 
@@ -149,6 +190,33 @@ OfFiles inputs Holds =
     OfNetwork inputs (λ text design net. (certificates : List ℕ) × Certifies design certificates
     × Holds (bundle text net (Some certificates)))
 
+-- this holds of the files that an `update` writes: those of that network, without certificates
+abbrev pub OfUpdatedFiles : Inputs → (List MadeFile → Type 0) → Type 0
+OfUpdatedFiles inputs Holds = OfNetwork inputs (λ text _ net. Holds (bundle text net None))
+
+-- this holds of the certificates that stand under a name
+pub record OfStandingCertificates (inputs : Inputs) (out : List ℕ)
+    (Holds : List Certificate → Type 0) : Type 0 where
+  pub certs : List Certificate
+  pub given : GivesCertificates inputs.content out certs
+  pub holds : Holds certs
+
+-- this holds of the wires that stand under a name
+pub record OfStandingWires (inputs : Inputs) (out : List ℕ) (Holds : NetData → Type 0) : Type 0 where
+  pub wires : NetData
+  pub given : GivesWires inputs.content out wires
+  pub holds : Holds wires
+
+-- this holds of a design and of the certificates that stand under a name
+abbrev pub OfCertified : Inputs → (out : List ℕ) → (tree.Design → List Certificate → Type 0) → Type 0
+OfCertified inputs out Holds =
+    OfDesign inputs (λ _ design. OfStandingCertificates inputs out (λ certs. Holds design certs))
+
+-- this holds of the wires that stand under a name, and of the network that the compiler makes
+abbrev pub OfBothWires : Inputs → (out : List ℕ) → (NetData → NetData → Type 0) → Type 0
+OfBothWires inputs out Holds =
+    OfNetwork inputs (λ _ _ net. OfStandingWires inputs out (λ wires. Holds wires net))
+
 -- the files of a bundle give a network of which this holds
 pub record OfBundle (inputs : Inputs) (out : List ℕ) (Holds : NetData → Type 0) : Type 0 where
   pub net : NetData
@@ -178,6 +246,14 @@ IsGood inputs (assumptions_met conflicts) =
     OfBoth inputs (λ design defs. Meets (last_level design) design (defs_of design defs))
 IsGood inputs trees_within = OfDesign inputs (λ _ design. AreFew (all_counts design))
 IsGood inputs (obligations_hold conflicts rounds) = OfDesign inputs (λ _ design. Refines design)
+IsGood inputs (certificates_read out) = OfStandingCertificates inputs out (λ _. Unit {0})
+IsGood inputs (certificates_counted out) =
+    OfCertified inputs out (λ design certs. length certs ≡ length (all_obligations design))
+IsGood inputs (certificates_accepted out) =
+    OfCertified inputs out (λ design certs.
+    AllZip (IsAccepted design) (all_obligations design) certs × Refines design)
+IsGood inputs (wires_read out) = OfStandingWires inputs out (λ _. Unit {0})
+IsGood inputs (wires_same out) = OfBothWires inputs out (λ old new. SameWires old new)
 IsGood inputs lowering_within =
     OfBoth inputs (λ design defs.
     (net : NetData) × Lowers design defs net × IsWithin design defs)
@@ -196,6 +272,9 @@ IsGood inputs certificates_within =
 IsGood inputs network_file_within =
     OfNetwork inputs (λ text _ net. length (net_text text net) ≤ most_of files.Network)
 IsGood inputs bundle_written = Unit {0}
+IsGood inputs (sent_within hosts packets) =
+    OfNetwork inputs (λ _ _ net. sent.AllWithin net hosts packets)
+IsGood inputs (of_generated hosts s) = IsGood (generated hosts) s
 
 -- what is refused of packets that are not all well
 abbrev pub packets_refusal : PacketFault → Option Refusal
@@ -241,6 +320,21 @@ Refuses inputs trees_within r =
     × (first_above most_leaves (all_counts design) ≡ Some count)
     × (r ≡ refusal.OverLimit Leaves (reported count)))
 Refuses inputs (obligations_hold conflicts rounds) r = ⊥
+Refuses inputs (certificates_read out) r =
+    (fault : ReadFault) × LacksCertificates inputs.content out fault × (r ≡ unread_as fault)
+    × IsOfFiles r
+Refuses inputs (certificates_counted out) r =
+    OfCertified inputs out (λ design certs. (found : ℕ) × (wanted : ℕ)
+    × AreNotAsMany design certs found wanted
+    × (r ≡ refusal.Unread files.Certificates (cause.Count found wanted)))
+Refuses inputs (certificates_accepted out) r =
+    OfCertified inputs out (λ design certs. NotAccepted design certs r)
+Refuses inputs (wires_read out) r =
+    (fault : ReadFault) × LacksWires inputs.content out fault × (r ≡ unread_as fault)
+    × IsOfFiles r
+Refuses inputs (wires_same out) r =
+    OfBothWires inputs out (λ old new. (difference : Wiring) × FirstOfWires old new difference
+    × (r ≡ refusal.Unread files.Network (cause.Wiring difference)))
 Refuses inputs lowering_within r =
     OfBoth inputs (λ design defs. (limit : LimitName) × (count : ℕ)
     × IsOver design defs limit count × (r ≡ refusal.OverLimit limit count))
@@ -267,6 +361,10 @@ Refuses inputs network_file_within r =
     OfNetwork inputs (λ text _ net.
     (most_of files.Network < length (net_text text net)) × (r ≡ is_long files.Network))
 Refuses inputs bundle_written r = ⊥
+Refuses inputs (sent_within hosts packets) r =
+    OfNetwork inputs (λ _ _ net.
+    sent.SomeOver net hosts packets × (r ≡ refusal.OverLimit Copies (suc most_runs)))
+Refuses inputs (of_generated hosts s) r = Refuses (generated hosts) s r
 
 -- ---- how a step may end a command
 
@@ -275,6 +373,7 @@ Refuses inputs bundle_written r = ⊥
 abbrev pub Judges : Inputs → Step → Report → Type 0
 Judges inputs (obligations_hold conflicts rounds) report =
     OfDesign inputs (λ _ design. (number : ℕ) × IsFailing design number report)
+Judges inputs (of_generated hosts s) report = Judges (generated hosts) s report
 Judges inputs s report = ⊥
 
 -- the step decides the outcome: it refuses, or gives a verdict
@@ -288,6 +387,7 @@ abbrev pub is_searched : Step → Bool
 is_searched (assumptions_met conflicts) = true
 is_searched (obligations_hold conflicts rounds) = true
 is_searched certificates_within = true
+is_searched (of_generated hosts s) = is_searched s
 is_searched s = false
 
 -- a search spent what it may spend: this is reported, and these are the bytes of the file of that
@@ -297,6 +397,7 @@ Spends inputs (assumptions_met conflicts) report bytes =
     × (report ≡ given_up (budget_line conflicts (codes "assumption") number)))
 Spends inputs (obligations_hold conflicts rounds) report bytes =
     OfDesign inputs (λ _ design. IsGivenUpOn design conflicts rounds report bytes)
+Spends inputs (of_generated hosts s) report bytes = Spends (generated hosts) s report bytes
 Spends inputs s report bytes = ⊥
 
 -- a query is too large to be searched, or what was found is too large to be written
@@ -310,6 +411,7 @@ IsTooLarge inputs (obligations_hold conflicts rounds) r =
 IsTooLarge inputs certificates_within r =
     OfCertificates inputs (λ certificates.
     (most_of files.Certificates < length certificates) × (r ≡ is_long files.Certificates))
+IsTooLarge inputs (of_generated hosts s) r = IsTooLarge (generated hosts) s r
 IsTooLarge inputs s r = ⊥
 
 -- a search is given up
@@ -328,5 +430,8 @@ Stops inputs (obligations_hold conflicts rounds) r =
     (r ≡ refusal.WriteFault Budget)
     × ((report : Report) × (bytes : List ℕ)
     × Spends inputs (obligations_hold conflicts rounds) report bytes)
+Stops inputs (certificates_read out) r = r ≡ refusal.ReadFault (Bundle files.Certificates)
+Stops inputs (wires_read out) r = r ≡ refusal.ReadFault (Bundle files.Network)
 Stops inputs bundle_written r = (file : BundleFile) × (r ≡ refusal.WriteFault (Bundle file))
+Stops inputs (of_generated hosts s) r = Stops (generated hosts) s r
 Stops inputs s r = ⊥

@@ -13,8 +13,9 @@ use std::alloc::Global;
 #[derive(Drop)]
 pub enum Writing<'w> {
     Nothing,
-    /// The bundle of this name, of a network, with the certificates of its design.
-    Bundle(&'w str, NetData, List<u8>),
+    /// The bundle of this name, of a network. The certificates of its design are written with it, if
+    /// there are any here.
+    Bundle(&'w str, NetData, Option<List<u8>>),
     /// One file with a name of its own.
     Own(CommandFile, List<u8>),
 }

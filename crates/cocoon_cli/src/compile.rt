@@ -36,7 +36,7 @@ use sound_types::laws::code_literals_fit;
 use std::alloc::Global;
 
 /// The network of a design whose blocks keep what they owe, and definitions that meet its assumptions.
-fn lower_bound(alloc: Global, bound: &Bound) -> Result<NetData, Refusal>
+pub fn lower_bound(alloc: Global, bound: &Bound) -> Result<NetData, Refusal>
     requires fit { FitsDesign (design_of bound.now.checked) bound.now.defs }
     requires few { AreFew (all_counts (design_of bound.now.checked)) }
     requires refines { Refines (design_of bound.now.checked) }
@@ -47,7 +47,7 @@ fn lower_bound(alloc: Global, bound: &Bound) -> Result<NetData, Refusal>
         → LowersDesign design defs (design_of bound.now.checked) (net_of net)) }
     ensures refused { IfErr result (λ refusal. (design defs : List ℕ)
         → BindsTables design defs (design_of bound.now.checked) bound.now.defs
-        → NotLowered design defs refusal) }
+        → NotLowered design defs (design_of bound.now.checked) bound.now.defs refusal) }
 {
     code_literals_fit();
     deliveries_stay_within();
@@ -78,7 +78,7 @@ pub struct Totals {
 }
 
 /// How many of each thing a network has whose design has so many obligations.
-fn count_parts(net: &NetData, obligations: u64) -> Totals
+pub fn count_parts(net: &NetData, obligations: u64) -> Totals
     ensures { result ≡ totals_of obligations (net_of net.now) }
 {
     Totals {
@@ -89,9 +89,9 @@ fn count_parts(net: &NetData, obligations: u64) -> Totals
     }
 }
 
-/// The line of a network that was compiled.
-fn totals_line(alloc: Global, totals: Totals) -> Result<String, NoMemory>
-    ensures { IfOk result (λ line. string_bytes line ≡ totals_line totals) }
+/// The line of a network, behind what was done with it.
+pub fn totals_line(alloc: Global, done: &str, totals: Totals) -> Result<String, NoMemory>
+    ensures { IfOk result (λ line. string_bytes line ≡ totals_line done.now totals) }
 {
     let Totals {
         switches,
@@ -100,7 +100,7 @@ fn totals_line(alloc: Global, totals: Totals) -> Result<String, NoMemory>
         obligations,
     } = totals;
     Ok(format!(in alloc;
-        "compiled switches {switches} hosts {hosts} links {links} obligations {obligations}\n"
+        "{done} switches {switches} hosts {hosts} links {links} obligations {obligations}\n"
     )?)
 }
 
@@ -136,12 +136,12 @@ pub fn compile<'w>(
         Refined::Holds(certs) => {
             let net = lower_bound(alloc, &bound)?;
             let obligations = certs.certs.items().len() as u64;
-            let line = totals_line(alloc, count_parts(&net, obligations))?;
+            let line = totals_line(alloc, "compiled", count_parts(&net, obligations))?;
             let text = to_json(alloc, &certs)?;
             let certificates = List::from(text);
             Ok(Answer {
                 report: Report::success(line.into_bytes()),
-                writing: Writing::Bundle(asked.out, net, certificates),
+                writing: Writing::Bundle(asked.out, net, Some(certificates)),
             })
         }
     }

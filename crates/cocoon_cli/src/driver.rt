@@ -5,10 +5,14 @@ ghost use Rattle.obligation_laws.specs.Obligations.{bounded, contained};
 ghost use Rattle.cocoon_cli.specs.Certified.{CertifiedOf};
 ghost use Rattle.cocoon_cli.specs.Checked.{RefinedOf};
 ghost use Rattle.cocoon_cli.specs.Failed.{FailedOf};
+ghost use Rattle.cocoon_cli.specs.Generated.{GeneratedOf};
 ghost use Rattle.cocoon_cli.specs.Headline.{Headline};
 ghost use Rattle.cocoon_cli.specs.Run.{Keeps, count};
 
-use crate::laws::{checked_designs_are_refined, one_outcome, reported_failures_are_real};
+use crate::laws::{
+    checked_designs_are_refined, generated_packets_are_counted, one_outcome,
+    reported_failures_are_real,
+};
 use crate::shell::{names_of, perform};
 use cocoon_io::{Folder, Sink};
 use cocoon_num::NoMemory;
@@ -45,7 +49,7 @@ pub fn run<F: Folder, S: Sink>(
     ensures headline { result ≡ Status.Done
         → Headline (map string_bytes words.now) (F.content folder.old) (F.content folder.new) }
 
-    // where a `check` or a `compile` succeeds, each block of the design is contained and bounded
+    // where a `check`, a `compile` or an `update` succeeds, each block of the design is contained and bounded
     ensures refined { result ≡ Status.Done
         → RefinedOf (command (map string_bytes words.now)) (F.content folder.old) }
 
@@ -62,10 +66,17 @@ pub fn run<F: Folder, S: Sink>(
     ensures hop_bound { result ≡ Status.HopBound
         → FailedOf (command (map string_bytes words.now)) (F.content folder.old) bounded
         (S.output out.old) (S.output out.new) }
+
+    // what a `gen` counts are the packets that the last level of its design delivers, and the folder is as
+    // it was
+    ensures generated { result ≡ Status.Done
+        → GeneratedOf (command (map string_bytes words.now))
+        (F.content folder.old) (F.content folder.new) (S.output out.old) (S.output out.new) }
 {
     one_outcome();
     checked_designs_are_refined();
     reported_failures_are_real();
+    generated_packets_are_counted();
     numbers_are_in_range();
     match parse_command(alloc, words) {
         Ok(Some(command)) => {

@@ -1,6 +1,7 @@
 //! What follows from the promises of this crate. The functions do nothing; their contracts are the
 //! laws.
-ghost use Rattle.std.specs.Prelude.{Option, Result, ◌≡◌};
+ghost use Rattle.std.specs.Prelude.{List, Option, Result, ◌≡◌, ℕ};
+ghost use Rattle.cocoon_io.specs.Files.{Files};
 ghost use Rattle.cocoon_num.specs.Tree.{DefsText, Design};
 ghost use Rattle.cocoon_types.specs.DefsRules.{DefsFit};
 ghost use Rattle.cocoon_types.specs.Design.{last_level};
@@ -14,7 +15,9 @@ ghost use Rattle.refinement.specs.Assumptions.{Meets};
 ghost use Rattle.refinement.specs.Owed.{Refines};
 ghost use Rattle.sound_types.specs.Literals.{DesignLiteralsFit, EntriesFit};
 ghost use Rattle.cocoon_cli.specs.Checked.{RefinedOf};
+ghost use Rattle.cocoon_cli.specs.Headline.{Compiled, IsCertificates, Updated};
 ghost use Rattle.cocoon_cli.specs.Failed.{FailedOf};
+ghost use Rattle.cocoon_cli.specs.Generated.{GeneratedOf};
 ghost use Rattle.cocoon_cli.specs.Outcomes.{HasOutcome};
 ghost use Rattle.command_line.specs.Words.{command};
 ghost use Rattle.cocoon_cli.specs.Run.{Call, CauseOf, IsOnly, KeepsMore};
@@ -23,12 +26,13 @@ ghost use Rattle.command_reports.specs.declared.report.Report.{Report};
 ghost use Rattle.command_reports.specs.declared.status.Status.TheVariants.{Done, HopBound, Refuted};
 ghost use Rattle.command_reports.specs.declared.refusal.Refusal.{Refusal};
 
-use bundle_reader::laws::one_reading;
+use bundle_reader::laws::{one_reading, one_wiring};
 use case_runs::laws::one_step;
 use cocoon_text::laws::{one_fault, trees_have_no_fault};
 use cocoon_types::first_faults::{first_or_well_formed, one_first_fault};
 use cocoon_types::limits::{one_first_over, within_is_not_over};
 use lower_p4::laws::one_lowering;
+use net_wiring::laws::one_first_difference;
 use packet_runs::laws::one_report;
 use plain_parser::text_laws::{one_definitions_tree, one_tree};
 use refinement::laws::levels_compose;
@@ -53,6 +57,8 @@ pub fn one_outcome()
     one_lowering();
     one_step();
     one_reading();
+    one_wiring();
+    one_first_difference();
     one_report();
     failing_obligations_fail();
 }
@@ -63,8 +69,8 @@ pub fn calls_keep_more()
     ensures { (call : Call) → CauseOf (command call.words) call → KeepsMore call }
 {}
 
-/// Where a command that decides obligations succeeds, the design of its file keeps the rules, and each of
-/// its blocks what it owes.
+/// Where a command succeeds that decides obligations, or checks certificates of them, the design of its file
+/// keeps the rules, and each of its blocks what it owes.
 pub fn checked_designs_are_refined()
     ensures { (c : Option spec.Command) (call : Call) → CauseOf c call → call.status ≡ Done
         → RefinedOf c call.content_before }
@@ -85,6 +91,17 @@ pub fn reported_failures_are_real()
     one_tree();
 }
 
+/// Where a command that generates a network succeeds, it tells how many of its packets the last level of
+/// its design delivers, and leaves the folder as it was.
+pub fn generated_packets_are_counted()
+    ensures { (c : Option spec.Command) (call : Call) → CauseOf c call → call.status ≡ Done
+        → GeneratedOf c call.content_before call.content_after
+        call.output_before call.output_after }
+{
+    one_tree();
+    one_definitions_tree();
+}
+
 /// What a network delivers that delivers exactly what the last level does, the topmost specification
 /// may make, if each block of the design is contained and bounded, under definitions that meet all
 /// assumptions.
@@ -95,3 +112,11 @@ pub fn deliveries_stay_within()
 {
     levels_compose();
 }
+
+/// What an `update` leaves, a `compile` of the same texts may leave. So what is said of bundles that were
+/// compiled is said of those that were updated.
+pub fn updates_are_compiles()
+    ensures { (before after : Files) (design defs out : List ℕ)
+        → Updated before after design defs out
+        → Compiled before after design defs out (IsCertificates out) }
+{}

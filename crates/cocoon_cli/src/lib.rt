@@ -10,11 +10,14 @@ pub mod check;
 pub mod compile;
 pub mod driver;
 pub mod forward;
+pub mod generate;
 pub mod laws;
 pub mod obligations;
 pub mod reading;
 pub mod shell;
+pub mod standing;
 pub mod step;
+pub mod update;
 pub mod writing;
 
 pub use driver::run;

@@ -1,31 +1,34 @@
-//! One call of a command: all that it reads is read, the command is asked for its answer over what
-//! was read, and what it answers is written. A command has no folder, so it can read and write nothing
-//! else.
+//! One call of a command: its files are read, the command is asked for its answer over what was read, and
+//! what it answers is written. A command has no folder, so it can read and write nothing else; `update`
+//! alone has one, since it reads the bundle that stands after its texts are judged.
 ghost use Rattle.std.specs.Prelude.{◌≡◌, IfErr, IfOk, Some};
 ghost use Rattle.command_line.specs.Command.{stands_for};
 ghost use Rattle.command_line.specs.Subcommands.{IsInRange};
 ghost use Rattle.command_reports.specs.FileNames.{names_in};
 ghost use Rattle.command_reports.specs.declared.report.Verdict.TheVariants.{Done};
 ghost use Rattle.cocoon_cli.specs.Certified.{CertifiedOf};
-ghost use Rattle.cocoon_cli.specs.Commands.{Plans, files_of};
+ghost use Rattle.cocoon_cli.specs.Commands.{Plans, StandsFor, files_of};
 ghost use Rattle.cocoon_cli.specs.Headline.{CompiledOf};
 ghost use Rattle.cocoon_cli.specs.Run.{count};
-ghost use Rattle.cocoon_cli.specs.Shell.{Acts, Asked, IsGiven, IsQuiet, IsShort};
+ghost use Rattle.cocoon_cli.specs.Shell.{Acts, Asked, Called, IsGiven, IsReading, IsShort};
+ghost use Rattle.command_reports.specs.Report.{fault_of};
 ghost use Rattle.cocoon_cli.specs.Steps.{Inputs};
 
 use crate::answer::Answer;
 use crate::check::check;
 use crate::compile::compile;
 use crate::forward::forward;
+use crate::generate::{GENERATED, generate};
 use crate::reading::{Read, read_all};
 use crate::step::step;
+use crate::update::update;
 use crate::writing::write_all;
 use cocoon_io::Folder;
 use command_line::Command;
 use command_reports::{FileNames, Refusal, Report};
 use std::alloc::Global;
 
-/// The files that a command has. All are read, but a bundle that it writes.
+/// The files that a command has. All are read first, but a bundle that it writes.
 pub fn names_of<'w>(command: &Command<'w>) -> FileNames<'w>
     ensures { names_in result ≡ files_of (stands_for command.now) }
 {
@@ -37,6 +40,7 @@ pub fn names_of<'w>(command: &Command<'w>) -> FileNames<'w>
             packets: None,
             bundle: None,
             reads_bundle: false,
+            makes_texts: false,
         },
         Command::Compile(names) => FileNames {
             design: Some(names.design),
@@ -45,6 +49,16 @@ pub fn names_of<'w>(command: &Command<'w>) -> FileNames<'w>
             packets: None,
             bundle: Some(names.out),
             reads_bundle: false,
+            makes_texts: false,
+        },
+        Command::Update(given) => FileNames {
+            design: Some(given.design),
+            definitions: Some(given.defs),
+            case: None,
+            packets: None,
+            bundle: Some(given.out),
+            reads_bundle: false,
+            makes_texts: false,
         },
         Command::Step(asked) => FileNames {
             design: Some(asked.design),
@@ -53,6 +67,7 @@ pub fn names_of<'w>(command: &Command<'w>) -> FileNames<'w>
             packets: None,
             bundle: None,
             reads_bundle: false,
+            makes_texts: false,
         },
         Command::Forward(asked) => FileNames {
             design: None,
@@ -61,27 +76,51 @@ pub fn names_of<'w>(command: &Command<'w>) -> FileNames<'w>
             packets: Some(asked.packets),
             bundle: Some(asked.out),
             reads_bundle: true,
+            makes_texts: false,
+        },
+        Command::Gen(_) => FileNames {
+            design: Some(GENERATED),
+            definitions: Some(GENERATED),
+            case: None,
+            packets: None,
+            bundle: Some(GENERATED),
+            reads_bundle: false,
+            makes_texts: true,
         },
     }
 }
 
 /// What a command answers over what was read.
-fn ask<'w>(alloc: Global, command: &Command<'w>, read: &Read) -> Result<Answer<'w>, Refusal>
+fn ask<'w, F: Folder>(
+    alloc: Global,
+    folder: &mut F,
+    command: &Command<'w>,
+    read: &Read,
+) -> Result<Answer<'w>, Refusal>
     requires short { IsShort read.now }
     requires range { IsInRange (stands_for command.now) }
     ensures asked { (inputs : Inputs) → IsGiven (files_of (stands_for command.now)) inputs read.now
-        → Asked (stands_for command.now) inputs result }
+        → inputs.content ≡ F.content folder.old → Asked (stands_for command.now) inputs result }
     ensures plans { IfOk result (Plans (stands_for command.now) read.now) }
-    ensures quiet { IfErr result IsQuiet }
+    ensures stands { IfOk result (λ answer. answer.report.verdict ≡ Done
+        → StandsFor (stands_for command.now) (F.content folder.old) read.now answer.writing) }
+    ensures same { F.content folder.new ≡ F.content folder.old }
+    ensures called { Called (F.last_failure folder.new) (files_of (stands_for command.now))
+        (count F.last_read_fault (F.read_faults folder.old) (F.read_faults folder.new))
+        (count F.last_write_fault (F.write_faults folder.old) (F.write_faults folder.new))
+        result }
+    ensures reading { IfErr result (λ r. IsReading (fault_of r)) }
 {
     match command {
         Command::Check(asked) => check(alloc, asked, &read.design),
         Command::Compile(asked) => compile(alloc, asked, &read.design, &read.definitions),
+        Command::Update(asked) => update(alloc, folder, asked, &read.design, &read.definitions),
         Command::Step(asked) => { step(alloc, asked, &read.design, &read.definitions, &read.case) }
         Command::Forward(asked) => match &read.net {
             Some(net) => forward(alloc, asked, net, &read.packets),
             None => Err(Refusal::NoMemory),
         },
+        Command::Gen(asked) => generate(alloc, asked),
     }
 }
 
@@ -104,7 +143,7 @@ pub fn perform<F: Folder>(
 {
     let names = names_of(command);
     let read = read_all(alloc, folder, &names)?;
-    let answer = ask(alloc, command, &read)?;
+    let answer = ask(alloc, folder, command, &read)?;
     write_all(alloc, folder, &names, &read, &answer.writing)?;
     Ok(answer.report)
 }

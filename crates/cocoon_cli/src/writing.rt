@@ -1,5 +1,5 @@
 //! What a command writes.
-ghost use Rattle.std.specs.Prelude.{◌≡◌, ◌⊎◌, IfErr, OnOk};
+ghost use Rattle.std.specs.Prelude.{◌≡◌, ◌⊎◌, IfErr, OnOk, option_map};
 ghost use Rattle.cocoon_io.specs.Calls.{with_file};
 ghost use Rattle.command_reports.specs.FileNames.{name_of, names_in};
 ghost use Rattle.cocoon_cli.specs.Run.{count};
@@ -8,6 +8,7 @@ ghost use Rattle.cocoon_cli.specs.Shell.{AllWritten, Called, CanWrite, HoldsNet,
 use crate::answer::Writing;
 use crate::reading::Read;
 use cocoon_io::{Folder, FolderFault};
+use cocoon_num::List;
 use command_reports::{CommandFile, FileNames, Refusal};
 use net_bundle::write_bundle;
 use std::alloc::Global;
@@ -41,6 +42,16 @@ fn write_own<F: Folder>(
     }
 }
 
+/// The bytes of certificates, if there are any.
+pub(crate) fn bytes_in(certificates: &Option<List<u8>>) -> Option<&[u8]>
+    ensures { option_map (λ bytes. bytes.now) result ≡ certificates.now }
+{
+    match certificates {
+        Some(bytes) => Some(bytes.items()),
+        None => None,
+    }
+}
+
 /// Writes what a command answers that has these files.
 pub fn write_all<F: Folder>(
     alloc: Global,
@@ -66,7 +77,7 @@ pub fn write_all<F: Folder>(
     match writing {
         Writing::Nothing => Ok(()),
         Writing::Bundle(out, net, certificates) => {
-            let certificates = Some(certificates.items());
+            let certificates = bytes_in(certificates);
             match write_bundle(alloc, folder, out, net, &read.design, certificates) {
                 Ok(()) => Ok(()),
                 Err(fault) => Err(Refusal::from(fault)),

@@ -8,7 +8,7 @@ use Rattle.clap.specs.Simple.{App, Shape, argument_words, built}
 use Rattle.clap.specs.Walk.{Row, Text}
 use Rattle.clap.specs.Words.{fault_of, subcommand_of}
 use Rattle.command_line.specs.Command.{Command, compile}
-use Rattle.command_line.specs.Subcommands.{cocoon_app, command_of, compile_app, forward_app, step_app}
+use Rattle.command_line.specs.Subcommands.{check_app, cocoon_app, command_of, compile_app, forward_app, step_app, update_app}
 use Rattle.command_line.specs.Syntax.{app_with}
 use Rattle.command_line.specs.Words.{command, command_by, subcommand_by, unless_refused}
 use Rattle.command_line.proofs.Staying.{Grows, stays}
@@ -51,8 +51,26 @@ steps = second (built with_step).subs top
 abbrev forwards : Shape
 forwards = third (built with_forward).subs top
 
+abbrev with_check : App
+with_check = app_with (check_app ∷ compile_app ∷ step_app ∷ forward_app ∷ [])
+
 abbrev checks : Shape
-checks = first (built cocoon_app).subs top
+checks = first (built with_check).subs top
+
+abbrev with_update : App
+with_update = app_with (check_app ∷ compile_app ∷ update_app ∷ step_app ∷ forward_app ∷ [])
+
+abbrev updates : Shape
+updates = third (built with_update).subs top
+
+abbrev sixth : List Shape → Shape → Shape
+sixth [] d = d
+sixth (s ∷ []) d = d
+sixth (s ∷ t ∷ []) d = d
+sixth (s ∷ t ∷ u ∷ ss) d = third ss d
+
+abbrev gens : Shape
+gens = sixth (built cocoon_app).subs top
 
 or_false : (b : Bool) → (b || false) ≡ b
 or_false true = refl
@@ -82,6 +100,22 @@ check_grows = record {
   plain = λ w. refl;
 }
 
+update_grows : Grows top (checks ∷ compiles ∷ []) updates (steps ∷ forwards ∷ helps ∷ [])
+update_grows = record {
+  word = codes "update";
+  answers = λ x e. sym ((bytes_eq-Decides (codes "update") x).0 (sym (or_false (bytes_eq (codes "update") x)) ∙ e));
+  unknown = refl;
+  plain = λ w. refl;
+}
+
+gen_grows : Grows top (checks ∷ compiles ∷ updates ∷ steps ∷ forwards ∷ []) gens (helps ∷ [])
+gen_grows = record {
+  word = codes "gen";
+  answers = λ x e. sym ((bytes_eq-Decides (codes "gen") x).0 (sym (or_false (bytes_eq (codes "gen") x)) ∙ e));
+  unknown = refl;
+  plain = λ w. refl;
+}
+
 -- ---- the laws
 
 still : (kinds now : Kinds) (met met_now : Option (Text × List Row)) (asked : Command)
@@ -105,11 +139,29 @@ forward_added words asked h =
     still (fault_of with_step words) (fault_of with_forward words) (subcommand_of with_step words) (subcommand_of with_forward words) asked
     (stays top (compiles ∷ steps ∷ []) forwards (helps ∷ []) forward_grows (argument_words with_step words)) h
 
-pub commands_stay : (words : List Text) (asked : Command) → command_by with_forward words ≡ Some asked → command words ≡ Some asked
-unfolding command subcommand_by
-commands_stay words asked h =
-    still (fault_of with_forward words) (fault_of cocoon_app words) (subcommand_of with_forward words) (subcommand_of cocoon_app words) asked
+check_added : (words : List Text) (asked : Command) → command_by with_forward words ≡ Some asked → command_by with_check words ≡ Some asked
+unfolding subcommand_by
+check_added words asked h =
+    still (fault_of with_forward words) (fault_of with_check words) (subcommand_of with_forward words) (subcommand_of with_check words) asked
     (stays top [] checks (compiles ∷ steps ∷ forwards ∷ helps ∷ []) check_grows (argument_words with_forward words)) h
+
+update_added : (words : List Text) (asked : Command) → command_by with_check words ≡ Some asked → command_by with_update words ≡ Some asked
+unfolding subcommand_by
+update_added words asked h =
+    still (fault_of with_check words) (fault_of with_update words) (subcommand_of with_check words) (subcommand_of with_update words) asked
+    (stays top (checks ∷ compiles ∷ []) updates (steps ∷ forwards ∷ helps ∷ []) update_grows (argument_words with_check words)) h
+
+gen_added : (words : List Text) (asked : Command) → command_by with_update words ≡ Some asked → command words ≡ Some asked
+unfolding command subcommand_by
+gen_added words asked h =
+    still (fault_of with_update words) (fault_of cocoon_app words) (subcommand_of with_update words) (subcommand_of cocoon_app words) asked
+    (stays top (checks ∷ compiles ∷ updates ∷ steps ∷ forwards ∷ []) gens (helps ∷ []) gen_grows (argument_words with_update words)) h
+
+pub others_stay : (words : List Text) (asked : Command) → command_by with_check words ≡ Some asked → command words ≡ Some asked
+others_stay words asked h = gen_added words asked (update_added words asked h)
+
+pub commands_stay : (words : List Text) (asked : Command) → command_by with_forward words ≡ Some asked → command words ≡ Some asked
+commands_stay words asked h = others_stay words asked (check_added words asked h)
 
 pub compile_and_step_stay : (words : List Text) (asked : Command) → command_by with_step words ≡ Some asked → command words ≡ Some asked
 compile_and_step_stay words asked h = commands_stay words asked (forward_added words asked h)

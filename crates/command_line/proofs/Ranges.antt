@@ -6,10 +6,10 @@ use Rattle.clap.specs.Walk.{Row, Text}
 use Rattle.clap.specs.Words.{first_of}
 use Rattle.cocoon_num.specs.Names.{same_name}
 use Rattle.cocoon_num.specs.Tokens.{kept_if}
-use Rattle.command_line.specs.Arguments.{argument_name, number_or, number_up_to, word_number}
-use Rattle.command_line.specs.Command.{Command, check, compile, step, forward}
-use Rattle.command_line.specs.Subcommands.{CanSearch, IsInRange, check_of, command_of, compile_of, conflicts_in, forward_of, hops_in, level_in, most_conflicts, most_rounds, rounds_in, step_of, usual_conflicts, usual_rounds, with_hops, with_level, with_name, with_names}
-use Rattle.command_line.specs.Syntax.{case_argument, conflicts_argument, design_argument, defs_argument, out_argument, packets_argument, rounds_argument}
+use Rattle.command_line.specs.Arguments.{argument_name, argument_number, number_between, number_or, number_up_to, word_number}
+use Rattle.command_line.specs.Command.{Command, check, compile, update, step, forward, gen}
+use Rattle.command_line.specs.Subcommands.{CanSearch, IsInRange, check_of, command_of, compile_of, conflicts_in, forward_of, gen_of, hops_in, level_in, most_conflicts, most_hosts, most_packets, most_rounds, rounds_in, step_of, update_of, usual_conflicts, usual_rounds, with_bundle, with_hops, with_level, with_name, with_names, with_numbers}
+use Rattle.command_line.specs.Syntax.{case_argument, conflicts_argument, count_argument, design_argument, defs_argument, hosts_argument, out_argument, packets_argument, rounds_argument}
 use Rattle.command_line.specs.Words.{command, subcommand}
 
 -- ---- one number
@@ -64,6 +64,13 @@ compiles (Some d) (Some e) None n m asked few short h = cc
 compiles (Some d) (Some e) (Some o) None m asked few short h = cc
 compiles (Some d) (Some e) (Some o) (Some n) None asked few short h = cc
 
+updates : (d e o : Option (List ℕ)) (n : Option ℕ) (asked : Command) → ((x : ℕ) → n ≡ Some x → InRange most_conflicts x) → with_bundle d e o n ≡ Some asked → IsInRange asked
+updates (Some d) (Some e) (Some o) (Some n) asked few h = subst IsInRange (let same : update d e o n ≡ asked = cc in same) (few n refl)
+updates None e o n asked few h = cc
+updates (Some d) None o n asked few h = cc
+updates (Some d) (Some e) None n asked few h = cc
+updates (Some d) (Some e) (Some o) None asked few h = cc
+
 steps : (d e : Option (List ℕ)) (l : Option ℕ) (f : Option (List ℕ)) (asked : Command) → with_level d e l f ≡ Some asked → IsInRange asked
 steps (Some d) (Some e) (Some l) (Some f) asked h = subst IsInRange (let same : step d e l f ≡ asked = cc in same) tt
 steps None e l f asked h = cc
@@ -77,20 +84,35 @@ forwards None p n asked h = cc
 forwards (Some o) None n asked h = cc
 forwards (Some o) (Some p) None asked h = cc
 
-by_name : (rows : List Row) (k a b f : Bool) (asked : Command)
-    → (if k then check_of rows else if a then compile_of rows else if b then step_of rows else if f then forward_of rows else None) ≡ Some asked → IsInRange asked
-by_name rows true a b f asked h =
+of_argument : (most : ℕ) (word : Option Text) (n : ℕ) → option_and_then (number_between 1 most) word ≡ Some n → InRange most n
+of_argument most None n h = cc
+of_argument most (Some word) n h = between 1 most n (number_up_to most word) (λ m e. up_to most m (word_number word) e) h
+
+gens : (n m : Option ℕ) (asked : Command) → ((x : ℕ) → n ≡ Some x → InRange most_hosts x) → ((x : ℕ) → m ≡ Some x → InRange most_packets x) → with_numbers n m ≡ Some asked → IsInRange asked
+gens (Some n) (Some m) asked few short h =
+    subst IsInRange (let same : gen n m ≡ asked = cc in same) ((few n refl).0, (few n refl).1, (short m refl).0, (short m refl).1)
+gens None m asked few short h = cc
+gens (Some n) None asked few short h = cc
+
+by_name : (rows : List Row) (k a u b f g : Bool) (asked : Command)
+    → (if k then check_of rows else if a then compile_of rows else if u then update_of rows else if b then step_of rows else if f then forward_of rows else if g then gen_of rows else None) ≡ Some asked → IsInRange asked
+by_name rows true a u b f g asked h =
     checks (argument_name design_argument rows) (conflicts_in rows) (rounds_in rows) asked (conflicts_by (first_of conflicts_argument rows)) (rounds_by (first_of rounds_argument rows)) h
-by_name rows false true b f asked h =
+by_name rows false true u b f g asked h =
     compiles (argument_name design_argument rows) (argument_name defs_argument rows) (argument_name out_argument rows) (conflicts_in rows) (rounds_in rows) asked
     (conflicts_by (first_of conflicts_argument rows)) (rounds_by (first_of rounds_argument rows)) h
-by_name rows false false true f asked h = steps (argument_name design_argument rows) (argument_name defs_argument rows) (level_in rows) (argument_name case_argument rows) asked h
-by_name rows false false false true asked h = forwards (argument_name out_argument rows) (argument_name packets_argument rows) (hops_in rows) asked h
-by_name rows false false false false asked h = cc
+by_name rows false false true b f g asked h =
+    updates (argument_name design_argument rows) (argument_name defs_argument rows) (argument_name out_argument rows) (conflicts_in rows) asked (conflicts_by (first_of conflicts_argument rows)) h
+by_name rows false false false true f g asked h = steps (argument_name design_argument rows) (argument_name defs_argument rows) (level_in rows) (argument_name case_argument rows) asked h
+by_name rows false false false false true g asked h = forwards (argument_name out_argument rows) (argument_name packets_argument rows) (hops_in rows) asked h
+by_name rows false false false false false true asked h =
+    gens (argument_number hosts_argument most_hosts rows) (argument_number count_argument most_packets rows) asked (of_argument most_hosts (first_of hosts_argument rows))
+    (of_argument most_packets (first_of count_argument rows)) h
+by_name rows false false false false false false asked h = cc
 
 of_met : (met : Option (Text × List Row)) (asked : Command) → option_and_then command_of met ≡ Some asked → IsInRange asked
 of_met None asked h = cc
-of_met (Some m) asked h = by_name m.1 (same_name m.0 (codes "check")) (same_name m.0 (codes "compile")) (same_name m.0 (codes "step")) (same_name m.0 (codes "forward")) asked h
+of_met (Some m) asked h = by_name m.1 (same_name m.0 (codes "check")) (same_name m.0 (codes "compile")) (same_name m.0 (codes "update")) (same_name m.0 (codes "step")) (same_name m.0 (codes "forward")) (same_name m.0 (codes "gen")) asked h
 
 pub in_range : (words : List Text) (asked : Command) → command words ≡ Some asked → IsInRange asked
 unfolding command

@@ -30,6 +30,11 @@ abbrev pub number_between : (least most : ℕ) → Text → Option ℕ
 number_between least most word =
     option_and_then (λ n. kept_if (nat_le least n) n) (number_up_to most word)
 
+-- the number for an argument, from 1 on, by what `clap` matched
+abbrev pub argument_number : Text → (most : ℕ) → List Row → Option ℕ
+argument_number argument most rows =
+    option_and_then (number_between 1 most) (first_of argument rows)
+
 -- the number of a word that may be missing: from 1 on, or the usual one if there is no word
 abbrev pub number_or : (usual most : ℕ) → Option Text → Option ℕ
 number_or usual most None = Some usual

@@ -4,9 +4,9 @@
 use Rattle.std.specs.Prelude.{◌≤◌, ℕ, List, [], ◌∷◌, if◌then◌else◌, Option, Some, None, option_and_then, codes}
 use Rattle.clap.specs.Words.{App, Row, Text, first_of, new_app, with_rule}
 use Rattle.cocoon_num.specs.Names.{same_name}
-use Rattle.command_line.specs.Arguments.{argument_name, number_up_to, option_number}
-use Rattle.command_line.specs.Command.{Command, check, compile, step, forward}
-use Rattle.command_line.specs.Syntax.{app_with, case_argument, conflicts_argument, design_argument, defs_argument, hops_argument, level_argument, option_argument, out_argument, packets_argument, rounds_argument, with_arguments}
+use Rattle.command_line.specs.Arguments.{argument_name, argument_number, number_up_to, option_number}
+use Rattle.command_line.specs.Command.{Command, check, compile, update, step, forward, gen}
+use Rattle.command_line.specs.Syntax.{app_with, case_argument, conflicts_argument, count_argument, design_argument, defs_argument, hops_argument, hosts_argument, level_argument, option_argument, out_argument, packets_argument, rounds_argument, with_arguments}
 
 -- ---- searches
 
@@ -75,6 +75,27 @@ compile_of rows =
     with_names (argument_name design_argument rows) (argument_name defs_argument rows)
     (argument_name out_argument rows) (conflicts_in rows) (rounds_in rows)
 
+-- ---- update
+
+-- the subcommand `update`
+abbrev pub update_app : App
+update_app =
+    with_rule
+    (with_arguments (new_app (codes "update")) (design_argument ∷ defs_argument ∷ out_argument ∷ []))
+    (option_argument conflicts_argument)
+
+-- `update` with names and a number that are all there
+abbrev pub with_bundle : (design defs out : Option (List ℕ)) → (conflicts : Option ℕ) → Option Command
+with_bundle (Some design) (Some defs) (Some out) (Some conflicts) =
+    Some (update design defs out conflicts)
+with_bundle _ _ _ _ = None
+
+-- what `update` asks for, by its matches
+abbrev pub update_of : List Row → Option Command
+update_of rows =
+    with_bundle (argument_name design_argument rows) (argument_name defs_argument rows)
+    (argument_name out_argument rows) (conflicts_in rows)
+
 -- ---- step
 
 -- the subcommand `step`
@@ -132,19 +153,47 @@ abbrev pub forward_of : List Row → Option Command
 forward_of rows =
     with_hops (argument_name out_argument rows) (argument_name packets_argument rows) (hops_in rows)
 
+-- ---- gen
+
+-- the subcommand `gen`
+abbrev pub gen_app : App
+gen_app = with_arguments (new_app (codes "gen")) (hosts_argument ∷ count_argument ∷ [])
+
+-- the most hosts that may be asked for
+abbrev pub most_hosts : ℕ
+most_hosts = 200
+
+-- the most packets
+abbrev pub most_packets : ℕ
+most_packets = 100000
+
+-- `gen` with numbers that are all there
+abbrev pub with_numbers : (hosts packets : Option ℕ) → Option Command
+with_numbers (Some hosts) (Some packets) = Some (gen hosts packets)
+with_numbers _ _ = None
+
+-- what `gen` asks for, by its matches
+abbrev pub gen_of : List Row → Option Command
+gen_of rows =
+    with_numbers (argument_number hosts_argument most_hosts rows)
+    (argument_number count_argument most_packets rows)
+
 -- ---- all of them
 
 -- the whole command line
 abbrev pub cocoon_app : App
-cocoon_app = app_with (check_app ∷ compile_app ∷ step_app ∷ forward_app ∷ [])
+cocoon_app =
+    app_with (check_app ∷ compile_app ∷ update_app ∷ step_app ∷ forward_app ∷ gen_app ∷ [])
 
 -- what a subcommand asks for, by its name and its matches
 abbrev pub command_of : Text × List Row → Option Command
 command_of met =
     if same_name met.0 (codes "check") then check_of met.1
     else if same_name met.0 (codes "compile") then compile_of met.1
+    else if same_name met.0 (codes "update") then update_of met.1
     else if same_name met.0 (codes "step") then step_of met.1
     else if same_name met.0 (codes "forward") then forward_of met.1
+    else if same_name met.0 (codes "gen") then gen_of met.1
     else None
 
 -- one search may meet so many conflicts, and one obligation be given so many rounds
@@ -152,8 +201,15 @@ abbrev pub CanSearch : (conflicts rounds : ℕ) → Type 0
 CanSearch conflicts rounds =
     (1 ≤ conflicts) × (conflicts ≤ most_conflicts) × (1 ≤ rounds) × (rounds ≤ most_rounds)
 
+-- so many hosts may be generated, and so many packets sent
+abbrev pub CanGenerate : (hosts packets : ℕ) → Type 0
+CanGenerate hosts packets =
+    (1 ≤ hosts) × (hosts ≤ most_hosts) × (1 ≤ packets) × (packets ≤ most_packets)
+
 -- the numbers that a command asks for are ones that may be asked for
 abbrev pub IsInRange : Command → Type 0
 IsInRange (check design conflicts rounds) = CanSearch conflicts rounds
 IsInRange (compile design defs out conflicts rounds) = CanSearch conflicts rounds
+IsInRange (update design defs out conflicts) = (1 ≤ conflicts) × (conflicts ≤ most_conflicts)
+IsInRange (gen hosts packets) = CanGenerate hosts packets
 IsInRange asked = Unit {0}

@@ -32,6 +32,14 @@ case_argument = codes "CASE"
 abbrev pub packets_argument : Text
 packets_argument = codes "PACKETS"
 
+-- that for a number of hosts
+abbrev pub hosts_argument : Text
+hosts_argument = codes "HOSTS"
+
+-- that for a number of packets
+abbrev pub count_argument : Text
+count_argument = codes "COUNT"
+
 -- an option `--NAME`, with one value
 abbrev pub option_argument : Text → Rule
 option_argument name = record (new_rule name) { long = Some name; action = Some Set }

@@ -1,7 +1,7 @@
 //! What is taken of the words for an argument: a name in its form, or a number.
 ghost use Rattle.std.specs.Prelude.{◌≡◌, option_map};
 ghost use Rattle.clap.specs.Words.{found_of, rows_of};
-ghost use Rattle.command_line.specs.Arguments.{argument_name, number_between, option_number, word_number, number_up_to};
+ghost use Rattle.command_line.specs.Arguments.{argument_name, argument_number, number_between, option_number, word_number, number_up_to};
 ghost use Rattle.command_line.specs.Names.{is_file_name, is_name_byte};
 
 use clap::ArgMatches;
@@ -68,6 +68,14 @@ fn number_between(least: u32, most: u32, word: &str) -> Option<u32>
 {
     let number = number_up_to(most, word)?;
     if least <= number { Some(number) } else { None }
+}
+
+/// The number for an argument, from 1 to `most`.
+pub fn argument_number<'w>(matches: &ArgMatches<'w>, argument: &str, most: u32) -> Option<u32>
+    ensures { result ≡ argument_number argument.now most (rows_of (found_of matches.now)) }
+{
+    let word = matches.get_str(argument)?;
+    number_between(1, most, word)
 }
 
 /// The number of an option: that of its word, from 1 to `most`, or the usual one if there is no word.

@@ -1,7 +1,7 @@
 //! What further subcommands leave as it was, and the numbers of commands. The functions do nothing; their contracts are the laws.
 ghost use Rattle.std.specs.Prelude.{◌≡◌, ℕ, List, [], ◌∷◌, Some};
 ghost use Rattle.command_line.specs.Command.{Command, compile};
-ghost use Rattle.command_line.specs.Subcommands.{IsInRange, compile_app, forward_app, step_app};
+ghost use Rattle.command_line.specs.Subcommands.{IsInRange, check_app, compile_app, forward_app, step_app};
 ghost use Rattle.command_line.specs.Syntax.{app_with};
 ghost use Rattle.command_line.specs.Words.{command, command_by};
 
@@ -30,7 +30,16 @@ pub fn commands_stay()
         → command words ≡ Some asked }
 {}
 
-/// The number of conflicts that words ask for is from 1 to 200,000, and that of rounds from 1 to 4,096.
+/// The words that are a command by the command line that has all subcommands except `update` and `gen`
+/// are the same command.
+pub fn others_stay()
+    ensures { (words : List (List ℕ)) (asked : Command)
+        → command_by (app_with (check_app ∷ compile_app ∷ step_app ∷ forward_app ∷ [])) words
+        ≡ Some asked → command words ≡ Some asked }
+{}
+
+/// The number of conflicts that words ask for is from 1 to 200,000, and that of rounds from 1 to 4,096;
+/// that of hosts from 1 to 200, and that of packets from 1 to 100,000.
 pub fn numbers_are_in_range()
     ensures { (words : List (List ℕ)) (asked : Command)
         → command words ≡ Some asked → IsInRange asked }

@@ -9,5 +9,5 @@ pub mod parse;
 pub mod subcommands;
 pub mod syntax;
 
-pub use command::{Check, Command, Compile, Forward, Step};
+pub use command::{Check, Command, Compile, Forward, Gen, Step, Update};
 pub use parse::parse_command;

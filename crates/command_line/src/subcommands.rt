@@ -5,13 +5,13 @@ ghost use Rattle.clap.specs.Words.{app_of, found_of, rows_of};
 ghost use Rattle.clap.specs.declared.builder.Command.TheViews.{out-Command};
 ghost use Rattle.command_line.specs.Command as spec;
 ghost use Rattle.command_line.specs.Command.{stands_for};
-ghost use Rattle.command_line.specs.Subcommands.{check_app, check_of, cocoon_app, command_of, compile_app, compile_of, conflicts_in, forward_app, forward_of, hops_in, level_in, rounds_in, step_app, step_of, with_searches};
+ghost use Rattle.command_line.specs.Subcommands.{check_app, check_of, cocoon_app, command_of, compile_app, compile_of, conflicts_in, forward_app, forward_of, gen_app, gen_of, hops_in, level_in, rounds_in, step_app, step_of, update_app, update_of, with_searches};
 
-use crate::arguments::{argument_name, number_up_to, option_number};
-use crate::command::{Check, Command, Compile, Forward, Step};
+use crate::arguments::{argument_name, argument_number, number_up_to, option_number};
+use crate::command::{Check, Command, Compile, Forward, Gen, Step, Update};
 use crate::syntax::{
-    CASE, CONFLICTS, DEFS, DESIGN, HOPS, LEVEL, OUT, PACKETS, ROUNDS, with_arguments, with_option,
-    with_subcommand,
+    CASE, CONFLICTS, COUNT, DEFS, DESIGN, HOPS, HOSTS, LEVEL, OUT, PACKETS, ROUNDS, with_arguments,
+    with_option, with_subcommand,
 };
 use clap::ArgMatches;
 use cocoon_num::NoMemory;
@@ -23,7 +23,7 @@ use std::alloc::Global;
 const MOST_CONFLICTS: u32 = 200_000;
 
 /// How many are asked for if no word says it.
-const USUAL_CONFLICTS: u32 = 20_000;
+pub const USUAL_CONFLICTS: u32 = 20_000;
 
 /// The number of conflicts of one search.
 fn conflicts<'w>(matches: &ArgMatches<'w>) -> Option<u32>
@@ -36,7 +36,7 @@ fn conflicts<'w>(matches: &ArgMatches<'w>) -> Option<u32>
 const MOST_ROUNDS: u32 = 4096;
 
 /// How many are asked for if no word says it.
-const USUAL_ROUNDS: u32 = 64;
+pub const USUAL_ROUNDS: u32 = 64;
 
 /// The number of rounds of one obligation.
 fn rounds<'w>(matches: &ArgMatches<'w>) -> Option<u32>
@@ -119,6 +119,38 @@ fn compile_of<'w>(matches: &ArgMatches<'w>) -> Option<Compile<'w>>
     })
 }
 
+// ---- update
+
+/// The subcommand `update`.
+fn update_app<'w>(alloc: Global) -> Result<clap::Command<'w>, NoMemory>
+    ensures app { IfOk result (λ c. app_of c ≡ update_app) }
+    ensures local { IfOk result (λ c. (out-Command c).has_globals ≡ false) }
+{
+    let command = with_arguments(
+        alloc,
+        clap::Command::new(alloc, "update"),
+        &[DESIGN, DEFS, OUT],
+    )?;
+    with_option(alloc, command, CONFLICTS)
+}
+
+/// What an `update` is given, where each part has its form.
+fn update_of<'w>(matches: &ArgMatches<'w>) -> Option<Update<'w>>
+    ensures { option_map (λ u. spec.update u.design.now u.defs.now u.out.now u.conflicts) result
+        ≡ update_of (rows_of (found_of matches.now)) }
+{
+    let design = argument_name(matches, DESIGN)?;
+    let defs = argument_name(matches, DEFS)?;
+    let out = argument_name(matches, OUT)?;
+    let conflicts = conflicts(matches)?;
+    Some(Update {
+        design,
+        defs,
+        out,
+        conflicts,
+    })
+}
+
 // ---- step
 
 const HIGHEST_LEVEL: u32 = 16;
@@ -197,6 +229,32 @@ fn forward_of<'w>(matches: &ArgMatches<'w>) -> Option<Forward<'w>>
     Some(Forward { out, packets, hops })
 }
 
+// ---- gen
+
+/// The most hosts that may be asked for.
+const MOST_HOSTS: u32 = 200;
+
+/// The most packets that may be asked for.
+const MOST_PACKETS: u32 = 100_000;
+
+/// The subcommand `gen`.
+fn gen_app<'w>(alloc: Global) -> Result<clap::Command<'w>, NoMemory>
+    ensures app { IfOk result (λ c. app_of c ≡ gen_app) }
+    ensures local { IfOk result (λ c. (out-Command c).has_globals ≡ false) }
+{
+    with_arguments(alloc, clap::Command::new(alloc, "gen"), &[HOSTS, COUNT])
+}
+
+/// What a `gen` is given, where each part has its form.
+fn gen_of<'w>(matches: &ArgMatches<'w>) -> Option<Gen>
+    ensures { option_map (λ g. spec.gen g.hosts g.packets) result
+        ≡ gen_of (rows_of (found_of matches.now)) }
+{
+    let hosts = argument_number(matches, HOSTS, MOST_HOSTS)?;
+    let packets = argument_number(matches, COUNT, MOST_PACKETS)?;
+    Some(Gen { hosts, packets })
+}
+
 // ---- all of them
 
 /// The whole command line.
@@ -206,8 +264,10 @@ pub fn cocoon_app<'w>(alloc: Global) -> Result<clap::Command<'w>, NoMemory>
     let command = clap::Command::new(alloc, "cocoon");
     let command = with_subcommand(command, check_app(alloc)?)?;
     let command = with_subcommand(command, compile_app(alloc)?)?;
+    let command = with_subcommand(command, update_app(alloc)?)?;
     let command = with_subcommand(command, step_app(alloc)?)?;
     let command = with_subcommand(command, forward_app(alloc)?)?;
+    let command = with_subcommand(command, gen_app(alloc)?)?;
     Ok(command)
 }
 
@@ -220,10 +280,17 @@ pub fn command_of<'w>(name: &str, matches: &ArgMatches<'w>) -> Option<Command<'w
         check_of(matches).map(Command::Check)
     } else if name == "compile" {
         compile_of(matches).map(Command::Compile)
+    } else if name == "update" {
+        update_of(matches).map(Command::Update)
     } else if name == "step" {
         step_of(matches).map(Command::Step)
     } else if name == "forward" {
         forward_of(matches).map(Command::Forward)
+    } else if name == "gen" {
+        match gen_of(matches) {
+            Some(asked) => Some(Command::Gen(asked)),
+            None => None,
+        }
     } else {
         None
     }

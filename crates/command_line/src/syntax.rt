@@ -26,6 +26,12 @@ pub const CASE: &str = "CASE";
 /// That for the file of packets.
 pub const PACKETS: &str = "PACKETS";
 
+/// The argument for a number of hosts.
+pub const HOSTS: &str = "HOSTS";
+
+/// The argument for a number of packets.
+pub const COUNT: &str = "COUNT";
+
 /// The option for the number of visits.
 pub const HOPS: &str = "hops";
 

@@ -8,7 +8,8 @@ use Rattle.command_reports.specs.declared.files.CommandFile.TheVariants.{Design,
 use Rattle.command_reports.specs.declared.files.FileNames.{FileNames as Names}
 use Rattle.command_reports.specs.declared.files.Wanted.{Wanted}
 
--- the names that a command gives its files; none for a kind that it has not
+-- The names that a command gives its files; none for a kind that it has not. Those but of a bundle are read,
+-- unless the command makes its texts itself; then the names stand in its lines alone.
 pub record FileNames : Type 0 where
   pub design : Option (List ℕ)
   pub definitions : Option (List ℕ)
@@ -16,6 +17,7 @@ pub record FileNames : Type 0 where
   pub packets : Option (List ℕ)
   pub bundle : Option (List ℕ)
   pub reads_bundle : Bool
+  pub makes_texts : Bool
 
 -- those of a value of the code
 abbrev pub names_in : Names → FileNames
@@ -26,6 +28,7 @@ names_in names = record {
   packets = option_map (λ name. name.now) names.packets;
   bundle = option_map (λ name. name.now) names.bundle;
   reads_bundle = names.reads_bundle;
+  makes_texts = names.makes_texts;
 }
 
 -- the name of the file of a spent budget, by that of the design
@@ -74,13 +77,13 @@ with_most _ _ = None
 
 -- a file that is read by a name of its own: its name, and the most bytes that it may have
 abbrev pub wanted : FileNames → CommandFile → Option (List ℕ × ℕ)
-wanted names file = with_most (most_in file) (name_of names file)
+wanted names file =
+    if names.makes_texts then None else with_most (most_in file) (name_of names file)
 
 -- what the code gives of such a file: its name and its limit, and it is that of the kind
-abbrev pub IsWanted : Option ℕ → Option (List ℕ) → Option Wanted → Type 0
-IsWanted most name None = with_most most name ≡ None
-IsWanted most name (Some w) =
-    (with_most most name ≡ Some (w.name.now, w.most)) × (name ≡ Some w.name.now)
+abbrev pub IsWanted : Option (List ℕ × ℕ) → Option (List ℕ) → Option Wanted → Type 0
+IsWanted file name None = file ≡ None
+IsWanted file name (Some w) = (file ≡ Some (w.name.now, w.most)) × (name ≡ Some w.name.now)
 
 -- the bundle that is read
 abbrev pub bundle_in : FileNames → Option (List ℕ)

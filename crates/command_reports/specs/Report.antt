@@ -14,6 +14,8 @@ use Rattle.cocoon_types.specs.Limits.{most}
 use Rattle.lower_p4.specs.LowerLimits.{most_hosts, most_members, most_sites, most_switches, most_tables}
 use Rattle.runtime_defs.specs.Bound.{most_rows}
 use Rattle.net_run.specs.RunCounts.{most_runs}
+use Rattle.net_wiring.specs.declared.wiring.Wiring.{Wiring}
+use Rattle.net_wiring.specs.declared.wiring.Wiring.TheVariants as wires
 use Rattle.packet_file.specs.Packets.{most_bytes}
 use Rattle.p4_read.specs.declared.fault.P4Fault.{P4Fault}
 use Rattle.p4_read.specs.declared.fault.P4Fault.TheVariants as p4
@@ -242,6 +244,22 @@ pointer_text (byte ∷ bytes) = byte ∷ bytes
 abbrev pub stale_text : (found kept : List ℕ) → List ℕ
 stale_text found kept = codes "stale " ++ (found ++ (codes " " ++ kept))
 
+-- the number of a certificate that is refused
+abbrev pub refused_text : (number : ℕ) → List ℕ
+refused_text number = codes "refused " ++ decimal number
+
+-- how many certificates there are, and how many obligations
+abbrev pub count_text : (found wanted : ℕ) → List ℕ
+count_text found wanted = codes "count " ++ (decimal found ++ (codes " " ++ decimal wanted))
+
+-- where wires differ first
+abbrev pub wiring_text : Wiring → List ℕ
+wiring_text wires.Ports = codes "wiring ports"
+wiring_text (wires.Switches at) = codes "wiring switches " ++ decimal at
+wiring_text (wires.Hosts at) = codes "wiring hosts " ++ decimal at
+wiring_text (wires.Links at) = codes "wiring links " ++ decimal at
+wiring_text (wires.Programs at) = codes "wiring programs " ++ decimal at
+
 -- what is wrong with a file of a bundle
 abbrev pub cause_text : BundleCause → List ℕ
 cause_text cause.Missing = codes "missing"
@@ -250,6 +268,9 @@ cause_text cause.NotJson = codes "notjson"
 cause_text (cause.P4 fault) = codes "p4 " ++ p4_text fault
 cause_text (cause.Shape pointer) = codes "shape " ++ pointer_text pointer
 cause_text (cause.Load fault) = codes "load " ++ load_text fault
+cause_text (cause.Refused number) = refused_text number
+cause_text (cause.Count found wanted) = count_text found wanted
+cause_text (cause.Wiring wiring) = wiring_text wiring
 
 -- that of an assumption that is false at these values
 abbrev pub broken_line : (number : ℕ) (values : List ℕ) → List ℕ

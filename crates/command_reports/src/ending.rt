@@ -3,7 +3,7 @@
 ghost use Rattle.std.specs.Prelude.{◌≡◌, ◌++◌, codes, IfOk, Some, option_map, string_bytes};
 ghost use Rattle.command_reports.specs.FileNames.{name_of, names_in};
 ghost use Rattle.command_reports.specs.declared.files.CommandFile.TheVariants.{Bundle};
-ghost use Rattle.command_reports.specs.Report.{HasBytes, broken_line, bundle_line, cause_text, definitions_line, fault_line, form_line, host_line, language_line, level_line, limit_line, line_with, load_text, most_allowed, no_default_line, over_line, p4_text, pointer_text, refusal_line, stale_text, status_of};
+ghost use Rattle.command_reports.specs.Report.{HasBytes, broken_line, bundle_line, cause_text, count_text, definitions_line, fault_line, form_line, host_line, language_line, level_line, limit_line, line_with, load_text, most_allowed, no_default_line, over_line, p4_text, pointer_text, refusal_line, refused_text, stale_text, status_of, wiring_text};
 
 use crate::files::{CommandFile, FileNames};
 use crate::numbers::push_list;
@@ -16,6 +16,7 @@ use cocoon_resolve::most_of;
 use cocoon_text::Position;
 use lower_p4::{MOST_HOSTS, MOST_MEMBERS, MOST_SITES, MOST_SWITCHES, MOST_TABLES};
 use net_bundle::BundleFile;
+use net_wiring::Wiring;
 use packet_file::MOST_BYTES;
 use packet_runs::MOST_RUNS;
 use runtime_defs::MOST_ROWS;
@@ -267,6 +268,33 @@ fn joined(alloc: Global, first: &[u8], second: &[u8]) -> Result<Vec<u8>, NoMemor
     Ok(text)
 }
 
+/// The number of a certificate that is refused.
+fn refused_text(alloc: Global, number: u32) -> Result<String, NoMemory>
+    ensures { IfOk result (λ text. string_bytes text ≡ refused_text number) }
+{
+    Ok(format!(in alloc; "refused {number}")?)
+}
+
+/// The number of certificates that were found, and that of the obligations.
+fn count_text(alloc: Global, found: u32, wanted: u32) -> Result<String, NoMemory>
+    ensures { IfOk result (λ text. string_bytes text ≡ count_text found wanted) }
+{
+    Ok(format!(in alloc; "count {found} {wanted}")?)
+}
+
+/// Where wires differ first.
+fn wiring_text(alloc: Global, wiring: Wiring) -> Result<String, NoMemory>
+    ensures { IfOk result (λ text. string_bytes text ≡ wiring_text wiring) }
+{
+    match wiring {
+        Wiring::Ports => Ok(String::from_str(alloc, "wiring ports")?),
+        Wiring::Switches(at) => Ok(format!(in alloc; "wiring switches {at}")?),
+        Wiring::Hosts(at) => Ok(format!(in alloc; "wiring hosts {at}")?),
+        Wiring::Links(at) => Ok(format!(in alloc; "wiring links {at}")?),
+        Wiring::Programs(at) => Ok(format!(in alloc; "wiring programs {at}")?),
+    }
+}
+
 /// What is wrong with a file of a bundle.
 fn cause_text(alloc: Global, cause: &BundleCause) -> Result<Vec<u8>, NoMemory>
     ensures { IfOk result (λ text. text.items ≡ cause_text cause.now) }
@@ -278,6 +306,9 @@ fn cause_text(alloc: Global, cause: &BundleCause) -> Result<Vec<u8>, NoMemory>
         BundleCause::P4(fault) => joined(alloc, b"p4 ", p4_text(alloc, *fault)?.as_bytes()),
         BundleCause::Shape(pointer) => joined(alloc, b"shape ", pointer_text(pointer.bytes())),
         BundleCause::Load(fault) => joined(alloc, b"load ", load_text(alloc, fault)?.as_bytes()),
+        BundleCause::Refused(number) => Ok(refused_text(alloc, *number)?.into_bytes()),
+        BundleCause::Count(found, wanted) => Ok(count_text(alloc, *found, *wanted)?.into_bytes()),
+        BundleCause::Wiring(wiring) => Ok(wiring_text(alloc, *wiring)?.into_bytes()),
     }
 }
 

@@ -1,6 +1,6 @@
 //! The files that a command reads and writes.
 ghost use Rattle.std.specs.Prelude.{◌≡◌, IfOk, Some, option_map, string_bytes};
-ghost use Rattle.command_reports.specs.FileNames.{IsWanted, budget_name, bundle_in, most_in, name_of, names_in};
+ghost use Rattle.command_reports.specs.FileNames.{IsWanted, budget_name, bundle_in, name_of, names_in, wanted, with_most};
 
 use cocoon_num::NoMemory;
 use net_bundle::BundleFile;
@@ -48,6 +48,8 @@ pub struct FileNames<'w> {
     pub bundle: Option<&'w str>,
     /// Whether the bundle is read.
     pub reads_bundle: bool,
+    /// Whether the command makes its texts itself, and reads none.
+    pub makes_texts: bool,
 }
 
 impl<'w> FileNames<'w> {
@@ -71,8 +73,12 @@ impl<'w> FileNames<'w> {
 
     /// The file, if one of this kind is read by a name of its own.
     pub fn wanted(&self, file: CommandFile) -> Option<Wanted<'w>>
-        ensures { IsWanted (most_in file) (name_of (names_in self.now) file) result }
+        ensures { IsWanted (wanted (names_in self.now) file)
+            (name_of (names_in self.now) file) result }
     {
+        if self.makes_texts {
+            return None;
+        }
         match file {
             CommandFile::Design => with_most(DESIGN_MOST, self.design),
             CommandFile::Definitions => with_most(DEFINITIONS_MOST, self.definitions),
@@ -114,7 +120,8 @@ fn budget_name(alloc: Global, design: Option<&str>) -> Result<Option<String>, No
 
 /// The file of this name, with at most so many bytes.
 fn with_most<'w>(most: u64, name: Option<&'w str>) -> Option<Wanted<'w>>
-    ensures { IsWanted (Some most) (option_map (λ name. name.now) name.entry) result }
+    ensures { IsWanted (with_most (Some most) (option_map (λ name. name.now) name.entry))
+        (option_map (λ name. name.now) name.entry) result }
 {
     match name {
         Some(name) => Some(Wanted { name, most }),

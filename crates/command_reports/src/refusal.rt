@@ -13,6 +13,7 @@ use cocoon_resolve::rule_name;
 use cocoon_text::{Position, TextFault};
 use cocoon_types::TypeRule;
 use net_bundle::{BundleFault, BundleFile};
+use net_wiring::Wiring;
 use std::alloc::AllocError;
 
 /// What is wrong with a design.
@@ -98,7 +99,8 @@ pub enum DefinitionsFault {
     NoDefault(Text),
 }
 
-/// What is wrong with a file of a bundle that is read. A fault that is held here is never its own `NoMemory`.
+/// What is wrong with a file of a bundle that is read, or with what it says. A fault that is held here is never its own
+/// `NoMemory`.
 #[derive(Drop)]
 pub enum BundleCause {
     Missing,
@@ -109,6 +111,12 @@ pub enum BundleCause {
     /// The pointer of the member that is not of its form, or no text.
     Shape(Text),
     Load(LoadFault),
+    /// The certificate of this number does not show its obligation.
+    Refused(u32),
+    /// There are so many certificates, and so many obligations.
+    Count(u32, u32),
+    /// The wires are other ones: this is the first difference.
+    Wiring(Wiring),
 }
 
 /// Why a command stopped, with the file that it is about.

@@ -2,8 +2,11 @@
 -- one obligation.
 use Rattle.std.specs.Prelude.{◌≡◌, ℕ, List, Some, codes}
 use Rattle.bv_terms.specs.declared.node.Node.{Node}
+use Rattle.cert_text.specs.Rechecking.{Tells}
+use Rattle.cert_text.specs.declared.fault.CertFault.TheVariants.{Big}
 use Rattle.cocoon_io.specs.Calls.{appended, with_file}
 use Rattle.cocoon_num.specs.Tree as tree
+use Rattle.cocoon_num.specs.declared.limit_name.LimitName.TheVariants.{Clauses}
 use Rattle.obligation_gen.specs.Owed.{NeverFailsHere}
 use Rattle.obligation_gen.specs.declared.obligation.Obligation.{Obligation}
 use Rattle.query_laws.specs.Certified.{HasTooMany}
@@ -17,6 +20,7 @@ use Rattle.command_reports.specs.FileNames.{HasName}
 use Rattle.command_reports.specs.Report.{refusal_line}
 use Rattle.command_reports.specs.declared.files.CommandFile.TheVariants as file
 use Rattle.command_reports.specs.declared.refusal.Refusal.{Refusal}
+use Rattle.command_reports.specs.declared.refusal.Refusal.TheVariants.{OverLimit}
 use Rattle.command_reports.specs.declared.status.Status.TheVariants.{Budget, Done, Limit, NoMemory}
 use Rattle.cocoon_cli.specs.Assumed.{IsSpent}
 use Rattle.cocoon_cli.specs.Commands.{files_of}
@@ -25,17 +29,24 @@ use Rattle.cocoon_cli.specs.Owing as owing
 use Rattle.cocoon_cli.specs.Owing.{IsOpen, spent_line}
 use Rattle.cocoon_cli.specs.ReportLines.{budget_line, rounds_line}
 use Rattle.cocoon_cli.specs.Run.{Call, DoneOf, InputsAre, SpentOf}
-use Rattle.cocoon_cli.specs.Steps.{Inputs, IsTooLarge, OfBoth, OfDesign, Step, assumptions_met, obligations_hold}
+use Rattle.cocoon_cli.specs.Steps.{Inputs, IsTooLarge, OfBoth, OfCertified, OfDesign, Step, assumptions_met, certificates_accepted, generated, obligations_hold, of_generated}
 
 -- ---- of a call
 
--- of a step, before which all are good, a query or the certificates are too large, and that was
--- printed
+-- a query that the step asks, or that a certificate is for, or the certificates are too large
+abbrev pub IsLarge : Inputs → Step → Refusal → Type 0
+IsLarge inputs (certificates_accepted out) r =
+    OfCertified inputs out (λ design certs. (count : ℕ) × Tells design certs (Big count)
+    × (r ≡ OverLimit Clauses count))
+IsLarge inputs (of_generated hosts s) r = IsLarge (generated hosts) s r
+IsLarge inputs s r = IsTooLarge inputs s r
+
+-- that is so of a step, before which all are good, and it was printed
 pub record IsTooLargeAt (c : Command) (call : Call) : Type 0 where
   pub inputs : Inputs
   pub are : InputsAre (files_of c) call.content_before inputs
   pub refusal : Refusal
-  pub large : FirstWith inputs (λ s. IsTooLarge inputs s refusal) (steps c)
+  pub large : FirstWith inputs (λ s. IsLarge inputs s refusal) (steps c)
   pub line : List ℕ
   pub is : refusal_line (files_of c) refusal ≡ Some line
   pub told : call.output_after ≡ appended call.output_before line
@@ -59,13 +70,23 @@ SpendsConflicts inputs (obligations_hold conflicts rounds) line bytes =
     OfDesign inputs (λ _ design. (number : ℕ) × (q : Query)
     × owing.IsSpent design conflicts rounds number q bytes
     × (line ≡ spent_line conflicts number q))
+SpendsConflicts inputs (of_generated hosts s) line bytes =
+    SpendsConflicts (generated hosts) s line bytes
 SpendsConflicts inputs s line bytes = ⊥
+
+-- the same of one for an assumption alone
+abbrev pub SpendsOnAssumption : Inputs → Step → (line bytes : List ℕ) → Type 0
+SpendsOnAssumption inputs (assumptions_met conflicts) line bytes =
+    SpendsConflicts inputs (assumptions_met conflicts) line bytes
+SpendsOnAssumption inputs s line bytes = ⊥
 
 -- it spent the rounds
 abbrev pub SpendsRounds : Inputs → Step → (line bytes : List ℕ) → Type 0
 SpendsRounds inputs (obligations_hold conflicts rounds) line bytes =
     OfDesign inputs (λ _ design. (number : ℕ) × IsOpen design rounds number bytes
     × (line ≡ rounds_line rounds number))
+SpendsRounds inputs (of_generated hosts s) line bytes =
+    SpendsRounds (generated hosts) s line bytes
 SpendsRounds inputs s line bytes = ⊥
 
 -- A step spent so before which all are good. Its line was printed, its file stands, and nothing else

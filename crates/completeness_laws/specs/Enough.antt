@@ -20,7 +20,7 @@ use Rattle.command_reports.specs.declared.files.CommandFile.TheVariants.{Definit
 use Rattle.cocoon_cli.specs.Commands.{files_of}
 use Rattle.cocoon_cli.specs.Outcomes.{steps}
 use Rattle.cocoon_cli.specs.Run.{Call, InputsAre}
-use Rattle.cocoon_cli.specs.Steps.{Inputs, Step, assumptions_met, obligations_hold}
+use Rattle.cocoon_cli.specs.Steps.{Inputs, Step, assumptions_met, generated, obligations_hold, of_generated}
 
 -- ---- conflicts
 
@@ -71,11 +71,13 @@ HasConflicts inputs (assumptions_met conflicts) =
     ForDesign inputs (λ d. ForDefinitions inputs (λ es. AreEnoughAssumed d es conflicts))
 HasConflicts inputs (obligations_hold conflicts rounds) =
     ForDesign inputs (λ d. AreEnoughOwed d conflicts rounds)
+HasConflicts inputs (of_generated hosts s) = HasConflicts (generated hosts) s
 HasConflicts inputs s = Unit {0}
 
 -- the rounds are enough
 abbrev pub HasRounds : Inputs → Step → Type 0
 HasRounds inputs (obligations_hold conflicts rounds) = ForDesign inputs (λ d. AreMany d rounds)
+HasRounds inputs (of_generated hosts s) = HasRounds (generated hosts) s
 HasRounds inputs s = Unit {0}
 
 -- this holds of each step of a command, whatever is read of its files

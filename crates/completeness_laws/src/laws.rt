@@ -12,11 +12,11 @@ ghost use Rattle.obligation_gen.specs.Owed.{IsOwed};
 ghost use Rattle.obligation_gen.specs.declared.obligation.Obligation.{Obligation};
 ghost use Rattle.verdicts.specs.Deciding.{Decides, formula_in};
 ghost use Rattle.verdicts.specs.declared.deciding.Verdict.{Verdict};
-ghost use Rattle.completeness_laws.specs.Endings.{EndsWell, GivenUpBy, IsDecided, SpendsConflicts, SpendsRounds};
+ghost use Rattle.completeness_laws.specs.Endings.{EndsWell, GivenUpBy, IsDecided, SpendsConflicts, SpendsOnAssumption, SpendsRounds};
 ghost use Rattle.completeness_laws.specs.Enough.{AreEnoughConflicts, AreEnoughOn, AreEnoughRounds, AreMany};
 ghost use Rattle.completeness_laws.specs.Sound.{Sound};
 
-use bundle_reader::laws::one_reading;
+use bundle_reader::laws::{one_reading, one_wiring};
 use candidate_laws::laws::progress_is_short;
 use case_runs::laws::one_step;
 use cocoon_cli::laws::calls_keep_more;
@@ -25,6 +25,7 @@ use cocoon_types::first_faults::{first_or_well_formed, one_first_fault};
 use cocoon_types::limits::{one_first_over, within_is_not_over};
 use log_laws::laws::licensed_logs_are_short;
 use lower_p4::laws::one_lowering;
+use net_wiring::laws::one_first_difference;
 use packet_runs::laws::one_report;
 use pattern_laws::laws::earlier_levels_come_first;
 use plain_parser::text_laws::{one_definitions_tree, one_tree};
@@ -47,6 +48,8 @@ pub fn searches_end()
     one_lowering();
     one_step();
     one_reading();
+    one_wiring();
+    one_first_difference();
     one_report();
     failing_obligations_fail();
     calls_keep_more();
@@ -59,6 +62,16 @@ pub fn plain_commands_succeed()
         → (call.status ≡ Done) ⊎ (call.status ≡ NoMemory) }
 {
     searches_end();
+}
+
+/// An `update` gives up a search for an assumption alone, since it decides no obligation.
+pub fn updates_decide_assumptions_alone()
+    ensures { (design defs out : List ℕ) (conflicts : ℕ) (call : Call)
+        → command call.words ≡ Some (spec.update design defs out conflicts)
+        → CauseOf (command call.words) call → call.status ≡ Budget
+        → GivenUpBy SpendsOnAssumption (spec.update design defs out conflicts) call }
+{
+    calls_keep_more();
 }
 
 /// With enough conflicts a search is given up for its rounds alone, with enough rounds for its conflicts

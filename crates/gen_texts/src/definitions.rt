@@ -1,5 +1,5 @@
 //! The definitions of the network that is generated.
-ghost use Rattle.std.specs.Prelude.{◌≡◌, ◌≤◌, ◌<◌, IfOk};
+ghost use Rattle.std.specs.Prelude.{◌≡◌, ◌≤◌, ◌<◌, IfOk, length};
 ghost use Rattle.text_printer.specs.Printing.{Prints};
 ghost use Rattle.gen_texts.specs.Definitions as spec;
 
@@ -122,6 +122,7 @@ fn push_switch(out: &mut Printer)
 pub fn definitions_text(alloc: Global, hosts: u32) -> Result<Vec<u8>, NoMemory>
     requires hosts { hosts ≤ 200 }
     ensures text { IfOk result (λ text. text.items ≡ spec.definitions_text hosts) }
+    ensures short { IfOk result (λ text. length text.items ≤ 125100) }
 {
     let mut out = Printer::new(alloc);
     Table::Hosts.push(hosts, &mut out);

@@ -13,7 +13,7 @@ use Rattle.cocoon_cli.specs.Compiling.{Compiles, CompilesTexts}
 use Rattle.cocoon_cli.specs.Deciding.{AnswersUnmet}
 use Rattle.cocoon_cli.specs.Outcomes.{good, no_memory, none}
 use Rattle.cocoon_cli.specs.Refining.{IsEnded, IsRefined, KeepsAll}
-use Rattle.cocoon_cli.specs.ReportLines.{totals_line}
+use Rattle.cocoon_cli.specs.ReportLines.{compiled_line}
 use Rattle.cocoon_cli.specs.Shell.{Asked}
 use Rattle.cocoon_cli.specs.Steps.{lowering_within}
 use Rattle.cocoon_cli.proofs.Assuming.{all_met_good, is_found, is_none, not_met}
@@ -84,7 +84,7 @@ returns-in_err-net-in-Holds-clause-asked c = λ inputs design defs.
     let met = all_met_good inputs x c.args.defs.now n d c.in_ok-bound.bound.defs c.in_ok-answer.field-0 g binds (c.code_literals_fit.ensures.designs c.in_ok-bound.bound.checked) (is_none c.in_ok-answer.field-0 c.in_default.not-Some) c.in_ok-answer.ensures.decided in
     let kept : KeepsAll d c.in-Holds.certs.certs = subst (IsRefined d n m) c.in-Holds.is c.in_ok-decided.ensures.decided in
     passed (Asked (command asked.design.now asked.defs.now asked.out.now asked.conflicts asked.rounds) inputs) _ r c.from_residual-in_err-net-in-Holds.ensures.1
-    (not_lowered inputs x c.args.defs.now n m r g (good met (refined_good inputs x n m [] d design binds.binds.checked kept.few kept.refines none)) (c.in_err-net-in-Holds.ensures.refused x c.args.defs.now binds))
+    (not_lowered inputs x c.args.defs.now n m d c.in_ok-bound.bound.defs r g (good met (refined_good inputs x n m [] d design binds.binds.checked kept.few kept.refines none)) (c.in_err-net-in-Holds.ensures.refused x c.args.defs.now binds))
 
 pub returns-in_err-line-in-Holds-clause-asked : goal.returns-in_err-line-in-Holds-clause-asked
 returns-in_err-line-in-Holds-clause-asked c = λ inputs design defs.
@@ -105,7 +105,7 @@ returns-clause-asked c = λ inputs design defs.
     inl (
       asks_good asked.design.now asked.defs.now asked.out.now n m inputs c.args.design.now c.args.defs.now net g lowers.0,
       reports asked.design.now asked.defs.now asked.out.now n m inputs c.args.design.now c.args.defs.now d (length c.items.result.now) net _ g lowers (same ∙ kept.counted)
-          (c.success.ensures ∙ ap success (ap (λ (v : Vec ℕ Global). v.items) c.into_bytes.ensures.value ∙ c.in_ok-line-in-Holds.ensures ∙ ap totals_line c.count_parts.ensures)),
+          (c.success.ensures ∙ ap success (ap (λ (v : Vec ℕ Global). v.items) c.into_bytes.ensures.value ∙ c.in_ok-line-in-Holds.ensures ∙ ap compiled_line c.count_parts.ensures)),
     )
 
 pub returns-in_err-text-in-Holds-clause-asked : goal.returns-in_err-text-in-Holds-clause-asked

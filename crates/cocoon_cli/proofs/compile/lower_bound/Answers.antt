@@ -48,7 +48,7 @@ pub returns-in-Err-Limit-clause-refused : goal.returns-in-Err-Limit-clause-refus
 returns-in-Err-Limit-clause-refused c = λ design defs binds.
     let told : NotLowered (design_of c.args.bound.now.checked) binds.entries (Limit c.in-Err-Limit.limit c.in-Err-Limit.count) =
     subst (NotLowered (design_of c.args.bound.now.checked) binds.entries) c.in-Err-Limit.field-0-is (c.in-Err-Limit.ensures.refused binds.entries binds.are) in
-    (_, _, binds, told)
+    (binds, told)
 
 -- of the two files of the first switch
 
@@ -69,10 +69,8 @@ rows_over law switch (s ∷ ss) h =
 
 -- that file is the first that is too long
 long_file : {design defs : List ℕ} {d : Design} {tables : Places} (binds : BindsTables design defs d tables) (first : BundleFile) (net : NetData) → Lowers d binds.entries net → IsWithin d binds.entries
-    → FirstOver (all_switch_files net.switches) first → LongFile design defs (Bundle first) (most_of first)
+    → FirstOver (all_switch_files net.switches) first → LongFile design defs d tables (Bundle first) (most_of first)
 long_file binds first net lowers within long = record {
-  tree = _;
-  tables = _;
   binds = binds;
   first = first;
   names = refl;
@@ -88,11 +86,11 @@ returns-in-Err-LongProgram-clause-refused c = λ design defs binds.
     let switch = c.in-Err-LongProgram.switch in
     let d = design_of c.args.bound.now.checked in
     let told : NotLowered d binds.entries (LongProgram switch) = subst (NotLowered d binds.entries) c.in-Err-LongProgram.field-0-is (c.in-Err-LongProgram.ensures.refused binds.entries binds.are) in
-    subst (lowered.NotLowered design defs) (sym c.from.ensures) (long_file binds (Program switch) told.net told.lowers told.within (program_over switch told.net.switches told.starts))
+    subst (lowered.NotLowered design defs d c.args.bound.now.defs) (sym c.from.ensures) (long_file binds (Program switch) told.net told.lowers told.within (program_over switch told.net.switches told.starts))
 
 pub returns-in-Err-ManyRows-clause-refused : goal.returns-in-Err-ManyRows-clause-refused
 returns-in-Err-ManyRows-clause-refused c = λ design defs binds.
     let switch = c.in-Err-ManyRows.switch in
     let d = design_of c.args.bound.now.checked in
     let told : NotLowered d binds.entries (ManyRows switch) = subst (NotLowered d binds.entries) c.in-Err-ManyRows.field-0-is (c.in-Err-ManyRows.ensures.refused binds.entries binds.are) in
-    subst (lowered.NotLowered design defs) (sym c.from-in-Err-ManyRows.ensures) (long_file binds (Rows switch) told.net told.lowers told.within (rows_over c.rows_are_long.ensures switch told.net.switches told.starts))
+    subst (lowered.NotLowered design defs d c.args.bound.now.defs) (sym c.from-in-Err-ManyRows.ensures) (long_file binds (Rows switch) told.net told.lowers told.within (rows_over c.rows_are_long.ensures switch told.net.switches told.starts))

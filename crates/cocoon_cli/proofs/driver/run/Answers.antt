@@ -9,6 +9,7 @@ use Rattle.cocoon_cli.specs.Run.{Call, Cause, count}
 use Rattle.cocoon_cli.proofs.Performing.{ended}
 use Rattle.obligation_laws.specs.Obligations.{bounded, contained}
 use Rattle.cocoon_cli.proofs.Failed.{failed_words}
+use Rattle.cocoon_cli.proofs.Generated.{generated_words}
 use Rattle.cocoon_cli.proofs.Refined.{refined_words}
 use Rattle.cocoon_cli.proofs.Running.{keeps_of, keeps_memory, said_of}
 use Rattle.cocoon_cli.proofs.driver.run.Goals as goal
@@ -162,6 +163,33 @@ returns-in-Ok-Some-clause-hop_bound g c done =
       prints = c.print.ensures end.0 (subst (λ names. IsEnding names outcome end.0) (sym c.names_of.ensures) end.1);
     } in
     failed_words asked _ _ bounded _ _ (ap (option_map stands_for) (sym c.in-Ok-Some.field-0-is) ∙ c.in-Ok-Some.ensures) (c.reported_failures_are_real.ensures.hop_bound (Some asked) call cause done)
+
+pub returns-in-Ok-Some-clause-generated : goal.returns-in-Ok-Some-clause-generated
+returns-in-Ok-Some-clause-generated g c done =
+    let asked = stands_for c.in-Ok-Some.command in
+    let outcome = c.perform-outcome.result in
+    let acts = c.perform-outcome.ensures.acts in
+    let end = ended asked acts.performs.inputs outcome acts.performs.answers in
+    let call : Call = record {
+      words = map string_bytes c.args.words.now;
+      content_before = g.F.Folder.content c.args.folder.now;
+      content_after = g.F.Folder.content c.perform-outcome.new.folder;
+      output_before = g.S.Sink.output c.args.out.now;
+      output_after = g.S.Sink.output c.print.new.out;
+      reads = count g.F.Folder.last_read_fault (g.F.Folder.read_faults c.args.folder.now) (g.F.Folder.read_faults c.perform-outcome.new.folder);
+      writes = count g.F.Folder.last_write_fault (g.F.Folder.write_faults c.args.folder.now) (g.F.Folder.write_faults c.perform-outcome.new.folder);
+      puts = count g.S.Sink.last_fault (g.S.Sink.faults c.args.out.now) (g.S.Sink.faults c.print.new.out);
+      status = c.print.result;
+    } in
+    let cause : Cause asked call = record {
+      outcome = outcome;
+      performs = acts.performs;
+      counts = acts.called.counts;
+      ending = end.0;
+      is_ending = end.1;
+      prints = c.print.ensures end.0 (subst (λ names. IsEnding names outcome end.0) (sym c.names_of.ensures) end.1);
+    } in
+    generated_words asked _ _ _ _ _ (ap (option_map stands_for) (sym c.in-Ok-Some.field-0-is) ∙ c.in-Ok-Some.ensures) (c.generated_packets_are_counted.ensures (Some asked) call cause done)
 
 pub returns-in-Ok-None-clause-keeps : goal.returns-in-Ok-None-clause-keeps
 returns-in-Ok-None-clause-keeps g c =

@@ -11,5 +11,7 @@ pub returns : goal.returns
 returns c =
     let checks = c.in_ok-command.ensures ∙ added _ _ _ _ c.new-command.ensures.app c.in_ok-check_app.ensures.app in
     let compiles = c.in_ok-command-2.ensures ∙ added _ _ _ _ checks c.in_ok-compile_app.ensures.app in
-    let steps = c.in_ok-command-3.ensures ∙ added _ _ _ _ compiles c.in_ok-step_app.ensures.app in
-    c.in_ok-command-4.ensures ∙ added _ _ _ _ steps c.in_ok-forward_app.ensures.app
+    let updates = c.in_ok-command-3.ensures ∙ added _ _ _ _ compiles c.in_ok-update_app.ensures.app in
+    let steps = c.in_ok-command-4.ensures ∙ added _ _ _ _ updates c.in_ok-step_app.ensures.app in
+    let forwards = c.in_ok-command-5.ensures ∙ added _ _ _ _ steps c.in_ok-forward_app.ensures.app in
+    c.in_ok-command-6.ensures ∙ added _ _ _ _ forwards c.in_ok-gen_app.ensures.app
