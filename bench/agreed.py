@@ -39,10 +39,11 @@ def literal(token):
 
 
 class Design:
-    """What is looked up in the text of a design: how packets enter, the names of its roles, and the choices that a fork may have."""
+    """What is looked up in the text of a design: its last level, how packets enter, the names of its roles, and the choices that a fork may have."""
 
     def __init__(self, design, definitions):
         words, rows = tokens(design), tokens(definitions)
+        self.level = words.count("refine")
         self.widths = self.widths_of(words)
         host, switch = words.index("host"), words.index("switch")
         self.entry, self.sink = words[host + 2], words[host + 4]
@@ -117,7 +118,7 @@ class Chain:
 
     def run(self, case):
         pathlib.Path("chain.case").write_text(case)
-        done = self.program.run(["step", "d.ccn", "d.defs", "0", "chain.case"])
+        done = self.program.run(["step", "d.ccn", "d.defs", str(self.design.level), "chain.case"])
         if done.status or done.err:
             raise Unlike(f"step of {case.split()} has status {done.status} and prints {done.out}")
         if done.out == b"nothing\n":

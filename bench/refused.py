@@ -5,8 +5,8 @@
 
 prints how each run ended and what stood in the folder then; runs that follow each other and are alike become one line. `BAD` is printed
 where a file of the bundle is neither the old one nor the new one, or another file was changed. Of a run with more than 2,000 allocations
-some 2,000 are refused, evenly spread, and the last 100. Then `forward` runs over what a `compile` that stopped left, and the program of the
-cases runs one of them over a folder in memory. docs/TRIED.md says what came of it. It needs a C compiler, the built program (`rt run` in
+some 2,000 are refused, evenly spread, and the last 100. Then `forward` runs over what a `compile` and an `update` that stopped left, the `update`
+is made again, and the program of the cases runs one of them over a folder in memory. docs/TRIED.md says what came of it. It needs a C compiler, the built program (`rt run` in
 crates/cocoon) and that of crates/command_tests (`rt run` there builds it), and takes two minutes; the gate does not run it.
 """
 
@@ -31,6 +31,9 @@ OLDER = b"older\n"
 JOB, FORWARD, STEP = "compile c.ccn c.defs one", "forward one p.txt", "step c.ccn c.defs 0 c.case"
 SPENT = "compile a.spent a.defs one --conflicts 1"
 NARROW = "check r.narrow"
+# The bundle of the first one stands where the second one writes its own.
+BEFORE, EVENING = "compile m.ccn m.defs one", "update m.ccn m.evening one"
+GENERATED = "gen 3 9"
 WORDS = [
     JOB,
     "compile c.ccn c.defs",
@@ -38,12 +41,15 @@ WORDS = [
     "compile c.ccn none.defs one",
     "compile c.long c.defs one",
     "compile c.slip c.defs one",
-    "compile m.ccn m.defs one",
+    BEFORE,
     "compile c.ccn c.short one",
     "compile a.broken a.defs one",
     SPENT,
     "check r.ccn",
     NARROW,
+    EVENING,
+    "update m.ccn m.moved one",
+    GENERATED,
     FORWARD,
     STEP,
     "step m.ccn m.defs 1 m.case",
@@ -75,6 +81,9 @@ def inputs():
         "long.case": bytes(65537),
         "m.case": b"HostOut 167772161\n167772161 167772162\n-\n",
         "p.txt": b"0 0101\n1 02\n2 -\n",
+        "m.txt": b"167772161 0a0000010a000002ff\n167772162 0a0000020a000001ff\n",
+        "m.evening": files["m.defs"] + b"define acl(32w167772162, 32w167772161) = true;\n",
+        "m.moved": files["m.defs"].replace(b"portOf(32w167772162) = 16w1", b"portOf(32w167772162) = 16w2").replace(b"hostAt(16w1, 16w1)", b"hostAt(16w1, 16w2)"),
     }
     return files
 
@@ -89,10 +98,11 @@ class Room:
             (self.at / name).write_bytes(content)
 
     def prepare(self, words):
-        """Puts an older bundle there, and for `forward` the one that is read."""
+        """Puts an older bundle there, and for `forward` and `update` one that is read."""
         self.bundle = self.bundles.get(words, self.bundles[JOB])
+        self.older = self.bundle if words.startswith("forward") else self.bundles[BEFORE] if words.startswith("update") else dict.fromkeys(BUNDLE, OLDER)
         for name in BUNDLE:
-            (self.at / name).write_bytes(self.bundle[name] if words.startswith("forward") else OLDER)
+            (self.at / name).write_bytes(self.older[name])
         for path in [*self.at.glob("*.new"), *self.at.glob("*.budget.json")]:
             path.unlink()
 
@@ -105,7 +115,7 @@ class Room:
     def left(self):
         """What each file of the bundle is, and the files beside that were not there."""
         contents = [(self.at / name).read_bytes() for name in BUNDLE]
-        kinds = ["old" if content == OLDER else "new" if content == self.bundle[name] else "BAD" for name, content in zip(BUNDLE, contents)]
+        kinds = ["old" if content == self.older[name] else "new" if content == self.bundle[name] else "BAD" for name, content in zip(BUNDLE, contents)]
         beside = sorted(path.name for path in self.at.iterdir() if path.name not in self.files and path.name not in BUNDLE)
         return " ".join([*kinds, *beside])
 
@@ -159,7 +169,7 @@ def refuse_memory(make_room):
 
 def refuse_files(make_room):
     room = make_room()
-    for words in (JOB, SPENT, NARROW, FORWARD, STEP):
+    for words in (JOB, SPENT, NARROW, EVENING, GENERATED, FORWARD, STEP):
         _, (_, calls) = room.tried(words, {})
         for fault in ("5", "28", "4"):
             print(f"one of {calls} calls on files of {words} fails with {fault}")
@@ -179,6 +189,19 @@ def stop_compiles(make_room):
         status, report, _ = room.run("compile f.ccn f.defs one", {"FAULT": str(number), "ERROR": "5"})
         then, delivered, _ = room.run(FORWARD, {})
         print(f"  {number} {status} [{report}], {then} [{delivered}]")
+    room.close()
+
+
+def stop_updates(make_room):
+    print(f"{EVENING} over the bundle of m.defs, of whose calls one fails, forward, and the same update again")
+    room = make_room()
+    for number in range(1, 33):
+        room.prepare(EVENING)
+        status, report, _ = room.run(EVENING, {"FAULT": str(number), "ERROR": "5"})
+        kinds = room.left()
+        then, delivered, _ = room.run("forward one m.txt", {})
+        again, mended, _ = room.run(EVENING, {})
+        print(f"  {number} {status} [{report}] {kinds}, {then} [{delivered}], {again} [{mended}] {room.left()}")
     room.close()
 
 
@@ -203,12 +226,12 @@ def main():
         files = inputs()
         bundles = {JOB: dict.fromkeys(BUNDLE, OLDER)}
         first = Room(library, files, bundles)
-        for words in [words for words in WORDS if words.startswith("compile")]:
+        for words in [words for words in WORDS if words.startswith("compile")] + [words for words in WORDS if words.startswith("update")]:
             first.prepare(words)
             first.run(words, {})
             bundles[words] = {name: (first.at / name).read_bytes() for name in BUNDLE}
         first.close()
-        for step in (refuse_memory, refuse_files, stop_compiles):
+        for step in (refuse_memory, refuse_files, stop_compiles, stop_updates):
             step(lambda: Room(library, files, bundles))
         refuse_cases(library)
 
