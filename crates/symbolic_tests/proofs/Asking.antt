@@ -15,7 +15,7 @@ use Rattle.expr_terms.specs.Scopes.{IsTyped}
 use Rattle.expr_terms.specs.Variables.{AreThere, VariablesThere, terms_at, variables_of}
 use Rattle.expr_terms.specs.declared.variables.Variable.{Variable}
 use Rattle.symbolic_tests.specs.Asked.{IsQuestion, are_params, is_param}
-use Rattle.symbolic_tests.proofs.Standing.{both}
+use Rattle.design_cases.proofs.Standing.{both}
 
 one-param : (nodes : List Node) (p : Param) (id : ℕ) → is_param nodes p id ≡ true → (id < length nodes) × (width_at nodes id ≡ p.width)
 one-param nodes p id e =

@@ -1,3 +1,1 @@
-pub mod Standing
-pub mod Made
 pub mod Asking

@@ -1,12 +1,12 @@
 //! Terms with choices over the rows of tables, beside what else gives their values.
 use crate::drafts::Draft;
-use crate::fitting::{covers, tables_fit};
-use crate::questions::Question;
+use crate::questions::{term, value_at};
 use crate::random::Generator;
 use crate::tables::tables;
 use bv_terms::{Env, TermId, Terms};
 use case_files::{Printer, first_word, last_line, number};
 use cocoon_num::{Bits, FunTable, List};
+use design_cases::{Question, tables_fit, value};
 use std::alloc::Global;
 use table_terms::with_defs;
 
@@ -47,19 +47,11 @@ fn with_choices(
     }
 }
 
-pub(crate) fn value(alloc: Global, terms: &Terms, term: TermId, env: &Env) -> Option<Bits> {
-    if covers(alloc, terms, env, term) {
-        terms.eval(alloc, term, env).ok()
-    } else {
-        None
-    }
-}
-
 impl Origin {
     fn tables(&self) -> &[Option<FunTable>] {
         match self {
             Origin::Words(_, env) => env.tables.items(),
-            Origin::Question(question) => question.tables(),
+            Origin::Question(question) => question.defs.tables(),
         }
     }
 
@@ -70,7 +62,7 @@ impl Origin {
                 env.inputs = List::from(Vec::from_slice(alloc, numbers).ok()?);
                 value(alloc, terms, *term, env)
             }
-            Origin::Question(question) => question.value(alloc, numbers),
+            Origin::Question(question) => value_at(alloc, question, numbers),
         }
     }
 }
@@ -103,7 +95,7 @@ impl Compared {
         let alloc = rt.alloc();
         let question = Question::read(rt, above, declared)?;
         let mut draft = Draft::new(alloc);
-        let term = question.term(alloc, &mut draft).ok()??;
+        let term = term(alloc, &question, &mut draft).ok()??;
         Compared::new(alloc, draft, term, Origin::Question(question))
     }
 

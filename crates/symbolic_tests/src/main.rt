@@ -8,8 +8,6 @@
 mod building;
 mod compared;
 mod drafts;
-mod fitting;
-mod numbers;
 mod questions;
 mod random;
 mod tables;

@@ -1,58 +1,21 @@
 //! Questions: the last assumption of a design, as a term and by its value.
 ghost use Rattle.std.specs.Prelude.{◌≡◌, ◌≤◌, IfSome, IsTrue, length, map};
-ghost use Rattle.cocoon_num.specs.Reads.{Reads};
 ghost use Rattle.cocoon_syntax.specs.TreeOf.{assume_of, design_of, param_of};
 ghost use Rattle.cocoon_types.specs.Design.{functions};
 ghost use Rattle.symbolic_tests.specs.Asked.{IsQuestion, are_params, is_param};
 
 use crate::drafts::Draft;
 use bv_terms::{TermId, Terms};
-use case_files::{Printer, last_line, put_expanded, put_framed};
-use cocoon_num::{Bits, FunTable, NoMemory, Text};
-use cocoon_resolve::{Checked, resolve};
-use cocoon_syntax::{AssumeDecl, Design, Param};
-use cocoon_text::{read_defs, read_design};
+use case_files::Printer;
+use cocoon_num::{Bits, NoMemory, Text};
+use cocoon_resolve::Checked;
+use cocoon_syntax::{AssumeDecl, Param};
+use design_cases::Question;
 use expr_terms::{CallSizes, bind, expr_term};
 use role_values::{Binding, Scene, State, Value, evaluate};
-use runtime_defs::Defs;
 use runtime_defs::laws::params_are_declared;
 use sound_types::laws::{code_literals_fit, declarations_are_typed};
 use std::alloc::Global;
-
-/// A text has fewer bytes than this.
-const TOO_LONG: usize = 0x8000_0000;
-
-/// A design with its definitions. The last assumption is the question.
-#[derive(Drop)]
-pub(crate) struct Question {
-    checked: Checked,
-    defs: Defs,
-}
-
-/// The design of a tree that was read, if it keeps all rules.
-fn resolved(alloc: Global, text: &[u8], design: Design) -> Option<Checked>
-    requires { Reads text.now (design_of design) }
-{
-    resolve(alloc, design).ok()
-}
-
-fn checked_design(alloc: Global, text: &[u8]) -> Option<Checked> {
-    if text.len() >= TOO_LONG {
-        return None;
-    }
-    match read_design(alloc, text) {
-        Ok(design) => resolved(alloc, text, design),
-        Err(_) => None,
-    }
-}
-
-fn definitions(alloc: Global, checked: &Checked, text: &[u8]) -> Option<Defs> {
-    if text.len() >= TOO_LONG {
-        return None;
-    }
-    let entries = read_defs(alloc, text).ok()?;
-    runtime_defs::bind(alloc, checked, entries).ok()
-}
 
 /// The last assumption of a design.
 fn last_assumption(checked: &Checked) -> Option<&AssumeDecl>
@@ -177,52 +140,29 @@ fn question_value(
     }
 }
 
-impl Question {
-    /// The design of the frame in the last line `design` with these declarations in it, and the definitions of the last
-    /// line `definitions`.
-    pub(crate) fn read(rt: &HostRuntime, above: &str, declared: &str) -> Option<Question> {
-        let alloc = rt.alloc();
-        let mut text = Printer::new(alloc);
-        put_framed(rt, last_line(above, "design")?, declared, &mut text);
-        let checked = checked_design(alloc, text.text().as_bytes())?;
-        let mut text = Printer::new(alloc);
-        put_expanded(rt, last_line(above, "definitions")?, &mut text);
-        let defs = definitions(alloc, &checked, text.text().as_bytes())?;
-        Some(Question { checked, defs })
-    }
-
-    pub(crate) fn checked(&self) -> &Checked {
-        &self.checked
-    }
-
-    pub(crate) fn tables(&self) -> &[Option<FunTable>] {
-        self.defs.tables()
-    }
-
-    /// The term of the question, if there is one. Its parameters become the inputs.
-    pub(crate) fn term(
-        &self,
-        alloc: Global,
-        draft: &mut Draft,
-    ) -> Result<Option<TermId>, NoMemory> {
-        let Some(assumption) = last_assumption(&self.checked) else {
-            return Ok(None);
-        };
-        match inputs(alloc, draft, &assumption.params) {
-            Some(inputs) => {
-                let terms = &mut draft.terms;
-                question_term(alloc, &self.checked, assumption, &inputs, terms)
-            }
-            None => Ok(None),
+/// The term of the question, if there is one. Its parameters become the inputs.
+pub(crate) fn term(
+    alloc: Global,
+    question: &Question,
+    draft: &mut Draft,
+) -> Result<Option<TermId>, NoMemory> {
+    let Some(assumption) = last_assumption(&question.checked) else {
+        return Ok(None);
+    };
+    match inputs(alloc, draft, &assumption.params) {
+        Some(inputs) => {
+            let (checked, terms) = (&question.checked, &mut draft.terms);
+            question_term(alloc, checked, assumption, &inputs, terms)
         }
+        None => Ok(None),
     }
+}
 
-    /// The value of its expression at these numbers, as a number of width 1.
-    pub(crate) fn value(&self, alloc: Global, numbers: &[Bits]) -> Option<Bits> {
-        let assumption = last_assumption(&self.checked)?;
-        let truth = question_value(alloc, self, assumption, numbers)?;
-        Some(Bits::new(1, u128::from(truth)))
-    }
+/// The value of its expression at these numbers, as a number of width 1.
+pub(crate) fn value_at(alloc: Global, question: &Question, numbers: &[Bits]) -> Option<Bits> {
+    let assumption = last_assumption(&question.checked)?;
+    let truth = question_value(alloc, question, assumption, numbers)?;
+    Some(Bits::new(1, u128::from(truth)))
 }
 
 /// Puts whether the question has this term: `DECLARATIONS :: WORDS`.
@@ -230,7 +170,7 @@ pub(crate) fn put_term(rt: &HostRuntime, above: &str, asked: &str, given: &mut P
     let (declared, words) = asked.split_once(" :: ").unwrap_or((asked, ""));
     let mut draft = Draft::new(rt.alloc());
     let term = match Question::read(rt, above, declared) {
-        Some(question) => question.term(rt.alloc(), &mut draft),
+        Some(question) => term(rt.alloc(), &question, &mut draft),
         None => Ok(None),
     };
     given.put(match term {

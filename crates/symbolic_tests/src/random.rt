@@ -1,6 +1,6 @@
 //! Numbers that look random, the same ones of each seed.
-use crate::numbers::lowest;
 use cocoon_num::Bits;
+use design_cases::lowest;
 
 /// A generator of 64 bits at a time, by shifts and a multiplication.
 #[derive(Drop)]

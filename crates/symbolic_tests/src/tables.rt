@@ -1,6 +1,6 @@
 //! Tables, by the words that say them.
-use crate::numbers::{constant, sized, small};
 use cocoon_num::{Bits, FunRow, FunTable, List};
+use design_cases::{constant, sized, small};
 use std::alloc::Global;
 
 /// The number of a pattern, if it fits the width; of a width above 64 there is none.
@@ -75,40 +75,4 @@ pub(crate) fn tables(alloc: Global, line: &str) -> Option<Vec<Option<FunTable>>>
         tables.push(table).ok()?;
     }
     Some(tables)
-}
-
-fn copied_row(alloc: Global, row: &FunRow) -> Option<FunRow> {
-    Some(FunRow {
-        values: List::from(Vec::from_slice(alloc, row.values.items()).ok()?),
-        masks: List::from(Vec::from_slice(alloc, row.masks.items()).ok()?),
-        result: row.result,
-    })
-}
-
-fn copied_table(alloc: Global, table: &FunTable) -> Option<FunTable> {
-    let mut rows = Vec::new(alloc);
-    for row in table.rows.items() {
-        rows.push(copied_row(alloc, row)?).ok()?;
-    }
-    Some(FunTable {
-        widths: List::from(Vec::from_slice(alloc, table.widths.items()).ok()?),
-        rows: List::from(rows),
-        default: table.default,
-    })
-}
-
-/// The same tables, in memory of their own.
-pub(crate) fn copied_tables(
-    alloc: Global,
-    tables: &[Option<FunTable>],
-) -> Option<Vec<Option<FunTable>>> {
-    let mut copies = Vec::new(alloc);
-    for table in tables {
-        let copy = match table {
-            Some(table) => Some(copied_table(alloc, table)?),
-            None => None,
-        };
-        copies.push(copy).ok()?;
-    }
-    Some(copies)
 }

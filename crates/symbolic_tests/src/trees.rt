@@ -3,16 +3,12 @@ ghost use Rattle.std.specs.Prelude.{IfSome};
 ghost use Rattle.cocoon_resolve.specs.Readers.{HasRole};
 ghost use Rattle.cocoon_syntax.specs.TreeOf.{design_of};
 
-use crate::compared::value;
-use crate::numbers::{lowest, small};
-use crate::questions::Question;
-use crate::tables::copied_tables;
 use bv_terms::{Env, InputId, Node, TermId, TermOp, Terms};
 use case_files::{Printer, first_word, last_line, number, numbers};
-use cocoon_num::{Bits, FunTable, List};
+use cocoon_num::{FunTable, List};
 use cocoon_resolve::Checked;
-use cocoon_syntax::Decl;
 use declarations::RoleId;
+use design_cases::{Question, copied_tables, put_in, role_name, small, value, zeros};
 use hop_inline::{End, InlineFault, Leaf, Tree, body_tree, inline};
 use std::alloc::Global;
 
@@ -73,54 +69,6 @@ fn made(
         "body" => Some(body_tree(alloc, checked, level, role, terms)),
         _ => None,
     }
-}
-
-/// Gives inputs these numbers, cut to their widths.
-fn put_in(inputs: &mut Vec<Bits>, terms: &[InputId], numbers: &[u64]) {
-    for (input, number) in terms.iter().zip(numbers) {
-        if let Some(place) = inputs.get_mut(*input as usize) {
-            if let Some(bits) = lowest(place.width, u128::from(*number)) {
-                *place = bits;
-            }
-        }
-    }
-}
-
-/// Inputs that are all 0.
-fn zeros(alloc: Global, terms: &Terms) -> Option<Vec<Bits>> {
-    let mut inputs = Vec::new(alloc);
-    for input in 0..terms.input_count() {
-        inputs
-            .push(lowest(terms.width(terms.input_term(input)), 0)?)
-            .ok()?;
-    }
-    Some(inputs)
-}
-
-/// The name of a role among declarations.
-fn name_among<'d>(checked: &Checked, decls: &'d [Decl], role: RoleId) -> Option<&'d [u8]> {
-    for decl in decls {
-        if let Decl::Role(declared) = decl {
-            let name = declared.name.text.bytes();
-            if checked.role_of(name) == Some(role) {
-                return Some(name);
-            }
-        }
-    }
-    None
-}
-
-fn role_name(checked: &Checked, role: RoleId) -> Option<&[u8]> {
-    let design = checked.design();
-    if let Some(name) = name_among(checked, &design.decls, role) {
-        return Some(name);
-    }
-    for block in &design.refines {
-        if let Some(name) = name_among(checked, &block.decls, role) {
-            return Some(name);
-        }
-    }
-    None
 }
 
 /// The two parts of a chain: what is before the last part, and the last part.
@@ -283,7 +231,7 @@ fn digest(text: &str) -> u64 {
 
 /// Puts how many leaves a tree has.
 fn put_count(alloc: Global, question: &Question, words: &str, given: &mut Printer) -> Option<()> {
-    match Shown::read(alloc, question.checked(), words)? {
+    match Shown::read(alloc, &question.checked, words)? {
         Ok(shown) => given.put_number(shown.tree.leaves.items().len() as u64),
         Err(count) => {
             given.put("over ");
@@ -302,9 +250,9 @@ fn put_one(
     given: &mut Printer,
 ) -> Option<()> {
     let (leaf, words) = first_word(words);
-    let checked = question.checked();
+    let checked = &question.checked;
     let shown = Shown::read(alloc, checked, words)?.ok()?;
-    let envs = shown.envs(alloc, line, question.tables())?;
+    let envs = shown.envs(alloc, line, question.defs.tables())?;
     let leaf = shown.tree.leaves.items().get(number(leaf)? as usize)?;
     shown.put_leaf(alloc, checked, leaf, &envs, given)
 }
@@ -317,9 +265,9 @@ fn put_digest(
     words: &str,
     given: &mut Printer,
 ) -> Option<()> {
-    let checked = question.checked();
+    let checked = &question.checked;
     let shown = Shown::read(alloc, checked, words)?.ok()?;
-    let envs = shown.envs(alloc, line, question.tables())?;
+    let envs = shown.envs(alloc, line, question.defs.tables())?;
     let mut text = Printer::new(alloc);
     for leaf in shown.tree.leaves.items() {
         shown.put_leaf(alloc, checked, leaf, &envs, &mut text)?;
