@@ -6,8 +6,8 @@
   delivered (hosts, bytes and their order) and how many copies still travel has to be what `forward` prints. Packets that would take more
   than 600 runs are not followed.
 - `emit`, then `read`: `forward` reads the programs, rows and network that `compile` wrote, so it ends with status 0, or with 10 where there are too
-  many copies. Where P4_READ_TESTS names the program of crates/p4_read_tests, each program is read and printed, and has to have the same text.
-- `text`, then `bind`: where DEFS_TESTS names the program of crates/defs_tests, the text of the tables is printed, read and bound, and has to give the
+  many copies. Where READING_TESTS names the program of crates/reading_tests, each program is read and printed, and has to have the same text.
+- `text`, then `bind`: where DESIGN_TESTS names the program of crates/design_tests, the text of the tables is printed, read and bound, and has to give the
   same tables. The printed text is then compiled in the place of the definitions, and has to give the same bundle, byte for byte.
 """
 
@@ -19,7 +19,7 @@ import re
 
 PACKETS = 3
 MOST_RUNS = 600
-P4_READ_TESTS, DEFS_TESTS = (os.environ.get(name) for name in ("P4_READ_TESTS", "DEFS_TESTS"))
+READING_TESTS, DESIGN_TESTS = (os.environ.get(name) for name in ("READING_TESTS", "DESIGN_TESTS"))
 
 # ---- a design that was compiled, so that its text and that of its definitions keep all rules
 
@@ -172,9 +172,9 @@ class Compared:
             pathlib.Path(name).write_bytes(text)
         try:
             self.compare_packets()
-            if P4_READ_TESTS and self.source.randrange(8) == 0:
+            if READING_TESTS and self.source.randrange(8) == 0:
                 self.compare_programs()
-            if DEFS_TESTS and self.source.randrange(8) == 0:
+            if DESIGN_TESTS and self.source.randrange(8) == 0:
                 self.compare_definitions()
         except Unlike as unlike:
             return str(unlike)
@@ -208,8 +208,8 @@ class Compared:
     def compare_programs(self):
         """Each program of the bundle is read, printed, and then the same."""
         programs = sorted(name for name in self.bundle if name.endswith(".p4"))
-        pathlib.Path("printed.txt").write_text("".join(f"  same | printed {name}\n" for name in programs))
-        done = self.program.run(["printed.txt"], P4_READ_TESTS)
+        pathlib.Path("printed.txt").write_text("ask programs\n" + "".join(f"  same | printed {name}\n" for name in programs))
+        done = self.program.run(["printed.txt"], READING_TESTS)
         if programs and done.status or done.err:
             raise Unlike(f"programs are printed otherwise than they were read: {done.out[:300]}")
         self.counts["compared", "programs"] += len(programs)
@@ -217,7 +217,7 @@ class Compared:
     def compare_definitions(self):
         """The text of the tables reads as the same tables, and compiles to the same bundle."""
         pathlib.Path("text.txt").write_text(f"design d.ccn\nask text\n\n  | {' '.join(tokens(self.texts[1]))}\n")
-        done = self.program.run(["text.txt"], DEFS_TESTS)
+        done = self.program.run(["text.txt"], DESIGN_TESTS)
         found = re.search(rb"\n    found  ([^\n]*)\n1 cases, 1 differ\n$", done.out)
         if done.status != 1 or done.err or not found or b", which reads as others" in found[1]:
             raise Unlike(f"the text of the tables: {done.out[-300:]}")

@@ -3,7 +3,7 @@
 
     bench/certificates.py [RUNS]     runs the built program on each so often (3), and prints the least processor time and the most memory
 
-It needs the program of crates/bundle_tests: `rt run` there builds it. Each run reads the file from its input, and prints how many
+It needs the program of crates/reading_tests: `rt run` there builds it. Each run reads the file from its input, and prints how many
 certificates it has, or its fault.
 """
 
@@ -70,7 +70,7 @@ def run(program, path, runs):
     best, memory = None, 0
     for _ in range(runs):
         with path.open("rb") as text:
-            process = subprocess.Popen([program, "read"], stdin=text, stdout=subprocess.PIPE)
+            process = subprocess.Popen([program, "certificates"], stdin=text, stdout=subprocess.PIPE)
             printed = process.stdout.read()
             _, _, used = os.wait4(process.pid, 0)
         taken = used.ru_utime + used.ru_stime
@@ -81,9 +81,9 @@ def run(program, path, runs):
 
 def main():
     runs = int(sys.argv[1]) if len(sys.argv) > 1 else 3
-    program = os.environ.get("BUNDLE_TESTS") or TOP / "crates" / "bundle_tests" / "out" / "bundle_tests"
+    program = os.environ.get("READING_TESTS") or TOP / "crates" / "reading_tests" / "out" / "reading_tests"
     if not os.access(program, os.X_OK):
-        sys.exit("certificates.py: build the program first: `rt run` in crates/bundle_tests")
+        sys.exit("certificates.py: build the program first: `rt run` in crates/reading_tests")
     print("| Certificates | Bytes | Time | Memory | Printed |\n|---|---|---|---|---|")
     with tempfile.TemporaryDirectory() as name:
         path = pathlib.Path(name) / "certs.json"

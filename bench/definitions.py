@@ -3,7 +3,7 @@
 
     bench/definitions.py [RUNS]     runs the built program on each so often (5), and prints the least wall times
 
-It needs the program of crates/defs_tests: `rt run` there builds it. Each run reads both texts, too.
+It needs the program of crates/design_tests: `rt run` there builds it. Each run reads both texts, too.
 """
 
 import os
@@ -61,9 +61,9 @@ def least(program, folder, text, looks, runs):
 
 def main():
     runs = int(sys.argv[1]) if len(sys.argv) > 1 else 5
-    program = os.environ.get("DEFS_TESTS") or TOP / "crates" / "defs_tests" / "out" / "defs_tests"
+    program = os.environ.get("DESIGN_TESTS") or TOP / "crates" / "design_tests" / "out" / "design_tests"
     if not os.access(program, os.X_OK):
-        sys.exit("definitions.py: build the program first: `rt run` in crates/defs_tests")
+        sys.exit("definitions.py: build the program first: `rt run` in crates/design_tests")
     print("| Definitions | Bytes | Whole | Half | Ratio | Printed |\n|---|---|---|---|---|---|")
     with tempfile.TemporaryDirectory() as name:
         folder = pathlib.Path(name)

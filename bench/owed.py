@@ -143,7 +143,7 @@ def asked_of(seed, count, folder):
     owed = Owed(design, definitions)
     if owed.reading.checked.levels() < 2:
         return None
-    lines = [f'design "{seed}.ccn"', f'definitions "{seed}.defs"', f"  {answer(owed, 'count', [])} | count"]
+    lines = ['ask formulas', f'design "{seed}.ccn"', f'definitions "{seed}.defs"', f"  {answer(owed, 'count', [])} | count"]
     if owed.over is not None or not owed.all or owed.pairs() > MOST_PAIRS:
         return lines, (len(owed.all), 0, 0, 0, 0)
     draw = random.Random(seed)
@@ -181,7 +181,7 @@ def judge_random(first, count, tuples):
             some, wrong = judged(lines, folder)
             cases, differ = cases + some, differ + wrong
             sums = [total + figure for total, figure in zip(sums, figures)]
-            over += "over" in lines[2]
+            over += "over" in lines[3]
     owed, true, reached, values, trues = sums
     print(f"{count} designs, {over} of them over a limit: {owed} obligations, {reached} with a leaf that is true somewhere, {true} with a formula that is; "
           f"{values} truths, {trues} of them true; {cases} cases, {differ} differ")
@@ -205,7 +205,7 @@ def ways(count, first):
 def laid_out(old, new, folder):
     """A case on a design: so many statements above, and so many that refine them."""
     (folder / "one.ccn").write_text(HEAD.format(ways(old, 0), ways(new, 100)))
-    (folder / "one.cases").write_text('design "one.ccn"\ndefinitions default h = false; default g = false;\n  ? | terms\n')
+    (folder / "one.cases").write_text('ask formulas\ndesign "one.ccn"\ndefinitions default h = false; default g = false;\n  ? | terms\n')
     return [PROGRAM, "one.cases"]
 
 

@@ -1,5 +1,5 @@
 #!/usr/bin/env python3
-"""Queries of obligations by an independent reading of the language, in cases of verdict_tests.
+"""Queries of obligations by an independent reading of the language, in cases of obligation_tests.
 
     bench/queries.py READING [FILE..]              prints a file of cases, with what the reading wants of each whose answer it has
     bench/queries.py READING lists PROGRAM DESIGN  compares the clauses of every obligation of a design, one by one
@@ -16,7 +16,7 @@ import sys
 import tempfile
 
 TOP = pathlib.Path(__file__).resolve().parent.parent
-DATA = TOP / "crates" / "verdict_tests" / "data"
+DATA = TOP / "crates" / "obligation_tests" / "data"
 
 
 def expanded(text):
@@ -149,7 +149,7 @@ def lists(program, design):
     with tempfile.TemporaryDirectory() as folder:
         shutil.copy(design, f"{folder}/design.ccn")
         questions = [f"  | list {at}" for at in range(len(asked.all))]
-        pathlib.Path(folder, "all.cases").write_text("\n".join(['design "design.ccn"', *questions, ""]))
+        pathlib.Path(folder, "all.cases").write_text("\n".join(['ask verdicts', 'design "design.ccn"', *questions, ""]))
         ran = subprocess.run([pathlib.Path(program).resolve(), "all.cases"], cwd=folder, capture_output=True, text=True)
     found = [line.removeprefix("    found  ") for line in ran.stdout.splitlines() if line.startswith("    found  ")]
     total = 0

@@ -3,7 +3,7 @@
 
     bench/read_p4.py [RUNS]     reads each so often (5), the whole and its half in turn, and prints the least wall times
 
-It needs the program of crates/p4_read_tests: `rt run -- read <data/small.p4` there builds it. One text has one statement after the
+It needs the program of crates/reading_tests: `rt run -- p4 <data/small.p4` there builds it. One text has one statement after the
 other, one has tables of many keys, one expressions as deep as may be, and one has headers with all their fields. Each reads as a program.
 """
 
@@ -114,7 +114,7 @@ def one_run(program, path):
     """The wall time in seconds of one reading."""
     with open(path, "rb") as file:
         start = time.perf_counter()
-        printed = subprocess.run([program, "read"], stdin=file, stdout=subprocess.PIPE, check=False).stdout
+        printed = subprocess.run([program, "p4"], stdin=file, stdout=subprocess.PIPE, check=False).stdout
         taken = time.perf_counter() - start
     if printed != b"read\n":
         sys.exit(f"read_p4.py: {path.name} printed {printed!r}")
@@ -123,9 +123,9 @@ def one_run(program, path):
 
 def main():
     runs = int(sys.argv[1]) if len(sys.argv) > 1 else 5
-    program = TOP / "crates" / "p4_read_tests" / "out" / "p4_read_tests"
+    program = TOP / "crates" / "reading_tests" / "out" / "reading_tests"
     if not os.access(program, os.X_OK):
-        sys.exit("read_p4.py: build the program first: `rt run -- read <data/small.p4` in crates/p4_read_tests")
+        sys.exit("read_p4.py: build the program first: `rt run -- p4 <data/small.p4` in crates/reading_tests")
     print("| Text | Whole | Half | Ratio |\n|---|---|---|---|")
     memory_folder = "/dev/shm" if os.access("/dev/shm", os.W_OK) else None
     with tempfile.TemporaryDirectory(dir=memory_folder) as name:

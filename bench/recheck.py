@@ -1,7 +1,7 @@
 #!/usr/bin/env python3
 """Certificates of designs, checked by `recheck` and by a program in C over clauses that are made from the design by the pages alone.
 
-    bench/recheck.py cases [FILE]            prints the cases of a file of crates/cert_tests, steps.cases if none is named, with what is wanted of each
+    bench/recheck.py cases [FILE]            prints the cases of a file of crates/obligation_tests, steps.cases if none is named, with what is wanted of each
     bench/recheck.py same COUNT DESIGN [CERTS]
                                              changes the certificates of a design in so many ways, by chance, and compares which is the first that
                                              is not accepted
@@ -10,7 +10,7 @@
                                              has a script of the folder print designs, by numbers from FIRST on, and compares the clauses of both
 
 The clauses are those of bench/design_clauses.py; with `--reading FOLDER` in front those of another reading of the language, which shares nothing with this
-repository. It needs the program of crates/cert_tests (`rt run` there builds it; CERT_TESTS names another) and `cc`. Without CERTS the program makes the
+repository. It needs the program of crates/obligation_tests (`rt run` there builds it; OBLIGATION_TESTS names another) and `cc`. Without CERTS the program makes the
 certificates, each by one search.
 
 The time of the check alone is that of certificates with each log's steps, but the last, repeated so often: reading is taken off by a run that ends at the
@@ -29,8 +29,8 @@ import tempfile
 import design_clauses
 
 TOP = pathlib.Path(__file__).resolve().parent.parent
-DATA = TOP / "crates" / "cert_tests" / "data"
-PROGRAM = os.environ.get("CERT_TESTS", TOP / "crates" / "cert_tests" / "out" / "cert_tests")
+DATA = TOP / "crates" / "obligation_tests" / "data"
+PROGRAM = os.environ.get("OBLIGATION_TESTS", TOP / "crates" / "obligation_tests" / "out" / "obligation_tests")
 RUNS, REPEATED = 5, 20
 
 

@@ -3,7 +3,7 @@
 
     bench/sends.py [BODIES [SEED]]     makes so many bodies (10,000) from this seed (1), and prints how many cases differ
 
-It needs the program of crates/send_tests: `rt run` there builds it, or SEND_TESTS names it. Bodies are made and run here, by the section
+It needs the program of crates/design_tests: `rt run` there builds it, or DESIGN_TESTS names it. Bodies are made and run here, by the section
 "A body's run" of docs/LANGUAGE.md, and kept where no choice is hidden, by the section "Read-back rule". Sends that are asked about are
 those that some list of choices gives, those with one number changed, and others. Where READING names a folder with another program's
 run of bodies (`meaning.go`), what each list of choices gives is asked of that, too.
@@ -367,9 +367,9 @@ def files(dice, folder, index, count):
 def main():
     bodies = int(sys.argv[1]) if len(sys.argv) > 1 else 10_000
     dice = random.Random(int(sys.argv[2]) if len(sys.argv) > 2 else 1)
-    program = os.environ.get("SEND_TESTS") or TOP / "crates" / "send_tests" / "out" / "send_tests"
+    program = os.environ.get("DESIGN_TESTS") or TOP / "crates" / "design_tests" / "out" / "design_tests"
     if not os.access(program, os.X_OK):
-        sys.exit("sends.py: build the program first: `rt run` in crates/send_tests")
+        sys.exit("sends.py: build the program first: `rt run` in crates/design_tests")
     yes = cases = 0
     failed = []
     with tempfile.TemporaryDirectory() as name:

@@ -1,7 +1,7 @@
 #!/usr/bin/env python3
 """How long verdicts on obligations take: in proportion to their own queries, or to the arena of all trees.
 
-    bench/verdicts.py PROGRAM [RUNS]     PROGRAM is the built program verdict_tests, RUNS how often each is run (3); the least time counts
+    bench/verdicts.py PROGRAM [RUNS]     PROGRAM is the built program obligation_tests, RUNS how often each is run (3); the least time counts
 
 The design is t of its tests within 5 to 11 bodies, which owes 36 to 2,388 obligations. Each run makes the obligations, and then decides none, the first half of them or all.
 MiniSat is asked about the same clauses, if it is there.
@@ -16,14 +16,14 @@ import sys
 import tempfile
 
 TOP = pathlib.Path(__file__).resolve().parent.parent
-DESIGN = TOP / "crates" / "verdict_tests" / "data" / "t.ccn"
+DESIGN = TOP / "crates" / "obligation_tests" / "data" / "t.ccn"
 CONFLICTS = 20_000
 ROUNDS = 64
 
 
 def ran(program, folder, question):
     """The answer to a question, and the processor's seconds."""
-    pathlib.Path(folder, "one.cases").write_text(f'design "t.ccn"\n  | {question}\n')
+    pathlib.Path(folder, "one.cases").write_text(f'ask verdicts\ndesign "t.ccn"\n  | {question}\n')
     before = resource.getrusage(resource.RUSAGE_CHILDREN).ru_utime
     out = subprocess.run([program, "one.cases"], cwd=folder, capture_output=True, text=True).stdout
     seconds = resource.getrusage(resource.RUSAGE_CHILDREN).ru_utime - before

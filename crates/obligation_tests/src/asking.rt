@@ -1,138 +1,156 @@
-//! What is asked of the obligations of a design.
-use crate::told::{Given, Owed};
+//! The clauses of queries, and whether certificates are accepted.
+ghost use Rattle.std.specs.Prelude.{IfOk, IfSome};
+ghost use Rattle.cnf_core.specs.Satisfying.{WellNamed};
+ghost use Rattle.cocoon_syntax.specs.TreeOf.{design_of};
+ghost use Rattle.obligation_gen.specs.Owed.{IsOwed};
+ghost use Rattle.obligation_gen.specs.Shown.{ShowsObligations};
+ghost use Rattle.obligation_laws.specs.Obligations as laws;
+
+use crate::certs::cert;
+use crate::owed::obligation;
+use bit_blast::{BlastFault, blast};
 use bv_terms::Terms;
-use case_files::{Printer, first_word, last_line, number};
+use case_files::Printer;
+use certificates::Instance;
+use cnf_core::{Clause, Cnf};
 use cocoon_resolve::Checked;
-use design_cases::{Question, small};
-use hop_inline::InlineFault;
-use obligation_gen::{Obligation, all_obligations, obligations};
+use formula_functions::laws::{formulas_apply_declared_functions, obligations_have_levels};
+use obligation_gen::Obligation;
+use queries::{RecheckFault, all_fit, query};
+use rechecks::recheck_one;
+use sound_types::laws::code_literals_fit;
 use std::alloc::Global;
 
-/// What one level owes, if it has a block.
-fn of_level(
+/// The clauses of the query of an obligation with these instances, if they fit.
+pub fn clauses(
     alloc: Global,
     checked: &Checked,
-    level: u32,
-    terms: &mut Terms,
-) -> Option<Result<Vec<Obligation>, InlineFault>> {
-    if level < 1 || level >= checked.levels() {
-        return None;
+    terms: &Terms,
+    obligation: &Obligation,
+    instances: &[Instance],
+) -> Result<Option<Cnf>, RecheckFault>
+    requires { IsOwed (design_of checked.now) terms.now obligation.now }
+    ensures { IfOk result (λ found. IfSome found WellNamed) }
+{
+    formulas_apply_declared_functions();
+    obligations_have_levels();
+    code_literals_fit();
+    let _design = checked.design();
+    if !all_fit(checked, obligation.level, instances) {
+        return Ok(None);
     }
-    Some(obligations(alloc, checked, level, terms))
+    let (level, formula) = (obligation.level, obligation.formula);
+    let own = query(alloc, checked, terms, level, formula, instances)?;
+    match blast(alloc, &own.terms, own.goal) {
+        Ok((cnf, _)) => Ok(Some(cnf)),
+        Err(BlastFault::Clauses(count)) => Err(RecheckFault::Big(count)),
+        Err(BlastFault::NoMemory) => Err(RecheckFault::NoMemory),
+    }
 }
 
-/// What a level owes, or the whole design, if no level is said.
-fn owed(alloc: Global, checked: &Checked, level: &str) -> Option<Result<Owed, InlineFault>> {
-    let mut terms = Terms::new(alloc);
-    let all = if level.is_empty() {
-        all_obligations(alloc, checked, &mut terms)
-    } else {
-        let level = u32::from(small(level)?);
-        of_level(alloc, checked, level, &mut terms)?
-    };
-    Some(match all {
-        Ok(all) => Ok(Owed { terms, all }),
-        Err(fault) => Err(fault),
-    })
+fn put_clause(clause: &Clause, given: &mut Printer) {
+    for lit in clause.lits.items() {
+        given.put(" ");
+        given.put_debug(&lit.number);
+    }
+    given.put(" 0");
 }
 
-/// 64 bits of a text.
-fn digest(text: &str) -> u64 {
-    let mut state: u64 = 0xCBF2_9CE4_8422_2325;
+/// Puts clauses as DIMACS writes them, with blanks between them.
+fn put_list(cnf: &Cnf, given: &mut Printer) {
+    given.put("p cnf ");
+    given.put_number(u64::from(cnf.vars));
+    given.put(" ");
+    given.put_number(cnf.clauses.items().len() as u64);
+    for clause in cnf.clauses.items() {
+        put_clause(clause, given);
+    }
+}
+
+/// The 64 bits of a text by the function FNV-1a.
+pub fn digest(text: &str) -> u64 {
+    let mut digest: u64 = 0xcbf2_9ce4_8422_2325;
     for byte in text.bytes() {
-        state = (state ^ u64::from(byte)).wrapping_mul(0x0100_0000_01B3);
+        digest = (digest ^ u64::from(byte)).wrapping_mul(0x100_0000_01b3);
     }
-    state
+    digest
 }
 
-/// What is asked of obligations that are there.
-#[derive(Drop)]
-struct Asked<'q> {
-    question: &'q Question,
-    owed: Owed,
+/// Puts how many variables and clauses there are, and a digest of the list.
+fn put_size(alloc: Global, cnf: &Cnf, given: &mut Printer) {
+    let mut list = Printer::new(alloc);
+    put_list(cnf, &mut list);
+    given.put_number(u64::from(cnf.vars));
+    given.put(" ");
+    given.put_number(cnf.clauses.items().len() as u64);
+    given.put(" ");
+    given.put_number(digest(list.text()));
+    given.lose_with(&list);
 }
 
-impl Asked<'_> {
-    /// Puts all obligations, with this text behind each but the last, or behind each.
-    fn put_all(&self, alloc: Global, line: &str, given: &mut Printer) -> Option<()> {
-        let mut at = Given::read(alloc, self.question, line)?;
-        let mut between = "";
-        for one in &self.owed.all {
-            given.put(between);
-            let checked = &self.question.checked;
-            self.owed.put_one(alloc, checked, one, &mut at, given)?;
-            between = " ; ";
-        }
-        if self.owed.all.is_empty() {
-            given.put("none");
-        }
-        Some(())
-    }
-
-    /// Puts one obligation, by its place among all.
-    fn put_place(&self, alloc: Global, line: &str, place: u64, given: &mut Printer) -> Option<()> {
-        let mut at = Given::read(alloc, self.question, line)?;
-        let one = self.owed.all.get(place as usize)?;
-        let checked = &self.question.checked;
-        self.owed.put_one(alloc, checked, one, &mut at, given)
-    }
-
-    fn put_digest(&self, alloc: Global, line: &str, given: &mut Printer) -> Option<()> {
-        let mut text = Printer::new(alloc);
-        self.put_all(alloc, line, &mut text)?;
-        given.put_number(digest(text.text()));
-        given.lose_with(&text);
-        Some(())
-    }
-
-    /// Puts how many obligations there are, and in how many terms.
-    fn put_terms(&self, given: &mut Printer) {
-        given.put_number(self.owed.all.len() as u64);
-        given.put(" in ");
-        given.put_number(u64::from(self.owed.terms.count()));
-    }
-
-    fn put(&self, alloc: Global, line: &str, kind: &str, given: &mut Printer) -> Option<()> {
-        match kind {
-            "count" => given.put_number(self.owed.all.len() as u64),
-            "terms" => self.put_terms(given),
-            "owed" => return self.put_all(alloc, line, given),
-            "digest" => return self.put_digest(alloc, line, given),
-            _ => return self.put_place(alloc, line, number(kind)?, given),
-        }
-        Some(())
-    }
-}
-
-/// Puts what is asked of the obligations of a question.
-fn put_of(
-    alloc: Global,
-    question: &Question,
-    line: &str,
-    words: &str,
-    given: &mut Printer,
-) -> Option<()> {
-    let (kind, level) = first_word(words);
-    match owed(alloc, &question.checked, level)? {
-        Ok(owed) => Asked { question, owed }.put(alloc, line, kind, given)?,
-        Err(InlineFault::Paths(count)) => {
-            given.put("over ");
+/// Puts that a query has so many clauses, or that there was no memory.
+pub fn put_fault(fault: RecheckFault, given: &mut Printer) {
+    match fault {
+        RecheckFault::Big(count) => {
+            given.put("large with ");
             given.put_number(count);
+            given.put(" clauses");
         }
-        Err(InlineFault::NoMemory) => given.put("no memory"),
+        RecheckFault::NoMemory => given.lose(),
     }
-    Some(())
 }
 
-/// Puts what is asked of the obligations of the design in the last line `design`, with these declarations in it: `WORD :: DECLARATIONS`
-/// of the whole design, or `WORD LEVEL :: DECLARATIONS` of a level.
-pub(crate) fn put_asked(rt: &HostRuntime, above: &str, asked: &str, given: &mut Printer) {
-    let (words, declared) = asked.split_once(" :: ").unwrap_or((asked, ""));
-    let Some(question) = Question::read(rt, above, declared) else {
-        return given.put("no design");
+/// Puts the answer to `clauses INSTANCES`, `list INSTANCES` or `recheck INSTANCES / STEPS`.
+pub fn put_asked_with(
+    alloc: Global,
+    checked: &Checked,
+    terms: &Terms,
+    obligation: &Obligation,
+    question: (&str, &str),
+    given: &mut Printer,
+)
+    requires { IsOwed (design_of checked.now) terms.now obligation.now }
+{
+    let (word, rest) = question;
+    let Some(cert) = cert(alloc, rest) else {
+        return given.put("no certificate");
     };
-    let line = last_line(above, "numbers").unwrap_or_default();
-    if put_of(rt.alloc(), &question, line, words, given).is_none() {
-        given.put("nothing asked");
+    if word == "recheck" {
+        return match recheck_one(alloc, checked, terms, obligation, &cert) {
+            Ok(answer) => given.put(if answer { "true" } else { "false" }),
+            Err(fault) => put_fault(fault, given),
+        };
     }
+    match clauses(alloc, checked, terms, obligation, cert.instances.items()) {
+        Ok(Some(cnf)) if word == "list" => put_list(&cnf, given),
+        Ok(Some(cnf)) => put_size(alloc, &cnf, given),
+        Ok(None) => given.put("no fit"),
+        Err(fault) => put_fault(fault, given),
+    }
+}
+
+/// Puts how many obligations there are, and a digest of the lists of all of them.
+pub fn put_every(
+    alloc: Global,
+    checked: &Checked,
+    terms: &Terms,
+    all: &[Obligation],
+    given: &mut Printer,
+)
+    requires { ShowsObligations (design_of checked.now) terms.now all.now
+        (laws.all_obligations (design_of checked.now)) }
+{
+    let mut lists = Printer::new(alloc);
+    for number in 0..all.len() {
+        if number > 0 {
+            lists.put(" ");
+        }
+        if let Some(obligation) = obligation(checked, terms, all, number) {
+            put_asked_with(alloc, checked, terms, obligation, ("list", ""), &mut lists);
+        }
+    }
+    given.put_number(all.len() as u64);
+    given.put(" ");
+    given.put_number(digest(lists.text()));
+    given.lose_with(&lists);
 }

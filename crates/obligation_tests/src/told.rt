@@ -9,9 +9,9 @@ use std::alloc::Global;
 
 /// What is owed, with the arena of the formulas.
 #[derive(Drop)]
-pub(crate) struct Owed {
-    pub(crate) terms: Terms,
-    pub(crate) all: Vec<Obligation>,
+pub struct Owed {
+    pub terms: Terms,
+    pub all: Vec<Obligation>,
 }
 
 /// Numbers of one tuple `NUMBERS;NUMBERS;NUMBERS`: of parameters, of fields, and of choices in the order in which a leaf takes them.
@@ -24,7 +24,7 @@ struct Tuple {
 
 /// The tuples of a line, and the tables of the functions.
 #[derive(Drop)]
-pub(crate) struct Given {
+pub struct Given {
     tuples: Vec<Tuple>,
     env: Env,
 }
@@ -40,7 +40,7 @@ fn read_tuple(alloc: Global, word: &str) -> Option<Tuple> {
 }
 
 impl Given {
-    pub(crate) fn read(alloc: Global, question: &Question, line: &str) -> Option<Given> {
+    pub fn read(alloc: Global, question: &Question, line: &str) -> Option<Given> {
         let mut tuples = Vec::new(alloc);
         for word in line.split(' ') {
             tuples.push(read_tuple(alloc, word)?).ok()?;
@@ -89,7 +89,7 @@ impl Owed {
     }
 
     /// Puts one obligation: `LEVEL ROLE LEAF KIND TRUTHS`.
-    pub(crate) fn put_one(
+    pub fn put_one(
         &self,
         alloc: Global,
         checked: &Checked,
