@@ -3,7 +3,7 @@
 use Rattle.std.specs.Prelude.{[], ◌∷◌, codes, Some}
 use Rattle.cocoon_num.specs.Tree.{name, field, lit, call, binary, no_exprs, expr, if_, send, no_stmts, stmt, a_role, Design}
 use Rattle.cocoon_num.specs.Values.{equal, less, and_}
-use Rattle.symbolic_examples.specs.DesignR.{r_design}
+use Rattle.obligation_examples.specs.DesignR.{r_design}
 
 -- refine SwOut, SwIn within 1 {
 --   role SwIn[s: bit<16>, p: bit<16>] | g(s) and p < 16w4 = {

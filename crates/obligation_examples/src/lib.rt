@@ -1,4 +1,6 @@
-//! The obligations of seven designs, worked out from the definitions.
+//! What designs owe, worked out from the definitions: the trees of bodies, obligations with their formulas, and one round.
 #![tactic(auto)]
 
-pub mod laws;
+pub mod owed;
+pub mod round;
+pub mod trees;

@@ -19,10 +19,10 @@ mod edits;
 mod expressions;
 mod frames;
 mod networks;
-mod p4_answers;
-mod p4_texts;
 mod pieces;
 mod prefixes;
+mod program_answers;
+mod program_texts;
 mod programs;
 mod readings;
 mod statements;
@@ -34,7 +34,7 @@ use bundles::put_of_bundles;
 use case_files::{Printer, Subject, first_word, last_line, print_of_input, sole_word, try_words};
 use certs::put_count;
 use frames::put_of_texts;
-use p4_texts::put_of_programs;
+use program_texts::put_of_programs;
 use std::process::ExitCode;
 
 /// The cases, with the machine that has their files of data.
@@ -83,7 +83,7 @@ fn put_input(rt: &HostRuntime, input: Input, text: &[u8], answer: &mut Printer) 
     match input {
         Input::Text(kind) => put_reading(alloc, kind, text, answer),
         Input::Certificates => put_count(alloc, text, answer),
-        Input::Program => p4_answers::put_reading(alloc, text, answer),
+        Input::Program => program_answers::put_reading(alloc, text, answer),
     }
     answer.put("\n");
 }

@@ -1,5 +1,5 @@
 //! A text that is changed at each of its bytes in turn.
-use crate::p4_answers::put_reading;
+use crate::program_answers::put_reading;
 use case_files::{Printer, first_word, number, swept};
 use std::alloc::Global;
 

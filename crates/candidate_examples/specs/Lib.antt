@@ -1,2 +1,0 @@
-pub mod DesignQ
-pub mod Expected

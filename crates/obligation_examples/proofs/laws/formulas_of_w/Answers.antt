@@ -1,5 +1,0 @@
-use Rattle.std.proofs.Common.{refl}
-use Rattle.obligation_examples.proofs.laws.formulas_of_w.Goals as goal
-
-pub returns : goal.returns
-returns c = refl

@@ -1,5 +1,0 @@
-use Rattle.std.proofs.Common.{refl}
-use Rattle.symbolic_examples.proofs.laws.leaves_are_many.Goals as goal
-
-pub returns : goal.returns
-returns c = record { seven = refl; eleven = refl; twelve = refl; reported = refl; most = refl }

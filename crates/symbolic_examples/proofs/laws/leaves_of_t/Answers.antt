@@ -1,5 +1,0 @@
-use Rattle.std.proofs.Common.{refl}
-use Rattle.symbolic_examples.proofs.laws.leaves_of_t.Goals as goal
-
-pub returns : goal.returns
-returns c = record { leaves = refl; insides = refl; way = refl }

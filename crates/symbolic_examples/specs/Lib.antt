@@ -1,3 +1,0 @@
-pub mod DesignR
-pub mod DesignWays
-pub mod Seen
