@@ -1,1 +1,1 @@
-mod Owed
+mod Shown

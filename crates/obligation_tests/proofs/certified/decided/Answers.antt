@@ -1,5 +1,5 @@
 use Rattle.cocoon_syntax.specs.TreeOf.{design_of}
-use Rattle.obligation_tests.proofs.Owed.{owed_at}
+use Rattle.obligation_tests.proofs.Shown.{owed_at}
 use Rattle.obligation_tests.proofs.certified.decided.Goals as goal
 
 pub decide-requires-clause-owed : goal.decide-requires-clause-owed

@@ -1,5 +1,5 @@
 use Rattle.cocoon_syntax.specs.TreeOf.{design_of}
-use Rattle.obligation_tests.proofs.Owed.{found_owed}
+use Rattle.obligation_tests.proofs.Shown.{found_owed}
 use Rattle.obligation_tests.proofs.owed.obligation.Goals as goal
 
 pub returns : goal.returns
