@@ -83,6 +83,8 @@ def example(folder, name):
 COMPILE = ["compile", "n.ccn", "n.defs", "out"]
 STEP = ["step", "n.ccn", "n.defs", "0", "n.case"]
 FORWARD = ["forward", "out", "n.txt"]
+UPDATE = ["update", "n.ccn", "n.defs", "out"]
+MOST_CERTIFICATES = 64 << 20
 
 
 def with_case(folder, case="SwIn 1 0\n1\n-\n"):
@@ -94,6 +96,16 @@ def with_bundle(folder, program, packets):
     subprocess.run([program, *COMPILE], cwd=folder, check=True, stdout=subprocess.DEVNULL)
     (folder / "n.txt").write_text(packets)
     return FORWARD
+
+
+def with_certificates(folder, program, entry="", size=0):
+    """The bundle of a design, whose file of certificates is so many bytes of one log with the same step, if a size is given."""
+    subprocess.run([program, *COMPILE], cwd=folder, check=True, stdout=subprocess.DEVNULL)
+    if size:
+        head, end = '{"certs":[{"instances":[],"log":[', ']}],"cocoon":1}'
+        times = (size - len(head) - len(end) + 1) // (len(entry) + 1)
+        (folder / "out.certs.json").write_text(head + ",".join([entry] * times) + end)
+    return UPDATE
 
 
 def inputs(program):
@@ -114,6 +126,10 @@ def inputs(program):
     for shape in ((1, 26, 1), (64, 26, 1), (64, 26, 8), (1, 250, 1), (64, 250, 1)):
         what = "compile: {} switches with {} tables of 8,000 rows of {} numbers".format(*shape)
         yield what, lambda folder, shape=shape: (texts(folder, *applied(*shape)), COMPILE)[1]
+    yield "update: the largest network", lambda folder: (texts(folder, *largest[1:3]), with_certificates(folder, program))[1]
+    yield "update: 64 MiB of certificates, steps of one literal and one hint", lambda folder: (example(folder, "m"), with_certificates(folder, program, "[[1],[0]]", MOST_CERTIFICATES))[1]
+    yield "update: 64 MiB of certificates, empty steps", lambda folder: (example(folder, "m"), with_certificates(folder, program, "[[],[]]", MOST_CERTIFICATES))[1]
+    yield "gen: 200 hosts, 100,000 packets", lambda folder: ["gen", "200", "100000"]
     yield "step: the largest network", lambda folder: (texts(folder, *largest[1:3]), with_case(folder, "SwIn 1 0\n0 1\n-\n"))[1]
     yield "step: a case of 64 KiB, 32,000 choices", lambda folder: (example(folder, "f"), with_case(folder, "SwIn 1 0\n1\n" + " ".join(["1"] * 32_000) + "\n"))[1]
     yield "forward: the largest network, one packet", lambda folder: (texts(folder, *largest[1:3]), with_bundle(folder, program, "0 00000000fffffffe\n"))[1]
