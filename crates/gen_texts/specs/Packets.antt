@@ -5,9 +5,9 @@ use Rattle.std.specs.Prelude.{ℕ, ◌/◌, ◌%◌, List, ◌++◌}
 use Rattle.std.specs.Int.{to_be_bytes, w32}
 use Rattle.gen_texts.specs.Definitions.{address}
 
--- the host at which a packet enters
+-- the host at which a packet enters, by its address
 abbrev pub source : (hosts number : ℕ) → ℕ
-source hosts number = number % hosts
+source hosts number = address (number % hosts)
 
 -- the host whose address it has as its destination
 abbrev pub destination : (hosts number : ℕ) → ℕ
@@ -15,5 +15,5 @@ destination hosts number = number / hosts % hosts
 
 abbrev pub bytes : (hosts number : ℕ) → List ℕ
 bytes hosts number =
-    to_be_bytes w32 (address (source hosts number))
+    to_be_bytes w32 (source hosts number)
     ++ to_be_bytes w32 (address (destination hosts number))

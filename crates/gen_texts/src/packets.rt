@@ -9,6 +9,7 @@ use std::alloc::Global;
 /// A packet, and the host at which it enters.
 #[derive(Drop)]
 pub struct Stated {
+    /// The address of the host, which is its number in the network.
     pub host: u64,
     /// The addresses of two hosts, high byte first.
     pub bytes: Vec<u8>,
@@ -21,10 +22,10 @@ pub fn packet(alloc: Global, hosts: u32, number: u32) -> Result<Stated, NoMemory
     ensures host { IfOk result (λ p. p.host ≡ spec.source hosts number) }
     ensures bytes { IfOk result (λ p. p.bytes.items ≡ spec.bytes hosts number) }
 {
-    let source = number % hosts;
+    let source = address(number % hosts);
     let destination = number / hosts % hosts;
     let mut bytes = Vec::new(alloc);
-    bytes.extend_from_slice(&address(source).to_be_bytes())?;
+    bytes.extend_from_slice(&source.to_be_bytes())?;
     bytes.extend_from_slice(&address(destination).to_be_bytes())?;
     Ok(Stated {
         host: u64::from(source),
