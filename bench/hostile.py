@@ -595,7 +595,7 @@ class Worker:
             if again.status or any(bytes_of(name) != held[name] for name in held):
                 return "another answer in the second run"
         if target == "lab.certs.json" and new != room.files[target] and is_other(new, room.files[target]):
-            checked = subprocess.run([TOP / "bench" / "design_clauses.py", "check", "d.ccn", "lab.certs.json"], stdout=subprocess.PIPE, stderr=subprocess.PIPE, text=True)
+            checked = subprocess.run([sys.executable, TOP / "bench" / "design_clauses.py", "check", "d.ccn", "lab.certs.json"], stdout=subprocess.PIPE, stderr=subprocess.PIPE, text=True)
             self.counts["other certificates accepted", checked.returncode] += 1
             if checked.returncode:
                 return f"certificates are accepted of which design_clauses.py says {checked.stdout[-200:]} {checked.stderr[-200:]}"
@@ -603,8 +603,8 @@ class Worker:
 
     def differs(self, line):
         """What is wrong with the number of the certificate that is refused, or nothing."""
-        checked = subprocess.run([TOP / "bench" / "design_clauses.py", "check", "d.ccn", "lab.certs.json"], stdout=subprocess.PIPE, stderr=subprocess.PIPE, text=True)
-        found = re.search(r"^(\d+) ", checked.stdout, re.M)
+        checked = subprocess.run([sys.executable, TOP / "bench" / "design_clauses.py", "check", "d.ccn", "lab.certs.json"], stdout=subprocess.PIPE, stderr=subprocess.PIPE, text=True)
+        found = re.search(r"; not (\d+)", checked.stdout)
         self.counts["refused certificates", checked.returncode] += 1
         if checked.returncode == 0:
             return f"{line} of certificates that design_clauses.py accepts"
