@@ -24,7 +24,7 @@ compared in the ways that bench/agreed.py names: a difference is reported, too. 
   another file, or accepts certificates that bench/design_clauses.py does not accept; and where it refuses certificates that were mutated as trees
   and does not tell the first that this does not accept (in one run of 8);
 - where an `update` or a `compile` over a bundle, of which a call on files or an allocation fails (one of three runs of `update`, and one of
-  eight of `compile`), changes another file than those that it writes, or leaves what `forward` neither refuses, nor runs as the old network or
+  five of `compile`), changes another file than those that it writes, or leaves what `forward` neither refuses, nor runs as the old network or
   the new one; or where the same words do not mend it;
 - where the line of `gen` is not the one that was worked out.
 
