@@ -4,13 +4,17 @@
     bench/forward.py [RUNS]             runs `cocoon forward` on both so often (3), and prints the least wall times and the most memory
     bench/forward.py instructions N     prints how many instructions each of N packets takes, by cachegrind of valgrind
     bench/forward.py groups ..          the same of a network of 8,000 groups, of which each packet chooses one
+    bench/forward.py line ..            the same of 64 switches in a line, all of which each packet visits
+    bench/forward.py fan ..             the same of one switch, which makes 256 copies of each packet
 
 It needs the program of crates/cocoon: `rt run` there builds it; or COCOON names one. The network has 64 switches of 256 ports, 512
 hosts and 7,680 rows; each switch is linked to the eight that follow it in a ring, so a packet visits up to nine of them. The network of
 groups has one switch of 4 ports with a host at each: a packet's first 16 bits are the number of its group, and its one copy leaves at the
-member. All files are in memory where the machine has a folder for that, and each run reads the bundle and the packets, and prints.
-What it prints is compared with where each packet has to go. Where a compiler `cc` is there, the C program visits.c reads the same
-network in its plain form and the same packets, and has to print the same; it looks at one group after another.
+member. In the line each switch has a route to each host, all of whose bits are compared. All files are in memory where the machine has a
+folder for that, and each run reads the bundle and the packets, and prints. What it prints is compared with where each packet has to go.
+Where a compiler `cc` is there, the C program visits.c reads the same network in its plain form and the same packets, and has to print the
+same; it looks at one group after another. It does so twice: with rows that are tried one by one where they are not literal, and with rows in
+groups of equal masks.
 """
 
 import os
@@ -34,6 +38,7 @@ LAST = 4294967295
 PACKETS = 100_000
 PAYLOAD = bytes(range(56)).hex()
 GROUPS = 8_000
+COPIES = 256
 # Each value of `tag` has a group.
 GROUPS_DESIGN = """packet { header e { tag: bit<16>; } }
 function h(a: bit<16>): bool;
@@ -48,11 +53,14 @@ role SwIn[s: bit<16>, p: bit<16>] | g(s) and p < 16w4 = {
 role SwOut[s: bit<16>, p: bit<16>] | g(s) and p < 16w4 = { send In[p]; }
 switch (SwIn, SwOut) ports 4;
 """
+# Each packet is copied for all hosts.
+FAN_DESIGN = GROUPS_DESIGN.replace("p < 16w4", f"p < 16w{COPIES}").replace("ports 4", f"ports {COPIES}")
 
 
 class Ring:
     """Switches in a ring."""
 
+    hops = 16
     name = f"switches {SWITCHES} hosts {HOSTS} links {SWITCHES * (HOSTS_AT_EACH + LINKS)}"
     design = design(1)
 
@@ -81,12 +89,41 @@ class Ring:
     def packet(number):
         """The host, the host that it sends to, and the bytes. Each pair of hosts comes before any comes again."""
         source, target = number % HOSTS, (number * 37 + number // HOSTS) % HOSTS
-        return source, target, f"{source:08x}{target:08x}{PAYLOAD}"
+        return source, [target], f"{source:08x}{target:08x}{PAYLOAD}"
+
+
+class Line:
+    """Switches in a line, with a host at each."""
+
+    hops = SWITCHES
+    name = f"switches {SWITCHES} hosts {SWITCHES} links {3 * SWITCHES}"
+    design = design(1)
+
+    @staticmethod
+    def definitions():
+        """A packet goes on by the first link port, and back by the second. The ends are joined, but no packet goes there."""
+        lines = [f"default {f} = false;" for f in ("h", "g", "isLink")]
+        lines += [f"default {f} = 16w0;" for f in ("switchOf", "portOf", "peer", "route")] + [f"default hostAt = 32w{LAST};"]
+        for s in range(1, SWITCHES + 1):
+            lines += [f"define g(16w{s}) = true;", f"define h(32w{s}) = true;", f"define switchOf(32w{s}) = 16w{s};"]
+            lines.append(f"define hostAt(16w{s}, 16w0) = 32w{s};")
+            for port, peer in ((FIRST_LINK, s % SWITCHES + 1), (FIRST_LINK + 1, (s - 2) % SWITCHES + 1)):
+                lines += [f"define isLink(16w{s}, 16w{port}) = true;", f"define peer(16w{s}, 16w{port}) = 16w{peer};"]
+            for a in range(1, SWITCHES + 1):
+                port = 0 if a == s else FIRST_LINK if a > s else FIRST_LINK + 1
+                lines.append(f"define route(16w{s}, 32w{LAST - a}) = 16w{port};")
+        return "\n".join(lines) + "\n"
+
+    @staticmethod
+    def packet(number):
+        """From the first host to the last."""
+        return 1, [SWITCHES], f"{1:08x}{SWITCHES:08x}{number:08x}{PAYLOAD[8:]}"
 
 
 class Copied:
     """One switch, which copies each packet for the members of a group."""
 
+    hops = 16
     name = "switches 1 hosts 4 links 4"
     design = GROUPS_DESIGN
 
@@ -100,7 +137,25 @@ class Copied:
     def packet(number):
         """All groups come before any comes again."""
         group = number * 37 % GROUPS
-        return number % 4, group % 4, f"{group:04x}{PAYLOAD}"
+        return number % 4, [group % 4], f"{group:04x}{PAYLOAD}"
+
+
+class Fan:
+    """One switch, which copies each packet for all hosts."""
+
+    hops = 16
+    name = f"switches 1 hosts {COPIES} links {COPIES}"
+    design = FAN_DESIGN
+
+    @staticmethod
+    def definitions():
+        lines = [f"default {f} = false;" for f in ("h", "g", "m")] + ["define g(16w1) = true;"]
+        lines += [f"define h(16w{a}) = true;\ndefine m(16w1, 16w{a}) = true;" for a in range(COPIES)]
+        return "\n".join(lines) + "\n"
+
+    @staticmethod
+    def packet(number):
+        return number % COPIES, list(range(COPIES)), f"0001{number % 65536:04x}{PAYLOAD[4:]}"
 
 
 def compiled(program, folder, network):
@@ -116,7 +171,10 @@ def write_packets(folder, network, count):
     """A file of so many packets; what is to be printed of them."""
     packets = [network.packet(n) for n in range(count)]
     (folder / "packets").write_text("".join(f"{source} {sent}\n" for source, _, sent in packets))
-    return "".join(f"{n + 1} delivered 1 travelling 0\n> {target} {sent}\n" for n, (_, target, sent) in enumerate(packets))
+    return "".join(
+        f"{n + 1} delivered {len(targets)} travelling 0\n" + "".join(f"> {target} {sent}\n" for target in targets)
+        for n, (_, targets, sent) in enumerate(packets)
+    )
 
 
 def one_run(words, folder, wanted):
@@ -151,13 +209,13 @@ def instructions(words, folder, network, count):
     return (totals[1] - totals[0]) // count, totals[0]
 
 
-def commands_for(program, folder):
-    """The program, and beside it the plain one where it can be built."""
-    found = [[program, "forward", "out", "packets", "--hops", "16"]]
+def commands_for(program, folder, network):
+    """The program, and beside it the plain one in both its ways where it can be built."""
+    found = [[program, "forward", "out", "packets", "--hops", str(network.hops)]]
     if shutil.which("cc"):
         subprocess.run(["cc", "-O2", "-o", folder / "visits", TOP / "bench" / "visits.c"], check=True)
         (folder / "plain").write_text(plain_form(folder, "out"))
-        found.append([folder / "visits", "forward", "plain", "packets", "16"])
+        found += [[folder / "visits", word, "plain", "packets", str(network.hops)] for word in ("forward", "grouped")]
     return found
 
 
@@ -165,26 +223,27 @@ def print_instructions(commands, folder, network, count):
     print("| Program | Instructions for a packet | For the bundle |\n|---|---|---|")
     for words in commands:
         each, bundle = instructions(words, folder, network, count)
-        print(f"| {pathlib.Path(words[0]).name} | {each:,} | {bundle:,} |", flush=True)
+        print(f"| {pathlib.Path(words[0]).name} {words[1]} | {each:,} | {bundle:,} |", flush=True)
 
 
 def print_times(commands, folder, network, runs):
-    print("| Packets | Time | Memory | In C | Memory | Ratio |\n|---|---|---|---|---|---|")
+    print("| Packets | Time | Memory | In C | Memory | In groups in C | Memory | Ratios |\n|---|---|---|---|---|---|---|---|")
     whole = None
     for count in (0, PACKETS // 2, PACKETS):
         half, whole = whole, measured(commands, folder, network, count, runs)
         line = f"| {count:,}"
         for taken, memory in whole:
             line += f" | {taken:.2f} s | {memory:,.0f} MiB"
-        print(line + (f" | {whole[0][0] / whole[1][0]:.2f} |" if len(whole) > 1 else " | | | |"), flush=True)
+        ratios = ", ".join(f"{whole[0][0] / taken:.2f}" for taken, _ in whole[1:])
+        print(f"{line} | {ratios} |", flush=True)
     print("Whole to half: " + ", ".join(f"{both[1][0] / both[0][0]:.2f}" for both in zip(half, whole)))
 
 
 def main():
     words = sys.argv[1:]
-    network = Ring
-    if words[:1] == ["groups"]:
-        words, network = words[1:], Copied
+    network = {"groups": Copied, "line": Line, "fan": Fan}.get(words[0] if words else "", Ring)
+    if network is not Ring:
+        words = words[1:]
     program = os.environ.get("COCOON") or TOP / "crates" / "cocoon" / "out" / "cocoon"
     if not os.access(program, os.X_OK):
         sys.exit("forward.py: build the program first: `rt run` in crates/cocoon")
@@ -192,7 +251,7 @@ def main():
     with tempfile.TemporaryDirectory(dir=memory_folder) as name:
         folder = pathlib.Path(name)
         compiled(program, folder, network)
-        commands = commands_for(program, folder)
+        commands = commands_for(program, folder, network)
         if words[:1] == ["instructions"]:
             print_instructions(commands, folder, network, int(words[1]))
         else:

@@ -6,8 +6,10 @@
                                             results make; with the word `each` every result in a line
    visits forward NETWORK PACKETS HOPS      reads a network as plain_form.py writes it, and a file of packets, and prints what
                                             `cocoon forward` does of them
+   visits grouped NETWORK PACKETS HOPS      the same, with the rows of each table in groups of equal masks
 
-   It takes fields of at most 64 bits. Of a table whose rows are all literal it sorts them; those of any other it tries one by one.
+   It takes fields of at most 64 bits. Of a table whose rows are all literal it sorts them; those of any other it tries one by one, or
+   with the word `grouped` searches each group by halves: the first row of all groups that match decides.
    A part in quotes, as `"3 a#"`, stands there three times, with 0, 1 and 2 for `#`. */
 #include <stdint.h>
 #include <stdio.h>
@@ -60,12 +62,16 @@ typedef struct stmt {
 
 enum { MOST = 4096, MOST_KEYS = 8, MOST_OPEN = 256 };
 
+/* Rows that stand side by side. */
+typedef struct { size_t from, count; } span;
+
 typedef struct {
   unsigned number, key_count, result;
   unsigned keys[MOST_KEYS];
   int sorted; /* all rows are literal, and stand in the order of their values */
-  size_t count;
-  uint64_t *values, *masks, *results, otherwise;
+  size_t count, group_count;
+  span *groups; /* where there are any, rows with the same masks, in the order of their values */
+  uint64_t *values, *masks, *results, *places, otherwise;
 } table;
 
 typedef struct { uint64_t number, *members; size_t count; } group;
@@ -238,9 +244,12 @@ static void read_word(const char *word) {
 typedef struct { uint64_t values[MOST_KEYS], masks[MOST_KEYS], result; size_t place; } row;
 static row *rows;
 static size_t row_count, compared;
+static int grouped; /* rows are grouped by their masks */
 
 static int compare(const void *a, const void *b) {
   const row *x = a, *y = b;
+  for (size_t i = 0; grouped && i < compared; i++)
+    if (x->masks[i] != y->masks[i]) return x->masks[i] < y->masks[i] ? -1 : 1;
   for (size_t i = 0; i < compared; i++)
     if (x->values[i] != y->values[i]) return x->values[i] < y->values[i] ? -1 : 1;
   return x->place < y->place ? -1 : x->place > y->place;
@@ -255,20 +264,35 @@ static int all_literal(const table *t) {
   return 1;
 }
 
-/* The rows that were read are those of this table. Of literal ones with the same values only the first counts. */
+/* The row is in the last group. */
+static void group_row(table *t, size_t bytes) {
+  if (!t->count || memcmp(t->masks + t->count * t->key_count, t->masks + (t->count - 1) * t->key_count, bytes)) {
+    t->groups = one_more(t->groups, t->group_count, sizeof *t->groups);
+    t->groups[t->group_count++] = (span){ .from = t->count };
+  }
+  t->groups[t->group_count - 1].count++;
+}
+
+/* The rows that were read are those of this table. Of literal ones with the same values only the first counts, and so it is in a group. */
 static void end_rows(table *t, uint64_t otherwise) {
   size_t bytes = t->key_count * sizeof(uint64_t);
   t->sorted = all_literal(t);
   compared = t->key_count;
-  if (t->sorted && row_count) qsort(rows, row_count, sizeof *rows, compare);
+  if ((t->sorted || grouped) && row_count) qsort(rows, row_count, sizeof *rows, compare);
   t->values = room(row_count, bytes);
   t->masks = room(row_count, bytes);
   t->results = room(row_count, sizeof(uint64_t));
+  t->places = room(row_count, sizeof(uint64_t));
   t->otherwise = otherwise;
   for (size_t i = 0; i < row_count; i++) {
-    if (t->sorted && t->count && !memcmp(rows[i].values, t->values + (t->count - 1) * t->key_count, bytes)) continue;
+    int follows = (t->sorted || grouped) && t->count;
+    if (follows && !memcmp(rows[i].values, t->values + (t->count - 1) * t->key_count, bytes)
+        && !memcmp(rows[i].masks, t->masks + (t->count - 1) * t->key_count, bytes))
+      continue;
     memcpy(t->values + t->count * t->key_count, rows[i].values, bytes);
     memcpy(t->masks + t->count * t->key_count, rows[i].masks, bytes);
+    if (grouped && !t->sorted) group_row(t, bytes);
+    t->places[t->count] = rows[i].place;
     t->results[t->count++] = rows[i].result;
   }
   row_count = 0;
@@ -419,7 +443,37 @@ static uint64_t first_match(const table *t) {
   return t->otherwise;
 }
 
-static uint64_t look_up(const table *t) { return t->sorted ? look_up_sorted(t) : first_match(t); }
+/* The row of a group that matches, or none: -1. */
+static size_t in_group(const table *t, span g) {
+  uint64_t keys[MOST_KEYS];
+  const uint64_t *masks = t->masks + g.from * t->key_count;
+  for (unsigned key = 0; key < t->key_count; key++) keys[key] = meta[t->keys[key]] & masks[key];
+  size_t low = g.from, high = g.from + g.count;
+  while (low < high) {
+    size_t middle = low + (high - low) / 2;
+    const uint64_t *values = t->values + middle * t->key_count;
+    unsigned key = 0;
+    while (key < t->key_count && values[key] == keys[key]) key++;
+    if (key == t->key_count) return middle;
+    if (values[key] < keys[key]) low = middle + 1;
+    else high = middle;
+  }
+  return (size_t)-1;
+}
+
+static uint64_t first_of_groups(const table *t) {
+  uint64_t place = UINT64_MAX, result = t->otherwise;
+  for (size_t i = 0; i < t->group_count; i++) {
+    size_t found = in_group(t, t->groups[i]);
+    if (found != (size_t)-1 && t->places[found] < place) {
+      place = t->places[found];
+      result = t->results[found];
+    }
+  }
+  return result;
+}
+
+static uint64_t look_up(const table *t) { return t->sorted ? look_up_sorted(t) : t->groups ? first_of_groups(t) : first_match(t); }
 
 /* Whether the statements returned. */
 static int run(block b) {
@@ -669,7 +723,8 @@ static void run_packets(const char *name, unsigned long hops) {
 }
 
 int main(int count, char **asked) {
-  if (count == 5 && !strcmp(asked[1], "forward")) {
+  grouped = count == 5 && !strcmp(asked[1], "grouped");
+  if (grouped || (count == 5 && !strcmp(asked[1], "forward"))) {
     read_network(asked[2]);
     run_packets(asked[3], strtoul(asked[4], NULL, 10));
   } else run_visits(count > 1 && !strcmp(asked[1], "each"));

@@ -95,6 +95,16 @@ impl FlatRows {
         })
     }
 
+    /// Lays them to be looked at in their order, which takes less time than to sort them, also where all have the same masks.
+    pub fn in_order(alloc: Global, count: usize, rows: &TableRows) -> Result<FlatRows, NoMemory>
+        requires { All (HasKeys count) rows.now.rows }
+        ensures { IfOk result (λ flat. Holds count flat (table_rows_of rows.now)) }
+    {
+        let form = scanned(alloc, count, rows.rows.items())?;
+        let default = rows.default;
+        Ok(FlatRows { default, form })
+    }
+
     /// The result of the first row that matches the numbers in the table's keys, else the default.
     pub fn look(&self, keys: &[u32], meta: &[u64]) -> u64
         requires some { 0 < length keys.now }

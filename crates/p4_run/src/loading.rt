@@ -25,7 +25,7 @@ use cocoon_num::NoMemory;
 use number_table::NumberTable;
 use p4_code::Names;
 use p4_ir::{Program, RowsFile};
-use p4_steps::{Application, StmtCode, resolved_stmts};
+use p4_steps::{Application, Constants, StmtCode, resolved_stmts};
 use packed_fields::byte_count;
 use std::alloc::Global;
 
@@ -130,7 +130,14 @@ fn resolved(
     ensures program { IfOk result (λ loaded. program_in loaded ≡ program_of program.now) }
     ensures rows { IfOk result (λ loaded. rows_in loaded ≡ rows_of rows.now) }
 {
-    let tables = tables_with(alloc, program, &places.tables, rows.tables.items())?;
+    let constants = Constants::of(alloc, program)?;
+    let tables = tables_with(
+        alloc,
+        program,
+        &constants,
+        &places.tables,
+        rows.tables.items(),
+    )?;
     placed(alloc, program, rows, places, tables)
 }
 

@@ -12,13 +12,14 @@ use crate::places::table_of_either;
 use cocoon_num::NoMemory;
 use number_table::NumberTable;
 use p4_ir::{Program, TableRows};
-use p4_steps::Application;
+use p4_steps::{Application, Constants};
 use std::alloc::Global;
 
 /// The table that some rows are of.
 fn table_with(
     alloc: Global,
     program: &Program,
+    constants: &Constants,
     places: &NumberTable,
     rows: &TableRows,
 ) -> Result<Application, NoMemory>
@@ -29,7 +30,10 @@ fn table_with(
         IsApplied (program_of program.now) (table_rows_of rows.now) made) }
 {
     match table_of_either(program, places, rows.number) {
-        Some(table) => Application::new(alloc, table, rows, program.meta.items().len()),
+        Some(table) => {
+            let meta_count = program.meta.items().len();
+            Application::new(alloc, table, rows, constants, meta_count)
+        }
         None => unreachable!(),
     }
 }
@@ -38,6 +42,7 @@ fn table_with(
 pub(crate) fn tables_with(
     alloc: Global,
     program: &Program,
+    constants: &Constants,
     places: &NumberTable,
     rows: &[TableRows],
 ) -> Result<Vec<Application>, NoMemory>
@@ -50,7 +55,7 @@ pub(crate) fn tables_with(
 {
     let mut tables = Vec::new(alloc);
     for own in rows {
-        tables.push(table_with(alloc, program, places, own)?)?;
+        tables.push(table_with(alloc, program, constants, places, own)?)?;
     }
     Ok(tables)
 }

@@ -2,7 +2,7 @@
 use Rattle.std.proofs.Common.{◌≡◌, ℕ, zero, suc, ◌≤◌, nat_le, Bool, true, if◌then◌else◌, List, [], ◌∷◌, length, slice_index, slice_set, refl, ap, ◌∙◌, arith}
 use Rattle.std.proofs.lemmas.Bool.{le-leb}
 use Rattle.std.proofs.lemmas.List.{length-map}
-use Rattle.flat_rows.specs.Held.{Holds, looked_up}
+use Rattle.grouped_rows.specs.Laid.{Holds, looked_up}
 use Rattle.flat_rows.specs.Keyed.{keyed}
 use Rattle.p4_ir.specs.P4Tree.{TableRows}
 use Rattle.p4_ir.specs.Switch.{table_result}

@@ -6,17 +6,29 @@ ghost use Rattle.p4_ir.specs.Switch.{table_result};
 ghost use Rattle.p4_steps.specs.Effects.{applied_to};
 
 use crate::codes::Application;
+use crate::constants::Constants;
 use cocoon_num::NoMemory;
-use flat_rows::FlatRows;
+use grouped_rows::{Hint, LaidRows};
 use p4_ir::{Table, TableRows};
 use std::alloc::Global;
 
+/// The first key that mostly has a number which is known.
+fn hint(keys: &[u32], constants: &Constants) -> Option<Hint> {
+    for (place, key) in keys.iter().enumerate() {
+        if let Some(number) = constants.number(*key) {
+            return Some(Hint { place, number });
+        }
+    }
+    None
+}
+
 impl Application {
-    /// A table with its rows, of a program with so many meta fields.
+    /// A table with its rows, of a program with so many meta fields. No answer depends on the constants.
     pub fn new(
         alloc: Global,
         table: &Table,
         rows: &TableRows,
+        constants: &Constants,
         meta_count: usize,
     ) -> Result<Application, NoMemory>
         requires some { 0 < length table.now.keys }
@@ -27,7 +39,7 @@ impl Application {
             (map key_row_of rows.now.rows) rows.now.default (keyed meta table.now.keys))) }
     {
         let keys = table.keys.items().to_vec(alloc)?;
-        let rows = FlatRows::new(alloc, keys.len(), rows)?;
+        let rows = LaidRows::new(alloc, keys.len(), rows, hint(&keys, constants))?;
         Ok(Application {
             rows,
             keys,

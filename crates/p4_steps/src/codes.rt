@@ -1,15 +1,15 @@
 //! Resolved statements.
 ghost use Rattle.std.specs.Prelude.{All, ◌≡◌, ◌<◌, length};
 ghost use Rattle.std.proofs.Props.{props};
-ghost use Rattle.flat_rows.specs.Held.{key_count};
+ghost use Rattle.grouped_rows.specs.Laid.{key_count};
 
-use flat_rows::FlatRows;
+use grouped_rows::LaidRows;
 use p4_code::{NumberCode, TruthCode};
 
 /// A table as it is applied: its rows, laid flat, and which meta fields are its keys and its result.
 #[derive(Drop)]
 pub struct Application {
-    pub(crate) rows: FlatRows,
+    pub(crate) rows: LaidRows,
     pub(crate) keys: Vec<u32>,
     pub(crate) result: usize,
     /// How many meta fields there are.

@@ -4,9 +4,11 @@
 
 pub mod applying;
 pub mod codes;
+pub mod constants;
 pub mod resolving;
 pub mod running;
 
 pub use codes::{Application, StmtCode};
+pub use constants::Constants;
 pub use resolving::resolved_stmts;
 pub use running::{Way, run_all};

@@ -17,9 +17,9 @@ new-requires-clause-rows c =
 pub new-requires-clause-keys : goal.new-requires-clause-keys
 new-requires-clause-keys c =
     let p = program_of c.args.program.now in
-    keys_within p c.args.rows.now.number c.in-Some.table.now c.items.result.now c.requires.kinds c.in-Some.ensures (ap (map field_of) c.items.ensures)
+    keys_within p c.args.rows.now.number c.in-Some.table.now c.items-meta_count.result.now c.requires.kinds c.in-Some.ensures (ap (map field_of) c.items-meta_count.ensures)
 
 pub returns : goal.returns
 returns c =
     let p = program_of c.args.program.now in
-    IfOk-weaker c.new.result _ _ (λ a h. applied_one p c.args.rows.now a c.in-Some.table.now c.items.result.now (ap (map field_of) c.items.ensures) c.in-Some.ensures h) c.new.ensures
+    IfOk-weaker c.new.result _ _ (λ a h. applied_one p c.args.rows.now a c.in-Some.table.now c.items-meta_count.result.now (ap (map field_of) c.items-meta_count.ensures) c.in-Some.ensures h) c.new.ensures

@@ -1,0 +1,2 @@
+pub mod MatchFacts
+pub mod PartFacts

@@ -1,0 +1,5 @@
+pub mod Held
+pub mod Laid
+pub mod Least
+pub mod Matching
+pub mod Placed
