@@ -442,8 +442,13 @@ def generated_words(source):
     hosts = source.choice([*map(str, range(1, 13)), *map(str, range(13, 41, 3)), "07", "0", "200" if source.randrange(40) == 0 else "201", source.choice(BORDERS), "", "-1", "1x", "00000001"])
     packets = source.choice([str(source.randrange(1, 200)) for _ in range(12)] + ["1000", "0", "100001", source.choice(BORDERS), "0000003", "00000003", "+1", "--", "--hops"])
     more = [] if source.randrange(8) else [source.choice(["1", "--rounds", "gen", "--"])]
-    fit = [len(word) < 8 and word.isdecimal() and 1 <= int(word) <= most for word, most in ((hosts, 200), (packets, 100_000))]
-    return ["gen", hosts, packets, *more], (int(hosts), int(packets)) if all(fit) and more in ([], ["--"]) else None
+    words = [hosts, packets, *more]
+    # The first `--` is the end of options, wherever it stands.
+    numbers = [*words]
+    if "--" in numbers:
+        numbers.remove("--")
+    fit = len(numbers) == 2 and all(len(word) < 8 and word.isdecimal() and 1 <= int(word) <= most for word, most in zip(numbers, (200, 100_000)))
+    return ["gen", *words], tuple(map(int, numbers)) if fit else None
 
 
 class Worker:
