@@ -1,7 +1,7 @@
 -- A file of a spent budget is of one thing that it was spent on.
 use Rattle.std.proofs.Common.{◌≡◌, ℕ, List, sym, ◌∙◌}
 use Rattle.json_forms.proofs.Exact.{some_same}
-use Rattle.log_json.proofs.LogsApart.{all_instances_apart, logs_apart}
+use Rattle.cert_json.proofs.LogsApart.{all_instances_apart, logs_apart}
 use Rattle.budget_text.specs.BudgetJson.{budget_data, IsBudgetFile}
 use Rattle.budget_text.specs.Spent.{Spent, given, asked, tried, rounds}
 

@@ -3,7 +3,7 @@ use Rattle.std.proofs.Common.{◌≡◌, ◌≤◌, false, refl, arith}
 use Rattle.serde_json.specs.Data.{depth}
 use Rattle.serde_json.specs.Read.{max_depth}
 use Rattle.serde_json.specs.Written.{has_float}
-use Rattle.log_json.proofs.LogsValue.{instances_plain, instances_shallow, log_plain, log_shallow}
+use Rattle.cert_json.proofs.LogsValue.{instances_plain, instances_shallow, log_plain, log_shallow}
 use Rattle.budget_text.specs.BudgetJson.{budget_data}
 use Rattle.budget_text.specs.Spent.{Spent, given, asked, tried, rounds}
 

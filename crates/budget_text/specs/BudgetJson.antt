@@ -4,7 +4,7 @@ use Rattle.std.specs.Prelude.{◌≡◌, ℕ, List, codes}
 use Rattle.serde_json.specs.Data.{Data, object, string, Members, member, no_members}
 use Rattle.serde_json.specs.Written.{compact_text}
 use Rattle.json_forms.specs.Values.{IsJson, number_data}
-use Rattle.log_json.specs.LogsJson.{instances_data, log_data}
+use Rattle.cert_json.specs.LogsJson.{instances_data, log_data}
 use Rattle.budget_text.specs.Spent.{Spent, given, asked, tried, rounds}
 
 abbrev pub budget_members : Spent → Members

@@ -9,10 +9,10 @@ use Rattle.json_forms.specs.Reading.{Answered}
 use Rattle.json_forms.specs.Values.{IsJson, number_data, array_data}
 use Rattle.json_forms.proofs.Exact.{Exact, some_same, if_parts, both_parts, fitting_parts, number_exact, list_exact, two_members, ok_parts, ok_same, err_ok}
 use Rattle.certificates.specs.Certificates.{Cert, Instance, Step}
-use Rattle.log_json.specs.LogsForm.{instances_form, log_form, instances_fit, log_fits}
-use Rattle.log_json.specs.LogsJson.{instances_data, log_data}
-use Rattle.log_json.proofs.LogsExact.{instances_exact, log_exact}
-use Rattle.log_json.proofs.LogsApart.{all_apart, all_instances_apart, logs_apart}
+use Rattle.cert_json.specs.LogsForm.{instances_form, log_form, instances_fit, log_fits}
+use Rattle.cert_json.specs.LogsJson.{instances_data, log_data}
+use Rattle.cert_json.proofs.LogsExact.{instances_exact, log_exact}
+use Rattle.cert_json.proofs.LogsApart.{all_apart, all_instances_apart, logs_apart}
 use Rattle.cert_json.specs.CertsForm.{cert_keys, cert_form, cocoon_of, certs_keys, certs_members, certs_form, cert_fits, certs_fit}
 use Rattle.cert_json.specs.CertsJson.{cert_data, certs_data}
 

@@ -5,7 +5,7 @@ use Rattle.serde_json.specs.Read.{read, max_depth}
 use Rattle.serde_json.specs.Written.{has_float}
 use Rattle.json_forms.proofs.Plain.{no_float, within}
 use Rattle.certificates.specs.Certificates.{Cert}
-use Rattle.log_json.proofs.LogsValue.{instances_plain, instances_shallow, log_plain, log_shallow}
+use Rattle.cert_json.proofs.LogsValue.{instances_plain, instances_shallow, log_plain, log_shallow}
 use Rattle.cert_json.specs.CertsJson.{cert_data, certs_data}
 
 cert_plain : (c : Cert) → has_float (cert_data c) ≡ false

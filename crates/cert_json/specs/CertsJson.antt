@@ -4,7 +4,7 @@ use Rattle.std.specs.Prelude.{List, codes}
 use Rattle.serde_json.specs.Data.{Data, object, member, no_members}
 use Rattle.json_forms.specs.Values.{number_data, array_data}
 use Rattle.certificates.specs.Certificates.{Cert}
-use Rattle.log_json.specs.LogsJson.{instances_data, log_data}
+use Rattle.cert_json.specs.LogsJson.{instances_data, log_data}
 
 -- {"instances":[INSTANCE],"log":LOG}
 abbrev pub cert_data : Cert → Data

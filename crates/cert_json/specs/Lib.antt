@@ -1,2 +1,4 @@
 pub mod CertsJson
 pub mod CertsForm
+pub mod LogsForm
+pub mod LogsJson

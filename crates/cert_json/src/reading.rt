@@ -7,7 +7,7 @@ ghost use Rattle.json_scan.specs.Numbers.{num_of};
 ghost use Rattle.json_scan.specs.Pairs.{object_form};
 ghost use Rattle.certificates.specs.Certificates as tree;
 ghost use Rattle.certificates.specs.CertsOf.{cert_of, certs_of, instance_of, log_of, step_of};
-ghost use Rattle.log_json.specs.LogsForm.{instance_form, is_literal, literal_form, log_form, step_form};
+ghost use Rattle.cert_json.specs.LogsForm.{instance_form, is_literal, literal_form, log_form, step_form};
 ghost use Rattle.cert_json.specs.CertsForm as spec;
 
 use crate::kind::CertJson;

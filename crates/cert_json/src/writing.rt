@@ -7,11 +7,10 @@ ghost use Rattle.certificates.specs.Certificates as tree;
 ghost use Rattle.certificates.specs.CertsOf.{cert_of, certs_of};
 ghost use Rattle.cert_json.specs.CertsJson as spec;
 
-use crate::kind::CertJson;
+use crate::kind::{CertJson, LogJson};
 use certificates::{Cert, Certs, Instance};
 use cocoon_num::NoMemory;
 use json_forms::{ToJson, array, with};
-use log_json::LogJson;
 use serde_json::{Map, Value};
 use std::alloc::Global;
 

@@ -9,7 +9,7 @@ use cnf_core::Log;
 use cocoon_num::NoMemory;
 use cocoon_resolve::Checked;
 use json_forms::{FromJson, value_of};
-use log_json::LogJson;
+use cert_json::LogJson;
 use runtime_defs::Defs;
 use std::alloc::Global;
 

@@ -3,7 +3,7 @@ use Rattle.certificates.specs.CertsOf.{instance_of, log_of}
 use Rattle.cocoon_syntax.specs.TreeOf.{design_of}
 use Rattle.defs_text.specs.Places.{defs_text}
 use Rattle.json_forms.specs.Values.{number_data}
-use Rattle.log_json.specs.LogsJson.{instances_data, log_data}
+use Rattle.cert_json.specs.LogsJson.{instances_data, log_data}
 use Rattle.serde_json.specs.Data.{Members, member, no_members, string}
 use Rattle.budget_text.specs.Spent.{tried}
 use Rattle.budget_text.proofs.files.candidate_file.Goals as goal

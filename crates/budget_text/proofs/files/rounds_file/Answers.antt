@@ -1,6 +1,6 @@
 use Rattle.std.proofs.Common.{ap, codes, map}
 use Rattle.certificates.specs.CertsOf.{instance_of}
-use Rattle.log_json.specs.LogsJson.{instances_data}
+use Rattle.cert_json.specs.LogsJson.{instances_data}
 use Rattle.serde_json.specs.Data.{member, no_members}
 use Rattle.serde_json.specs.View.{members_view}
 use Rattle.budget_text.specs.Spent.{rounds}

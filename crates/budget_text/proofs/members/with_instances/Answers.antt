@@ -1,6 +1,6 @@
 use Rattle.std.proofs.Common.{map}
 use Rattle.certificates.specs.CertsOf.{instance_of}
-use Rattle.log_json.specs.LogsJson.{instances_data}
+use Rattle.cert_json.specs.LogsJson.{instances_data}
 use Rattle.budget_text.proofs.members.with_instances.Goals as goal
 
 pub returns : goal.returns

@@ -3,7 +3,7 @@ use Rattle.serde_json.specs.Data.{object, member, no_members, put}
 use Rattle.serde_json.specs.View.{members_view}
 use Rattle.json_forms.proofs.JsonObjects.{object_of}
 use Rattle.certificates.specs.CertsOf.{instance_of, log_of}
-use Rattle.log_json.specs.LogsJson.{instances_data, log_data}
+use Rattle.cert_json.specs.LogsJson.{instances_data, log_data}
 use Rattle.cert_json.proofs.writing.CertToJsonCertJson.to_json.Goals as goal
 
 pub returns : goal.returns

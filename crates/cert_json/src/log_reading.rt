@@ -3,7 +3,7 @@ ghost use Rattle.std.specs.Prelude.{◌≡◌, ◌≢◌, ℤ, pos, List as Item
 ghost use Rattle.json_forms.specs.Forms.{fitting};
 ghost use Rattle.certificates.specs.Certificates as tree;
 ghost use Rattle.certificates.specs.CertsOf.{instance_of, log_of, step_of};
-ghost use Rattle.log_json.specs.LogsForm as spec;
+ghost use Rattle.cert_json.specs.LogsForm as spec;
 
 use crate::kind::LogJson;
 use certificates::Instance;

@@ -3,7 +3,7 @@ ghost use Rattle.std.specs.Prelude.{ℤ, List};
 ghost use Rattle.json_forms.specs.Values.{integer_data};
 ghost use Rattle.certificates.specs.Certificates as tree;
 ghost use Rattle.certificates.specs.CertsOf.{instance_of, log_of, step_of};
-ghost use Rattle.log_json.specs.LogsJson as spec;
+ghost use Rattle.cert_json.specs.LogsJson as spec;
 
 use crate::kind::LogJson;
 use certificates::Instance;

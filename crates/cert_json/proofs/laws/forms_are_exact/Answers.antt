@@ -1,5 +1,5 @@
-use Rattle.log_json.proofs.LogsExact.{log_is_exact, instances_is_exact}
-use Rattle.log_json.proofs.laws.forms_are_exact.Goals as goal
+use Rattle.cert_json.proofs.LogsExact.{log_is_exact, instances_is_exact}
+use Rattle.cert_json.proofs.laws.forms_are_exact.Goals as goal
 
 pub returns-clause-log : goal.returns-clause-log
 returns-clause-log c = log_is_exact

@@ -1,5 +1,5 @@
-use Rattle.log_json.proofs.LogsApart.{logs_apart, all_instances_apart}
-use Rattle.log_json.proofs.laws.values_are_of_one.Goals as goal
+use Rattle.cert_json.proofs.LogsApart.{logs_apart, all_instances_apart}
+use Rattle.cert_json.proofs.laws.values_are_of_one.Goals as goal
 
 pub returns-clause-log : goal.returns-clause-log
 returns-clause-log c = logs_apart

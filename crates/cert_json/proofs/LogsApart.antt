@@ -3,8 +3,8 @@ use Rattle.std.proofs.Common.{◌≡◌, ℕ, ℤ, List, [], ◌∷◌, refl, ap
 use Rattle.serde_json.specs.Data.{Data}
 use Rattle.json_forms.specs.Values.{number_data, integer_data, array_data}
 use Rattle.certificates.specs.Certificates.{Instance, Step}
-use Rattle.log_json.specs.LogsJson.{step_data, log_data, instance_data, instances_data}
-use Rattle.log_json.proofs.LogsExact.{step_made, instance_made}
+use Rattle.cert_json.specs.LogsJson.{step_data, log_data, instance_data, instances_data}
+use Rattle.cert_json.proofs.LogsExact.{step_made, instance_made}
 
 -- lists are equal where their values are, if items are
 pub all_apart : {A : Type 0} (of : A → Data) → ((x y : A) → of x ≡ of y → x ≡ y) → (xs ys : List A) → array_data of xs ≡ array_data of ys → xs ≡ ys
