@@ -20,7 +20,7 @@ use Rattle.net_bundle.specs.Network.{Network}
 use Rattle.net_bundle.specs.Writing.{AllFit, ContentHolds, NotWritten, WriteFaultRose, with_files}
 use Rattle.net_bundle.specs.declared.fault.BundleFault.{BundleFault}
 use Rattle.net_bundle.specs.declared.fault.BundleFault.TheVariants as fault
-use Rattle.p4_ir.specs.NetOf.{net_of}
+use Rattle.shared_net.specs.Shared.{shared_of}
 use Rattle.p4_ir.specs.NetTree.{NetData}
 use Rattle.command_line.specs.Command.{compile, gen}
 use Rattle.command_line.specs.Subcommands.{usual_conflicts, usual_rounds}
@@ -168,7 +168,7 @@ pub record HasCertificates (x y : List ℕ) (net : NetData) (certs : Option (Lis
   pub made : CompilesTexts x y net bytes
 
 abbrev pub HoldsCertificates : (x y : List ℕ) → Written → Type 0
-HoldsCertificates x y (written.Bundle name net certs) = HasCertificates x y (net_of net) certs
+HoldsCertificates x y (written.Bundle name net certs) = HasCertificates x y (shared_of net) certs
 HoldsCertificates x y w = ⊥
 
 has_certificates : (x y : List ℕ) (w : Written) → plans_compile x y w → HoldsCertificates x y w
@@ -190,7 +190,7 @@ pub record MadeBy (hosts : ℕ) (x y : List ℕ) (net : NetData) (certs : Option
   pub made : Made hosts x y net bytes
 
 abbrev pub MadeIn : (hosts : ℕ) (x y : List ℕ) → Written → Type 0
-MadeIn hosts x y (written.Bundle name net certs) = MadeBy hosts x y (net_of net) certs
+MadeIn hosts x y (written.Bundle name net certs) = MadeBy hosts x y (shared_of net) certs
 MadeIn hosts x y w = ⊥
 
 to_made : (hosts : ℕ) (x y : List ℕ) (w : Written) → Texts (generated hosts) x y → AllGood (generated hosts) usual → HoldsCertificates x y w → MadeIn hosts x y w

@@ -7,7 +7,7 @@ use Rattle.cocoon_types.specs.Tables.{defs_of}
 use Rattle.cert_text.specs.Certifying.{Certifies}
 use Rattle.lowered.specs.Delivers.{DeliversWithin}
 use Rattle.obligation_gen.specs.Counted.{AreFew, all_counts}
-use Rattle.p4_ir.specs.NetOf.{net_of}
+use Rattle.shared_net.specs.Shared.{shared_of}
 use Rattle.p4_ir.specs.NetTree.{NetData}
 use Rattle.refinement.specs.Assumptions.{Meets}
 use Rattle.refinement.specs.Owed.{Refines}
@@ -52,7 +52,7 @@ pub record CompilesTexts (design defs : List ℕ) (net : NetData) (certificates 
 -- this is written: the bundle of them under the given name
 abbrev pub Compiles : (out design defs : List ℕ) → Writing → Type 0
 Compiles out design defs (written.Bundle name net (Some certificates)) =
-    (name.now ≡ out) × CompilesTexts design defs (net_of net) certificates
+    (name.now ≡ out) × CompilesTexts design defs (shared_of net) certificates
 Compiles out design defs w = ⊥
 
 -- of the files of the switches of their network, this is the first that is over its limit

@@ -10,7 +10,7 @@ use Rattle.net_bundle.specs.Bundle as bundle_of
 use Rattle.net_bundle.specs.Writing.{AllFit, ContentHolds, NotWritten}
 use Rattle.p4_ir.specs.NetFits.{net_fits}
 use Rattle.net_bundle.specs.declared.fault.BundleFault.{BundleFault}
-use Rattle.p4_ir.specs.NetOf.{net_of}
+use Rattle.shared_net.specs.Shared.{shared_of}
 use Rattle.bundle_reader.specs.Readings.{ContentReads}
 use Rattle.command_line.specs.Command.{Command}
 use Rattle.command_reports.specs.FileNames.{FileNames, bundle_in, name_of, wanted}
@@ -149,13 +149,13 @@ own_file file (Some name) bytes = own file name bytes
 abbrev pub writing_of : FileNames → Read → Written → Writing
 writing_of names read written.Nothing = nothing
 writing_of names read (written.Bundle name net certificates) =
-    bundle name.now (bundle_of.bundle read.design.items (net_of net) certificates)
+    bundle name.now (bundle_of.bundle read.design.items (shared_of net) certificates)
 writing_of names read (written.Own file bytes) = own_file file (name_of names file) bytes
 
 -- it may be written: a bundle is the one that is named, and can be read back
 abbrev pub CanWrite : FileNames → Written → Type 0
 CanWrite names (written.Bundle name net certificates) =
-    (names.bundle ≡ Some name.now) × IsTrue (net_fits (net_of net))
+    (names.bundle ≡ Some name.now) × IsTrue (net_fits (shared_of net))
 CanWrite names w = Unit {0}
 
 -- no file of a bundle is longer than it may be
@@ -172,7 +172,7 @@ pub record AllWritten (w : Writing) (before after : Option Files) : Type 0 where
 -- a bundle that was written gives its network
 abbrev pub HoldsNet : Read → Written → (before after : Option Files) → Type 0
 HoldsNet read (written.Bundle name net certificates) before after =
-    ContentHolds before after name.now read.design.items (net_of net) certificates
+    ContentHolds before after name.now read.design.items (shared_of net) certificates
 HoldsNet read w before after = Unit {0}
 
 -- why it was not all written

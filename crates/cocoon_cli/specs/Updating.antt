@@ -31,7 +31,7 @@ use Rattle.net_wiring.specs.declared.wiring.Wiring.{Wiring}
 use Rattle.obligation_gen.specs.Counted.{AreFew, all_counts}
 use Rattle.obligation_laws.specs.Obligations.{all_obligations}
 use Rattle.p4_ir.specs.NetFits.{wiring_of}
-use Rattle.p4_ir.specs.NetOf.{net_of}
+use Rattle.shared_net.specs.Shared.{shared_of}
 use Rattle.p4_ir.specs.NetTree.{NetData}
 use Rattle.refinement.specs.Owed.{Refines}
 use Rattle.lower_p4.specs.LowerLimits.{IsWithin}
@@ -144,7 +144,7 @@ NotRewired old design defs tree tables _ = ⊥
 -- the bundle of the network of both texts under the given name, without certificates
 abbrev pub Updates : (out design defs : List ℕ) → Writing → Type 0
 Updates out design defs (written.Bundle name net None) =
-    (name.now ≡ out) × LowersTexts design defs (net_of net)
+    (name.now ≡ out) × LowersTexts design defs (shared_of net)
 Updates out design defs w = ⊥
 
 -- Certificates of the design stand under the name, and the file of a network with these wires.
@@ -163,5 +163,5 @@ pub record Stands (files : Files) (out design : List ℕ) (net : NetData) : Type
 -- the same of the bundle that is written
 abbrev pub StandsUnder : Option Files → (out design : List ℕ) → Writing → Type 0
 StandsUnder content out design (written.Bundle name net certificates) =
-    OfFiles content (λ files. Stands files out design (net_of net))
+    OfFiles content (λ files. Stands files out design (shared_of net))
 StandsUnder content out design w = ⊥

@@ -6,7 +6,7 @@ ghost use Rattle.cocoon_cli.specs.ReportLines.{budget_line};
 
 use cocoon_num::{List, NoMemory};
 use command_reports::{CommandFile, Report, Verdict};
-use p4_ir::NetData;
+use shared_net::SharedNet;
 use std::alloc::Global;
 
 /// What is written with an answer.
@@ -15,7 +15,7 @@ pub enum Writing<'w> {
     Nothing,
     /// The bundle of this name, of a network. The certificates of its design are written with it, if
     /// there are any here.
-    Bundle(&'w str, NetData, Option<List<u8>>),
+    Bundle(&'w str, SharedNet, Option<List<u8>>),
     /// One file with a name of its own.
     Own(CommandFile, List<u8>),
 }

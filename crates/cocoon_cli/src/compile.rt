@@ -1,16 +1,19 @@
 //! `compile`: a network is made of a design whose blocks keep what they owe, and definitions that meet
 //! its assumptions, and its bundle is written, with the certificates of what the blocks keep.
 ghost use Rattle.std.specs.Prelude.{◌≡◌, ◌≤◌, ◌<◌, ◌^◌, ℕ, IfErr, IfOk, List, Some, length, string_bytes};
+ghost use Rattle.cocoon_num.specs.Tree.{DefsText};
 ghost use Rattle.cocoon_syntax.specs.TreeOf.{design_of};
 ghost use Rattle.cocoon_types.specs.Design.{last_level};
 ghost use Rattle.command_line.specs.Command as spec;
 ghost use Rattle.command_line.specs.Subcommands.{most_conflicts};
 ghost use Rattle.discharge.specs.Meeting.{OfTables};
+ghost use Rattle.lower_p4.specs.Lowering.{AreOfText};
+ghost use Rattle.lower_p4.specs.Lowers.{Lowers};
 ghost use Rattle.obligation_gen.specs.Counted.{AreFew, all_counts};
-ghost use Rattle.p4_ir.specs.NetOf.{net_of};
 ghost use Rattle.refinement.specs.Assumptions.{Meets};
 ghost use Rattle.refinement.specs.Owed.{Refines};
 ghost use Rattle.runtime_defs.specs.Fitting.{FitsDesign};
+ghost use Rattle.shared_net.specs.Shared.{shared_of};
 ghost use Rattle.cocoon_cli.specs.Answering.{PlansBy};
 ghost use Rattle.cocoon_cli.specs.Compiling.{Compiles, LowersDesign, NotLowered};
 ghost use Rattle.design_texts.specs.DesignTexts.{BindsTables};
@@ -31,12 +34,12 @@ use design_texts::{Bound, bound_texts};
 use lower_p4::{LowerFault, lower};
 use net_bundle::laws::rows_are_long;
 use net_bundle::{BundleFault, BundleFile};
-use p4_ir::NetData;
+use shared_net::SharedNet;
 use sound_types::laws::code_literals_fit;
 use std::alloc::Global;
 
 /// The network of a design whose blocks keep what they owe, and definitions that meet its assumptions.
-pub fn lower_bound(alloc: Global, bound: &Bound) -> Result<NetData, Refusal>
+pub fn lower_bound(alloc: Global, bound: &Bound) -> Result<SharedNet, Refusal>
     requires fit { FitsDesign (design_of bound.now.checked) bound.now.defs }
     requires few { AreFew (all_counts (design_of bound.now.checked)) }
     requires refines { Refines (design_of bound.now.checked) }
@@ -44,7 +47,10 @@ pub fn lower_bound(alloc: Global, bound: &Bound) -> Result<NetData, Refusal>
         (Meets (last_level (design_of bound.now.checked)) (design_of bound.now.checked)) }
     ensures lowers { IfOk result (λ net. (design defs : List ℕ)
         → BindsTables design defs (design_of bound.now.checked) bound.now.defs
-        → LowersDesign design defs (design_of bound.now.checked) (net_of net)) }
+        → LowersDesign design defs (design_of bound.now.checked) (shared_of net)) }
+    ensures network { IfOk result (λ net. (text : DefsText)
+        → AreOfText (design_of bound.now.checked) text bound.now.defs
+        → Lowers (design_of bound.now.checked) text (shared_of net)) }
     ensures refused { IfErr result (λ refusal. (design defs : List ℕ)
         → BindsTables design defs (design_of bound.now.checked) bound.now.defs
         → NotLowered design defs (design_of bound.now.checked) bound.now.defs refusal) }
@@ -78,11 +84,11 @@ pub struct Totals {
 }
 
 /// How many of each thing a network has whose design has so many obligations.
-pub fn count_parts(net: &NetData, obligations: u64) -> Totals
-    ensures { result ≡ totals_of obligations (net_of net.now) }
+pub fn count_parts(net: &SharedNet, obligations: u64) -> Totals
+    ensures { result ≡ totals_of obligations (shared_of net.now) }
 {
     Totals {
-        switches: net.switches.items().len() as u64,
+        switches: net.switches.numbers.items().len() as u64,
         hosts: net.hosts.items().len() as u64,
         links: net.links.items().len() as u64,
         obligations,

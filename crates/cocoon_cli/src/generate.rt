@@ -11,7 +11,7 @@ ghost use Rattle.loaded_net.specs.Nets.{net_in};
 ghost use Rattle.net_bundle.specs.Bundle.{bundle};
 ghost use Rattle.net_bundle.specs.Writing.{AllFit};
 ghost use Rattle.p4_ir.specs.NetFits.{net_fits};
-ghost use Rattle.p4_ir.specs.NetOf.{net_of};
+ghost use Rattle.shared_net.specs.Shared.{shared_of};
 ghost use Rattle.cocoon_cli.specs.Answering.{PlansBy};
 ghost use Rattle.cocoon_cli.specs.Commands.{generated_name};
 ghost use Rattle.cocoon_cli.specs.Generating.{Counts, NotCounted, NotHeld, TellsCount};
@@ -34,8 +34,8 @@ use gen_runs::count_delivered;
 use gen_runs::laws::as_many_are_reached;
 use gen_texts::{definitions_text, design_text};
 use net_bundle::write_bundle;
-use p4_ir::NetData;
 use packet_runs::PacketsFault;
+use shared_net::SharedNet;
 use std::alloc::Global;
 
 /// The name that stands in reports for what is generated.
@@ -46,14 +46,14 @@ fn write_in(
     alloc: Global,
     folder: &mut HonestFolder,
     design: &[u8],
-    net: &NetData,
+    net: &SharedNet,
     certificates: &Option<List<u8>>,
 ) -> Result<(), Refusal>
-    requires { IsTrue (net_fits (net_of net.now)) }
-    ensures reads { OnOk result (ReadsAs folder.new generated_name (net_of net.now)) }
-    ensures fit { OnOk result (AllFit (bundle design.now (net_of net.now) certificates.now)) }
+    requires { IsTrue (net_fits (shared_of net.now)) }
+    ensures reads { OnOk result (ReadsAs folder.new generated_name (shared_of net.now)) }
+    ensures fit { OnOk result (AllFit (bundle design.now (shared_of net.now) certificates.now)) }
     ensures refused { IfErr result
-        (NotHeld (bundle design.now (net_of net.now) certificates.now)) }
+        (NotHeld (bundle design.now (shared_of net.now) certificates.now)) }
 {
     written_reads_back();
     match write_bundle(
@@ -85,15 +85,15 @@ fn read_from(alloc: Global, folder: &mut HonestFolder) -> Result<Net, Refusal>
 fn read_back(
     alloc: Global,
     design: &[u8],
-    net: &NetData,
+    net: &SharedNet,
     certificates: &Option<List<u8>>,
 ) -> Result<Net, Refusal>
-    requires { IsTrue (net_fits (net_of net.now)) }
-    ensures same { IfOk result (λ read. net_in read ≡ net_of net.now) }
+    requires { IsTrue (net_fits (shared_of net.now)) }
+    ensures same { IfOk result (λ read. net_in read ≡ shared_of net.now) }
     ensures fit { IfOk result (λ read.
-        AllFit (bundle design.now (net_of net.now) certificates.now)) }
+        AllFit (bundle design.now (shared_of net.now) certificates.now)) }
     ensures refused { IfErr result
-        (NotHeld (bundle design.now (net_of net.now) certificates.now)) }
+        (NotHeld (bundle design.now (shared_of net.now) certificates.now)) }
 {
     one_reading();
     let mut folder = HonestFolder::new(alloc);

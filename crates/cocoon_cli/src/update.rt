@@ -21,6 +21,7 @@ ghost use Rattle.p4_ir.specs.NetTree as tree;
 ghost use Rattle.refinement.specs.Assumptions.{Meets};
 ghost use Rattle.refinement.specs.Owed.{Refines};
 ghost use Rattle.runtime_defs.specs.Fitting.{FitsDesign};
+ghost use Rattle.shared_net.specs.Shared.{shared_of};
 ghost use Rattle.cocoon_cli.specs.Answering.{PlansBy};
 ghost use Rattle.cocoon_cli.specs.Compiling.{LowersDesign, NotLowered};
 ghost use Rattle.cocoon_cli.specs.Run.{count};
@@ -41,6 +42,7 @@ use lower_p4::wires;
 use net_bundle::BundleFile;
 use net_wiring::wiring_only;
 use p4_ir::NetData;
+use shared_net::SharedNet;
 use sound_types::laws::code_literals_fit;
 use std::alloc::Global;
 
@@ -93,7 +95,7 @@ fn other_wires(alloc: Global, bound: &Bound, old: &NetData, refusal: Refusal) ->
 }
 
 /// The network of a design and definitions, if it has these wires.
-fn rewire(alloc: Global, bound: &Bound, old: &NetData) -> Result<NetData, Refusal>
+fn rewire(alloc: Global, bound: &Bound, old: &NetData) -> Result<SharedNet, Refusal>
     requires fit { FitsDesign (design_of bound.now.checked) bound.now.defs }
     requires few { AreFew (all_counts (design_of bound.now.checked)) }
     requires refines { Refines (design_of bound.now.checked) }
@@ -101,8 +103,10 @@ fn rewire(alloc: Global, bound: &Bound, old: &NetData) -> Result<NetData, Refusa
         (Meets (last_level (design_of bound.now.checked)) (design_of bound.now.checked)) }
     ensures lowers { IfOk result (λ net. (design defs : List ℕ)
         → BindsTables design defs (design_of bound.now.checked) bound.now.defs
-        → LowersDesign design defs (design_of bound.now.checked) (net_of net)) }
-    ensures same { IfOk result (λ net. SameWires (net_of old.now) (net_of net)) }
+        → LowersDesign design defs (design_of bound.now.checked) (shared_of net)) }
+    ensures same { IfOk result (λ net. (text : DefsText)
+        → AreOfText (design_of bound.now.checked) text bound.now.defs
+        → SameWires (net_of old.now) (shared_of net)) }
     ensures refused { IfErr result (λ refusal. (design defs : List ℕ)
         → BindsTables design defs (design_of bound.now.checked) bound.now.defs
         → NotRewired (net_of old.now) design defs (design_of bound.now.checked) bound.now.defs
@@ -110,7 +114,7 @@ fn rewire(alloc: Global, bound: &Bound, old: &NetData) -> Result<NetData, Refusa
 {
     match lower_bound(alloc, bound) {
         Ok(net) => {
-            compare(old, &net)?;
+            compare_bound(alloc, bound, old)?;
             Ok(net)
         }
         Err(refusal) => Err(other_wires(alloc, bound, old, refusal)),

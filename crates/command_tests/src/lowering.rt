@@ -1,7 +1,7 @@
 //! Cases of the compiler alone: the bundle of the network that it makes of the last level of a design, whatever its blocks owe.
 ghost use Rattle.std.specs.Prelude.{◌<◌, ◌^◌, IfSome, IsTrue, length};
 ghost use Rattle.p4_ir.specs.NetFits.{net_fits};
-ghost use Rattle.p4_ir.specs.NetOf.{net_of};
+ghost use Rattle.shared_net.specs.Shared.{shared_of};
 
 use crate::attempt::{Case, compare, place_all};
 use crate::fields::Line;
@@ -11,15 +11,15 @@ use cocoon_io::MemFolder;
 use design_texts::{Bound, bound_texts};
 use lower_p4::lower;
 use net_bundle::write_bundle;
-use p4_ir::NetData;
+use shared_net::SharedNet;
 use std::alloc::Global;
 
 /// A text has fewer bytes than this.
 const TOO_LONG: usize = 0x8000_0000;
 
 /// The network of the last level of a design under definitions, if both keep the rules.
-fn network(alloc: Global, design: &[u8], defs: &[u8]) -> Option<NetData>
-    ensures { IfSome result (λ net. IsTrue (net_fits (net_of net))) }
+fn network(alloc: Global, design: &[u8], defs: &[u8]) -> Option<SharedNet>
+    ensures { IfSome result (λ net. IsTrue (net_fits (shared_of net))) }
 {
     if design.len() >= TOO_LONG || defs.len() >= TOO_LONG {
         return None;

@@ -1,4 +1,5 @@
 pub mod Over
+mod Sharing
 pub mod Still
 pub mod Leading
 pub mod Wiring

@@ -7,13 +7,14 @@ ghost use Rattle.lowered.specs.Roles.{NetParts, net_parts};
 ghost use Rattle.lowered.specs.SwitchProgram.{switch_program};
 ghost use Rattle.lower_rows.specs.AllGroups.{fork_group_of};
 ghost use Rattle.lower_switch.specs.NetDeclarations.{parts_of, switch_role};
+ghost use Rattle.lowered_alike.specs.Sharing.{HasOneProgram};
 ghost use Rattle.lowered_net.specs.Counts.{FirstOver, counts, first_over, program_counts};
 ghost use Rattle.lowered_rows.specs.Groups as spec;
 ghost use Rattle.lowered_net.specs.Network.{IsNetwork, network};
-ghost use Rattle.p4_ir.specs.NetOf.{net_of};
 ghost use Rattle.p4_ir.specs.Program.{program_of};
 ghost use Rattle.runtime_defs.specs.Fitting.{FitsDesign};
 ghost use Rattle.runtime_defs.specs.Places.{Places};
+ghost use Rattle.shared_net.specs.Shared.{shared_of};
 
 use crate::hosts::host_ports;
 use crate::lengths::{find_long_program, find_many_rows};
@@ -24,9 +25,11 @@ use cocoon_num::{LimitName, List, NoMemory};
 use cocoon_resolve::Checked;
 use lower_rows::{ForkGroup, fork_groups};
 use lower_switch::{Parts, find_parts, program_counts, switch_code};
+use lowered_alike::networks_share;
 use lowered_types::laws::forks_are;
-use p4_ir::{NetData, Program};
+use p4_ir::Program;
 use runtime_defs::Defs;
+use shared_net::SharedNet;
 use std::alloc::Global;
 
 /// Why no network is made.
@@ -61,21 +64,22 @@ fn make(
     groups: &[ForkGroup<'_>],
     numbers: &[u16],
     hosts: &[u64],
-) -> Result<NetData, NoMemory>
+) -> Result<SharedNet, NoMemory>
     requires fits { FitsDesign (design_of checked.now) defs.now }
     requires groups { map fork_group_of groups.now
         ≡ spec.fork_groups (design_of checked.now) defs.now }
-    ensures { IfOk result (λ net. net_of net ≡ network (design_of checked.now) defs.now
+    requires one { HasOneProgram (switch_role (design_of checked.now) parts.now.ingress) }
+    ensures { IfOk result (λ net. shared_of net ≡ network (design_of checked.now) defs.now
         (parts_of (design_of checked.now) parts.now) numbers.now hosts.now) }
 {
     let ports = u16::try_from(parts.switches.ports).map_err(|_| NoMemory)?;
     let functions = count_functions(checked, defs)?;
-    let made = switches(alloc, checked, defs, functions, parts, groups, numbers)?;
+    let switches = switches(alloc, checked, defs, functions, parts, groups, numbers)?;
     let links = port_links(alloc, checked, defs, parts.switches, parts.hosts, numbers)?;
     let hosts = host_ports(alloc, checked, defs, parts.switches, parts.hosts, hosts)?;
-    Ok(NetData {
+    Ok(SharedNet {
         ports,
-        switches: List::from(made),
+        switches,
         links: List::from(links),
         hosts: List::from(hosts),
     })
@@ -172,10 +176,11 @@ fn lower_parts(
     checked: &Checked,
     defs: &Defs,
     parts: &Parts<'_>,
-) -> Result<NetData, LowerFault>
+) -> Result<SharedNet, LowerFault>
     requires fits { FitsDesign (design_of checked.now) defs.now }
     requires parts { net_parts (design_of checked.now)
         ≡ Some (parts_of (design_of checked.now) parts.now) }
+    requires one { HasOneProgram (switch_role (design_of checked.now) parts.now.ingress) }
     ensures { Lowers (design_of checked.now) defs.now result }
 {
     let functions = count_functions(checked, defs)?;
@@ -199,16 +204,19 @@ fn lower_parts(
 }
 
 /// The network of a design under its definitions, if they are within the limits: at its last level, whatever levels it has.
-pub fn lower(alloc: Global, checked: &Checked, defs: &Defs) -> Result<NetData, LowerFault>
+pub fn lower(alloc: Global, checked: &Checked, defs: &Defs) -> Result<SharedNet, LowerFault>
     requires { FitsDesign (design_of checked.now) defs.now }
-    ensures network { IfOk result (λ net. IsNetwork (design_of checked.now) defs.now (net_of net)) }
+    ensures network { IfOk result (λ net. IsNetwork
+        (design_of checked.now) defs.now (shared_of net)) }
     ensures within { IfOk result (λ net. FirstOver (design_of checked.now) defs.now None) }
     ensures short { IfOk result (λ net. FirstLongProgram (design_of checked.now) defs.now None) }
     ensures few { IfOk result (λ net. FirstManyRows (design_of checked.now) defs.now None) }
     ensures refused { IfErr result (λ fault. IsRefused (design_of checked.now) defs.now fault) }
 {
     forks_are();
+    networks_share();
     checked.design();
+    checked.know_reading();
     let parts = find_parts(checked).unwrap();
     lower_parts(alloc, checked, defs, &parts)
 }

@@ -2,7 +2,6 @@
 ghost use Rattle.std.specs.Prelude.{◌≡◌, ◌<◌, ◌^◌, All, IfErr, IfOk, length, nat_lt, OnOk, Some};
 ghost use Rattle.cocoon_num.specs.Tree.{DefsText};
 ghost use Rattle.cocoon_syntax.specs.TreeOf.{design_of};
-ghost use Rattle.p4_ir.specs.NetOf.{net_of, switch_of};
 ghost use Rattle.runtime_defs.specs.Fitting.{FitsDesign};
 ghost use Rattle.lowered_net.specs.Network.{IsNetwork};
 ghost use Rattle.lower_net.specs.Refused.{FirstSwitch};
@@ -14,6 +13,7 @@ ghost use Rattle.p4_emit.specs.Printed.{printed};
 ghost use Rattle.p4_ir.specs.FileSizes.{most_file_bytes};
 ghost use Rattle.p4_ir.specs.P4Tree as tree;
 ghost use Rattle.p4_ir.specs.Program.{program_of};
+ghost use Rattle.shared_net.specs.Shared.{shared_of};
 
 use crate::laws::{
     first_programs_are_kinded, first_texts_are_long, large_programs_are_long,
@@ -23,31 +23,17 @@ use cocoon_num::NoMemory;
 use cocoon_resolve::Checked;
 use lower_net::{LowerFault, first_switch, program};
 use p4_emit::emit;
-use p4_ir::{MOST_FILE_BYTES, NetData, Program, SwitchFiles};
+use p4_ir::{MOST_FILE_BYTES, Program};
 use runtime_defs::Defs;
+use shared_net::SharedNet;
 use sound_types::laws::code_literals_fit;
 use std::alloc::Global;
 
 /// Ports are numbers of 16 bits.
-fn know_ports(net: &NetData)
-    ensures { (net_of net.now).ports < 2 ^ 16 }
+fn know_ports(net: &SharedNet)
+    ensures { (shared_of net.now).ports < 2 ^ 16 }
 {
     let _ports = net.ports;
-}
-
-fn know_fields(switch: &SwitchFiles)
-    ensures { HoldsFields (switch_of switch.now) }
-{
-    let _count = switch.program.meta.items().len();
-}
-
-/// Each program is held in memory, and so are its fields.
-fn know_sizes(net: &NetData)
-    ensures { All HoldsFields (net_of net.now).switches }
-{
-    for switch in net.switches.items() {
-        know_fields(switch);
-    }
 }
 
 /// The meta fields of a program are held in memory.
@@ -55,6 +41,13 @@ fn know_meta(program: &Program)
     ensures { length (program_of program.now).meta < 2 ^ 63 }
 {
     let _count = program.meta.items().len();
+}
+
+/// Those of each switch are, too, since all switches have one program.
+fn know_sizes(net: &SharedNet)
+    ensures { All HoldsFields (shared_of net.now).switches }
+{
+    know_meta(&net.switches.program);
 }
 
 /// Whether the text of the program of the first switch is longer than its file may be.
@@ -99,18 +92,18 @@ fn judge(alloc: Global, checked: &Checked, defs: &Defs) -> Result<(), LowerFault
 
 /// The network of a design under its definitions, if they are within the limits: at its last level, whatever levels and
 /// assumptions it has.
-pub fn lower(alloc: Global, checked: &Checked, defs: &Defs) -> Result<NetData, LowerFault>
+pub fn lower(alloc: Global, checked: &Checked, defs: &Defs) -> Result<SharedNet, LowerFault>
     requires { FitsDesign (design_of checked.now) defs.now }
 
     // what the network is to the design
     ensures lowering { IfOk result (λ net. (text : DefsText)
         → AreOfText (design_of checked.now) text defs.now
-        → IsLowering (design_of checked.now) text (net_of net)) }
+        → IsLowering (design_of checked.now) text (shared_of net)) }
 
     // and which one it is
     ensures lowers { IfOk result (λ net. (text : DefsText)
         → AreOfText (design_of checked.now) text defs.now
-        → Lowers (design_of checked.now) text (net_of net)) }
+        → Lowers (design_of checked.now) text (shared_of net)) }
     ensures within { IfOk result (λ net. (text : DefsText)
         → AreOfText (design_of checked.now) text defs.now
         → IsWithin (design_of checked.now) text) }
@@ -119,8 +112,9 @@ pub fn lower(alloc: Global, checked: &Checked, defs: &Defs) -> Result<NetData, L
         → NotLowered (design_of checked.now) text fault) }
 
     // of tables alone, also of such as no text has
-    ensures network { IfOk result (λ net. IsNetwork (design_of checked.now) defs.now (net_of net)) }
-    ensures short { IfOk result (λ net. StartsShort (net_of net).switches) }
+    ensures network { IfOk result (λ net. IsNetwork
+        (design_of checked.now) defs.now (shared_of net)) }
+    ensures short { IfOk result (λ net. StartsShort (shared_of net).switches) }
     ensures over { IfErr result (λ fault. HasNoNetwork (design_of checked.now) defs.now fault) }
 {
     networks_deliver();

@@ -1,1 +1,3 @@
 mod Filled
+mod Merging
+mod Wide

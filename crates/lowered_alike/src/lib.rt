@@ -1,11 +1,18 @@
-//! The programs of all switches are one program with a hole for the number of the switch, as a law: the contract of a function that
-//! does nothing.
+//! The programs of all switches are one program with a hole for the number of the switch, so the programs of two switches give those of
+//! all: laws, the contracts of functions that do nothing.
 #![tactic(auto)]
 
-ghost use Rattle.std.specs.Prelude.{◌≡◌, ℕ};
+ghost use Rattle.std.specs.Prelude.{◌≡◌, List, ℕ, Some};
+ghost use Rattle.cocoon_num.specs.Reads.{Reads};
+ghost use Rattle.cocoon_num.specs.Tree.{Design};
+ghost use Rattle.cocoon_types.specs.Rules.{WellFormed};
 ghost use Rattle.lower_body.specs.Whole.{role_lowered, SwitchRole};
+ghost use Rattle.lowered.specs.Roles.{NetParts, net_parts};
 ghost use Rattle.lowered.specs.SwitchProgram.{switch_made, switch_program};
 ghost use Rattle.lowered_alike.specs.Filling.{filled, HasWideLiterals, open_lowered, open_made, open_program};
+ghost use Rattle.lowered_alike.specs.Sharing.{HasOneProgram};
+
+use lowered_kinds::laws::readings_are_plain;
 
 /// The program of a switch is the open program with the number of the switch in its holes, and what was made for it is the same for
 /// each switch.
@@ -17,3 +24,11 @@ pub fn programs_fill()
     ensures ingress { (r : SwitchRole) → HasWideLiterals r
         → (s : ℕ) → (role_lowered r s).made ≡ (open_lowered r).made }
 {}
+
+/// The switches of a design that was read run one program: where those with the numbers 0 and 1 differ stands the number of the switch.
+pub fn networks_share()
+    ensures { (text : List ℕ) (d : Design) → Reads text d → WellFormed d
+        → (parts : NetParts) → net_parts d ≡ Some parts → HasOneProgram parts.role }
+{
+    readings_are_plain();
+}

@@ -3,7 +3,7 @@ use Rattle.std.specs.Prelude.{Vec, ℕ}
 use Rattle.std.specs.declared.alloc.Global.{Global}
 use Rattle.cocoon_syntax.specs.TreeOf.{design_of}
 use Rattle.command_line.specs.Command.{compile as command}
-use Rattle.p4_ir.specs.NetOf.{net_of}
+use Rattle.shared_net.specs.Shared.{shared_of}
 use Rattle.command_reports.specs.Report.{success}
 use Rattle.command_reports.specs.declared.report.Report.{Report}
 use Rattle.command_reports.specs.declared.refusal.Refusal.TheVariants as refusal
@@ -97,7 +97,7 @@ returns-clause-asked c = λ inputs design defs.
     let n = asked.conflicts in
     let m = asked.rounds in
     let d = design_of c.in_ok-bound.bound.checked in
-    let net = net_of c.in_ok-net-in-Holds.net in
+    let net = shared_of c.in_ok-net-in-Holds.net in
     let g : Texts inputs c.args.design.now c.args.defs.now = record { design = design; defs = defs } in
     let lowers = c.in_ok-net-in-Holds.ensures.lowers c.args.design.now c.args.defs.now c.in_ok-bound.ensures.binds in
     let kept : KeepsAll d c.in-Holds.certs.certs = subst (IsRefined d n m) c.in-Holds.is c.in_ok-decided.ensures.decided in
@@ -120,7 +120,7 @@ returns-clause-plans c =
     let x = c.args.design.now in
     let y = c.args.defs.now in
     let d = design_of c.in_ok-bound.bound.checked in
-    let net = net_of c.in_ok-net-in-Holds.net in
+    let net = shared_of c.in_ok-net-in-Holds.net in
     let kept : KeepsAll d c.in-Holds.certs.certs = subst (IsRefined d n m) c.in-Holds.is c.in_ok-decided.ensures.decided in
     let lowers = c.in_ok-net-in-Holds.ensures.lowers x y c.in_ok-bound.ensures.binds in
     let made = compiles_texts x y d net c.in-Holds.certs.certs c.in_ok-text-in-Holds.text.items lowers kept c.in_ok-text-in-Holds.ensures.reads in

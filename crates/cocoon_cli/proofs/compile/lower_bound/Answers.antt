@@ -2,7 +2,7 @@ use Rattle.std.proofs.Common.{◌≤◌, ◌*◌, ℕ, List, [], ◌∷◌, leng
 use Rattle.cocoon_syntax.specs.TreeOf.{design_of}
 use Rattle.cocoon_types.specs.Design.{last_level}
 use Rattle.cocoon_types.specs.Tables.{defs_of}
-use Rattle.p4_ir.specs.NetOf.{net_of}
+use Rattle.shared_net.specs.Shared.{shared_of}
 use Rattle.lower_p4.specs.Lowering.{NotLowered, StartsFull, StartsLong}
 use Rattle.lower_net.specs.declared.lowering.LowerFault.TheVariants.{Limit, LongProgram, ManyRows}
 use Rattle.cocoon_num.specs.Tree.{Design}
@@ -29,7 +29,7 @@ returns-in-Ok-clause-lowers c = λ design defs binds.
     let d = design_of checked in
     let lowering = c.in-Ok.ensures.lowering binds.entries binds.are in
     let met : Meets (last_level d) d (defs_of d binds.entries) = of_text (Meets (last_level d) d) (c.code_literals_fit.ensures.designs checked) binds c.requires.met in
-    let made : LowersTexts design defs (net_of c.in-Ok.net) = record {
+    let made : LowersTexts design defs (shared_of c.in-Ok.net) = record {
       tree = _;
       tables = _;
       binds = binds;
@@ -39,7 +39,7 @@ returns-in-Ok-clause-lowers c = λ design defs binds.
       within = c.in-Ok.ensures.within binds.entries binds.are;
       lowers = c.in-Ok.ensures.lowers binds.entries binds.are;
       lowering = lowering;
-      stays = c.deliveries_stay_within.ensures d binds.entries (net_of c.in-Ok.net) binds.binds.checked.resolves.rules (c.code_literals_fit.ensures.designs checked) binds.binds.fits binds.are.fit
+      stays = c.deliveries_stay_within.ensures d binds.entries (shared_of c.in-Ok.net) binds.binds.checked.resolves.rules (c.code_literals_fit.ensures.designs checked) binds.binds.fits binds.are.fit
           c.requires.refines met lowering.exact;
     } in
     (made, refl)

@@ -1,6 +1,6 @@
 use Rattle.std.proofs.Common.{refl}
 use Rattle.std.proofs.lemmas.Result.{IfErr-weaker, IfOk-weaker}
-use Rattle.p4_ir.specs.NetOf.{net_of}
+use Rattle.shared_net.specs.Shared.{shared_of}
 use Rattle.cocoon_cli.specs.Commands.{generated_name}
 use Rattle.cocoon_cli.proofs.Generating.{not_unread}
 use Rattle.cocoon_cli.proofs.generate.read_back.Goals as goal
@@ -11,4 +11,4 @@ returns-clause-same c =
 
 pub returns-clause-refused : goal.returns-clause-refused
 returns-clause-refused c =
-    IfErr-weaker c.read_from.result _ _ (λ r h. not_unread c.one_reading.ensures _ (net_of c.args.net.now) _ r c.in_ok-write_in.ensures.reads h) c.read_from.ensures.refused
+    IfErr-weaker c.read_from.result _ _ (λ r h. not_unread c.one_reading.ensures _ (shared_of c.args.net.now) _ r c.in_ok-write_in.ensures.reads h) c.read_from.ensures.refused

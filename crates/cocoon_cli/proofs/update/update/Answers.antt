@@ -4,6 +4,7 @@ use Rattle.std.specs.declared.alloc.Global.{Global}
 use Rattle.cocoon_syntax.specs.TreeOf.{design_of}
 use Rattle.command_line.specs.Command.{update as command}
 use Rattle.p4_ir.specs.NetOf.{net_of}
+use Rattle.shared_net.specs.Shared.{shared_of}
 use Rattle.command_reports.specs.Report.{fault_of, success}
 use Rattle.command_reports.specs.declared.report.Report.{Report}
 use Rattle.command_reports.specs.declared.report.Verdict.{Verdict}
@@ -174,7 +175,7 @@ returns-clause-asked g c = λ inputs design defs at.
     let y = c.args.defs.now in
     let d = design_of c.in_ok-bound.bound.checked in
     let tables = c.in_ok-bound.bound.defs in
-    let net = net_of c.in_ok-net.net in
+    let net = shared_of c.in_ok-net.net in
     let t : Texts inputs x y = record { design = design; defs = defs } in
     let binds = c.in_ok-bound.ensures.binds in
     let kept = c.in_ok-standing.ensures.stands in
@@ -182,7 +183,7 @@ returns-clause-asked g c = λ inputs design defs at.
     let met = all_met_good inputs x y n d tables c.in_ok-answer.field-0 t binds (c.code_literals_fit.ensures.designs c.in_ok-bound.bound.checked) (is_none c.in_ok-answer.field-0 c.in_default.not-Some) c.in_ok-answer.ensures.decided in
     inl (
       asks_good asked.design.now asked.defs.now asked.out.now n inputs x y d tables (net_of c.in_ok-standing.standing.wires) net t binds met
-          (here inputs asked.out.now d c.in_ok-standing.standing.obligations (net_of c.in_ok-standing.standing.wires) _ at kept) lowers.0 c.in_ok-net.ensures.same,
+          (here inputs asked.out.now d c.in_ok-standing.standing.obligations (net_of c.in_ok-standing.standing.wires) _ at kept) lowers.0 (c.in_ok-net.ensures.same binds.entries binds.are),
       reports asked.design.now asked.defs.now asked.out.now n inputs x y d c.in_ok-standing.standing.obligations net _ t lowers (as_many d kept.bytes c.in_ok-standing.standing.obligations kept.accepts)
           (c.success.ensures ∙ ap success (ap (λ (v : Vec ℕ Global). v.items) c.into_bytes.ensures.value ∙ c.in_ok-line.ensures ∙ ap updated_line c.count_parts-totals.ensures)),
     )
@@ -195,8 +196,8 @@ returns-clause-plans g c =
 
 pub returns-clause-stands : goal.returns-clause-stands
 returns-clause-stands g c = λ done.
-    stands c.net_form_is_exact.ensures _ c.args.asked.now.out.now c.args.design.now (design_of c.in_ok-bound.bound.checked) c.in_ok-standing.standing.obligations (net_of c.in_ok-standing.standing.wires) (net_of c.in_ok-net.net)
-    c.in_ok-bound.ensures.binds.binds.checked.reads c.in_ok-standing.ensures.stands c.in_ok-net.ensures.same
+    stands c.net_form_is_exact.ensures _ c.args.asked.now.out.now c.args.design.now (design_of c.in_ok-bound.bound.checked) c.in_ok-standing.standing.obligations (net_of c.in_ok-standing.standing.wires) (shared_of c.in_ok-net.net)
+    c.in_ok-bound.ensures.binds.binds.checked.reads c.in_ok-standing.ensures.stands (c.in_ok-net.ensures.same c.in_ok-bound.ensures.binds.entries c.in_ok-bound.ensures.binds.are)
 
 pub returns-clause-called : goal.returns-clause-called
 returns-clause-called g c = λ names is.

@@ -2,7 +2,7 @@ use Rattle.std.proofs.Common.{◌≡◌, Err, IfErr, Ok, Result, subst, sym}
 use Rattle.std.specs.Result.{IsErrAnd}
 use Rattle.cocoon_num.specs.Tree.{DefsText, Design}
 use Rattle.cocoon_syntax.specs.TreeOf.{design_of}
-use Rattle.p4_ir.specs.NetOf.{net_of}
+use Rattle.shared_net.specs.Shared.{shared_of}
 use Rattle.lower_net.specs.declared.lowering.LowerFault.{LowerFault}
 use Rattle.lower_net.specs.declared.lowering.LowerFault.TheVariants.{Limit, LongProgram, ManyRows, NoMemory}
 use Rattle.runtime_defs.specs.Places.{Places}
@@ -27,9 +27,9 @@ grounds c text of = record {
 
 pub returns-clause-lowering : goal.returns-clause-lowering
 returns-clause-lowering c = λ text of. record {
-  exact = c.networks_deliver.ensures (design_of c.args.checked.now) text c.args.defs.now (net_of c.in_ok-net.net) (grounds c text of) c.in_ok-net.ensures.network;
-  programs = c.switches_run_programs.ensures (design_of c.args.checked.now) c.args.defs.now (net_of c.in_ok-net.net) c.in_ok-net.ensures.network;
-  writable = c.networks_are_writable.ensures (design_of c.args.checked.now) text c.args.defs.now (net_of c.in_ok-net.net) (grounds c text of) c.in_ok-net.ensures.network c.in_ok-net.ensures.within c.know_ports.ensures c.know_sizes.ensures;
+  exact = c.networks_deliver.ensures (design_of c.args.checked.now) text c.args.defs.now (shared_of c.in_ok-net.net) (grounds c text of) c.in_ok-net.ensures.network;
+  programs = c.switches_run_programs.ensures (design_of c.args.checked.now) c.args.defs.now (shared_of c.in_ok-net.net) c.in_ok-net.ensures.network;
+  writable = c.networks_are_writable.ensures (design_of c.args.checked.now) text c.args.defs.now (shared_of c.in_ok-net.net) (grounds c text of) c.in_ok-net.ensures.network c.in_ok-net.ensures.within c.know_ports.ensures c.know_sizes.ensures;
 }
 
 pub returns-clause-lowers : goal.returns-clause-lowers
@@ -45,7 +45,7 @@ not_lowered d text places of (ManyRows switch) told = record { net = told.0; low
 not_lowered d text places of NoMemory told = tt
 
 pub returns-clause-short : goal.returns-clause-short
-returns-clause-short c = texts_fit (design_of c.args.checked.now) c.args.defs.now (net_of c.in_ok-net.net) c.in_ok-judge.ensures.fits c.in_ok-net.ensures.network
+returns-clause-short c = texts_fit (design_of c.args.checked.now) c.args.defs.now (shared_of c.in_ok-net.net) c.in_ok-judge.ensures.fits c.in_ok-net.ensures.network
 
 -- ---- why there is none
 
