@@ -1,5 +1,5 @@
 -- The role that the switches of a design run has literals of 1 to 128 bits, where the design has.
-use Rattle.std.proofs.Common.{◌≡◌, List, Some, true, reverse, sym, ap, subst, ◌∙◌}
+use Rattle.std.proofs.Common.{◌≡◌, Some, true, reverse, sym, ap, subst, ◌∙◌}
 use Rattle.std.specs.Prelude.{filter_map}
 use Rattle.std.specs.List.{list_all}
 use Rattle.cocoon_num.specs.Tree.{Block, FunctionDecl, Role, a_function, a_role, Decl, Design}
@@ -8,7 +8,7 @@ use Rattle.cocoon_types.specs.Rules.{WellFormed}
 use Rattle.lowered.specs.Roles.{NetParts, net_parts}
 use Rattle.lowered_kinds.proofs.Programs.{is_function}
 use Rattle.lowered_kinds.specs.WideLiterals.{has_wide_literals, if_some, wide_block, wide_decl, wide_expr}
-use Rattle.lowered_types.proofs.NetParts.{HasIngress, parts_ingress}
+use Rattle.lowered_types.proofs.NetParts.{parts_ingress}
 use Rattle.sound_types.proofs.Levels.{is_role, role_in}
 use Rattle.sound_types.proofs.Members.{In, all_at, at_all, in_filter, in_reverse}
 use Rattle.lowered_alike.specs.Filling.{HasWideLiterals}
