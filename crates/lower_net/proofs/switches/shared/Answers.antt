@@ -14,7 +14,7 @@ returns c =
     let d = design_of c.args.checked.now in
     let places = c.args.defs.now in
     let parts = parts_of d c.args.parts.now in
-    let numbers : c.from.result ≡ c.args.numbers.now = search rules in
+    let numbers : c.from-numbers.result ≡ c.args.numbers.now = search rules in
     ap (map (λ s. record { number = s; program = merged s (program_of c.in_ok-code.code.program) (program_of c.in_ok-others.others.program); rows = rows_of c.in_ok-rows.rows })) numbers
     ∙ all_switches d places parts c.requires.one (program_of c.in_ok-code.code.program) (program_of c.in_ok-others.others.program) (rows_of c.in_ok-rows.rows)
     c.in_ok-code.ensures.program c.in_ok-others.ensures.program (c.in_ok-rows.ensures ∙ ap (switch_rows d places) (ap₂ (λ a b. made_in d (a ++ b)) c.deref.ensures.value c.deref-2.ensures.value ∙ c.in_ok-code.ensures.made)) c.args.numbers.now
