@@ -6,7 +6,7 @@
   delivered (hosts, bytes and their order) and how many copies still travel has to be what `forward` prints. Packets that would take more
   than 600 runs are not followed.
 - `emit`, then `read`: `forward` reads the programs, rows and network that `compile` wrote, so it ends with status 0, or with 10 where there are too
-  many copies. Where READING_TESTS names the program of crates/reading_tests, each program is read and printed, and has to have the same text.
+  many copies. Where TEXT_TESTS names the program of crates/text_tests, each program is read and printed, and has to have the same text.
 - `text`, then `bind`: where DESIGN_TESTS names the program of crates/design_tests, the text of the tables is printed, read and bound, and has to give the
   same tables. The printed text is then compiled in the place of the definitions, and has to give the same bundle, byte for byte.
 """
@@ -19,7 +19,7 @@ import re
 
 PACKETS = 3
 MOST_RUNS = 600
-READING_TESTS, DESIGN_TESTS = (os.environ.get(name) for name in ("READING_TESTS", "DESIGN_TESTS"))
+TEXT_TESTS, DESIGN_TESTS = (os.environ.get(name) for name in ("TEXT_TESTS", "DESIGN_TESTS"))
 
 # ---- a design that was compiled, so that its text and that of its definitions keep all rules
 
@@ -172,7 +172,7 @@ class Compared:
             pathlib.Path(name).write_bytes(text)
         try:
             self.compare_packets()
-            if READING_TESTS and self.source.randrange(8) == 0:
+            if TEXT_TESTS and self.source.randrange(8) == 0:
                 self.compare_programs()
             if DESIGN_TESTS and self.source.randrange(8) == 0:
                 self.compare_definitions()
@@ -209,7 +209,7 @@ class Compared:
         """Each program of the bundle is read, printed, and then the same."""
         programs = sorted(name for name in self.bundle if name.endswith(".p4"))
         pathlib.Path("printed.txt").write_text("ask programs\n" + "".join(f"  same | printed {name}\n" for name in programs))
-        done = self.program.run(["printed.txt"], READING_TESTS)
+        done = self.program.run(["printed.txt"], TEXT_TESTS)
         if programs and done.status or done.err:
             raise Unlike(f"programs are printed otherwise than they were read: {done.out[:300]}")
         self.counts["compared", "programs"] += len(programs)

@@ -3,7 +3,7 @@
 
     bench/certificates.py [RUNS]     runs the built program on each so often (3), and prints the least processor time and the most memory
 
-It needs the program of crates/reading_tests: `rt run` there builds it. Each run reads the file from its input, and prints how many
+It needs the program of crates/text_tests: `rt run` there builds it. Each run reads the file from its input, and prints how many
 certificates it has, or its fault.
 """
 
@@ -81,9 +81,9 @@ def run(program, path, runs):
 
 def main():
     runs = int(sys.argv[1]) if len(sys.argv) > 1 else 3
-    program = os.environ.get("READING_TESTS") or TOP / "crates" / "reading_tests" / "out" / "reading_tests"
+    program = os.environ.get("TEXT_TESTS") or TOP / "crates" / "text_tests" / "out" / "text_tests"
     if not os.access(program, os.X_OK):
-        sys.exit("certificates.py: build the program first: `rt run` in crates/reading_tests")
+        sys.exit("certificates.py: build the program first: `rt run` in crates/text_tests")
     print("| Certificates | Bytes | Time | Memory | Printed |\n|---|---|---|---|---|")
     with tempfile.TemporaryDirectory() as name:
         path = pathlib.Path(name) / "certs.json"

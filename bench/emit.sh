@@ -1,14 +1,14 @@
 #!/bin/sh
 # Measures how long printing takes: a P4 program whose text has 4 MiB, and one of half. Each is made of words and printed by
-# the built program `p4_tests` five times, or as often as the first word says, and the least wall time counts. Build it
-# before: `rt run -- print </dev/null` in crates/p4_tests.
+# the built program `text_tests` five times, or as often as the first word says, and the least wall time counts. Build it
+# before: `rt run -- print </dev/null` in crates/text_tests.
 
 top=$(CDPATH='' cd -- "$(dirname -- "$0")/.." && pwd) || exit 2
-program=$top/crates/p4_tests/out/p4_tests
+program=$top/crates/text_tests/out/text_tests
 runs=${1:-5}
 
 if ! [ -x "$program" ]; then
-  echo 'emit.sh: run `rt run -- print </dev/null` in crates/p4_tests first' >&2
+  echo 'emit.sh: run `rt run -- print </dev/null` in crates/text_tests first' >&2
   exit 2
 fi
 

@@ -22,24 +22,24 @@ PACKETS = {1: 3, 3: 9, 40: 1000, 200: 100_000}
 # The functions that parts begin with.
 PARTS = {
     "update": [
-        ("both texts", r"design_texts::\S*bound_texts"),
-        ("assumptions", r"cocoon_cli::assumptions::unmet"),
-        ("recheck", r"cocoon_cli::standing::accept"),
+        ("both texts", r"command_reports::\S*bound_texts"),
+        ("assumptions", r"command_answers::assumptions::unmet"),
+        ("recheck", r"command_answers::standing::accept"),
         ("of that reading", r"json_scan::pair::two_members"),
         ("obligations", r"obligation_gen::\S*::all_obligations"),
         ("queries", r"queries::asking::query"),
         ("clauses", r"bit_blast::blasting::blast"),
-        ("wires", r"bundle_forms::net_form::read_net"),
-        ("lowering", r"cocoon_cli::compile::lower_bound"),
-        ("writing", r"net_bundle::make::make"),
+        ("wires", r"net_bundle::net_form::read_net"),
+        ("lowering", r"command_answers::compile::lower_bound"),
+        ("writing", r"net_bundle::write::write_bundle"),
     ],
     "gen": [
-        ("both texts", r"design_texts::\S*bound_texts"),
-        ("assumption", r"cocoon_cli::assumptions::unmet"),
-        ("obligation", r"cocoon_cli::obligations::decide_all"),
-        ("lowering", r"cocoon_cli::compile::lower_bound"),
-        ("written and read back", r"cocoon_cli::generate::read_back"),
-        ("packets", r"cocoon_cli::generate::tell_packets"),
+        ("both texts", r"command_reports::\S*bound_texts"),
+        ("assumption", r"command_answers::assumptions::unmet"),
+        ("obligation", r"command_answers::obligations::decide_all"),
+        ("lowering", r"command_answers::compile::lower_bound"),
+        ("written and read back", r"command_answers::generate::read_back"),
+        ("packets", r"command_answers::generate::tell_packets"),
     ],
 }
 

@@ -1,5 +1,5 @@
 #!/usr/bin/env python3
-"""Whether the cases of masks.txt, in crates/p4_tests/data, want what their rows say: the first row that matches decides.
+"""Whether the cases of masks.txt, in crates/text_tests/data, want what their rows say: the first row that matches decides.
 
     bench/masks.py     prints how many cases there are, and those that want another result
 
@@ -12,7 +12,7 @@ import re
 import shlex
 import sys
 
-CASES = pathlib.Path(__file__).resolve().parent.parent / "crates" / "p4_tests" / "data" / "masks.txt"
+CASES = pathlib.Path(__file__).resolve().parent.parent / "crates" / "text_tests" / "data" / "masks.txt"
 
 
 def spelled_out(line):

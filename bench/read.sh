@@ -1,14 +1,14 @@
 #!/bin/sh
 # Measures how long reading takes: a design of 1 MiB and one of half, definitions of 4 MiB and of 2 MiB. Each is read by
-# the built program `reading_tests` five times, or as often as the first word says, and the least wall time counts. Build
-# it before: `rt run -- design <data/c.ccn` in crates/reading_tests.
+# the built program `text_tests` five times, or as often as the first word says, and the least wall time counts. Build
+# it before: `rt run -- design <data/c.ccn` in crates/text_tests.
 
 top=$(CDPATH='' cd -- "$(dirname -- "$0")/.." && pwd) || exit 2
-program=$top/crates/reading_tests/out/reading_tests
+program=$top/crates/text_tests/out/text_tests
 runs=${1:-5}
 
 if ! [ -x "$program" ]; then
-  echo 'read.sh: run `rt run -- design <data/c.ccn` in crates/reading_tests first' >&2
+  echo 'read.sh: run `rt run -- design <data/c.ccn` in crates/text_tests first' >&2
   exit 2
 fi
 

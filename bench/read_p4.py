@@ -3,7 +3,7 @@
 
     bench/read_p4.py [RUNS]     reads each so often (5), the whole and its half in turn, and prints the least wall times
 
-It needs the program of crates/reading_tests: `rt run -- p4 <data/small.p4` there builds it. One text has one statement after the
+It needs the program of crates/text_tests: `rt run -- p4 <data/small.p4` there builds it. One text has one statement after the
 other, one has tables of many keys, one expressions as deep as may be, and one has headers with all their fields. Each reads as a program.
 """
 
@@ -123,9 +123,9 @@ def one_run(program, path):
 
 def main():
     runs = int(sys.argv[1]) if len(sys.argv) > 1 else 5
-    program = TOP / "crates" / "reading_tests" / "out" / "reading_tests"
+    program = TOP / "crates" / "text_tests" / "out" / "text_tests"
     if not os.access(program, os.X_OK):
-        sys.exit("read_p4.py: build the program first: `rt run -- p4 <data/small.p4` in crates/reading_tests")
+        sys.exit("read_p4.py: build the program first: `rt run -- p4 <data/small.p4` in crates/text_tests")
     print("| Text | Whole | Half | Ratio |\n|---|---|---|---|")
     memory_folder = "/dev/shm" if os.access("/dev/shm", os.W_OK) else None
     with tempfile.TemporaryDirectory(dir=memory_folder) as name:

@@ -17,7 +17,7 @@ import tempfile
 
 TOP = pathlib.Path(__file__).resolve().parent.parent
 RUNS = 9
-NEEDED = ["cocoon_num", "name_table", "bv_terms", "term_walk", "term_copy"]
+NEEDED = ["cocoon_num", "numbering", "bv_terms", "term_walk"]
 
 
 def laid_out(folder):

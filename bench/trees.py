@@ -1,10 +1,10 @@
 #!/usr/bin/env python3
-"""The leaves of bodies' trees by an independent reading of the language, in cases of symbolic_tests.
+"""The leaves of bodies' trees by an independent reading of the language, in cases of obligation_tests.
 
     bench/trees.py READING [FILE]     prints a file of cases, that of the trees if none is named, with what the reading wants of each case
     bench/trees.py READING numbers DESIGN DEFINITIONS LEVEL ROLE WITHIN SEED COUNT
                                       prints so many tuples of numbers, at each of which other leaves are true
-    bench/trees.py times              prints the instructions, the time and the most memory of the built program crates/symbolic_tests/out for some trees
+    bench/trees.py times              prints the instructions, the time and the most memory of the built program crates/obligation_tests/out for some trees
 
 READING is the folder of the reading, which shares nothing with this repository but the language. docs/CASES.md says what the cases ask.
 """
@@ -17,7 +17,7 @@ import sys
 import tempfile
 
 TOP = pathlib.Path(__file__).resolve().parent.parent
-CASES = TOP / "crates" / "symbolic_tests" / "data" / "trees.cases"
+CASES = TOP / "crates" / "obligation_tests" / "data" / "trees.cases"
 
 
 def expanded(text, folder):
@@ -176,12 +176,12 @@ WAYS = (
 
 def measured(lines, tree, value):
     """What the program takes for one tree: instructions, seconds, and KiB."""
-    program = TOP / "crates" / "symbolic_tests" / "out" / "symbolic_tests"
+    program = TOP / "crates" / "obligation_tests" / "out" / "obligation_tests"
     with tempfile.TemporaryDirectory() as name:
         folder = pathlib.Path(name)
-        for path in (TOP / "crates" / "symbolic_tests" / "data").glob("*.*"):
+        for path in (TOP / "crates" / "obligation_tests" / "data").glob("*.*"):
             (folder / path.name).write_bytes(path.read_bytes())
-        (folder / "one.cases").write_text(lines + f"  ? | leaves {tree.format(value)}\n")
+        (folder / "one.cases").write_text("ask terms\n" + lines + f"  ? | leaves {tree.format(value)}\n")
         tool = ["valgrind", "--tool=cachegrind", "--cache-sim=no", "--cachegrind-out-file=/dev/null"]
         counted = subprocess.run([*tool, program, "one.cases"], cwd=folder, capture_output=True, text=True)
         said = subprocess.run(["/usr/bin/time", "-f", "%U %M", program, "one.cases"], cwd=folder, capture_output=True, text=True)

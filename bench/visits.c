@@ -1,6 +1,6 @@
 /* Switches and networks, run plainly. A program is a tree that is walked for each packet, and rows are searched.
 
-   visits visits                            reads what the program `p4_tests` reads with the word `visits`: a count of packets in the
+   visits visits                            reads what the program `text_tests` reads with the word `visits`: a count of packets in the
    visits each                              first line, the words of a program in the second, and those of its rows in the third
                                             (docs/CASES.md). Runs as many packets through its ingress, and prints one number that all
                                             results make; with the word `each` every result in a line

@@ -5,7 +5,7 @@
                                          times and the instructions for one packet; with PACKETS so many through one table,
                                          and a tenth and a hundredth of it through ten and a hundred
 
-It needs the program of crates/p4_tests: `rt run` there builds it. Where a compiler `cc` is there, the same is done by the C
+It needs the program of crates/text_tests: `rt run` there builds it. Where a compiler `cc` is there, the same is done by the C
 program bench/visits.c: every one of 10,000 results has to be the same, and the number that all results make. Times are seconds of
 the processor in user mode for 1,000,000 packets, and those of a run without packets are taken off them. Instructions are counted
 where valgrind is there, with 1,000 packets.
@@ -86,9 +86,9 @@ def cells(ours, plain, form):
 def main():
     runs = int(sys.argv[1]) if len(sys.argv) > 1 else 3
     look_ups = int(sys.argv[2]) if len(sys.argv) > 2 else None
-    program = os.environ.get("P4_TESTS") or TOP / "crates" / "p4_tests" / "out" / "p4_tests"
+    program = os.environ.get("TEXT_TESTS") or TOP / "crates" / "text_tests" / "out" / "text_tests"
     if not os.access(program, os.X_OK):
-        sys.exit("visits.py: build the program first: `rt run` in crates/p4_tests")
+        sys.exit("visits.py: build the program first: `rt run` in crates/text_tests")
     with tempfile.TemporaryDirectory() as name:
         plain = pathlib.Path(name) / "visits"
         if shutil.which("cc"):

@@ -26,6 +26,7 @@ def main():
     write("of_18", "10, at most 2 s and 300 MiB: 18 functions that each call the one before with a call of it, 2^18 calls in all, and 64 switches", 18)
     write("of_16", "10, at most 2 s and 300 MiB: 16 such functions, whose calls are counted as fewer bytes than a file may have, and have more", 16)
     write("below_the_limit", "0, at most 60 s and 2100 MiB: 64 programs of nearly 4 MiB each, and forward reads them all", 15, [14, 12, 12, 10])
+    write("compiled", "0, at most 20 s and 300 MiB: 64 such programs, which are compiled and not read", 15, [14, 12, 12, 10])
     with open(FOLDER / "chain_below_the_limit.defs", "a", encoding="ascii") as rows:
         rows.write("define h(16w0) = true;\n")
     (FOLDER / "chain_below_the_limit.packets").write_text("0 00\n")

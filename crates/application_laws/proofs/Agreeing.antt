@@ -24,7 +24,7 @@ use Rattle.runtime_defs.specs.Stands.{Stands}
 use Rattle.table_terms.specs.ByTables.{by_tables}
 use Rattle.table_terms.specs.WithRows.{Tables, table_of, with_rows}
 use Rattle.table_terms.proofs.Values.{rows-keep}
-use Rattle.term_laws.proofs.FittingValues.{values-fit}
+use Rattle.flat_laws.proofs.FittingValues.{values-fit}
 use Rattle.application_laws.specs.Over.{AreOver, IsOver, IsRuntimeAt, fit_input}
 use Rattle.application_laws.proofs.Places.{fits-in, has-table, tables-fit}
 

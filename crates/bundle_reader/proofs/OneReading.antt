@@ -16,7 +16,7 @@ use Rattle.net_bundle.specs.NetJson.{KeptDigest, NetFile, net_data, rows_data}
 use Rattle.net_bundle.specs.Network.{SwitchReads, SwitchesRead, is_digest}
 use Rattle.net_bundle.specs.declared.file.BundleFile.{BundleFile}
 use Rattle.net_bundle.specs.declared.file.BundleFile.TheVariants.{Program, Rows, Certificates, Network}
-use Rattle.bundle_forms.specs.NetForm.{are_names, file_fits, file_names, kept_fits, net_form}
+use Rattle.net_bundle.specs.NetForm.{are_names, file_fits, file_names, kept_fits, net_form}
 use Rattle.json_forms.specs.Reading.{Answered}
 use Rattle.json_forms.specs.declared.fault.FormFault.TheVariants as form
 use Rattle.bundle_reader.specs.OneReading.{IsOfFiles, OneReading}

@@ -9,7 +9,7 @@ use Rattle.p4_run.specs.declared.faults.LoadFault.{LoadFault}
 use Rattle.p4_run.specs.declared.faults.LoadFault.TheVariants.{MissingTable, UnknownTable, RowShape, GroupShape, NoMemory}
 use Rattle.net_bundle.specs.declared.file.BundleFile.TheVariants.{Program, Rows}
 use Rattle.json_forms.specs.Reading.{Answered}
-use Rattle.bundle_forms.specs.RowsForm.{rows_form}
+use Rattle.net_bundle.specs.RowsForm.{rows_form}
 use Rattle.bundle_reader.specs.Readings.{NotLoaded, ProgramReads, RowsRead}
 use Rattle.bundle_reader.specs.declared.fault.ReadFault.{ReadFault}
 use Rattle.bundle_reader.specs.declared.fault.ReadFault.TheVariants.{Load}

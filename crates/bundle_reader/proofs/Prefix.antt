@@ -24,8 +24,8 @@ use Rattle.net_bundle.specs.Writing.{most_of}
 use Rattle.net_bundle.specs.declared.file.BundleFile.{BundleFile}
 use Rattle.net_bundle.specs.declared.file.BundleFile.TheVariants.{Program, Rows}
 use Rattle.net_bundle.specs.declared.net_json.KeptDigest as code-kept
-use Rattle.bundle_forms.specs.NetForm.{are_names, file_names}
-use Rattle.bundle_forms.specs.RowsForm.{rows_form}
+use Rattle.net_bundle.specs.NetForm.{are_names, file_names}
+use Rattle.net_bundle.specs.RowsForm.{rows_form}
 use Rattle.bundle_reader.specs.Parts.{AllWell, SwitchWell}
 use Rattle.bundle_reader.specs.Readings.{AllShort, Held, IsShort, NetReads, UpTo}
 

@@ -1,6 +1,8 @@
 -- One file, read: why it is not well, and what its turn was.
-use Rattle.std.proofs.Common.{◌≡◌, ℕ, ◌<◌, List, length, Option, Some, None, Result, Ok, Err, IfErr, IsErrAnd, refl, sym, ◌∙◌, ap, subst}
+use Rattle.std.proofs.Common.{◌≡◌, ℕ, ◌<◌, Bool, true, false, not, List, length, Option, Some, None, Result, Ok, Err, IfErr, IsErrAnd, refl, sym, ◌∙◌, ap, subst}
 use Rattle.std.specs.FinMap.{get}
+use Rattle.std.specs.Str.{bytes_eq}
+use Rattle.std.proofs.lemmas.Slice.Eq.{bytes_eq-Decides}
 use Rattle.cocoon_io.specs.Calls.{AnswersFile, ReadAnswers}
 use Rattle.cocoon_io.specs.Files.{Files}
 use Rattle.cocoon_io.specs.declared.folder.FolderFault.{FolderFault}
@@ -21,22 +23,52 @@ use Rattle.net_bundle.specs.BundleNames.{digest_of}
 use Rattle.net_bundle.specs.Writing.{most_of}
 use Rattle.net_bundle.specs.declared.file.BundleFile.{BundleFile}
 use Rattle.net_bundle.specs.declared.file.BundleFile.TheVariants.{Program, Rows, Network}
-use Rattle.bundle_forms.specs.NetForm.{net_form}
+use Rattle.net_bundle.specs.NetForm.{net_form}
 use Rattle.json_forms.specs.Reading.{Refused}
-use Rattle.bundle_forms.specs.RowsForm.{rows_form}
+use Rattle.net_bundle.specs.RowsForm.{rows_form}
 use Rattle.json_forms.specs.declared.fault.FormFault.{FormFault}
 use Rattle.json_forms.specs.declared.fault.FormFault.TheVariants as form
-use Rattle.bundle_reader.specs.FolderCounts.{ReadFaultRose}
-use Rattle.bundle_reader.specs.Parts.{formed_at, program_at, loaded_at}
+use Rattle.bundle_reader.specs.FolderCounts.{NamesFailure, ReadFaultRose}
+use Rattle.bundle_reader.specs.Parts.{BytesFault, FaultAt, formed_at, IsOfBytes, loaded_at, program_at}
 use Rattle.bundle_reader.specs.Readings.{Held, IsFirstFault, ProgramReads, RowsRead, Turn, UpTo}
 use Rattle.bundle_reader.specs.Told.{IsTold}
 use Rattle.bundle_reader.specs.declared.fault.ReadFault.{ReadFault}
+use Rattle.bundle_reader.specs.declared.fault.ReadFault.TheVariants as read
 
 -- ---- what `?` passes on
 
 pub passed : {T E : Type 0} (r : Result T E) (e : E) (P : E → Type 0) → IsErrAnd r (λ y. y ≡ e) → P e → IfErr r P
 passed (Ok x) e P is h = tt
 passed (Err y) e P is h = subst P (sym is) h
+
+-- ---- equal bytes
+
+not_not : (b : Bool) → false ≡ not b → b ≡ true
+not_not true e = refl
+not_not false e = absurd cc
+
+pub same_bytes : (x y : List ℕ) → false ≡ not (bytes_eq x y) → x ≡ y
+same_bytes x y e = (bytes_eq-Decides x y).0 (not_not (bytes_eq x y) e)
+
+-- ---- faults of bytes
+
+pub bytes_told : (r : ReadFault) → IsOfBytes r → IsTold r
+bytes_told (read.Folder file fault) h = absurd h
+bytes_told (read.P4 file fault) h = absurd h
+bytes_told (read.Load file fault) h = absurd h
+bytes_told r h = tt
+
+pub bytes_rose : (last : Option ℕ) (old new : ℕ) (r : ReadFault) → new ≡ old → IsOfBytes r → ReadFaultRose last old new r
+bytes_rose last old new (read.Folder file fault) e h = absurd h
+bytes_rose last old new r e h = e
+
+pub bytes_named : (last_failure : List ℕ → Type 0) (out : List ℕ) (r : ReadFault) → IsOfBytes r → NamesFailure last_failure out r
+bytes_named last_failure out (read.Folder file fault) h = absurd h
+bytes_named last_failure out r h = tt
+
+pub bytes_refused : (files : Files) (out : List ℕ) (file : BundleFile) (kept bytes text : List ℕ) (r : ReadFault) → text ≡ bytes → Held files out file bytes → BytesFault file text kept r
+    → FaultAt out file (Some kept) r files
+bytes_refused files out file kept bytes text r e held fault = fault files out (subst (Held files out file) (sym e) held)
 
 -- ---- files that are too long
 

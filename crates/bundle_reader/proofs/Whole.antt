@@ -9,7 +9,7 @@ use Rattle.net_bundle.specs.NetJson.{NetFile, net_data}
 use Rattle.json_forms.specs.Values.{IsJson}
 use Rattle.net_bundle.specs.Network.{net_file_fits}
 use Rattle.net_bundle.specs.declared.file.BundleFile.TheVariants.{Network}
-use Rattle.bundle_forms.specs.NetForm.{are_names, file_fits, file_names, kept_fits, net_form}
+use Rattle.net_bundle.specs.NetForm.{are_names, file_fits, file_names, kept_fits, net_form}
 use Rattle.bundle_reader.specs.Parts.{AllWell, OfFiles}
 use Rattle.bundle_reader.specs.Readings.{ContentReads, NetReads, ReadsAs}
 use Rattle.bundle_reader.proofs.Prefix.{held_short}

@@ -14,7 +14,7 @@ use Rattle.net_bundle.specs.NetJson.{KeptDigest, NetFile}
 use Rattle.net_bundle.specs.Network.{file_wiring, is_digest}
 use Rattle.net_bundle.specs.Writing.{most_of}
 use Rattle.net_bundle.specs.declared.file.BundleFile.TheVariants.{Network}
-use Rattle.bundle_forms.specs.NetForm.{file_fits, net_form}
+use Rattle.net_bundle.specs.NetForm.{file_fits, net_form}
 use Rattle.json_forms.specs.declared.fault.FormFault.TheVariants as form
 use Rattle.bundle_reader.specs.Alone.{IsOfFile, OneWiring, WiresRead, bare_net, wires_of}
 use Rattle.bundle_reader.specs.OneReading.{IsOfFiles}

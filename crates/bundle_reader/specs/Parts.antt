@@ -1,6 +1,6 @@
 -- What is said of a folder's files where a bundle is read step by step. Private clauses of `reading`, `files` and `switches`
 -- cite it; those of `read_wiring` and `read_certificates` cite `OfFiles`.
-use Rattle.std.specs.Prelude.{◌≡◌, ℕ, List, Option, Some, None}
+use Rattle.std.specs.Prelude.{◌≡◌, ℕ, List, Option, Some, None, Ok}
 use Rattle.cocoon_io.specs.Files.{Files}
 use Rattle.p4_ir.specs.NetTree.{SwitchFiles}
 use Rattle.p4_run.specs.Faults.{load_fault}
@@ -11,12 +11,17 @@ use Rattle.p4_read.specs.declared.fault.P4Fault.{P4Fault}
 use Rattle.p4_read.specs.declared.fault.P4Fault.TheVariants.{NoMemory as Wanting-P4}
 use Rattle.loaded_net.specs.declared.loading.NetFault.{NetFault}
 use Rattle.loaded_net.specs.declared.loading.NetFault.TheVariants as net
+use Rattle.json_forms.specs.Reading.{Answered}
+use Rattle.net_bundle.specs.BundleNames.{digest_of}
 use Rattle.net_bundle.specs.NetJson.{NetFile}
 use Rattle.net_bundle.specs.Network.{SwitchesRead}
+use Rattle.net_bundle.specs.RowsForm.{rows_form}
+use Rattle.p4_ir.specs.NetOf.{rows_of}
 use Rattle.net_bundle.specs.declared.file.BundleFile.TheVariants.{Rows}
-use Rattle.bundle_reader.specs.Readings.{AllShort, IsFirstFault, NetReads, ProgramReads, RowsRead, Turn, UpTo}
+use Rattle.bundle_reader.specs.Readings.{AllShort, Held, IsFirstFault, NetReads, ProgramReads, RowsRead, Turn, UpTo}
 use Rattle.bundle_reader.specs.declared.fault.ReadFault.{ReadFault}
-use Rattle.bundle_reader.specs.declared.fault.ReadFault.TheVariants.{Load, NotJson, P4, Shape, NoMemory}
+use Rattle.bundle_reader.specs.declared.fault.ReadFault.TheVariants.{Folder, Load, NotJson, P4, Shape, NoMemory}
+use Rattle.bundle_reader.specs.declared.last_rows.LastRows.{LastRows}
 
 -- ---- faults of layers below, at a file
 
@@ -42,6 +47,26 @@ OfFiles content Holds = (files : Files) → content ≡ Some files → Holds fil
 -- it is the first fault, where all files before this one are well
 abbrev pub FaultAt : (out : List ℕ) → BundleFile → (kept : Option (List ℕ)) → ReadFault → Files → Type 0
 FaultAt out file kept fault files = Turn files out file kept → IsFirstFault files out fault
+
+-- it is the first fault of all files that have these bytes there, where all before are well
+abbrev pub BytesFault : BundleFile → (bytes kept : List ℕ) → ReadFault → Type 0
+BytesFault file bytes kept fault = (files : Files) (out : List ℕ) → Held files out file bytes → FaultAt out file (Some kept) fault files
+
+-- it is about the bytes of a file, so no call of the folder failed
+abbrev pub IsOfBytes : ReadFault → Type 0
+IsOfBytes (Folder file fault) = ⊥
+IsOfBytes (P4 file fault) = ⊥
+IsOfBytes (Load file fault) = ⊥
+IsOfBytes _ = Unit {0}
+
+-- the digest is that of the bytes, which read as the rows
+abbrev pub IsRead : LastRows → Type 0
+IsRead last = (digest_of last.bytes.items ≡ last.digest) × Answered rows_form last.bytes.items (Ok (rows_of last.rows))
+
+-- the same, if a file of rows was read
+abbrev pub LastIsRead : Option LastRows → Type 0
+LastIsRead None = Unit {0}
+LastIsRead (Some last) = IsRead last
 
 -- the files of a switch of this number, of which these digests are kept
 abbrev pub SwitchWell : (out : List ℕ) → (number : ℕ) → (program rows : List ℕ) → SwitchFiles → Files → Type 0

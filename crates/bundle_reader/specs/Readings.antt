@@ -23,9 +23,9 @@ use Rattle.net_bundle.specs.Network.{SwitchesRead}
 use Rattle.net_bundle.specs.Writing.{most_of}
 use Rattle.net_bundle.specs.declared.file.BundleFile.{BundleFile}
 use Rattle.net_bundle.specs.declared.file.BundleFile.TheVariants.{Program, Rows, Certificates, Network}
-use Rattle.bundle_forms.specs.NetForm.{net_form}
+use Rattle.net_bundle.specs.NetForm.{net_form}
 use Rattle.json_forms.specs.Reading.{Answered, Refused}
-use Rattle.bundle_forms.specs.RowsForm.{rows_form}
+use Rattle.net_bundle.specs.RowsForm.{rows_form}
 use Rattle.json_forms.specs.declared.fault.FormFault.{FormFault}
 use Rattle.json_forms.specs.declared.fault.FormFault.TheVariants as form
 use Rattle.bundle_reader.specs.declared.fault.ReadFault.{ReadFault}

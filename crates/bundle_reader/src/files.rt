@@ -1,10 +1,10 @@
 //! One file of a bundle.
-ghost use Rattle.std.specs.Prelude.{◌≡◌, ◌≤◌, ℕ, IfErr, IfOk, List, Option, Some, length};
+ghost use Rattle.std.specs.Prelude.{◌≡◌, ◌≤◌, ℕ, IfErr, IfOk, List, OnOk, Option, Some, length};
 ghost use Rattle.net_bundle.specs.BundleNames.{digest_of};
 ghost use Rattle.net_bundle.specs.Writing.{most_of};
 ghost use Rattle.bundle_reader.specs.Alone.{IsOfFile, NotRead};
 ghost use Rattle.bundle_reader.specs.FolderCounts.{NamesFailure, ReadFaultRose};
-ghost use Rattle.bundle_reader.specs.Parts.{FaultAt, OfFiles, formed_at, program_at};
+ghost use Rattle.bundle_reader.specs.Parts.{BytesFault, FaultAt, IsOfBytes, OfFiles, formed_at, program_at};
 ghost use Rattle.bundle_reader.specs.Readings.{Held};
 ghost use Rattle.bundle_reader.specs.Told.{IsTold};
 
@@ -65,7 +65,26 @@ pub(crate) fn read_file<F: Folder>(
     }
 }
 
-/// The same of a file of which this digest is kept.
+/// Tests that the bytes of this file have the digest that is kept of it.
+pub(crate) fn compare_digest(
+    alloc: Global,
+    file: BundleFile,
+    bytes: &[u8],
+    kept: &str,
+) -> Result<(), ReadFault>
+    ensures fresh { OnOk result (digest_of bytes.now ≡ kept.now) }
+    ensures refused { IfErr result (BytesFault file bytes.now kept.now) }
+    ensures about { IfErr result IsOfBytes }
+{
+    let found = digest_of(alloc, bytes)?;
+    if found.bytes() != kept.as_bytes() {
+        let kept = Text::from(alloc, kept.as_bytes())?;
+        return Err(ReadFault::Stale(file, found, kept));
+    }
+    Ok(())
+}
+
+/// The bytes of a file of which this digest is kept.
 pub(crate) fn read_kept<F: Folder>(
     alloc: Global,
     folder: &mut F,
@@ -89,11 +108,7 @@ pub(crate) fn read_kept<F: Folder>(
     ensures writes { F.write_faults folder.new ≡ F.write_faults folder.old }
 {
     let bytes = read_file(alloc, folder, out, file)?;
-    let found = digest_of(alloc, &bytes)?;
-    if found.bytes() != kept.as_bytes() {
-        let kept = Text::from(alloc, kept.as_bytes())?;
-        return Err(ReadFault::Stale(file, found, kept));
-    }
+    compare_digest(alloc, file, &bytes, kept)?;
     Ok(bytes)
 }
 

@@ -11,7 +11,7 @@ ghost use Rattle.net_bundle.specs.Writing.{AllFit, NotWritten, with_files};
 ghost use Rattle.net_bundle.specs.declared.fault.BundleFault.{BundleFault};
 ghost use Rattle.p4_ir.specs.NetTree.{NetData};
 
-use bundle_forms::laws::{net_form_is_exact, rows_form_is_exact};
+use net_bundle::form_laws::{net_form_is_exact, rows_form_is_exact};
 use p4_read::laws::one_answer;
 use p4_run::laws::rows_without_fault_load;
 

@@ -5,6 +5,7 @@
 pub mod certificates;
 pub mod fault;
 mod files;
+mod last_rows;
 pub mod laws;
 pub mod reading;
 mod switches;

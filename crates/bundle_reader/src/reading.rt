@@ -1,6 +1,6 @@
 //! The reading of a bundle.
 ghost use Rattle.std.specs.Prelude.{◌≡◌, ◌≤◌, IfErr, IfOk, IsTrue};
-ghost use Rattle.bundle_forms.specs.NetForm.{file_fits};
+ghost use Rattle.net_bundle.specs.NetForm.{file_fits};
 ghost use Rattle.bundle_reader.specs.Alone.{IsOfFile, WiresRead};
 ghost use Rattle.bundle_reader.specs.FolderCounts.{NamesFailure, ReadFaultRose};
 ghost use Rattle.bundle_reader.specs.Parts.{OfFiles};
@@ -15,13 +15,12 @@ ghost use Rattle.p4_ir.specs.Wiring.{wiring_fits};
 use crate::fault::ReadFault;
 use crate::files::{form_fault, read_file};
 use crate::switches::read_switches;
-use bundle_forms::laws::net_form_is_exact;
-use bundle_forms::read_net;
 use cocoon_io::Folder;
 use cocoon_num::List;
 use loaded_net::Net;
-use net_bundle::BundleFile;
+use net_bundle::form_laws::net_form_is_exact;
 use net_bundle::net_json::NetFile;
+use net_bundle::{BundleFile, read_net};
 use net_wiring::bare_switches;
 use p4_ir::NetData;
 use std::alloc::Global;

@@ -1,6 +1,6 @@
 //! The files of the switches of a bundle.
 ghost use Rattle.std.specs.Prelude.{◌≡◌, ◌∷◌, ◌≤◌, IfErr, IfOk, IsTrue, Some, length, map};
-ghost use Rattle.bundle_forms.specs.NetForm.{file_fits};
+ghost use Rattle.net_bundle.specs.NetForm.{file_fits};
 ghost use Rattle.loaded_net.specs.Runs.{runs_in, runs_of};
 ghost use Rattle.net_bundle.specs.NetFileOf.{net_file_of};
 ghost use Rattle.p4_ir.specs.NetFits.{switch_numbers};
@@ -8,17 +8,17 @@ ghost use Rattle.p4_ir.specs.NetOf.{rows_of, switch_of};
 ghost use Rattle.p4_ir.specs.Program.{program_of};
 ghost use Rattle.p4_ir.specs.WellKinded.{WellKinded};
 ghost use Rattle.bundle_reader.specs.FolderCounts.{NamesFailure, ReadFaultRose};
-ghost use Rattle.bundle_reader.specs.Parts.{AllWell, FaultAt, OfFiles, SwitchFault, SwitchWell, SwitchesFault, loaded_at};
+ghost use Rattle.bundle_reader.specs.Parts.{AllWell, FaultAt, LastIsRead, OfFiles, SwitchFault, SwitchWell, SwitchesFault, loaded_at};
 ghost use Rattle.bundle_reader.specs.Readings.{ProgramReads, RowsRead};
 ghost use Rattle.bundle_reader.specs.Told.{IsTold};
 
 use crate::fault::ReadFault;
-use crate::files::{form_fault, program_fault, read_kept};
-use bundle_forms::laws::rows_form_is_exact;
-use bundle_forms::read_rows;
+use crate::files::{program_fault, read_file, read_kept};
+use crate::last_rows::{LastRows, rows_of_bytes};
 use cocoon_io::Folder;
 use loaded_net::{NetFault, load};
 use net_bundle::BundleFile;
+use net_bundle::form_laws::rows_form_is_exact;
 use net_bundle::net_json::{KeptDigest, NetFile};
 use p4_ir::{Program, RowsFile, SwitchFiles};
 use p4_run::Loaded;
@@ -62,7 +62,10 @@ fn read_switch_rows<F: Folder>(
     out: &str,
     switch: u16,
     kept: &str,
+    last: &mut Option<LastRows>,
 ) -> Result<RowsFile, ReadFault>
+    requires { LastIsRead last.old }
+    ensures last { IfOk result (λ _. LastIsRead last.new) }
     ensures rows { IfOk result (λ rows. OfFiles (F.content folder.old)
         (λ files. RowsRead files out.now switch kept.now (rows_of rows))) }
     ensures refused { IfErr result (λ fault. OfFiles (F.content folder.old)
@@ -76,12 +79,9 @@ fn read_switch_rows<F: Folder>(
     ensures reads { F.read_faults folder.old ≤ F.read_faults folder.new }
     ensures writes { F.write_faults folder.new ≡ F.write_faults folder.old }
 {
-    let file = BundleFile::Rows(switch);
-    let text = read_kept(alloc, folder, out, file, kept)?;
-    match read_rows(alloc, &text) {
-        Ok(rows) => Ok(rows),
-        Err(fault) => Err(form_fault(file, fault)),
-    }
+    let bytes = read_file(alloc, folder, out, BundleFile::Rows(switch))?;
+    let rows = rows_of_bytes(alloc, bytes, switch, kept, last)?;
+    Ok(rows)
 }
 
 /// A switch, and the same with its rows loaded.
@@ -109,7 +109,10 @@ fn read_switch<F: Folder>(
     switch: u16,
     program: &str,
     rows: &str,
+    last: &mut Option<LastRows>,
 ) -> Result<ReadSwitch, ReadFault>
+    requires { LastIsRead last.old }
+    ensures last { IfOk result (λ _. LastIsRead last.new) }
     ensures number { IfOk result (λ read. read.files.number ≡ switch) }
     ensures runs { IfOk result (λ read. runs_in read.loaded ≡ runs_of (switch_of read.files)) }
     ensures well { IfOk result (λ read. OfFiles (F.content folder.old)
@@ -126,7 +129,7 @@ fn read_switch<F: Folder>(
     ensures writes { F.write_faults folder.new ≡ F.write_faults folder.old }
 {
     let program = read_program(alloc, folder, out, switch, program)?;
-    let rows = read_switch_rows(alloc, folder, out, switch, rows)?;
+    let rows = read_switch_rows(alloc, folder, out, switch, rows, last)?;
     let files = SwitchFiles {
         number: switch,
         program,
@@ -182,10 +185,19 @@ pub(crate) fn read_switches<F: Folder>(
     rows_without_fault_load();
     let mut switches = Vec::new(alloc);
     let mut loaded = Vec::new(alloc);
+    let mut last = None;
     let mut kept = file.files.as_slice();
     for switch in &file.switches {
         let (program, rows, others) = next_two(kept);
-        let read = read_switch(alloc, folder, out, *switch, &program.digest, &rows.digest)?;
+        let read = read_switch(
+            alloc,
+            folder,
+            out,
+            *switch,
+            &program.digest,
+            &rows.digest,
+            &mut last,
+        )?;
         switches.push(read.files)?;
         loaded.push(read.loaded)?;
         kept = others;

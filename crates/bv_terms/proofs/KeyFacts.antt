@@ -11,7 +11,7 @@ use Rattle.std.proofs.lemmas.Option.{slice_get_within}
 use Rattle.std.proofs.lemmas.Nat.{div-add-mod'}
 use Rattle.cocoon_num.specs.Names.{same_name}
 use Rattle.cocoon_num.specs.declared.bits.Bits.{Bits}
-use Rattle.name_table.proofs.NameFacts.{same-refl, same-true, value-updated}
+use Rattle.numbering.proofs.NameFacts.{same-refl, same-true, value-updated}
 use Rattle.bv_terms.specs.declared.node.Node.{Node}
 use Rattle.bv_terms.specs.declared.node.Node.TheVariants.{Constant, Input, Apply, Not, Binary, Slice, Pick}
 use Rattle.bv_terms.specs.declared.node.TermOp.{TermOp}

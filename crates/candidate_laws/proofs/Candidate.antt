@@ -42,9 +42,9 @@ use Rattle.query_laws.proofs.Renaming.{value_agrees}
 use Rattle.query_laws.proofs.Untrue.{each_instance, own_stands}
 use Rattle.table_terms.specs.ByTables.{by_tables}
 use Rattle.table_terms.specs.WithRows.{Tables, table_of}
-use Rattle.term_copy.proofs.InputLists.{names-apart}
-use Rattle.term_laws.proofs.FittingValues.{values-fit}
-use Rattle.term_laws.proofs.RenamedTerms.{among-renamed, value-renamed, walk-kept}
+use Rattle.term_walk.proofs.InputLists.{names-apart}
+use Rattle.flat_laws.proofs.FittingValues.{values-fit}
+use Rattle.flat_laws.proofs.RenamedTerms.{among-renamed, value-renamed, walk-kept}
 use Rattle.candidate_laws.specs.Candidates.{IsCandidate, IsTrueBy, MakeTrue, given}
 use Rattle.candidate_laws.specs.FirstRows.{HaveFirstRows, applications_of}
 use Rattle.candidate_laws.proofs.FullTables.{full, full-at, with-rows}

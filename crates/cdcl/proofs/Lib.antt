@@ -1,0 +1,16 @@
+pub mod Visiting
+pub mod Longer
+pub mod FirstClauses
+pub mod Watched
+pub mod Looking
+pub mod Opening
+pub mod Attaching
+pub mod Membership
+pub mod Jumping
+pub mod Trailing
+pub mod Counting
+pub mod Conflicts
+pub mod LearnedClauses
+pub mod Totals
+pub mod Backjumps
+pub mod Asserting

@@ -1,6 +1,6 @@
 -- Cited by the clauses of `Analysis`: what changes in it.
 use Rattle.std.specs.Prelude.{◌≡◌, ℕ, false, [], length}
-use Rattle.search_laws.specs.Marks.{is_marked}
+use Rattle.cdcl.specs.Marks.{is_marked}
 use Rattle.cdcl.specs.declared.analysis.Analysis.{Analysis}
 
 -- all but the marks and their count

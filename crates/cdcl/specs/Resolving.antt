@@ -4,8 +4,8 @@ use Rattle.cnf_core.specs.Deriving.{EachDerived, EndsEmpty}
 use Rattle.cnf_core.specs.Licensing.{BringsNew}
 use Rattle.cnf_core.specs.declared.clauses.Cnf.{Cnf}
 use Rattle.cnf_core.specs.declared.log.Step.{Step}
-use Rattle.search_laws.specs.Marks.{MarksToo, Shows, is_marked}
-use Rattle.search_laws.specs.Searching.{IsClosed}
+use Rattle.cdcl.specs.Marks.{MarksToo, Shows, is_marked}
+use Rattle.cdcl.specs.Searching.{IsClosed}
 use Rattle.cdcl.specs.declared.analysis.Analysis.{Analysis}
 
 -- all marked literals are among the first `top`, and the conflict follows from them

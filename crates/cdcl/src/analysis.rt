@@ -1,11 +1,11 @@
 //! Which literals of a trail a conflict follows from.
 ghost use Rattle.std.specs.Prelude.{◌≡◌};
-ghost use Rattle.search_laws.specs.Marks.{count_from};
+ghost use Rattle.cdcl.specs.Marks.{count_from};
 
+use crate::Order;
 use cnf_core::{Clause, Lit, Trail};
 use cocoon_num::{List, NoMemory};
 use std::alloc::Global;
-use unit_propagation::Order;
 
 /// Marks on the literals of a trail.
 #[derive(Drop)]
@@ -28,7 +28,7 @@ impl Analysis {
     ghost use Rattle.cnf_core.specs.Literals.{Names};
     ghost use Rattle.cnf_core.specs.TrailViews.{room, trues};
     ghost use Rattle.cdcl.specs.Analyses.{IsFresh, IsSameBut};
-    ghost use Rattle.search_laws.specs.Marks.{is_marked, MarksToo};
+    ghost use Rattle.cdcl.specs.Marks.{is_marked, MarksToo};
 
     /// Nothing is marked yet, on a trail of this length.
     pub fn new(alloc: Global, len: usize, floor: usize) -> Result<Analysis, NoMemory>

@@ -3,14 +3,14 @@ ghost use Rattle.std.specs.Prelude.{◌≡◌, ◌+◌, ◌<◌, ◌≤◌, ◌^
 ghost use Rattle.cnf_core.specs.Satisfying.{WellNamed};
 ghost use Rattle.cnf_core.specs.TrailViews.{trues};
 ghost use Rattle.cdcl.specs.Answering.{Answers};
-ghost use Rattle.search_laws.specs.Searching.{IsConflictAt};
-ghost use Rattle.unit_propagation.specs.States.{clauses_of, IsReady, IsSound};
+ghost use Rattle.cdcl.specs.Searching.{IsConflictAt};
+ghost use Rattle.cdcl.specs.States.{clauses_of, IsReady, IsSound};
 
 use crate::learning::{learn, refute};
+use crate::{Order, Search};
 use cnf_core::{Assignment, Cnf, Log};
 use cocoon_num::NoMemory;
 use std::alloc::Global;
-use unit_propagation::{Order, Search};
 
 #[derive(Drop)]
 pub enum Answer {

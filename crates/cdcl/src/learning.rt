@@ -6,18 +6,17 @@ ghost use Rattle.cnf_core.specs.Literals.{opposite};
 ghost use Rattle.cnf_core.specs.Satisfying.{WellNamed};
 ghost use Rattle.cnf_core.specs.Trails.{literal_at, numbers};
 ghost use Rattle.cnf_core.specs.TrailViews.{trues};
-ghost use Rattle.search_laws.specs.Marks.{is_marked, marked_literals, opposite_at};
-ghost use Rattle.search_laws.specs.Searching.{HasReason, IsConflictAt};
-ghost use Rattle.unit_propagation.specs.States.{clauses_of, IsReady, IsSound};
+ghost use Rattle.cdcl.specs.Marks.{is_marked, marked_literals, opposite_at};
+ghost use Rattle.cdcl.specs.Searching.{HasReason, IsConflictAt};
+ghost use Rattle.cdcl.specs.States.{clauses_of, IsReady, IsSound};
 ghost use Rattle.cdcl.specs.Analyses.{IsSameBut};
 ghost use Rattle.cdcl.specs.Resolving.{Analyzed, IsLevel, IsResolved, MarksClause, MarksNumber, RefutesIn};
 
 use crate::analysis::Analysis;
+use crate::{Order, Pair, Search};
 use cnf_core::{Clause, Cnf, Lit, Step};
 use cocoon_num::{List, NoMemory};
 use std::alloc::Global;
-use unit_propagation::{Order, Search};
-use watched_literals::Pair;
 
 /// Marks what a conflict follows from, until `keep` literals of the last level are left: one, the first unique
 /// implication point, or none before any decision. The last level starts at `floor`.

@@ -1,7 +1,10 @@
 //! Search for an assignment that satisfies clauses: conflict-driven clause learning (CDCL) with two watched literals. Each
 //! learned clause is a step of a log with the hints that derive it, so an answer can be checked without a search.
 //!
-//! For readers of MiniSat 2.2 (`core/Solver.cc`), what its parts are here, in `watched_literals` and in `unit_propagation`:
+//! [`search`] has the state of a search: unit propagation, decisions, and the way back to an earlier level. [`watches`] has the lists of who
+//! watches what, with the watch invariant; [`laws`] has laws on clauses and trails: reasons, and clauses that are learned from marked literals.
+//!
+//! For readers of MiniSat 2.2 (`core/Solver.cc`), what its parts are here:
 //!
 //! | MiniSat | Here |
 //! |---|---|
@@ -26,7 +29,7 @@
 //! | `search`: what it does of a conflict | `learn` |
 //! | `search`: its loop | `decide_and_learn` of `answer`, with `Search::next_conflict` for what is between two conflicts |
 //! | `ok` that becomes false | a conflict before any decision, of which `refute` makes the empty clause |
-//! | `activity`, `var_inc` | `Scores` of `unit_propagation`, in whole numbers |
+//! | `activity`, `var_inc` | `Scores`, in whole numbers |
 //! | `varBumpActivity`, `varDecayActivity` | `Order::bump`, `Order::decay` |
 //! | `order_heap`, `polarity`; `insertVarOrder` | `Heap`, `Order::was_true`; `Order::release` |
 //!
@@ -35,6 +38,19 @@
 
 mod analysis;
 mod answer;
+mod backtracking;
+mod beginning;
+mod deciding;
+mod heap;
+pub mod laws;
 mod learning;
+pub mod order;
+mod propagation;
+mod scores;
+pub mod search;
+pub mod watches;
 
 pub use answer::{Answer, solve};
+pub use order::Order;
+pub use search::Search;
+pub use watches::{Pair, Watches};

@@ -8,8 +8,8 @@ use Rattle.json_forms.specs.Values.{IsJson}
 use Rattle.certificates.specs.CertsOf.{certs_of}
 use Rattle.certificates.specs.declared.Cert.{Cert}
 use Rattle.certificates.specs.declared.Certs.{Certs}
-use Rattle.cert_json.specs.CertsForm.{certs_form}
-use Rattle.cert_json.specs.CertsJson.{certs_data}
+use Rattle.cert_text.specs.CertsForm.{certs_form}
+use Rattle.cert_text.specs.CertsJson.{certs_data}
 use Rattle.obligation_laws.specs.Obligations.{all_obligations}
 use Rattle.cert_text.specs.Certifying.{Certifies, CertsShow, Shows}
 use Rattle.cert_text.specs.Rechecking.{FirstIs, IsRefused, reported}

@@ -5,7 +5,7 @@ use Rattle.std.proofs.lemmas.Slice.Zip.{AllZip-long}
 use Rattle.cocoon_num.specs.Tree.{Design}
 use Rattle.bv_terms.specs.declared.node.Node.{Node}
 use Rattle.certificates.specs.declared.Cert.{Cert}
-use Rattle.cert_json.specs.CertsForm.{certs_form}
+use Rattle.cert_text.specs.CertsForm.{certs_form}
 use Rattle.hop_inline.specs.declared.tree.InlineFault.{InlineFault}
 use Rattle.hop_inline.specs.declared.tree.InlineFault.TheVariants as tree
 use Rattle.json_forms.specs.Reading.{Refused as IsUnread}

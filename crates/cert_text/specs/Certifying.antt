@@ -5,7 +5,7 @@ use Rattle.std.specs.List.{AllZip}
 use Rattle.cocoon_num.specs.Tree.{Design}
 use Rattle.certificates.specs.CertsOf.{cert_of}
 use Rattle.certificates.specs.declared.Cert.{Cert}
-use Rattle.cert_json.specs.CertsJson.{certs_data}
+use Rattle.cert_text.specs.CertsJson.{certs_data}
 use Rattle.json_forms.specs.Values.{IsJson}
 use Rattle.obligation_laws.specs.Obligations.{Obligation, all_obligations}
 use Rattle.query_laws.specs.Certified.{IsCert}

@@ -7,7 +7,7 @@ use Rattle.hop_inline.specs.declared.tree.InlineFault.{InlineFault}
 use Rattle.hop_inline.specs.declared.tree.InlineFault.TheVariants as tree
 use Rattle.queries.specs.declared.checking.RecheckFault.{RecheckFault}
 use Rattle.queries.specs.declared.checking.RecheckFault.TheVariants as query
-use Rattle.cert_json.specs.CertsForm.{certs_form}
+use Rattle.cert_text.specs.CertsForm.{certs_form}
 use Rattle.cert_text.specs.declared.fault.CertFault.{CertFault}
 use Rattle.cert_text.specs.declared.fault.CertFault.TheVariants.{NotJson, Shape, Paths, Big, NoMemory}
 

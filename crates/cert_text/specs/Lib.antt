@@ -1,3 +1,10 @@
+pub mod CertsJson
+pub mod CertsForm
+pub mod LogsForm
+pub mod LogsJson
 pub mod Certifying
 pub mod Faults
 pub mod Rechecking
+pub mod Spent
+pub mod BudgetJson
+pub mod Keeping

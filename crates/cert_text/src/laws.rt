@@ -5,12 +5,12 @@ ghost use Rattle.json_forms.specs.Reading.{Answered};
 ghost use Rattle.certificates.specs.CertsOf.{certs_of};
 ghost use Rattle.certificates.specs.declared.Cert.{Cert};
 ghost use Rattle.certificates.specs.declared.Certs.{Certs};
-ghost use Rattle.cert_json.specs.CertsForm.{certs_form};
+ghost use Rattle.cert_text.specs.CertsForm.{certs_form};
 ghost use Rattle.cert_text.specs.Certifying.{Certifies, CertsShow};
 ghost use Rattle.cert_text.specs.Rechecking.{Tells};
 ghost use Rattle.cert_text.specs.declared.fault.CertFault.TheVariants as fault;
 
-use cert_json::laws::{certs_form_is_exact, written_reads_back};
+use crate::json_laws::{certs_form_is_exact, written_reads_back};
 
 /// Certificates that show what a design owes are as many as its obligations, and none of them is refused.
 pub fn certificates_that_show_are_not_refused()

@@ -2,7 +2,7 @@
 ghost use Rattle.std.specs.Prelude.{◌≡◌, IfErr, IfOk, Ok};
 ghost use Rattle.json_forms.specs.Reading.{Answered};
 ghost use Rattle.certificates.specs.CertsOf.{certs_of};
-ghost use Rattle.cert_json.specs.CertsForm.{certs_form};
+ghost use Rattle.cert_text.specs.CertsForm.{certs_form};
 ghost use Rattle.cert_text.specs.Faults.{IsNoFile};
 
 use crate::fault::CertFault;
@@ -14,5 +14,5 @@ pub fn from_json(alloc: Global, bytes: &[u8]) -> Result<Certs, CertFault>
     ensures certs { IfOk result (λ certs. Answered certs_form bytes.now (Ok (certs_of certs))) }
     ensures fault { IfErr result (IsNoFile bytes.now) }
 {
-    Ok(cert_json::from_json(alloc, bytes)?)
+    Ok(crate::json_reading::from_json(alloc, bytes)?)
 }

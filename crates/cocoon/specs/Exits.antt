@@ -9,9 +9,10 @@ use Rattle.std.specs.declared.io.ErrorKind.TheVariants.{OutOfMemory}
 use Rattle.std.specs.IoError.{error_kind}
 use Rattle.command_reports.specs.declared.status.Status.{Status}
 use Rattle.command_reports.specs.declared.status.Status.TheVariants.{Done}
-use Rattle.cocoon_cli.specs.Headline.{Headline}
+use Rattle.command_answers.specs.FolderCalls.{Counted}
 use Rattle.command_reports.specs.Report.{Puts, no_memory, status_number}
-use Rattle.cocoon_cli.specs.Run.{Call, Counted, Keeps}
+use Rattle.cocoon_cli.specs.Headline.{Headline}
+use Rattle.cocoon_cli.specs.Run.{Call, Keeps}
 
 -- The number is that of a status for which all clauses of `run` on these words hold. What a call on
 -- some words is that ends with some status is a parameter.

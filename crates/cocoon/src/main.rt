@@ -4,7 +4,7 @@
 
 ghost use Rattle.std.specs.Prelude.{◌≡◌};
 ghost use Rattle.std.specs.Process.{exit_status};
-ghost use Rattle.cocoon_cli.specs.Run.{count};
+ghost use Rattle.command_answers.specs.FolderCalls.{count};
 ghost use Rattle.command_reports.specs.Report.{status_number};
 ghost use Rattle.cocoon.specs.Exits.{Exits};
 

@@ -13,24 +13,24 @@ use Rattle.net_bundle.specs.Bundle.{MadeFile, all_switch_files, certificates_nam
 use Rattle.net_bundle.specs.BundleNames.{file_name, net_name}
 use Rattle.net_bundle.specs.Writing.{ContentHolds, Holds, with_files}
 use Rattle.net_bundle.specs.declared.file.BundleFile.TheVariants as file
-use Rattle.p4_ir.specs.NetOf.{net_of}
+use Rattle.shared_net.specs.Shared.{shared_of}
 use Rattle.p4_ir.specs.NetTree.{NetData}
 use Rattle.command_line.specs.Command.{Command, check, compile, update, step, forward, gen}
 use Rattle.command_reports.specs.declared.report.Verdict.{Verdict}
 use Rattle.command_reports.specs.declared.report.Verdict.TheVariants as verdict
-use Rattle.cocoon_cli.specs.declared.answer.Answer.{Answer}
-use Rattle.cocoon_cli.specs.declared.answer.Writing.{Writing as Written}
-use Rattle.cocoon_cli.specs.declared.answer.Writing.TheVariants as written
+use Rattle.command_answers.specs.declared.answer.Answer.{Answer}
+use Rattle.command_answers.specs.declared.answer.Writing.{Writing as Written}
+use Rattle.command_answers.specs.declared.answer.Writing.TheVariants as written
+use Rattle.command_answers.specs.Answering.{PlansBy}
+use Rattle.command_answers.specs.Commands.{files_of}
+use Rattle.command_answers.specs.Compiling.{CompilesTexts}
+use Rattle.command_answers.specs.Updating.{Stands}
+use Rattle.command_answers.specs.Steps.{Inputs}
 use Rattle.cocoon_cli.specs.declared.reading.Read.{Read}
-use Rattle.cocoon_cli.specs.Answering.{PlansBy}
-use Rattle.cocoon_cli.specs.Certified.{Certified, CertifiedOf}
-use Rattle.cocoon_cli.specs.Commands.{Plans, PlansDone, StandsFor, files_of}
-use Rattle.cocoon_cli.specs.Compiling.{CompilesTexts}
 use Rattle.cocoon_cli.proofs.Headlines.{recertified_by}
-use Rattle.cocoon_cli.specs.Updating.{Stands}
+use Rattle.cocoon_cli.specs.Certified.{Certified, CertifiedOf}
+use Rattle.cocoon_cli.specs.Shell.{Plans, PlansDone, StandsFor, AllWritten, HoldsNet, IsGiven, ReadsAll, writing_of}
 use Rattle.cocoon_cli.specs.Run.{inputs_of}
-use Rattle.cocoon_cli.specs.Shell.{AllWritten, HoldsNet, IsGiven, ReadsAll, writing_of}
-use Rattle.cocoon_cli.specs.Steps.{Inputs}
 
 -- ---- what stands under the name of the certificates
 
@@ -108,14 +108,14 @@ content_recertified (Some before) (Some after) d e o n read net g s h =
 certified_done : (c : Command) (before mid after : Option Files) (read : Read) (w : Written) → mid ≡ before → ReadsAll (files_of c) before read → PlansDone c read w → StandsFor c before read w → AllWritten (writing_of (files_of c) read w) mid after → HoldsNet read w mid after
     → CertifiedOf (Some c) before after
 certified_done (compile d e o n rounds) before mid after read (written.Bundle name net (Some certs)) same g p s all h =
-    let bundle = bundle_of.bundle read.design.items (net_of net) (Some certs) in
-    content_certified before after d e o n rounds read (net_of net) certs g p.1
+    let bundle = bundle_of.bundle read.design.items (shared_of net) (Some certs) in
+    content_certified before after d e o n rounds read (shared_of net) certs g p.1
     (subst (λ out. after ≡ with_files out bundle before) p.0 (subst (λ content. after ≡ with_files name.now bundle content) same all.stands))
-    (subst (λ out. ContentHolds before after out read.design.items (net_of net) (Some certs)) p.0 (subst (λ content. ContentHolds content after name.now read.design.items (net_of net) (Some certs)) same h))
+    (subst (λ out. ContentHolds before after out read.design.items (shared_of net) (Some certs)) p.0 (subst (λ content. ContentHolds content after name.now read.design.items (shared_of net) (Some certs)) same h))
 certified_done (compile d e o n rounds) before mid after read w same g p s all h = absurd p
 certified_done (update d e o n) before mid after read (written.Bundle name net None) same g p s all h =
-    content_recertified before after d e o n read (net_of net) g s
-    (subst (λ out. ContentHolds before after out read.design.items (net_of net) None) p.0 (subst (λ content. ContentHolds content after name.now read.design.items (net_of net) None) same h))
+    content_recertified before after d e o n read (shared_of net) g s
+    (subst (λ out. ContentHolds before after out read.design.items (shared_of net) None) p.0 (subst (λ content. ContentHolds content after name.now read.design.items (shared_of net) None) same h))
 certified_done (update d e o n) before mid after read w same g p s all h = absurd p
 certified_done (check d n rounds) before mid after read w same g p s all h = tt
 certified_done (step d e l f) before mid after read w same g p s all h = tt

@@ -3,11 +3,11 @@
 use Rattle.std.proofs.Common.{◌≡◌, ◌⊎◌, ℕ, zero, suc, List, ◌++◌, length, Option, Some, None, Err, refl, sym, ap, subst, ◌∙◌, inl, inr}
 use Rattle.cocoon_io.specs.Files.{Files}
 use Rattle.cocoon_types.specs.Tables.{defs_of}
-use Rattle.case_file.specs.Cases.{case_of}
-use Rattle.case_runs.specs.Stepping.{Steps}
-use Rattle.case_runs.specs.declared.sent.Sent.{Sent}
-use Rattle.gen_runs.specs.Arriving.{IsReached}
-use Rattle.gen_runs.specs.Counting.{IsCount}
+use Rattle.step_cases.specs.Cases.{case_of}
+use Rattle.step_cases.specs.Stepping.{Steps}
+use Rattle.step_cases.specs.declared.sent.Sent.{Sent}
+use Rattle.generator.specs.Arriving.{IsReached}
+use Rattle.generator.specs.Counting.{IsCount}
 use Rattle.net_bundle.specs.Bundle as bundle_of
 use Rattle.net_bundle.specs.Bundle.{whole_name}
 use Rattle.net_bundle.specs.Writing.{AllFit, ContentHolds, Holds, NotWritten}
@@ -15,7 +15,7 @@ use Rattle.net_bundle.specs.declared.fault.BundleFault.{BundleFault}
 use Rattle.net_bundle.specs.declared.file.BundleFile.{BundleFile}
 use Rattle.net_bundle.specs.declared.fault.BundleFault.TheVariants as fault
 use Rattle.obligation_laws.specs.Obligations.{all_obligations}
-use Rattle.p4_ir.specs.NetOf.{net_of}
+use Rattle.shared_net.specs.Shared.{shared_of}
 use Rattle.p4_ir.specs.NetTree.{NetData}
 use Rattle.command_line.specs.Command.{Command, check, compile, update, step, forward, gen}
 use Rattle.command_reports.specs.FileNames.{FileNames, budget_name}
@@ -26,29 +26,29 @@ use Rattle.command_reports.specs.declared.refusal.Refusal.{Refusal}
 use Rattle.command_reports.specs.declared.report.Report.{Report}
 use Rattle.command_reports.specs.declared.report.Verdict.{Verdict}
 use Rattle.command_reports.specs.declared.report.Verdict.TheVariants as verdict
-use Rattle.cocoon_cli.specs.declared.answer.Answer.{Answer}
-use Rattle.cocoon_cli.specs.declared.answer.Writing.{Writing as Written}
-use Rattle.cocoon_cli.specs.declared.answer.Writing.TheVariants as written
+use Rattle.command_answers.specs.declared.answer.Answer.{Answer}
+use Rattle.command_answers.specs.declared.answer.Writing.{Writing as Written}
+use Rattle.command_answers.specs.declared.answer.Writing.TheVariants as written
+use Rattle.command_answers.specs.Commands.{Reports, Writes, asks, files_of, generated_name, standing_of, writes}
+use Rattle.command_answers.specs.Answering.{IsBudget, PlansBy}
+use Rattle.command_answers.specs.Compiling.{CompilesTexts, LowersTexts}
+use Rattle.command_answers.specs.Outcomes.{AllGood, none, Ends, no_memory, reads, steps}
+use Rattle.command_answers.specs.ReportLines.{compiled_line, generated_line, sent_text, totals_of, updated_line}
+use Rattle.command_answers.specs.Steps.{Inputs, generated}
+use Rattle.command_answers.specs.Updating.{Stands}
+use Rattle.command_answers.specs.Writing.{with_writing, bundle}
 use Rattle.cocoon_cli.specs.declared.reading.Read.{Read}
-use Rattle.cocoon_cli.specs.Commands.{Plans, PlansDone, Reports, StandsFor, Writes, asks, files_of, generated_name, standing_of, writes}
-use Rattle.cocoon_cli.specs.Answering.{IsBudget, PlansBy}
-use Rattle.cocoon_cli.specs.Compiling.{CompilesTexts, LowersTexts}
+use Rattle.cocoon_cli.specs.Shell.{Plans, PlansDone, StandsFor, CanWrite, Fits, HoldsNet, IsGiven, NotAllWritten, ReadsAll, writing_of}
 use Rattle.cocoon_cli.specs.Headline.{Compiled, CompiledOf, IsCertificates}
 use Rattle.cocoon_cli.specs.Leaves.{IsWhole, LeavesFault, LeavesWhole}
-use Rattle.cocoon_cli.specs.Outcomes.{AllGood, none, Ends, no_memory, reads, steps}
-use Rattle.cocoon_cli.specs.ReportLines.{compiled_line, generated_line, sent_text, totals_of, updated_line}
 use Rattle.cocoon_cli.specs.Run.{IsKnown, MayWrite, done, inputs_of}
-use Rattle.cocoon_cli.specs.Shell.{CanWrite, Fits, HoldsNet, IsGiven, NotAllWritten, ReadsAll, writing_of}
-use Rattle.cocoon_cli.specs.Steps.{Inputs, generated}
-use Rattle.cocoon_cli.specs.Updating.{Stands}
-use Rattle.cocoon_cli.specs.Writing.{with_writing, bundle}
-use Rattle.cocoon_cli.proofs.Ending.{all_good}
+use Rattle.command_answers.proofs.Ending.{all_good}
+use Rattle.command_answers.proofs.Fitting.{files_good, files_refused, files_stopped, of_files}
+use Rattle.command_answers.proofs.TextSteps.{Texts}
 use Rattle.cocoon_cli.proofs.OneStep.{AllDecided, HasReading, HasWiring, Laws, on_both, on_design, on_packets, on_text, same_ok}
 use Rattle.cocoon_cli.proofs.Telling.{AllTell, Named}
-use Rattle.cocoon_cli.proofs.Fitting.{files_good, files_refused, files_stopped, of_files}
 use Rattle.cocoon_cli.proofs.Headlines.{compiled_by, updated_by}
 use Rattle.cocoon_cli.proofs.Refitting.{of_updated_files, rewrites_good, rewrites_refused, rewrites_stopped}
-use Rattle.cocoon_cli.proofs.TextSteps.{Texts}
 
 -- ---- its outcome
 
@@ -160,9 +160,9 @@ new_texts d e o n i read g = record { design = g.design.0; defs = g.definitions.
 
 -- the steps of writing are good where all of it fits
 pub writes_good : (c : Command) (i : Inputs) (read : Read) (w : Written) → IsGiven (files_of c) i read → PlansDone c read w → Fits (writing_of (files_of c) read w) → AllGood i (writes c)
-writes_good (compile d e o n rounds) i read (written.Bundle name net (Some certs)) g p fit = files_good i read.design.items read.definitions.items (net_of net) certs (texts d e o n rounds i read g) p.1 fit
+writes_good (compile d e o n rounds) i read (written.Bundle name net (Some certs)) g p fit = files_good i read.design.items read.definitions.items (shared_of net) certs (texts d e o n rounds i read g) p.1 fit
 writes_good (compile d e o n rounds) i read w g p fit = absurd p
-writes_good (update d e o n) i read (written.Bundle name net None) g p fit = rewrites_good i read.design.items read.definitions.items (net_of net) (new_texts d e o n i read g) p.1 fit
+writes_good (update d e o n) i read (written.Bundle name net None) g p fit = rewrites_good i read.design.items read.definitions.items (shared_of net) (new_texts d e o n i read g) p.1 fit
 writes_good (update d e o n) i read w g p fit = absurd p
 writes_good (check d n rounds) i read w g p fit = none
 writes_good (step d e l f) i read w g p fit = none
@@ -172,14 +172,14 @@ writes_good (gen hosts packets) i read w g h fit = none
 -- and it is what the command writes
 pub writes_it : (c : Command) (i : Inputs) (read : Read) (w : Written) → IsGiven (files_of c) i read → PlansDone c read w → Fits (writing_of (files_of c) read w) → Writes c i (writing_of (files_of c) read w)
 writes_it (compile d e o n rounds) i read (written.Bundle name net (Some certs)) g p fit =
-    of_files i read.design.items read.definitions.items (net_of net) certs (texts d e o n rounds i read g) p.1
-    (λ files. AllFit files × (bundle name.now (bundle_of.bundle read.design.items (net_of net) (Some certs)) ≡ bundle o files))
-    (fit, ap (λ out. bundle out (bundle_of.bundle read.design.items (net_of net) (Some certs))) p.0)
+    of_files i read.design.items read.definitions.items (shared_of net) certs (texts d e o n rounds i read g) p.1
+    (λ files. AllFit files × (bundle name.now (bundle_of.bundle read.design.items (shared_of net) (Some certs)) ≡ bundle o files))
+    (fit, ap (λ out. bundle out (bundle_of.bundle read.design.items (shared_of net) (Some certs))) p.0)
 writes_it (compile d e o n rounds) i read w g p fit = absurd p
 writes_it (update d e o n) i read (written.Bundle name net None) g p fit =
-    of_updated_files i read.design.items read.definitions.items (net_of net) (new_texts d e o n i read g) p.1
-    (λ files. AllFit files × (bundle name.now (bundle_of.bundle read.design.items (net_of net) None) ≡ bundle o files))
-    (fit, ap (λ out. bundle out (bundle_of.bundle read.design.items (net_of net) None)) p.0)
+    of_updated_files i read.design.items read.definitions.items (shared_of net) (new_texts d e o n i read g) p.1
+    (λ files. AllFit files × (bundle name.now (bundle_of.bundle read.design.items (shared_of net) None) ≡ bundle o files))
+    (fit, ap (λ out. bundle out (bundle_of.bundle read.design.items (shared_of net) None)) p.0)
 writes_it (update d e o n) i read w g p fit = absurd p
 writes_it (check d n rounds) i read w g p fit = ap (writing_of (files_of (check d n rounds)) read) p
 writes_it (step d e l f) i read w g p fit = ap (writing_of (files_of (step d e l f)) read) p
@@ -278,12 +278,12 @@ nothing_unwritten c i before after read w r p h =
 pub not_written : (c : Command) (i : Inputs) (before after : Option Files) (read : Read) (w : Written) (r : Refusal) (report : Report) → Reports c i report → AllGood i (reads (files_of c)) → AllGood i (asks c) → IsGiven (files_of c) i read
     → PlansDone c read w → NotAllWritten (writing_of (files_of c) read w) before after r → Unwritten c i before after r
 not_written (compile d e o n rounds) i before after read (written.Bundle name net (Some certs)) r report k rs ask g p h =
-    let m = subst (λ out. NotWritten out (bundle_of.bundle read.design.items (net_of net) (Some certs)) before after h.0) p.0 h.1 in
-    subst (λ (x : Refusal). Unwritten (compile d e o n rounds) i before after x) (sym h.2) (bundle_unwritten d e o n rounds i before after read (net_of net) certs h.0 report k rs ask (texts d e o n rounds i read g) p.1 m)
+    let m = subst (λ out. NotWritten out (bundle_of.bundle read.design.items (shared_of net) (Some certs)) before after h.0) p.0 h.1 in
+    subst (λ (x : Refusal). Unwritten (compile d e o n rounds) i before after x) (sym h.2) (bundle_unwritten d e o n rounds i before after read (shared_of net) certs h.0 report k rs ask (texts d e o n rounds i read g) p.1 m)
 not_written (compile d e o n rounds) i before after read w r report k rs ask g p h = absurd p
 not_written (update d e o n) i before after read (written.Bundle name net None) r report k rs ask g p h =
-    let m = subst (λ out. NotWritten out (bundle_of.bundle read.design.items (net_of net) None) before after h.0) p.0 h.1 in
-    subst (λ (x : Refusal). Unwritten (update d e o n) i before after x) (sym h.2) (update_unwritten d e o n i before after read (net_of net) h.0 report k rs ask (new_texts d e o n i read g) p.1 m)
+    let m = subst (λ out. NotWritten out (bundle_of.bundle read.design.items (shared_of net) None) before after h.0) p.0 h.1 in
+    subst (λ (x : Refusal). Unwritten (update d e o n) i before after x) (sym h.2) (update_unwritten d e o n i before after read (shared_of net) h.0 report k rs ask (new_texts d e o n i read g) p.1 m)
 not_written (update d e o n) i before after read w r report k rs ask g p h = absurd p
 not_written (check d n rounds) i before after read w r report k rs ask g p h = nothing_unwritten (check d n rounds) i before after read w r p h
 not_written (step d e l f) i before after read w r report k rs ask g p h = nothing_unwritten (step d e l f) i before after read w r p h
@@ -315,12 +315,12 @@ net_updated (Some before) (Some after) d e o n read net g l s h =
 
 headline_done : (c : Command) (before mid after : Option Files) (read : Read) (w : Written) → mid ≡ before → ReadsAll (files_of c) before read → PlansDone c read w → StandsFor c before read w → HoldsNet read w mid after → CompiledOf (Some c) before after
 headline_done (compile d e o n rounds) before mid after read (written.Bundle name net (Some certs)) same g p s h =
-    net_compiled before after d e o n rounds read (net_of net) certs g p.1
-    (subst (λ out. ContentHolds before after out read.design.items (net_of net) (Some certs)) p.0 (subst (λ content. ContentHolds content after name.now read.design.items (net_of net) (Some certs)) same h))
+    net_compiled before after d e o n rounds read (shared_of net) certs g p.1
+    (subst (λ out. ContentHolds before after out read.design.items (shared_of net) (Some certs)) p.0 (subst (λ content. ContentHolds content after name.now read.design.items (shared_of net) (Some certs)) same h))
 headline_done (compile d e o n rounds) before mid after read w same g p s h = absurd p
 headline_done (update d e o n) before mid after read (written.Bundle name net None) same g p s h =
-    net_updated before after d e o n read (net_of net) g p.1 s
-    (subst (λ out. ContentHolds before after out read.design.items (net_of net) None) p.0 (subst (λ content. ContentHolds content after name.now read.design.items (net_of net) None) same h))
+    net_updated before after d e o n read (shared_of net) g p.1 s
+    (subst (λ out. ContentHolds before after out read.design.items (shared_of net) None) p.0 (subst (λ content. ContentHolds content after name.now read.design.items (shared_of net) None) same h))
 headline_done (update d e o n) before mid after read w same g p s h = absurd p
 headline_done (check d n rounds) before mid after read w same g p s h = tt
 headline_done (step d e l f) before mid after read w same g p s h = tt

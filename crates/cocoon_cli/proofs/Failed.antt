@@ -6,7 +6,7 @@ use Rattle.cocoon_io.specs.Calls.{appended}
 use Rattle.cocoon_io.specs.Files.{Files}
 use Rattle.cocoon_num.specs.Reads.{Reads}
 use Rattle.cocoon_types.specs.Rules.{WellFormed}
-use Rattle.failure_text.specs.Told.{Tells}
+use Rattle.failures.specs.Told.{Tells}
 use Rattle.obligation_laws.specs.Obligations.{Kind, contained, bounded}
 use Rattle.command_line.specs.Command.{Command, check, compile, update, step, forward, gen}
 use Rattle.command_reports.specs.FileNames.{name_of}
@@ -19,14 +19,14 @@ use Rattle.command_reports.specs.declared.report.Verdict.{Verdict}
 use Rattle.command_reports.specs.declared.report.Verdict.TheVariants as verdict
 use Rattle.command_reports.specs.declared.status.Status.{Status}
 use Rattle.command_reports.specs.declared.status.Status.TheVariants.{HopBound, Refuted, Usage}
-use Rattle.cocoon_cli.specs.Commands.{files_of}
+use Rattle.command_answers.specs.Commands.{files_of}
+use Rattle.command_answers.specs.Outcomes.{Answers, EndsAt, FirstWith, here, later, StopsAt, no_memory, at_step, at_fault, steps}
+use Rattle.command_answers.specs.Owing.{IsFailing, verdict_of, word_of}
+use Rattle.command_answers.specs.Steps.{Inputs, IsGood, Judges, OfDesign, Step, generated, generated_design, obligations_hold, of_generated}
 use Rattle.cocoon_cli.specs.Failed.{Failed, FailedFile, FailedOf}
-use Rattle.cocoon_cli.specs.Outcomes.{Answers, EndsAt, FirstWith, here, later, StopsAt, no_memory, at_step, at_fault, steps}
-use Rattle.cocoon_cli.specs.Owing.{IsFailing, verdict_of, word_of}
 use Rattle.cocoon_cli.specs.Run.{Call, CauseOf, InputsAre, Performs}
-use Rattle.cocoon_cli.specs.Steps.{Inputs, IsGood, Judges, OfDesign, Step, generated, generated_design, obligations_hold, of_generated}
+use Rattle.command_answers.proofs.Ending.{first_gives, first_map}
 use Rattle.cocoon_cli.proofs.Commands.{report_done}
-use Rattle.cocoon_cli.proofs.Ending.{first_gives, first_map}
 use Rattle.cocoon_cli.proofs.Finding.{spends_budget}
 use Rattle.cocoon_cli.proofs.OneStep.{same_some}
 use Rattle.cocoon_cli.proofs.Refined.{OneTree}

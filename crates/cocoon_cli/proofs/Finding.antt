@@ -11,20 +11,20 @@ use Rattle.command_reports.specs.declared.report.Report.{Report}
 use Rattle.command_reports.specs.declared.report.Verdict.{Verdict}
 use Rattle.command_reports.specs.declared.report.Verdict.TheVariants as verdict
 use Rattle.obligation_laws.specs.Obligations.{Kind, contained, bounded}
-use Rattle.cocoon_cli.specs.declared.answer.Writing.{Writing as Written}
-use Rattle.cocoon_cli.specs.declared.answer.Writing.TheVariants as written
+use Rattle.command_answers.specs.declared.answer.Writing.{Writing as Written}
+use Rattle.command_answers.specs.declared.answer.Writing.TheVariants as written
+use Rattle.command_answers.specs.Answering.{IsFound}
+use Rattle.command_answers.specs.Commands.{files_of}
+use Rattle.command_answers.specs.Outcomes.{Ends, EndsAt, FirstWith, StopsAt, here, later, no_memory, at_fault, steps}
+use Rattle.command_answers.specs.Owing.{verdict_of}
+use Rattle.command_answers.specs.Steps.{Inputs, Judges, Step, Spends, Stops, assumptions_met, generated, obligations_hold, of_generated}
+use Rattle.command_answers.specs.Writing.{own}
 use Rattle.cocoon_cli.specs.declared.reading.Read.{Read}
-use Rattle.cocoon_cli.specs.Answering.{IsFound}
-use Rattle.cocoon_cli.specs.Commands.{files_of}
 use Rattle.cocoon_cli.specs.Leaves.{EndsWriting, LeavesFault}
-use Rattle.cocoon_cli.specs.Outcomes.{Ends, EndsAt, FirstWith, StopsAt, here, later, no_memory, at_fault, steps}
 use Rattle.cocoon_cli.specs.Shell.{NotAllWritten, own_file, writing_of}
-use Rattle.cocoon_cli.specs.Owing.{verdict_of}
-use Rattle.cocoon_cli.specs.Steps.{Inputs, Judges, Step, Spends, Stops, assumptions_met, generated, obligations_hold, of_generated}
-use Rattle.cocoon_cli.specs.Writing.{own}
+use Rattle.command_answers.proofs.Ending.{first_gives, first_map}
+use Rattle.command_answers.proofs.Owing.{owed_budget}
 use Rattle.cocoon_cli.proofs.Commands.{all_tell}
-use Rattle.cocoon_cli.proofs.Ending.{first_gives, first_map}
-use Rattle.cocoon_cli.proofs.Owing.{owed_budget}
 use Rattle.cocoon_cli.proofs.Telling.{AllTell, Named, Tells}
 
 -- what follows of a step with its files

@@ -10,12 +10,12 @@ use Rattle.command_reports.specs.declared.files.CommandFile.TheVariants.{Definit
 use Rattle.command_reports.specs.declared.report.Report.{Report}
 use Rattle.command_reports.specs.declared.status.Status.{Status}
 use Rattle.command_reports.specs.declared.status.Status.TheVariants.{Done, Usage}
-use Rattle.cocoon_cli.specs.Commands.{Reports, asks}
+use Rattle.command_answers.specs.Commands.{Reports, asks}
+use Rattle.command_answers.specs.Outcomes.{AllGood, good}
+use Rattle.command_answers.specs.Steps.{Inputs, OfBoth, OfDesign, Step, IsGood, generated, generated_definitions, generated_design}
+use Rattle.command_answers.specs.Writing.{with_writing}
 use Rattle.cocoon_cli.specs.Generated.{Generated, GeneratedOf}
-use Rattle.cocoon_cli.specs.Outcomes.{AllGood, good}
 use Rattle.cocoon_cli.specs.Run.{Call, CauseOf, DoneOf}
-use Rattle.cocoon_cli.specs.Steps.{Inputs, OfBoth, OfDesign, Step, IsGood, generated, generated_definitions, generated_design}
-use Rattle.cocoon_cli.specs.Writing.{with_writing}
 use Rattle.cocoon_cli.proofs.OneStep.{same_some}
 use Rattle.cocoon_cli.proofs.Refined.{OneTree}
 use Rattle.cocoon_cli.proofs.Running.{no_command, success_of}

@@ -1,29 +1,21 @@
 -- The headline of a command that writes a bundle. A design that is certified, definitions that meet its assumptions, the network
 -- that is lowered of both, and its bundle as it was written give it, whatever certificates were written with it.
-use Rattle.std.proofs.Common.{◌≡◌, ◌⊎◌, ℕ, List, [], ◌∷◌, ◌++◌, map, Option, Some, None, codes, refl, sym, ap, ap₂, subst, ◌∙◌, inl, inr, arith}
+use Rattle.std.proofs.Common.{◌≡◌, ℕ, List, [], ◌∷◌, Option, Some, None, codes, refl, sym, ap, ap₂, ◌∙◌, inl, inr, arith}
 use Rattle.std.specs.FinMap.{get}
 use Rattle.std.proofs.lemmas.List.{append_cancel_left}
 use Rattle.cocoon_io.specs.Files.{Files}
-use Rattle.bundle_forms.specs.NetForm.{net_form}
-use Rattle.bundle_reader.specs.Alone.{bare_net}
-use Rattle.cert_text.specs.Certifying.{Certifies}
-use Rattle.cocoon_num.specs.Reads.{Reads}
-use Rattle.cocoon_num.specs.Tree.{Design}
 use Rattle.net_bundle.specs.Bundle.{certificates_name}
 use Rattle.net_bundle.specs.BundleNames.{file_name, net_name, program_name, rows_name}
-use Rattle.net_bundle.specs.NetJson.{KeptDigest, NetFile}
+use Rattle.net_bundle.specs.NetJson.{KeptDigest}
 use Rattle.net_bundle.specs.Network.{InBundle, Network, SwitchesRead, file_wiring}
 use Rattle.net_bundle.specs.Writing.{Holds}
-use Rattle.net_wiring.specs.Bare.{bare_switch}
-use Rattle.net_wiring.specs.Differences.{SameWires}
-use Rattle.net_wiring.proofs.BareNumbers.{bare_numbers}
 use Rattle.p4_ir.specs.NetFits.{switch_numbers, wiring_of}
 use Rattle.p4_ir.specs.NetTree.{NetData, SwitchFiles, Link, HostPort}
 use Rattle.p4_ir.specs.Wiring.{Wiring}
-use Rattle.cocoon_cli.specs.Certified.{Certified, Recertified}
-use Rattle.cocoon_cli.specs.Compiling.{LowersTexts}
+use Rattle.command_answers.specs.Compiling.{LowersTexts}
+use Rattle.command_answers.specs.Updating.{Stands}
+use Rattle.cocoon_cli.specs.Certified.{Recertified}
 use Rattle.cocoon_cli.specs.Headline.{Compiled, IsCertificates, Updated}
-use Rattle.cocoon_cli.specs.Updating.{Stands}
 
 -- ---- wires
 
@@ -139,16 +131,3 @@ recertified_by before after d o x net is h s =
       };
       stood = s.stand;
     }
-
--- ---- wires that stand
-
-pub same_wiring : (file : NetFile) (net : NetData) → SameWires (bare_net file) net → wiring_of net ≡ file_wiring file
-same_wiring file net s =
-    let ports : file.ports ≡ net.ports = s.0.0.0 in
-    let switches : switch_numbers (map bare_switch file.switches) ≡ switch_numbers net.switches = s.0.0.1 in
-    let hosts : file.hosts ≡ net.hosts = s.0.1 in
-    let links : file.links ≡ net.links = s.1 in
-    ap (λ n. wires n (switch_numbers net.switches) net.links net.hosts) (sym ports)
-    ∙ ap (λ ss. wires file.ports ss net.links net.hosts) (sym switches ∙ bare_numbers file.switches)
-    ∙ ap (λ (ls : List Link). wires file.ports file.switches ls net.hosts) (sym links)
-    ∙ ap (λ (hs : List HostPort). wires file.ports file.switches file.links hs) (sym hosts)

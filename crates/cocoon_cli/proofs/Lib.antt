@@ -1,18 +1,5 @@
-pub mod Ending
-pub mod TextSteps
-pub mod Assuming
-pub mod Owing
-pub mod Kept
-pub mod Compiling
 pub mod Headlines
-pub mod Updating
-pub mod Fitting
 pub mod Refitting
-pub mod Stepped
-pub mod Forwarded
-pub mod Counted
-pub mod Calling
-pub mod Rewiring
 pub mod Readings
 pub mod RuleValues
 pub mod OneStanding
@@ -25,6 +12,5 @@ pub mod OneOutcome
 pub mod Performing
 pub mod Running
 pub mod Refined
-pub mod Generating
 pub mod Generated
 pub mod Failed

@@ -3,10 +3,10 @@ use Rattle.std.proofs.Common.{◌≡◌, ◌⊎◌, ◌||◌, Bool, true, false,
 use Rattle.command_line.specs.Command.{Command}
 use Rattle.command_reports.specs.declared.refusal.Refusal.{Refusal}
 use Rattle.command_reports.specs.declared.report.Report.{Report}
-use Rattle.cocoon_cli.specs.Commands.{standing_of}
-use Rattle.cocoon_cli.specs.Outcomes.{AllGood, good, FirstWith, here, later, EndsAt, Agree, Alike, equal, HasOutcome, IsGivenUp, ReportsOutcome, is_any_searched, steps}
+use Rattle.command_answers.specs.Commands.{standing_of}
+use Rattle.command_answers.specs.Outcomes.{AllGood, good, FirstWith, here, later, EndsAt, Agree, Alike, equal, HasOutcome, IsGivenUp, ReportsOutcome, is_any_searched, steps}
+use Rattle.command_answers.specs.Steps.{Inputs, Step, Decides, GivesUp, IsGood, Judges, assumptions_met, certificates_within, obligations_hold, of_generated, generated, is_searched}
 use Rattle.cocoon_cli.specs.Run.{IsKnown, IsOnly}
-use Rattle.cocoon_cli.specs.Steps.{Inputs, Step, Decides, GivesUp, IsGood, Judges, assumptions_met, certificates_within, obligations_hold, of_generated, generated, is_searched}
 use Rattle.cocoon_cli.proofs.Commands.{one_report, steps_decided}
 use Rattle.cocoon_cli.proofs.OneStep.{AllDecided, Decided, Laws, Once, good_or_judged, good_or_refused, judged_or_refused, judges_once, refuses_once}
 

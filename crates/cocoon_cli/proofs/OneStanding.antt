@@ -12,7 +12,7 @@ use Rattle.cocoon_num.specs.declared.limit_name.LimitName.{LimitName}
 use Rattle.bundle_reader.specs.Readings.{Held}
 use Rattle.bundle_reader.specs.declared.fault.ReadFault.{ReadFault}
 use Rattle.bundle_reader.specs.declared.fault.ReadFault.TheVariants.{Missing, Folder, NotJson, Shape}
-use Rattle.cert_json.specs.CertsForm.{certs_form}
+use Rattle.cert_text.specs.CertsForm.{certs_form}
 use Rattle.cert_text.specs.Certifying.{Shows}
 use Rattle.cert_text.specs.Rechecking.{AreNotAsMany, FirstIs, IsAccepted, IsRefused, reported}
 use Rattle.cert_text.proofs.OneCert.{same_certs}
@@ -36,7 +36,7 @@ use Rattle.queries.specs.Checked.{IsBig}
 use Rattle.command_reports.specs.declared.refusal.BundleCause.TheVariants as cause
 use Rattle.command_reports.specs.declared.refusal.Refusal.{Refusal}
 use Rattle.command_reports.specs.declared.refusal.Refusal.TheVariants.{OverLimit, Unread}
-use Rattle.cocoon_cli.specs.Standing.{CertificatesRead, IsCertificatesFault, NotAccepted}
+use Rattle.command_answers.specs.Standing.{CertificatesRead, IsCertificatesFault, NotAccepted}
 
 same_some : {A : Type 0} (o : Option A) (x y : A) → o ≡ Some x → o ≡ Some y → x ≡ y
 same_some {A = A} o x y p q = let e : ◌≡◌ {A = Option A} (Some x) (Some y) = sym p ∙ q in cc

@@ -28,12 +28,12 @@ use Rattle.bundle_reader.specs.declared.fault.ReadFault.{ReadFault}
 use Rattle.bundle_reader.specs.declared.fault.ReadFault.TheVariants as read
 use Rattle.cocoon_io.specs.declared.folder.FolderFault.TheVariants.{Failed, NoMemory as Wanting}
 use Rattle.certificates.specs.declared.Cert.{Cert}
-use Rattle.gen_runs.specs.Stopping as sent
+use Rattle.generator.specs.Stopping as sent
 use Rattle.net_run.specs.RunCounts.{most_runs, runs}
 use Rattle.net_wiring.specs.Differences.{FirstDifference}
 use Rattle.net_wiring.specs.declared.wiring.Wiring.{Wiring}
-use Rattle.packet_file.specs.Packets.{Packet, packets_in}
-use Rattle.packet_file.specs.declared.packet.PacketFault.{PacketFault}
+use Rattle.packet_runs.specs.Packets.{Packet, packets_in}
+use Rattle.packet_runs.specs.declared.packet.PacketFault.{PacketFault}
 use Rattle.packet_runs.specs.Reports.{IsReport}
 use Rattle.packet_runs.specs.Stopping.{AllWithin, SomeOver}
 use Rattle.net_bundle.specs.Bundle.{MadeFile, all_switch_files, net_text}
@@ -43,9 +43,9 @@ use Rattle.net_bundle.specs.declared.file.BundleFile.TheVariants as files
 use Rattle.runtime_defs.specs.Bound.{most_rows, row_count}
 use Rattle.lower_p4.specs.Lowers.{Lowers}
 use Rattle.lower_p4.specs.LowerLimits.{IsOver, IsWithin}
-use Rattle.case_file.specs.Cases.{Case, case_of}
-use Rattle.case_runs.specs.Stepping.{Steps}
-use Rattle.case_runs.specs.declared.sent.Sent.{Sent}
+use Rattle.step_cases.specs.Cases.{Case, case_of}
+use Rattle.step_cases.specs.Stepping.{Steps}
+use Rattle.step_cases.specs.declared.sent.Sent.{Sent}
 use Rattle.cocoon_types.specs.Design.{last_level}
 use Rattle.cocoon_types.specs.Tables as tables
 use Rattle.cocoon_types.specs.Tables.{defs_of}
@@ -56,7 +56,7 @@ use Rattle.obligation_gen.specs.Counted.{all_counts}
 use Rattle.refinement.specs.Assumptions.{IsMet, Meets}
 use Rattle.refinement.specs.Owed.{Refines}
 use Rattle.failures.specs.Failures.{Failure}
-use Rattle.failure_text.specs.FailureTexts.{first_line, run_lines}
+use Rattle.failures.specs.FailureTexts.{first_line, run_lines}
 use Rattle.obligation_laws.specs.Failing.{NeverFails}
 use Rattle.obligation_laws.specs.Obligations.{Obligation, all_obligations}
 use Rattle.verdicts.specs.Failing.{FailsBy}
@@ -71,11 +71,11 @@ use Rattle.command_reports.specs.declared.refusal.Refusal.{Refusal}
 use Rattle.command_reports.specs.declared.refusal.Refusal.TheVariants as refusal
 use Rattle.command_reports.specs.declared.report.Report.{Report}
 use Rattle.command_reports.specs.declared.report.Verdict.{Verdict}
-use Rattle.design_texts.specs.DesignTexts.{told}
-use Rattle.cocoon_cli.specs.Steps.{Inputs, OfBundle, OfCertified, OfDefinitions, OfDesign, OfPackets, OfStandingCertificates, OfStandingWires, OfText, Step, is_there, is_within, design_reads, design_well_formed, design_within, definitions_read, definitions_fit, definitions_within, assumptions_met, trees_within, obligations_hold, certificates_read, certificates_counted, certificates_accepted, wires_read, wires_same, lowering_within, level_there, lines_formed, bundle_reads, packets_judged, copies_within, switch_files_within, certificates_within, network_file_within, bundle_written, sent_within, of_generated, generated, is_long, packets_refusal, IsGood, Judges, Refuses}
-use Rattle.cocoon_cli.specs.Assumed.{IsBroken}
-use Rattle.cocoon_cli.specs.Owing.{IsFailing, TellsFailure, word_of}
-use Rattle.cocoon_cli.specs.Outcomes.{Alike, broken, failed, failed_leaf}
+use Rattle.command_reports.specs.DesignTexts.{told}
+use Rattle.command_answers.specs.Steps.{Inputs, OfBundle, OfCertified, OfDefinitions, OfDesign, OfPackets, OfStandingCertificates, OfStandingWires, OfText, Step, is_there, is_within, design_reads, design_well_formed, design_within, definitions_read, definitions_fit, definitions_within, assumptions_met, trees_within, obligations_hold, certificates_read, certificates_counted, certificates_accepted, wires_read, wires_same, lowering_within, level_there, lines_formed, bundle_reads, packets_judged, copies_within, switch_files_within, certificates_within, network_file_within, bundle_written, sent_within, of_generated, generated, is_long, packets_refusal, IsGood, Judges, Refuses}
+use Rattle.command_answers.specs.Assumed.{IsBroken}
+use Rattle.command_answers.specs.Owing.{IsFailing, TellsFailure, word_of}
+use Rattle.command_answers.specs.Outcomes.{Alike, broken, failed, failed_leaf}
 use Rattle.cocoon_cli.proofs.OneStanding.{accepted_or_not, of_networks, one_certificates, one_certificates_fault, one_unaccepted, read_or_fault, same_or_differ}
 use Rattle.cocoon_cli.proofs.RuleValues.{same_rule}
 

@@ -5,18 +5,19 @@ use Rattle.command_line.specs.Command.{Command}
 use Rattle.command_reports.specs.Report.{Ending, Fault, IsEnding, by_read, by_write, by_memory, no_fault, fault_of, refusal_status, status_of}
 use Rattle.command_reports.specs.declared.refusal.Refusal.{Refusal}
 use Rattle.command_reports.specs.declared.report.Report.{Report}
-use Rattle.cocoon_cli.specs.declared.answer.Answer.{Answer}
+use Rattle.command_answers.specs.declared.answer.Answer.{Answer}
+use Rattle.command_answers.specs.Answering.{IsFound, Asked}
+use Rattle.command_answers.specs.Commands.{Reports, asks, files_of, writes}
+use Rattle.command_answers.specs.Outcomes.{AllGood, Answers, FirstWith, at_step, reads, steps}
+use Rattle.command_answers.specs.FolderCalls.{IsReading}
+use Rattle.command_answers.specs.Steps.{Inputs, Step}
+use Rattle.command_answers.specs.Writing.{with_writing}
 use Rattle.cocoon_cli.specs.declared.reading.Read.{Read}
-use Rattle.cocoon_cli.specs.Answering.{IsFound}
-use Rattle.cocoon_cli.specs.Commands.{Plans, PlansDone, Reports, asks, files_of, writes}
+use Rattle.cocoon_cli.specs.Shell.{Plans, PlansDone, AllWritten, IsGiven, NotAllWritten, ReadsAll, ReadsNot, writing_of}
 use Rattle.cocoon_cli.specs.Leaves.{LeavesFault}
-use Rattle.cocoon_cli.specs.Outcomes.{AllGood, Answers, FirstWith, at_step, reads, steps}
 use Rattle.cocoon_cli.specs.Run.{Performs}
-use Rattle.cocoon_cli.specs.Shell.{AllWritten, Asked, IsGiven, IsReading, NotAllWritten, ReadsAll, ReadsNot, writing_of}
-use Rattle.cocoon_cli.specs.Steps.{Inputs, Step}
-use Rattle.cocoon_cli.specs.Writing.{with_writing}
+use Rattle.command_answers.proofs.Ending.{all_good, ends_after, ends_before, first_after, first_before}
 use Rattle.cocoon_cli.proofs.Commands.{all_tell, not_written, planned_done, writes_good, writes_it}
-use Rattle.cocoon_cli.proofs.Ending.{all_good, ends_after, ends_before, first_after, first_before}
 use Rattle.cocoon_cli.proofs.Finding.{ends_of, not_found, writes_of}
 use Rattle.cocoon_cli.proofs.Telling.{ends_has}
 

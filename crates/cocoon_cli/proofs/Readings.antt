@@ -18,13 +18,14 @@ use Rattle.command_reports.specs.declared.files.CommandFile.TheVariants.{Design,
 use Rattle.command_reports.specs.declared.refusal.Refusal.{Refusal}
 use Rattle.command_reports.specs.declared.refusal.Refusal.TheVariants as refusal
 use Rattle.command_reports.specs.declared.report.Report.{Report}
+use Rattle.command_answers.specs.Outcomes.{AllGood, none, good, Ends, bundle_steps, file_steps, no_memory, reads}
+use Rattle.command_answers.specs.FolderCalls.{IsReading}
+use Rattle.command_answers.specs.Steps.{Inputs, Step, bundle_reads, is_there, is_within}
 use Rattle.cocoon_cli.specs.declared.reading.Read.{Read}
-use Rattle.cocoon_cli.specs.Outcomes.{AllGood, none, good, Ends, bundle_steps, file_steps, no_memory, reads}
 use Rattle.cocoon_cli.specs.Reading.{FileNotRead, HasFile, HasLongFile, IsUnread, LacksFile, NamesBundleFailure, ReadFaultRose}
 use Rattle.cocoon_cli.specs.Run.{InputsAre, inputs_of}
-use Rattle.cocoon_cli.specs.Shell.{Given, GivenNet, HasNet, HasWanted, IsReading, LacksNet, LacksWanted, ReadsAll, ReadsNot}
-use Rattle.cocoon_cli.specs.Steps.{Inputs, Step, bundle_reads, is_there, is_within}
-use Rattle.cocoon_cli.proofs.Ending.{all_good, ends_after, ends_before, next, refused, stopped}
+use Rattle.cocoon_cli.specs.Shell.{Given, GivenNet, HasNet, HasWanted, LacksNet, LacksWanted, ReadsAll, ReadsNot}
+use Rattle.command_answers.proofs.Ending.{all_good, ends_after, ends_before, next, refused, stopped}
 
 -- ---- what is read
 

@@ -13,11 +13,11 @@ use Rattle.command_reports.specs.FileNames.{name_of}
 use Rattle.command_reports.specs.declared.files.CommandFile.TheVariants.{Design}
 use Rattle.command_reports.specs.declared.status.Status.{Status}
 use Rattle.command_reports.specs.declared.status.Status.TheVariants.{Done, Usage}
+use Rattle.command_answers.specs.Commands.{files_of}
+use Rattle.command_answers.specs.Outcomes.{AllGood, good, steps}
+use Rattle.command_answers.specs.Steps.{Inputs, OfDesign, Step, IsGood}
 use Rattle.cocoon_cli.specs.Checked.{Checked, CheckedFile, RefinedOf}
-use Rattle.cocoon_cli.specs.Commands.{files_of}
-use Rattle.cocoon_cli.specs.Outcomes.{AllGood, good, steps}
 use Rattle.cocoon_cli.specs.Run.{Call, CauseOf, InputsAre}
-use Rattle.cocoon_cli.specs.Steps.{Inputs, OfDesign, Step, IsGood}
 use Rattle.cocoon_cli.proofs.OneStep.{same_some}
 use Rattle.cocoon_cli.proofs.Running.{no_command, success_of}
 

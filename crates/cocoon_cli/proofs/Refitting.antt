@@ -7,13 +7,13 @@ use Rattle.net_bundle.specs.declared.file.BundleFile.TheVariants as file
 use Rattle.p4_ir.specs.NetTree.{NetData}
 use Rattle.command_reports.specs.declared.files.CommandFile.TheVariants.{Bundle}
 use Rattle.command_reports.specs.declared.refusal.Refusal.TheVariants as refusal
-use Rattle.cocoon_cli.specs.Compiling.{LowersTexts}
-use Rattle.cocoon_cli.specs.Outcomes.{AllGood, none, good, Ends}
-use Rattle.cocoon_cli.specs.Steps.{Inputs, IsGood, OfUpdatedFiles, Step, bundle_written, is_long, network_file_within, switch_files_within}
-use Rattle.cocoon_cli.proofs.Compiling.{on_net}
-use Rattle.cocoon_cli.proofs.Ending.{ends_after, next, refused, stopped}
-use Rattle.cocoon_cli.proofs.Fitting.{fit_parts, over_parts}
-use Rattle.cocoon_cli.proofs.TextSteps.{Texts}
+use Rattle.command_answers.specs.Compiling.{LowersTexts}
+use Rattle.command_answers.specs.Outcomes.{AllGood, none, good, Ends}
+use Rattle.command_answers.specs.Steps.{Inputs, IsGood, OfUpdatedFiles, Step, bundle_written, is_long, network_file_within, switch_files_within}
+use Rattle.command_answers.proofs.Compiling.{on_net}
+use Rattle.command_answers.proofs.Ending.{ends_after, next, refused, stopped}
+use Rattle.command_answers.proofs.Fitting.{fit_parts, over_parts}
+use Rattle.command_answers.proofs.TextSteps.{Texts}
 
 abbrev pub rewrites : List Step
 rewrites = switch_files_within ∷ network_file_within ∷ bundle_written ∷ []

@@ -21,16 +21,17 @@ use Rattle.command_reports.specs.declared.report.Verdict.{Verdict}
 use Rattle.command_reports.specs.declared.report.Verdict.TheVariants as verdict
 use Rattle.command_reports.specs.declared.status.Status.{Status}
 use Rattle.command_reports.specs.declared.status.Status.TheVariants.{Budget as BudgetSpent, Done, HopBound, Refuted, Usage, ReadFault, WriteFault, NoMemory}
-use Rattle.cocoon_cli.specs.Commands.{Reports, files_of}
+use Rattle.command_answers.specs.Commands.{Reports, files_of}
+use Rattle.command_answers.specs.Outcomes.{FirstWith, no_memory as out_of_memory, at_step, at_fault, StopsAt as StopsAtStep, Answers, HasOutcome, steps}
+use Rattle.command_answers.specs.FolderCalls.{Counted, CountsFault, Uncounted, Count, NamesFault}
+use Rattle.command_answers.specs.Owing.{verdict_of}
+use Rattle.command_answers.specs.Steps.{Inputs, Step, generated, of_generated, assumptions_met, obligations_hold, is_there, bundle_reads, bundle_written, certificates_read, wires_read}
+use Rattle.command_answers.specs.Writing.{Writing, nothing as nothing_written, bundle, own, SomeOf, StopsIn, with_writing}
 use Rattle.cocoon_cli.specs.Leaves.{EndsWriting, IsWhole, IsWritten, Leaves, LeavesAll, LeavesSome, LeavesFault}
-use Rattle.cocoon_cli.specs.Outcomes.{FirstWith, no_memory as out_of_memory, at_step, at_fault, StopsAt as StopsAtStep, Answers, HasOutcome, steps}
-use Rattle.cocoon_cli.specs.Run.{Call, Cause, Counted, CountsFault, Uncounted, MayCount, of_read, of_write, of_memory, Count, inputs_of, InputsAre, Performs, IsOnly, CauseOf, LineNames, NamesFault, EndsWith, Yields, to_read_fault, to_write_fault, to_no_memory, TheOutcome, OutcomeOf, DoneOf, IsSpentAt, SpentOf, LeavesOf, MayWrite, failed, spent, UsageOf, Keeps, KeepsMore}
+use Rattle.cocoon_cli.specs.Run.{Call, Cause, MayCount, of_read, of_write, of_memory, inputs_of, InputsAre, Performs, IsOnly, CauseOf, LineNames, EndsWith, Yields, to_read_fault, to_write_fault, to_no_memory, TheOutcome, OutcomeOf, DoneOf, IsSpentAt, SpentOf, LeavesOf, MayWrite, failed, spent, UsageOf, Keeps, KeepsMore}
 use Rattle.cocoon_cli.specs.Run as run
-use Rattle.cocoon_cli.specs.Owing.{verdict_of}
-use Rattle.cocoon_cli.specs.Steps.{Inputs, Step, generated, of_generated, assumptions_met, obligations_hold, is_there, bundle_reads, bundle_written, certificates_read, wires_read}
-use Rattle.cocoon_cli.specs.Writing.{Writing, nothing as nothing_written, bundle, own, SomeOf, StopsIn, with_writing}
+use Rattle.command_answers.proofs.Ending.{first_gives, first_map}
 use Rattle.cocoon_cli.proofs.Commands.{report_done, report_writes}
-use Rattle.cocoon_cli.proofs.Ending.{first_gives, first_map}
 use Rattle.cocoon_cli.proofs.Finding.{IsOfFailure, judges_failure, spends_budget}
 
 -- ---- what is printed

@@ -8,8 +8,8 @@ use Rattle.cocoon_num.specs.Tree as tree
 use Rattle.cocoon_num.specs.declared.limit_name.LimitName.TheVariants.{Packet as PacketLimit}
 use Rattle.net_bundle.specs.declared.file.BundleFile.{BundleFile}
 use Rattle.net_bundle.specs.declared.file.BundleFile.TheVariants as files
-use Rattle.packet_file.specs.declared.packet.PacketFault.{PacketFault}
-use Rattle.packet_file.specs.declared.packet.PacketFault.TheVariants as packets
+use Rattle.packet_runs.specs.declared.packet.PacketFault.{PacketFault}
+use Rattle.packet_runs.specs.declared.packet.PacketFault.TheVariants as packets
 use Rattle.command_reports.specs.FileNames.{FileNames, name_of}
 use Rattle.command_reports.specs.Refusals.{unread_as}
 use Rattle.command_reports.specs.Report.{no_memory_line, refusal_line}
@@ -18,9 +18,9 @@ use Rattle.command_reports.specs.declared.files.CommandFile.TheVariants.{Design,
 use Rattle.command_reports.specs.declared.refusal.BundleCause.TheVariants as cause
 use Rattle.command_reports.specs.declared.refusal.Refusal.{Refusal}
 use Rattle.command_reports.specs.declared.refusal.Refusal.TheVariants as refusal
-use Rattle.cocoon_cli.specs.Outcomes.{Ends, no_memory, at_step, at_fault, EndsAt, FirstWith, here, later, StopsAt}
-use Rattle.cocoon_cli.specs.Standing.{NotAccepted}
-use Rattle.cocoon_cli.specs.Steps.{Inputs, generated, of_generated, sent_within, IsTooLarge, Refuses, Step, Stops, assumptions_met, bundle_reads, bundle_written, certificates_accepted, certificates_counted, certificates_read, certificates_within, copies_within, definitions_fit, definitions_read, definitions_within, design_reads, design_well_formed, design_within, is_there, is_within, level_there, lines_formed, lowering_within, network_file_within, obligations_hold, packets_judged, packets_refusal, switch_files_within, trees_within, wires_read, wires_same}
+use Rattle.command_answers.specs.Outcomes.{Ends, no_memory, at_step, at_fault, EndsAt, FirstWith, here, later, StopsAt}
+use Rattle.command_answers.specs.Standing.{NotAccepted}
+use Rattle.command_answers.specs.Steps.{Inputs, generated, of_generated, sent_within, IsTooLarge, Refuses, Step, Stops, assumptions_met, bundle_reads, bundle_written, certificates_accepted, certificates_counted, certificates_read, certificates_within, copies_within, definitions_fit, definitions_read, definitions_within, design_reads, design_well_formed, design_within, is_there, is_within, level_there, lines_formed, lowering_within, network_file_within, obligations_hold, packets_judged, packets_refusal, switch_files_within, trees_within, wires_read, wires_same}
 
 -- there is a file of this kind
 abbrev pub Named : FileNames → CommandFile → Type 0

@@ -8,13 +8,13 @@ use Rattle.cocoon_num.specs.Reads.{Reads}
 use Rattle.cocoon_num.specs.Tree.{Design}
 use Rattle.cocoon_types.specs.Rules.{WellFormed}
 use Rattle.failures.specs.Failures.{Failure}
-use Rattle.failure_text.specs.Told.{Tells}
+use Rattle.failures.specs.Told.{Tells}
 use Rattle.obligation_laws.specs.Failing.{NeverFails}
 use Rattle.obligation_laws.specs.Obligations.{Kind, Obligation, all_obligations}
 use Rattle.verdicts.specs.Failing.{FailsBy}
 use Rattle.command_line.specs.Command.{Command, check, compile, gen}
-use Rattle.cocoon_cli.specs.Owing.{word_of}
-use Rattle.cocoon_cli.specs.Steps.{generated_design}
+use Rattle.command_answers.specs.Owing.{word_of}
+use Rattle.command_answers.specs.Steps.{generated_design}
 
 -- The lines tell a failure of this kind of the design of the text.
 pub record Failed (text : List ℕ) (kind : Kind) (lines : List ℕ) : Type 0 where

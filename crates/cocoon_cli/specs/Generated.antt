@@ -9,11 +9,11 @@ use Rattle.cocoon_num.specs.Tree.{Design, DefsText}
 use Rattle.cocoon_types.specs.DefsRules.{DefsFit}
 use Rattle.cocoon_types.specs.Rules.{WellFormed}
 use Rattle.cocoon_types.specs.Tables.{defs_of}
-use Rattle.gen_runs.specs.Arriving.{IsReached}
-use Rattle.gen_runs.specs.Counting.{IsCount}
+use Rattle.generator.specs.Arriving.{IsReached}
+use Rattle.generator.specs.Counting.{IsCount}
 use Rattle.command_line.specs.Command.{Command, gen}
-use Rattle.cocoon_cli.specs.ReportLines.{generated_line}
-use Rattle.cocoon_cli.specs.Steps.{generated_definitions, generated_design}
+use Rattle.command_answers.specs.ReportLines.{generated_line}
+use Rattle.command_answers.specs.Steps.{generated_definitions, generated_design}
 
 -- The lines tell how many of so many packets are delivered, within 16 visits.
 pub record Generated (hosts packets : ℕ) (lines : List ℕ) : Type 0 where

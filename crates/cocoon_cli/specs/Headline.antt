@@ -17,7 +17,7 @@ use Rattle.json_forms.specs.Values.{IsJson}
 use Rattle.net_bundle.specs.BundleNames.{digest_of, file_name, net_name}
 use Rattle.net_bundle.specs.NetJson.{NetFile, net_data}
 use Rattle.net_bundle.specs.Network.{Network, InBundle, file_wiring}
-use Rattle.lowered.specs.Delivers.{DeliversExactly, DeliversWithin}
+use Rattle.lowering.specs.Delivers.{DeliversExactly, DeliversWithin}
 use Rattle.command_line.specs.Command.{Command, check, compile, update, step, forward, gen}
 use Rattle.command_line.specs.Words.{command}
 

@@ -8,10 +8,10 @@ use Rattle.command_reports.specs.Report.{Fault, by_read, by_write, by_memory, no
 use Rattle.command_reports.specs.declared.files.CommandFile.TheVariants.{Budget}
 use Rattle.command_reports.specs.declared.refusal.Refusal.{Refusal}
 use Rattle.command_reports.specs.declared.report.Report.{Report}
-use Rattle.cocoon_cli.specs.Commands.{Reports, Writes, files_of}
-use Rattle.cocoon_cli.specs.Outcomes.{AllGood, FirstWith, steps}
-use Rattle.cocoon_cli.specs.Steps.{Inputs, Judges, Spends, Step}
-use Rattle.cocoon_cli.specs.Writing.{SomeOf, StopsIn, Writing, nothing, own, with_writing}
+use Rattle.command_answers.specs.Commands.{Reports, Writes, files_of}
+use Rattle.command_answers.specs.Outcomes.{AllGood, FirstWith, steps}
+use Rattle.command_answers.specs.Steps.{Inputs, Judges, Spends, Step}
+use Rattle.command_answers.specs.Writing.{SomeOf, StopsIn, Writing, nothing, own, with_writing}
 
 -- all steps are good, and this is written
 abbrev pub IsWhole : Command → Inputs → Writing → Type 0

@@ -1,19 +1,4 @@
-pub mod ReportLines
-pub mod Assumed
-pub mod Owing
-pub mod Compiling
-pub mod Stepping
-pub mod Deciding
-pub mod Refining
-pub mod Forwarding
 pub mod Reading
-pub mod Standing
-pub mod Steps
-pub mod Writing
-pub mod Answering
-pub mod Updating
-pub mod Commands
-pub mod Outcomes
 pub mod Leaves
 pub mod Headline
 pub mod Checked
@@ -22,4 +7,3 @@ pub mod Failed
 pub mod Run
 pub mod Shell
 pub mod Generated
-pub mod Generating

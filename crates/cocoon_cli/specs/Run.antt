@@ -3,7 +3,7 @@
 use Rattle.std.specs.Prelude.{◌≡◌, ◌⊎◌, ℕ, List, Option, Some, None, Result, codes, option_and_then}
 use Rattle.std.specs.FinMap.{get}
 use Rattle.cocoon_io.specs.Files.{Files}
-use Rattle.cocoon_io.specs.Calls.{Rose, appended, with_file}
+use Rattle.cocoon_io.specs.Calls.{appended, with_file}
 use Rattle.command_reports.specs.declared.files.CommandFile.{CommandFile}
 use Rattle.command_reports.specs.declared.files.CommandFile.TheVariants.{Budget}
 use Rattle.command_reports.specs.declared.refusal.Refusal.{Refusal}
@@ -13,30 +13,14 @@ use Rattle.command_reports.specs.declared.status.Status.TheVariants.{Done, Usage
 use Rattle.command_line.specs.Command.{Command}
 use Rattle.command_line.specs.Words.{command}
 use Rattle.command_reports.specs.FileNames.{FileNames, HasName, name_of}
-use Rattle.cocoon_cli.specs.Commands.{Reports, files_of, standing_of}
+use Rattle.command_answers.specs.Commands.{Reports, files_of, standing_of}
+use Rattle.command_answers.specs.FolderCalls.{Count, Counted, CountsFault, Uncounted}
+use Rattle.command_answers.specs.Outcomes.{Agree, Answers, FirstWith, HasOutcome, is_any_searched, steps}
+use Rattle.command_answers.specs.Steps.{Inputs, Spends, Step}
+use Rattle.command_reports.specs.Report.{Ending, IsEnding, Prints, fault_in, line_with, usage}
 use Rattle.cocoon_cli.specs.Leaves.{Leaves, LeavesSome, LeavesWhole}
-use Rattle.cocoon_cli.specs.Outcomes.{Agree, Answers, FirstWith, HasOutcome, is_any_searched, steps}
-use Rattle.command_reports.specs.Report.{Ending, Fault, IsEnding, by_read, by_write, by_memory, no_fault, Prints, fault_in, line_with, usage}
-use Rattle.cocoon_cli.specs.Steps.{Inputs, Spends, Step}
 
 -- ---- one call
-
--- a count of faults before and after a call, and its last value, if it has one
-pub record Count : Type 0 where
-  pub last : Option ℕ
-  pub before : ℕ
-  pub after : ℕ
-
-abbrev pub count : Option ℕ → (before after : ℕ) → Count
-count last before after = record { last = last; before = before; after = after }
-
--- a fault was counted
-abbrev pub Counted : Count → Type 0
-Counted count = Rose count.last count.before count.after
-
--- none was
-abbrev pub Uncounted : Count → Type 0
-Uncounted count = count.after ≡ count.before
 
 -- a call: its words, the content of the folder and the output of the sink before and after it, the
 -- counts of faults of reads, writes and puts, and the answer
@@ -70,19 +54,6 @@ pub record Performs (c : Command) (before after : Option Files) (outcome : Resul
   pub inputs_are : InputsAre (files_of c) before inputs
   pub answers : Answers c inputs outcome
   pub leaves : Leaves c inputs before after outcome
-
--- The fault of the folder that an outcome speaks of was counted, and no other was.
-abbrev pub CountsFault : (reads writes : Count) → Fault → Type 0
-CountsFault reads writes (by_read file) = Counted reads × Uncounted writes
-CountsFault reads writes (by_write file) = Uncounted reads × Counted writes
-CountsFault reads writes by_memory = Uncounted reads × Uncounted writes
-CountsFault reads writes no_fault = Uncounted reads × Uncounted writes
-
--- a fault of the folder is about the file of its last call that failed
-abbrev pub NamesFault : (List ℕ → Type 0) → FileNames → Fault → Type 0
-NamesFault last_failure names (by_read file) = HasName names file last_failure
-NamesFault last_failure names (by_write file) = HasName names file last_failure
-NamesFault last_failure names fault = Unit {0}
 
 -- a command has an outcome, and its ending is printed
 pub record Cause (c : Command) (call : Call) : Type 0 where

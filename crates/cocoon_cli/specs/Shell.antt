@@ -1,7 +1,7 @@
--- Cited by the clauses of reading.rt, writing.rt, shell.rt and of the commands. What one call of the shell
+-- Cited by the clauses of reading.rt, writing.rt and shell.rt. What one call of the shell
 -- does: it reads the files of a command, asks the command for its answer over what was read, and writes
 -- what the answer says.
-use Rattle.std.specs.Prelude.{◌≡◌, ◌⊎◌, ◌≤◌, ◌<◌, ◌^◌, ℕ, List, ◌++◌, length, Option, Some, None, Result, Ok, Err, IsTrue}
+use Rattle.std.specs.Prelude.{◌≡◌, ◌⊎◌, ◌≤◌, ◌<◌, ◌^◌, ℕ, List, length, Option, Some, None, Result, Err, IsTrue}
 use Rattle.cocoon_io.specs.Files.{Files}
 use Rattle.cocoon_io.specs.Calls.{with_file}
 use Rattle.loaded_net.specs.Nets.{net_in}
@@ -10,28 +10,31 @@ use Rattle.net_bundle.specs.Bundle as bundle_of
 use Rattle.net_bundle.specs.Writing.{AllFit, ContentHolds, NotWritten}
 use Rattle.p4_ir.specs.NetFits.{net_fits}
 use Rattle.net_bundle.specs.declared.fault.BundleFault.{BundleFault}
-use Rattle.p4_ir.specs.NetOf.{net_of}
+use Rattle.shared_net.specs.Shared.{shared_of}
 use Rattle.bundle_reader.specs.Readings.{ContentReads}
-use Rattle.command_line.specs.Command.{Command}
+use Rattle.command_line.specs.Command.{Command, check, compile, update, step, forward, gen}
 use Rattle.command_reports.specs.FileNames.{FileNames, bundle_in, name_of, wanted}
 use Rattle.command_reports.specs.Refusals.{bundle_refusal}
-use Rattle.command_reports.specs.Report.{Fault, by_read, by_write, fault_in, fault_of}
+use Rattle.command_reports.specs.Report.{fault_of}
 use Rattle.command_reports.specs.declared.files.CommandFile.{CommandFile}
 use Rattle.command_reports.specs.declared.files.CommandFile.TheVariants.{Design, Definitions, Case, Packets}
 use Rattle.command_reports.specs.declared.refusal.Refusal.{Refusal}
 use Rattle.command_reports.specs.declared.refusal.Refusal.TheVariants.{WriteFault, NoMemory}
 use Rattle.command_reports.specs.declared.report.Report.{Report}
-use Rattle.cocoon_cli.specs.declared.answer.Answer.{Answer}
-use Rattle.cocoon_cli.specs.declared.answer.Writing.{Writing as Written}
-use Rattle.cocoon_cli.specs.declared.answer.Writing.TheVariants as written
+use Rattle.command_answers.specs.declared.answer.Answer.{Answer}
+use Rattle.command_answers.specs.declared.answer.Writing.{Writing as Written}
+use Rattle.command_answers.specs.declared.answer.Writing.TheVariants as written
+use Rattle.command_answers.specs.Answering.{PlansBy}
+use Rattle.command_answers.specs.Commands.{files_of, writes}
+use Rattle.command_answers.specs.Compiling.{Compiles}
+use Rattle.command_answers.specs.Outcomes.{AllGood, Ends, reads}
+use Rattle.command_answers.specs.FolderCalls.{Called, Count, IsReading}
+use Rattle.command_answers.specs.Steps.{Inputs}
+use Rattle.command_answers.specs.Updating.{StandsUnder, Updates}
+use Rattle.command_answers.specs.Writing.{Writing, nothing, bundle, own, with_writing}
 use Rattle.cocoon_cli.specs.declared.reading.Read.{Read}
-use Rattle.cocoon_cli.specs.Answering.{IsFound}
-use Rattle.cocoon_cli.specs.Commands.{Reports, asks, files_of, writes}
-use Rattle.cocoon_cli.specs.Outcomes.{AllGood, Ends, FirstWith, reads}
 use Rattle.cocoon_cli.specs.Reading.{FileNotRead, HasFile, IsRead, IsUnread}
-use Rattle.cocoon_cli.specs.Run.{Count, CountsFault, InputsAre, NamesFault, Performs}
-use Rattle.cocoon_cli.specs.Steps.{Inputs}
-use Rattle.cocoon_cli.specs.Writing.{Writing, nothing, bundle, own, with_writing}
+use Rattle.cocoon_cli.specs.Run.{InputsAre, Performs}
 
 -- ---- files
 
@@ -56,32 +59,6 @@ HasNet content (Some out) (Some net) = IsRead content out net
 abbrev pub LacksNet : Option Files → Option (List ℕ) → Refusal → Type 0
 LacksNet content None r = ⊥
 LacksNet content (Some out) r = IsUnread content out r
-
--- ---- calls of the folder
-
--- it is no failed write
-abbrev pub IsReading : Fault → Type 0
-IsReading (by_write file) = ⊥
-IsReading fault = Unit {0}
-
--- it is no fault of the folder
-abbrev pub IsNoFault : Fault → Type 0
-IsNoFault (by_read file) = ⊥
-IsNoFault (by_write file) = ⊥
-IsNoFault fault = Unit {0}
-
--- The fault that the answer speaks of was counted, and no other, and it is about the file of the last
--- call that failed.
-pub record Called {A : Type 0} (last_failure : List ℕ → Type 0) (names : FileNames)
-    (reads writes : Count) (answer : Result A Refusal) : Type 0 where
-  pub counts : CountsFault reads writes (fault_in answer)
-  pub named : NamesFault last_failure names (fault_in answer)
-
--- the same of calls on files of the bundle of this name, whatever other files the command has
-abbrev pub CalledUnder : {A : Type 0} → (last_failure : List ℕ → Type 0) → (out : List ℕ)
-    → (reads writes : Count) → Result A Refusal → Type 0
-CalledUnder last_failure out reads writes answer =
-    (names : FileNames) → names.bundle ≡ Some out → Called last_failure names reads writes answer
 
 -- ---- what was read
 
@@ -127,16 +104,26 @@ pub record ReadsNot (names : FileNames) (content : Option Files) (r : Refusal) :
 
 -- ---- answers
 
--- A command answers this, whatever its inputs are of which this was read: all is good, or a step ends it.
-abbrev pub Asked : Command → Inputs → Result Answer Refusal → Type 0
-Asked c inputs (Ok answer) =
-    (AllGood inputs (asks c) × Reports c inputs answer.report)
-    ⊎ FirstWith inputs (IsFound inputs answer.report answer.writing) (asks c)
-Asked c inputs (Err r) = Ends inputs (Err r) (asks c ++ writes c)
+-- what its answer says is written where all steps are good, of what was read
+abbrev pub PlansDone : Command → Read → Written → Type 0
+PlansDone (check design conflicts rounds) read w = w ≡ written.Nothing
+PlansDone (compile design defs out conflicts rounds) read w =
+    Compiles out read.design.items read.definitions.items w
+PlansDone (update design defs out conflicts) read w =
+    Updates out read.design.items read.definitions.items w
+PlansDone (step design defs level file) read w = w ≡ written.Nothing
+PlansDone (forward out packets hops) read w = w ≡ written.Nothing
+PlansDone (gen hosts packets) read w = w ≡ written.Nothing
 
--- a refusal is about no fault of the folder
-abbrev pub IsQuiet : Refusal → Type 0
-IsQuiet r = IsNoFault (fault_of r)
+-- what its answer says is written
+abbrev pub Plans : Command → Read → Answer → Type 0
+Plans c read answer = PlansBy (λ w. PlansDone c read w) answer.report.verdict answer.writing
+
+-- what stands in the folder of what it plans
+abbrev pub StandsFor : Command → Option Files → Read → Written → Type 0
+StandsFor (update design defs out conflicts) content read w =
+    StandsUnder content out read.design.items w
+StandsFor asked content read w = Unit {0}
 
 -- ---- writes
 
@@ -149,13 +136,13 @@ own_file file (Some name) bytes = own file name bytes
 abbrev pub writing_of : FileNames → Read → Written → Writing
 writing_of names read written.Nothing = nothing
 writing_of names read (written.Bundle name net certificates) =
-    bundle name.now (bundle_of.bundle read.design.items (net_of net) certificates)
+    bundle name.now (bundle_of.bundle read.design.items (shared_of net) certificates)
 writing_of names read (written.Own file bytes) = own_file file (name_of names file) bytes
 
 -- it may be written: a bundle is the one that is named, and can be read back
 abbrev pub CanWrite : FileNames → Written → Type 0
 CanWrite names (written.Bundle name net certificates) =
-    (names.bundle ≡ Some name.now) × IsTrue (net_fits (net_of net))
+    (names.bundle ≡ Some name.now) × IsTrue (net_fits (shared_of net))
 CanWrite names w = Unit {0}
 
 -- no file of a bundle is longer than it may be
@@ -172,7 +159,7 @@ pub record AllWritten (w : Writing) (before after : Option Files) : Type 0 where
 -- a bundle that was written gives its network
 abbrev pub HoldsNet : Read → Written → (before after : Option Files) → Type 0
 HoldsNet read (written.Bundle name net certificates) before after =
-    ContentHolds before after name.now read.design.items (net_of net) certificates
+    ContentHolds before after name.now read.design.items (shared_of net) certificates
 HoldsNet read w before after = Unit {0}
 
 -- why it was not all written

@@ -2,12 +2,13 @@
 ghost use Rattle.std.specs.Prelude.{◌≡◌, map, string_bytes};
 ghost use Rattle.command_line.specs.Words.{command};
 ghost use Rattle.obligation_laws.specs.Obligations.{bounded, contained};
+ghost use Rattle.command_answers.specs.FolderCalls.{count};
 ghost use Rattle.cocoon_cli.specs.Certified.{CertifiedOf};
 ghost use Rattle.cocoon_cli.specs.Checked.{RefinedOf};
 ghost use Rattle.cocoon_cli.specs.Failed.{FailedOf};
 ghost use Rattle.cocoon_cli.specs.Generated.{GeneratedOf};
 ghost use Rattle.cocoon_cli.specs.Headline.{Headline};
-ghost use Rattle.cocoon_cli.specs.Run.{Keeps, count};
+ghost use Rattle.cocoon_cli.specs.Run.{Keeps};
 
 use crate::laws::{
     checked_designs_are_refined, generated_packets_are_counted, one_outcome,

@@ -2,32 +2,21 @@
 //! laws.
 ghost use Rattle.std.specs.Prelude.{List, Option, Result, ◌≡◌, ℕ};
 ghost use Rattle.cocoon_io.specs.Files.{Files};
-ghost use Rattle.cocoon_num.specs.Tree.{DefsText, Design};
-ghost use Rattle.cocoon_types.specs.DefsRules.{DefsFit};
-ghost use Rattle.cocoon_types.specs.Design.{last_level};
-ghost use Rattle.cocoon_types.specs.Rules.{WellFormed};
-ghost use Rattle.cocoon_types.specs.Tables.{defs_of};
 ghost use Rattle.command_line.specs.Command as spec;
-ghost use Rattle.lowered.specs.Delivers.{DeliversExactly, DeliversWithin};
 ghost use Rattle.obligation_laws.specs.Obligations.{bounded, contained};
-ghost use Rattle.p4_ir.specs.NetTree.{NetData};
-ghost use Rattle.refinement.specs.Assumptions.{Meets};
-ghost use Rattle.refinement.specs.Owed.{Refines};
-ghost use Rattle.sound_types.specs.Literals.{DesignLiteralsFit, EntriesFit};
+ghost use Rattle.command_answers.specs.Outcomes.{HasOutcome};
+ghost use Rattle.command_answers.specs.Steps.{Inputs};
 ghost use Rattle.cocoon_cli.specs.Checked.{RefinedOf};
 ghost use Rattle.cocoon_cli.specs.Headline.{Compiled, IsCertificates, Updated};
 ghost use Rattle.cocoon_cli.specs.Failed.{FailedOf};
-ghost use Rattle.cocoon_cli.specs.Generated.{GeneratedOf};
-ghost use Rattle.cocoon_cli.specs.Outcomes.{HasOutcome};
 ghost use Rattle.command_line.specs.Words.{command};
+ghost use Rattle.cocoon_cli.specs.Generated.{GeneratedOf};
 ghost use Rattle.cocoon_cli.specs.Run.{Call, CauseOf, IsOnly, KeepsMore};
-ghost use Rattle.cocoon_cli.specs.Steps.{Inputs};
 ghost use Rattle.command_reports.specs.declared.report.Report.{Report};
 ghost use Rattle.command_reports.specs.declared.status.Status.TheVariants.{Done, HopBound, Refuted};
 ghost use Rattle.command_reports.specs.declared.refusal.Refusal.{Refusal};
 
 use bundle_reader::laws::{one_reading, one_wiring};
-use case_runs::laws::one_step;
 use cocoon_text::laws::{one_fault, trees_have_no_fault};
 use cocoon_types::first_faults::{first_or_well_formed, one_first_fault};
 use cocoon_types::limits::{one_first_over, within_is_not_over};
@@ -35,7 +24,7 @@ use lower_p4::laws::one_lowering;
 use net_wiring::laws::one_first_difference;
 use packet_runs::laws::one_report;
 use plain_parser::text_laws::{one_definitions_tree, one_tree};
-use refinement::laws::levels_compose;
+use step_cases::laws::one_step;
 use verdicts::laws::failing_obligations_fail;
 
 /// By what is read of its files, a command has one outcome at most: the first step that refuses,
@@ -100,17 +89,6 @@ pub fn generated_packets_are_counted()
 {
     one_tree();
     one_definitions_tree();
-}
-
-/// What a network delivers that delivers exactly what the last level does, the topmost specification
-/// may make, if each block of the design is contained and bounded, under definitions that meet all
-/// assumptions.
-pub fn deliveries_stay_within()
-    ensures { (d : Design) (es : DefsText) (net : NetData) → WellFormed d → DesignLiteralsFit d
-        → DefsFit d es → EntriesFit es → Refines d → Meets (last_level d) d (defs_of d es)
-        → DeliversExactly net d (defs_of d es) → DeliversWithin net d (defs_of d es) }
-{
-    levels_compose();
 }
 
 /// What an `update` leaves, a `compile` of the same texts may leave. So what is said of bundles that were

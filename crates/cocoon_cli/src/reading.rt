@@ -1,9 +1,9 @@
 //! What is read for a command: its files, each within its limit, and a bundle.
 ghost use Rattle.std.specs.Prelude.{◌≡◌, ◌≤◌, ◌<◌, ◌^◌, IfErr, IfOk, length};
 ghost use Rattle.command_reports.specs.FileNames.{bundle_in, names_in, wanted};
+ghost use Rattle.command_answers.specs.FolderCalls.{count, Called};
 ghost use Rattle.cocoon_cli.specs.Reading.{FileNotRead, HasFile, IsRead, IsUnread, NamesBundleFailure, NamesReadFailure, ReadFaultRose};
-ghost use Rattle.cocoon_cli.specs.Run.{count};
-ghost use Rattle.cocoon_cli.specs.Shell.{Called, HasNet, HasWanted, IsShort, LacksNet, LacksWanted, ReadsAll, ReadsNot};
+ghost use Rattle.cocoon_cli.specs.Shell.{HasNet, HasWanted, IsShort, LacksNet, LacksWanted, ReadsAll, ReadsNot};
 
 use bundle_reader::{Net, read_bundle};
 use cocoon_io::{Folder, FolderFault};

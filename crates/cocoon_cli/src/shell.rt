@@ -6,24 +6,25 @@ ghost use Rattle.command_line.specs.Command.{stands_for};
 ghost use Rattle.command_line.specs.Subcommands.{IsInRange};
 ghost use Rattle.command_reports.specs.FileNames.{names_in};
 ghost use Rattle.command_reports.specs.declared.report.Verdict.TheVariants.{Done};
+ghost use Rattle.command_answers.specs.Commands.{files_of};
+ghost use Rattle.command_answers.specs.FolderCalls.{count, Called, IsReading};
+ghost use Rattle.command_answers.specs.Answering.{Asked};
+ghost use Rattle.command_answers.specs.Steps.{Inputs};
 ghost use Rattle.cocoon_cli.specs.Certified.{CertifiedOf};
-ghost use Rattle.cocoon_cli.specs.Commands.{Plans, StandsFor, files_of};
-ghost use Rattle.cocoon_cli.specs.Headline.{CompiledOf};
-ghost use Rattle.cocoon_cli.specs.Run.{count};
-ghost use Rattle.cocoon_cli.specs.Shell.{Acts, Asked, Called, IsGiven, IsReading, IsShort};
+ghost use Rattle.cocoon_cli.specs.Shell.{Plans, StandsFor, Acts, IsGiven, IsShort};
 ghost use Rattle.command_reports.specs.Report.{fault_of};
-ghost use Rattle.cocoon_cli.specs.Steps.{Inputs};
+ghost use Rattle.cocoon_cli.specs.Headline.{CompiledOf};
 
-use crate::answer::Answer;
-use crate::check::check;
-use crate::compile::compile;
-use crate::forward::forward;
-use crate::generate::{GENERATED, generate};
 use crate::reading::{Read, read_all};
-use crate::step::step;
-use crate::update::update;
 use crate::writing::write_all;
 use cocoon_io::Folder;
+use command_answers::answer::Answer;
+use command_answers::check::check;
+use command_answers::compile::compile;
+use command_answers::forward::forward;
+use command_answers::generate::{GENERATED, generate};
+use command_answers::step::step;
+use command_answers::update::update;
 use command_line::Command;
 use command_reports::{FileNames, Refusal, Report};
 use std::alloc::Global;
@@ -32,60 +33,42 @@ use std::alloc::Global;
 pub fn names_of<'w>(command: &Command<'w>) -> FileNames<'w>
     ensures { names_in result ≡ files_of (stands_for command.now) }
 {
+    let none = FileNames::none();
     match command {
         Command::Check(asked) => FileNames {
             design: Some(asked.design),
-            definitions: None,
-            case: None,
-            packets: None,
-            bundle: None,
-            reads_bundle: false,
-            makes_texts: false,
+            ..none
         },
         Command::Compile(names) => FileNames {
             design: Some(names.design),
             definitions: Some(names.defs),
-            case: None,
-            packets: None,
             bundle: Some(names.out),
-            reads_bundle: false,
-            makes_texts: false,
+            ..none
         },
         Command::Update(given) => FileNames {
             design: Some(given.design),
             definitions: Some(given.defs),
-            case: None,
-            packets: None,
             bundle: Some(given.out),
-            reads_bundle: false,
-            makes_texts: false,
+            ..none
         },
         Command::Step(asked) => FileNames {
             design: Some(asked.design),
             definitions: Some(asked.defs),
             case: Some(asked.file),
-            packets: None,
-            bundle: None,
-            reads_bundle: false,
-            makes_texts: false,
+            ..none
         },
         Command::Forward(asked) => FileNames {
-            design: None,
-            definitions: None,
-            case: None,
             packets: Some(asked.packets),
             bundle: Some(asked.out),
             reads_bundle: true,
-            makes_texts: false,
+            ..none
         },
         Command::Gen(_) => FileNames {
             design: Some(GENERATED),
             definitions: Some(GENERATED),
-            case: None,
-            packets: None,
             bundle: Some(GENERATED),
-            reads_bundle: false,
             makes_texts: true,
+            ..none
         },
     }
 }

@@ -1,14 +1,12 @@
 //! What a command writes.
-ghost use Rattle.std.specs.Prelude.{◌≡◌, ◌⊎◌, IfErr, OnOk, option_map};
-ghost use Rattle.cocoon_io.specs.Calls.{with_file};
+ghost use Rattle.std.specs.Prelude.{IfErr, OnOk};
 ghost use Rattle.command_reports.specs.FileNames.{name_of, names_in};
-ghost use Rattle.cocoon_cli.specs.Run.{count};
-ghost use Rattle.cocoon_cli.specs.Shell.{AllWritten, Called, CanWrite, HoldsNet, NotAllWritten, own_file, writing_of};
+ghost use Rattle.command_answers.specs.FolderCalls.{count, Called};
+ghost use Rattle.cocoon_cli.specs.Shell.{AllWritten, CanWrite, HoldsNet, NotAllWritten, own_file, writing_of};
 
-use crate::answer::Writing;
 use crate::reading::Read;
 use cocoon_io::{Folder, FolderFault};
-use cocoon_num::List;
+use command_answers::answer::{Writing, bytes_in};
 use command_reports::{CommandFile, FileNames, Refusal};
 use net_bundle::write_bundle;
 use std::alloc::Global;
@@ -39,16 +37,6 @@ fn write_own<F: Folder>(
         Ok(()) => Ok(()),
         Err(FolderFault::NoMemory) => Err(Refusal::NoMemory),
         Err(_) => Err(Refusal::WriteFault(file)),
-    }
-}
-
-/// The bytes of certificates, if there are any.
-pub(crate) fn bytes_in(certificates: &Option<List<u8>>) -> Option<&[u8]>
-    ensures { option_map (λ bytes. bytes.now) result ≡ certificates.now }
-{
-    match certificates {
-        Some(bytes) => Some(bytes.items()),
-        None => None,
     }
 }
 

@@ -15,7 +15,7 @@ use Rattle.parsing.specs.Depth.{FirstDeep, FirstDeepOf, reach}
 use Rattle.parsing.specs.Faults.{fault_of}
 use Rattle.parsing.proofs.Reaches.{reach_map}
 use Rattle.cocoon_parse.specs.Faults.{IsFirstFault}
-use Rattle.expr_parser.specs.Agrees.{AgreesDeep, kind_at, kinds_at}
+use Rattle.cocoon_parse.specs.Agrees.{AgreesDeep, kind_at, kinds_at}
 use Rattle.parsing.specs.declared.fault.ParseFault.{ParseFault}
 use Rattle.parsing.specs.declared.fault.ParseFault.TheVariants as fault
 use Rattle.parsing.specs.declared.stop.Stop.{Stop}

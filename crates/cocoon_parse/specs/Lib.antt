@@ -1,1 +1,4 @@
+pub mod Phrases
+pub mod Agrees
+pub mod ExprPhrases
 pub mod Faults

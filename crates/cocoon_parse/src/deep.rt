@@ -1,7 +1,7 @@
 //! Which tokens of designs and definitions count for the depth of a text.
 ghost use Rattle.std.specs.Prelude.{◌≡◌};
 ghost use Rattle.cocoon_num.specs.Tokens.{is_kind_of, language_bounds};
-ghost use Rattle.expr_parser.specs.Agrees.{keyword_kind, mark_kind};
+ghost use Rattle.cocoon_parse.specs.Agrees.{keyword_kind, mark_kind};
 ghost use Rattle.parsing.specs.Depth.{closing, opening, restarting};
 
 use cocoon_lex::{Keyword, Mark, Token, TokenKind};
@@ -12,7 +12,7 @@ pub struct Language;
 
 impl Depth for Language {
     ghost use Rattle.cocoon_num.specs.Tokens.{language_bounds};
-    ghost use Rattle.expr_parser.specs.Agrees.{kind_at as kind_in};
+    ghost use Rattle.cocoon_parse.specs.Agrees.{kind_at as kind_in};
 
     type Token = Token;
 

@@ -1,9 +1,19 @@
-//! The trees of texts of designs and of definitions, or the first fault of a text. A text is gone
-//! over once, from the left and with one token ahead; no more of it is read than up to the first
-//! token that is too deep.
+//! The trees of texts of designs and of definitions, or the first fault of a text. A text is gone over once, from the left
+//! and with one token ahead; no more of it is read than up to the first token that is too deep. A phrase is read from a
+//! token index on: the answer is its tree with the index after it, or the index of the token that cannot be taken.
+//! [`source`] has tokens by their indices, [`exprs`] the expressions, [`decls`] declarations, refinements and headers, with
+//! the statements in their bodies, and [`defs`] the defaults and rows of definitions.
 #![tactic(auto)]
 
+pub mod decls;
 mod deep;
+pub mod defs;
+pub mod exprs;
+pub mod joins;
+pub mod names;
+pub mod operators;
+pub mod source;
+mod stmts;
 pub mod whole_text;
 
 pub use parsing::ParseFault;

@@ -6,15 +6,15 @@ ghost use Rattle.cocoon_num.specs.Tokens.{kinds, language, lex, language_bounds}
 ghost use Rattle.cocoon_lex.specs.Kinds.{token_of};
 ghost use Rattle.cocoon_syntax.specs.TreeOf.{design_of, entries_of};
 
+use crate::decls::design;
 use crate::deep::Language;
+use crate::defs::entries;
+use crate::source::Source;
 use cocoon_lex::Token;
 use cocoon_syntax::{DefsText, Design};
-use expr_parser::source::Source;
 use parsing::{ParseFault, fault_of, first_deep, up_to};
 use plain_parser::text_laws::{definitions, designs, tokens_end};
 use std::alloc::Global;
-use tree_parser::decls::design;
-use tree_parser::defs::entries;
 
 /// The tree of a text of a design with these tokens, or its first fault, at a token index.
 pub fn parse_design(alloc: Global, text: &[u8], tokens: &[Token]) -> Result<Design, ParseFault>

@@ -14,7 +14,7 @@ use Rattle.cocoon_resolve.specs.declared.assumptions.Assumptions.{Assumptions}
 use Rattle.cocoon_resolve.specs.declared.bodies.Bodies.{Bodies}
 use Rattle.cocoon_resolve.specs.Readers.{assumptions_to, field_widths, reads_back}
 use Rattle.cocoon_resolve.specs.Resolved.{Resolves, WasRead}
-use Rattle.tree_names.specs.Names.{IsNamed}
+use Rattle.cocoon_types.specs.Names.{IsNamed}
 
 -- the assumptions of levels 0 to n, and their count up to each of these levels
 pub record HoldsTo (n : ℕ) (d : Design) (held : List AssumeDecl) (counts : List ℕ) : Type 0 where

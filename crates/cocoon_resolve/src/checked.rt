@@ -7,17 +7,17 @@ ghost use Rattle.cocoon_types.specs.Design.{functions, last_level, role_at};
 ghost use Rattle.declarations.specs.Declares.{Declares, function_number, role_number};
 ghost use Rattle.cocoon_resolve.specs.Readers.{all_assumptions, assumptions_to, field_widths, HasRole, IsRuntime, ReadsBack};
 ghost use Rattle.cocoon_resolve.specs.Resolved.{Resolves, WasRead};
-ghost use Rattle.tree_names.specs.Names.{IsNamed};
+ghost use Rattle.cocoon_types.specs.Names.{IsNamed};
 
 use crate::assumptions::Assumptions;
 use crate::bodies::Bodies;
 use crate::layout::{bytes, widths};
 use cocoon_num::NoMemory;
 use cocoon_syntax::{AssumeDecl, Design, FunctionDecl, Role};
+use cocoon_types::tree_names::{functions_are_named, headers_are_spelled};
 use declarations::{Declarations, FunId, RoleId};
 use std::alloc::Global;
 use std::marker::Model;
-use tree_names::{functions_are_named, headers_are_spelled};
 
 /// A design that was read and keeps all rules, within all limits. The readers take no memory, and constant or logarithmic time.
 #[derive(Drop)]

@@ -19,3 +19,5 @@ pub mod Noting
 pub mod RuleNames
 pub mod DefsRules
 pub mod Limits
+pub mod Among
+pub mod Names

@@ -1,7 +1,7 @@
 -- Cited by the clauses of files.rt, by the lines of ending.rt, and in cocoon_cli by `keeps` of `run`.
 -- The files of a command, by what they are to it: their names, and how long they may be. It follows
 -- the section "Commands" of README.md and "Bundle files" in docs/FORMATS.md.
-use Rattle.std.specs.Prelude.{◌≡◌, ◌++◌, if◌then◌else◌, ℕ, Bool, List, Option, Some, None, codes, option_map}
+use Rattle.std.specs.Prelude.{◌≡◌, ◌++◌, if◌then◌else◌, ℕ, Bool, false, List, Option, Some, None, codes, option_map}
 use Rattle.net_bundle.specs.Bundle.{whole_name}
 use Rattle.command_reports.specs.declared.files.CommandFile.{CommandFile}
 use Rattle.command_reports.specs.declared.files.CommandFile.TheVariants.{Design, Definitions, Bundle, Case, Packets, Budget}
@@ -29,6 +29,18 @@ names_in names = record {
   bundle = option_map (λ name. name.now) names.bundle;
   reads_bundle = names.reads_bundle;
   makes_texts = names.makes_texts;
+}
+
+-- those of a command that has no files
+abbrev pub no_names : FileNames
+no_names = record {
+  design = None;
+  definitions = None;
+  case = None;
+  packets = None;
+  bundle = None;
+  reads_bundle = false;
+  makes_texts = false;
 }
 
 -- the name of the file of a spent budget, by that of the design

@@ -1,3 +1,4 @@
 pub mod FileNames
 pub mod Refusals
 pub mod Report
+pub mod DesignTexts

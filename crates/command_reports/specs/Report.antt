@@ -16,7 +16,7 @@ use Rattle.runtime_defs.specs.Bound.{most_rows}
 use Rattle.net_run.specs.RunCounts.{most_runs}
 use Rattle.net_wiring.specs.declared.wiring.Wiring.{Wiring}
 use Rattle.net_wiring.specs.declared.wiring.Wiring.TheVariants as wires
-use Rattle.packet_file.specs.Packets.{most_bytes}
+use Rattle.packet_runs.specs.Packets.{most_bytes}
 use Rattle.p4_read.specs.declared.fault.P4Fault.{P4Fault}
 use Rattle.p4_read.specs.declared.fault.P4Fault.TheVariants as p4
 use Rattle.p4_run.specs.declared.faults.LoadFault.{LoadFault}

@@ -17,8 +17,7 @@ use cocoon_text::Position;
 use lower_p4::{MOST_HOSTS, MOST_MEMBERS, MOST_SITES, MOST_SWITCHES, MOST_TABLES};
 use net_bundle::BundleFile;
 use net_wiring::Wiring;
-use packet_file::MOST_BYTES;
-use packet_runs::MOST_RUNS;
+use packet_runs::{MOST_BYTES, MOST_RUNS};
 use runtime_defs::MOST_ROWS;
 use std::alloc::Global;
 

@@ -1,6 +1,6 @@
 //! The files that a command reads and writes.
 ghost use Rattle.std.specs.Prelude.{◌≡◌, IfOk, Some, option_map, string_bytes};
-ghost use Rattle.command_reports.specs.FileNames.{IsWanted, budget_name, bundle_in, name_of, names_in, wanted, with_most};
+ghost use Rattle.command_reports.specs.FileNames.{IsWanted, budget_name, bundle_in, name_of, names_in, no_names, wanted, with_most};
 
 use cocoon_num::NoMemory;
 use net_bundle::BundleFile;
@@ -53,6 +53,21 @@ pub struct FileNames<'w> {
 }
 
 impl<'w> FileNames<'w> {
+    /// Those of a command that has no files.
+    pub fn none() -> FileNames<'w>
+        ensures { names_in result ≡ no_names }
+    {
+        FileNames {
+            design: None,
+            definitions: None,
+            case: None,
+            packets: None,
+            bundle: None,
+            reads_bundle: false,
+            makes_texts: false,
+        }
+    }
+
     /// The name of a file, if there is one of this kind.
     pub fn name(&self, alloc: Global, file: CommandFile) -> Result<Option<String>, NoMemory>
         ensures { IfOk result (λ name.

@@ -4,20 +4,20 @@
 #![tactic(auto)]
 
 mod attempt;
+mod bundles;
 mod calls;
 mod fields;
 mod lines;
-mod lowering;
 mod sweep;
 
 use attempt::{Case, Wanted, try_once};
+use bundles::try_lowering;
 use calls::try_calls;
 use case_files::{Printer, print};
 use cocoon_io::HonestFolder;
 use cocoon_num::NoMemory;
 use fields::{has_line, last_line, put_lines, put_wanted, words_of};
 use lines::{CaseFiles, Data, follow_all, read};
-use lowering::try_lowering;
 use std::process::ExitCode;
 use std::{env, str};
 use sweep::{Sweep, try_each};

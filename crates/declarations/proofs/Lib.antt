@@ -1,6 +1,7 @@
-pub use Rattle.name_table.proofs.NameFacts
+pub use Rattle.numbering.proofs.NameFacts
 pub mod PlaceFacts
 pub mod LatestFacts
 pub mod RoleFacts
 pub mod TableFacts
 pub mod ReaderFacts
+pub mod Keeping

@@ -10,14 +10,14 @@ use Rattle.cocoon_num.specs.Lists.{first_of}
 use Rattle.cocoon_types.specs.Design.{as_role, as_function, all_decls, functions, role_at, field_width}
 use Rattle.cocoon_types.specs.TypeRules.{first_role}
 use Rattle.declarations.specs.declared.place.Place.{Place}
-use Rattle.name_table.specs.declared.table.NameTable.{NameTable}
+use Rattle.numbering.specs.declared.name_table.NameTable.{NameTable}
 use Rattle.declarations.specs.declared.header_table.HeaderTable.{HeaderTable}
 use Rattle.declarations.specs.declared.function_table.FunctionTable.{FunctionTable}
 use Rattle.declarations.specs.declared.role_table.RoleTable.{RoleTable}
-use Rattle.name_table.specs.NameNumbers.{index_of, firsts, number_of}
+use Rattle.numbering.specs.NameNumbers.{index_of, firsts, number_of}
 use Rattle.declarations.specs.Places.{placed, places_by}
 use Rattle.declarations.specs.Declares.{function_texts, role_texts, function_number, role_number, role_called, places_at, fetch, latest_of, width_in, HoldsFields, HoldsHeaders, HoldsFunctions, HoldsRoles}
-use Rattle.name_table.proofs.NameFacts.{named-index}
+use Rattle.numbering.proofs.NameFacts.{named-index}
 use Rattle.declarations.proofs.PlaceFacts.{sound-placed, fetch-at, decls-placed, levels-rise}
 use Rattle.declarations.proofs.LatestFacts.{latest-role, first-fetch, first-stands, role_name}
 

@@ -11,10 +11,10 @@ use Rattle.cocoon_num.specs.Names.{same_name}
 use Rattle.cocoon_types.specs.Design.{as_role}
 use Rattle.declarations.specs.declared.place.Place.{Place}
 use Rattle.declarations.specs.declared.role_table.RoleTable.{RoleTable}
-use Rattle.name_table.specs.NameNumbers.{index_of, firsts, with_name, Numbers, number_of}
+use Rattle.numbering.specs.NameNumbers.{index_of, firsts, with_name, Numbers, number_of}
 use Rattle.declarations.specs.Places.{Placed, places_by, decls_by}
 use Rattle.declarations.specs.Declares.{role_texts, role_called, places_at, HoldsRoles, AddsAt, AddsName}
-use Rattle.name_table.proofs.NameFacts.{same-refl, same-true, index-append, index-at}
+use Rattle.numbering.proofs.NameFacts.{same-refl, same-true, index-append, index-at}
 use Rattle.declarations.proofs.PlaceFacts.{picked-append}
 
 map-push : {A B : Type 0} (f : A → B) (xs : List A) (x : A) → map f (xs ++ x ∷ []) ≡ map f xs ++ f x ∷ []

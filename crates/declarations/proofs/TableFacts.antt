@@ -14,11 +14,11 @@ use Rattle.cocoon_syntax.specs.declared.decl.Decl.{Decl as CodeDecl}
 use Rattle.cocoon_syntax.specs.declared.decl.Refine.{Refine as CodeRefine}
 use Rattle.cocoon_syntax.specs.declared.decl.Design.{Design as CodeDesign}
 use Rattle.declarations.specs.declared.place.Place.{Place}
-use Rattle.name_table.specs.declared.table.NameTable.{NameTable}
+use Rattle.numbering.specs.declared.name_table.NameTable.{NameTable}
 use Rattle.declarations.specs.declared.function_table.FunctionTable.{FunctionTable}
 use Rattle.declarations.specs.declared.role_table.RoleTable.{RoleTable}
 use Rattle.declarations.specs.declared.decl_table.DeclTable.{DeclTable}
-use Rattle.name_table.specs.NameNumbers.{firsts, Numbers}
+use Rattle.numbering.specs.NameNumbers.{firsts, Numbers}
 use Rattle.declarations.specs.Places.{Placed, level_decls, placed_from, placed_blocks, placed, places_by, decls_by}
 use Rattle.declarations.specs.Declares.{function_texts, role_texts, role_called, field_texts, HoldsFields, HoldsFunctions, HoldsRoles, Holds}
 use Rattle.declarations.proofs.PlaceFacts.{picked-append}

@@ -8,14 +8,14 @@ use Rattle.cocoon_num.specs.Names.{same_name}
 use Rattle.cocoon_num.specs.Lists.{first_of}
 use Rattle.cocoon_types.specs.Design.{as_function, as_role, as_host, as_switch, functions}
 use Rattle.cocoon_types.specs.RuleParts.{roles_of}
-use Rattle.name_table.specs.declared.table.NameTable.{NameTable}
+use Rattle.numbering.specs.declared.name_table.NameTable.{NameTable}
 use Rattle.declarations.specs.declared.header_table.HeaderTable.{HeaderTable}
 use Rattle.declarations.specs.declared.function_table.FunctionTable.{FunctionTable}
 use Rattle.declarations.specs.declared.role_table.RoleTable.{RoleTable}
 use Rattle.declarations.specs.declared.decl_table.DeclTable.{DeclTable}
 use Rattle.declarations.specs.declared.tables.Declarations.{Declarations}
 use Rattle.declarations.specs.declared.place.Place.{Place}
-use Rattle.name_table.specs.NameNumbers.{index_of, firsts, Numbers, number_of}
+use Rattle.numbering.specs.NameNumbers.{index_of, firsts, Numbers, number_of}
 use Rattle.declarations.specs.Places.{Placed, decl_at, placed, places_by, decls_by}
 
 -- ---- names

@@ -1,3 +1,5 @@
-pub use Rattle.name_table.specs.NameNumbers
+pub use Rattle.numbering.specs.NameNumbers
 pub mod Places
 pub mod Declares
+pub mod Widths
+pub mod Kept

@@ -1,6 +1,6 @@
 //! Functions by name, and by their number in the order of declaration.
 ghost use Rattle.std.specs.Prelude.{◌≡◌, [], ◌∷◌, ◌++◌, List, OnOk, Some, option_map, slice_get};
-ghost use Rattle.name_table.specs.NameNumbers.{number_of};
+ghost use Rattle.numbering.specs.NameNumbers.{number_of};
 ghost use Rattle.declarations.specs.Places.{Placed};
 ghost use Rattle.declarations.specs.Declares.{HoldsFunctions};
 ghost use Rattle.cocoon_num.specs.Tree.{a_function};
@@ -9,7 +9,7 @@ ghost use Rattle.cocoon_syntax.specs.TreeOf.{function_of};
 use crate::place::{Place, item};
 use cocoon_num::NoMemory;
 use cocoon_syntax::FunctionDecl;
-use name_table::NameTable;
+use numbering::NameTable;
 use std::alloc::Global;
 
 /// The functions, and where each is declared.

@@ -4,14 +4,14 @@ ghost use Rattle.cocoon_num.specs.Tree.{HeaderDecl as Header};
 ghost use Rattle.cocoon_num.specs.Names.{named};
 ghost use Rattle.cocoon_syntax.specs.TreeOf.{header_of, param_of};
 ghost use Rattle.cocoon_types.specs.Design.{field_width};
-ghost use Rattle.name_table.specs.NameNumbers.{Numbers};
+ghost use Rattle.numbering.specs.NameNumbers.{Numbers};
 ghost use Rattle.declarations.specs.Declares as spec;
 ghost use Rattle.declarations.specs.Declares.{width_in, HoldsFields, HoldsHeaders, field_texts, header_texts};
 
 use crate::place::item;
 use cocoon_num::NoMemory;
 use cocoon_syntax::{HeaderDecl, Param};
-use name_table::NameTable;
+use numbering::NameTable;
 use std::alloc::Global;
 
 /// The headers, and the fields of each.

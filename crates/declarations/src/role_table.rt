@@ -4,14 +4,14 @@ ghost use Rattle.std.specs.List.Sorted.{IsNonDecreasingBy};
 ghost use Rattle.cocoon_num.specs.Lists.{first_of};
 ghost use Rattle.cocoon_num.specs.Tree.{a_role};
 ghost use Rattle.cocoon_syntax.specs.TreeOf.{role_of};
-ghost use Rattle.name_table.specs.NameNumbers.{number_of};
+ghost use Rattle.numbering.specs.NameNumbers.{number_of};
 ghost use Rattle.declarations.specs.Places.{Placed};
 ghost use Rattle.declarations.specs.Declares.{AddsAt, AddsName, HoldsRoles, latest_of, places_at};
 
 use crate::place::{Place, item};
 use cocoon_num::NoMemory;
 use cocoon_syntax::Role;
-use name_table::NameTable;
+use numbering::NameTable;
 use std::alloc::Global;
 
 /// The roles in the order of their first declarations, and the places of all declarations of each.

@@ -11,7 +11,7 @@ use Rattle.text_printer.proofs.Joins.{Part, Lines, opens, follows, leads, ends, 
 use Rattle.text_printer.proofs.Numbers.{literal_spells, decimal_clear}
 use Rattle.text_printer.proofs.Seams.{Spells, open_after, then_clear, word_clear, word_spells}
 use Rattle.defs_text.specs.EntryTexts.{const_text, pattern_text, more_patterns_text, patterns_text, entry_text}
-use Rattle.tree_names.specs.Names.{is_name}
+use Rattle.cocoon_types.specs.Names.{is_name}
 use Rattle.defs_text.proofs.Seamed.{language_seams}
 
 -- ---- tokens

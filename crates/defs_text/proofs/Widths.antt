@@ -13,8 +13,8 @@ use Rattle.cocoon_types.specs.Rules.{too_wide, WellFormed}
 use Rattle.cocoon_types.specs.Sites.{DeclSite, decl_sites, params_of, sites_of, sites_from}
 use Rattle.cocoon_types.specs.TypeRules.{wide_params}
 use Rattle.defs_text.proofs.Distinct.{nil_left, nil_right}
-use Rattle.tree_names.specs.Names.{is_name, IsNamed}
-use Rattle.tree_names.proofs.Functions.{functions_of_decls}
+use Rattle.cocoon_types.specs.Names.{is_name, IsNamed}
+use Rattle.cocoon_types.proofs.Functions.{functions_of_decls}
 
 -- the widths are those of one or more declarations
 abbrev pub AreWidths : List ℕ → Type 0

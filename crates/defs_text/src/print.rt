@@ -12,7 +12,7 @@ ghost use Rattle.defs_text.specs.EntryTexts.{const_text, entry_text, more_patter
 ghost use Rattle.defs_text.specs.Fitting.{FitsPlace};
 ghost use Rattle.defs_text.specs.Keys.{HasAllKeys, HasPlaceKeys};
 ghost use Rattle.defs_text.specs.Places.{default_entry, defs_text, entries_of_places, key_pattern, key_patterns, place_entries, result_value, row_entry};
-ghost use Rattle.tree_names.specs.Names.{IsNamed};
+ghost use Rattle.cocoon_types.specs.Names.{IsNamed};
 
 use cocoon_num::{Bits, FunRow, FunTable, NoMemory, Text};
 use cocoon_resolve::Checked;

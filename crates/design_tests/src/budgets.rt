@@ -2,14 +2,13 @@
 ghost use Rattle.cocoon_syntax.specs.TreeOf.{design_of};
 ghost use Rattle.runtime_defs.specs.Fitting.{FitsDesign};
 
-use budget_text::{candidate_file, given_file, obligation_file, rounds_file};
 use case_files::{Printer, first_word};
+use cert_text::{LogJson, candidate_file, given_file, obligation_file, rounds_file};
 use certificates::Instance;
 use cnf_core::Log;
 use cocoon_num::NoMemory;
 use cocoon_resolve::Checked;
 use json_forms::{FromJson, value_of};
-use log_json::LogJson;
 use runtime_defs::Defs;
 use std::alloc::Global;
 

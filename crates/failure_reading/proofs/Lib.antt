@@ -1,3 +1,9 @@
 pub mod Owning
 pub mod Read
 pub mod Widths
+pub mod Owned
+pub mod Arenas
+pub mod Inputs
+pub mod Narrow
+pub mod Failing
+pub mod Beginnings

@@ -1,1 +1,2 @@
 pub mod OfObligation
+pub mod Witnesses

@@ -1,2 +1,4 @@
 pub mod Refinable
 pub mod Failing
+pub mod Named
+pub mod Whole

@@ -1,3 +1,6 @@
+pub mod FittingValues
+pub mod RenamedTerms
+pub mod RenamedClauses
 pub mod Places
 pub mod Reduced
 pub mod Values

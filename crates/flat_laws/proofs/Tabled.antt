@@ -18,7 +18,7 @@ use Rattle.bv_terms.proofs.Subterms.{Each, EachArg, in-list, in-walk, walk-has}
 use Rattle.table_terms.specs.ByTables.{by_tables}
 use Rattle.table_terms.specs.Chains.{chain}
 use Rattle.table_terms.specs.WithRows.{Tables}
-use Rattle.term_laws.proofs.FittingValues.{values-fit}
+use Rattle.flat_laws.proofs.FittingValues.{values-fit}
 use Rattle.bv_terms.proofs.SameTerms.{same-only}
 use Rattle.flat_laws.specs.Flat.{agreement, agreements, args_in, equal_args, flattened, reduced, reduced_args, same_function}
 use Rattle.flat_laws.specs.Meant.{CanFlatten}

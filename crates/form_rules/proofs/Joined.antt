@@ -11,7 +11,7 @@ use Rattle.cocoon_types.specs.Rules.{Rule}
 use Rattle.cocoon_types.specs.RuleParts.{unless, blocks_from}
 use Rattle.cocoon_types.specs.FirstFault.{Fault}
 use Rattle.cocoon_types.specs.Noting.{Notes}
-use Rattle.fault_notes.specs.Among.{among, AmongLaws}
+use Rattle.cocoon_types.specs.Among.{among, AmongLaws}
 
 -- one item more
 pub taken : {A B : Type 0} (f : A → B) (xs : List A) (i : ℕ) (x : A) → i < length xs → x ≡ get_or xs i x → map f (take (i + 1) xs) ≡ map f (take i xs) ++ f x ∷ []

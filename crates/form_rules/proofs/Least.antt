@@ -5,7 +5,7 @@ use Rattle.cocoon_num.specs.Lists.{has_number}
 use Rattle.cocoon_types.specs.Rules.{hidden_choice}
 use Rattle.cocoon_types.specs.FirstFault.{Fault, rank, phase, phase_at}
 use Rattle.cocoon_types.specs.Noting.{Covers, Notes, same_fault}
-use Rattle.fault_notes.specs.Among.{among}
+use Rattle.cocoon_types.specs.Among.{among}
 use Rattle.read_back.specs.Least.{IsLeast}
 
 abbrev hidden_at : ℕ → Fault

@@ -1,3 +1,9 @@
+pub mod Membership
+pub mod SiteFacts
+pub mod RoleFacts
+pub mod ExprFacts
+pub mod StmtFacts
+pub mod WalkFacts
 pub mod Joined
 pub mod Operators
 pub mod Names

@@ -8,8 +8,8 @@ use Rattle.cocoon_types.specs.FormRules.{switch_declared, switch_sends}
 use Rattle.cocoon_types.specs.Rules.{Rule, twice, unknown_name, late_function, unknown_role, not_refinable, sink_refined, no_host, no_switch, zero_count, too_wide, header_width, wrong_width, not_bool, wrong_count, bad_slice, after_send, packet_in_guard, sink_form, header_changed, guard_form, not_switch_form, not_wire, last_choice, fork_form, hidden_choice, fails_at}
 use Rattle.cocoon_types.specs.FirstFault.{Fault, is_fault_of}
 use Rattle.cocoon_types.specs.Noting.{Notes, NotingLaws}
-use Rattle.body_rules.specs.BodyFaults.{is_body_fault}
-use Rattle.fault_notes.specs.Among.{among}
+use Rattle.form_rules.specs.BodyFaults.{is_body_fault}
+use Rattle.cocoon_types.specs.Among.{among}
 use Rattle.form_rules.specs.Parts.{not_two_ports}
 
 -- a fault of the phase, by the passes

@@ -14,7 +14,7 @@ use Rattle.cocoon_types.specs.FirstFault.{Fault}
 use Rattle.cocoon_types.specs.RuleParts.{unless, unless_named, roles_of}
 use Rattle.cocoon_types.specs.Rules.{Rule, sink_form}
 use Rattle.cocoon_types.specs.SameTrees.{same_params}
-use Rattle.fault_notes.specs.Among.{among, AmongLaws}
+use Rattle.cocoon_types.specs.Among.{among, AmongLaws}
 use Rattle.form_rules.specs.Parts.{Hosts, hosts_with, host_roles, bodiless, host_faults}
 
 -- ---- the first declaration

@@ -11,7 +11,7 @@ ghost use Rattle.cocoon_types.specs.RuleParts.{roles_of};
 ghost use Rattle.cocoon_types.specs.Rules.{fails_at, guard_form};
 ghost use Rattle.cocoon_types.specs.SameTrees.{same_expr, same_exprs};
 ghost use Rattle.declarations.specs.Declares.{Declares};
-ghost use Rattle.fault_notes.specs.Among.{among};
+ghost use Rattle.cocoon_types.specs.Among.{among};
 ghost use Rattle.form_rules.specs.Guards as parts;
 ghost use Rattle.form_rules.specs.Guards.{call_of, function_by, fits_by, host_guards, other_guard, port_test, switch_guards};
 ghost use Rattle.form_rules.specs.Parts.{where_named};
@@ -20,9 +20,8 @@ use crate::declared::{first_declared, host_roles};
 use crate::same_trees::{is_binary, is_named};
 use crate::switches::PORT_WIDTH;
 use cocoon_syntax::{BinaryOp, Design, Expr, ExprKind, Param, Role};
-use cocoon_types::{Noted, TypeRule};
+use cocoon_types::{Noted, TypeRule, among_laws, note_unless};
 use declarations::Declarations;
-use fault_notes::{among_laws, note_unless};
 
 /// Whose form a guard should have.
 #[derive(Clone, Copy, Drop)]

@@ -7,15 +7,14 @@ ghost use Rattle.cocoon_types.specs.ReadBack.{hidden_in};
 ghost use Rattle.cocoon_types.specs.RuleParts.{blocks_from};
 ghost use Rattle.cocoon_types.specs.Rules.{fails_at, hidden_choice};
 ghost use Rattle.declarations.specs.Declares.{Declares};
-ghost use Rattle.fault_notes.specs.Among.{among};
+ghost use Rattle.cocoon_types.specs.Among.{among};
 ghost use Rattle.form_rules.specs.Parts.{hidden_of, hidden_where};
 
 use crate::refined::next_level;
 use cocoon_num::NoMemory;
 use cocoon_syntax::{Design, Name, Refine, Stmt};
-use cocoon_types::{Noted, TypeRule};
+use cocoon_types::{Noted, TypeRule, among_laws};
 use declarations::Declarations;
-use fault_notes::among_laws;
 use read_back::first_hidden;
 use std::alloc::Global;
 

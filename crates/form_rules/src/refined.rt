@@ -8,15 +8,14 @@ ghost use Rattle.cocoon_types.specs.RuleParts.{blocks_from};
 ghost use Rattle.cocoon_types.specs.Rules.{fails_at, header_changed};
 ghost use Rattle.cocoon_types.specs.SameTrees as same;
 ghost use Rattle.declarations.specs.Declares.{Declares};
-ghost use Rattle.fault_notes.specs.Among.{among};
+ghost use Rattle.cocoon_types.specs.Among.{among};
 ghost use Rattle.form_rules.specs.Parts.{changed};
 
 use crate::same_trees::{is_same, same_params};
 use cocoon_num::NoMemory;
 use cocoon_syntax::{Decl, Design, Refine, Role};
-use cocoon_types::{Noted, TypeRule};
+use cocoon_types::{Noted, TypeRule, among_laws, note_unless};
 use declarations::Declarations;
-use fault_notes::{among_laws, note_unless};
 
 /// The number of the next level.
 pub(crate) fn next_level(level: u32) -> Result<u32, NoMemory>

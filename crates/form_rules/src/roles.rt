@@ -5,15 +5,14 @@ ghost use Rattle.cocoon_types.specs.Noting.{Notes};
 ghost use Rattle.cocoon_types.specs.RuleParts.{roles_of};
 ghost use Rattle.cocoon_types.specs.Rules.{fails_at, sink_form};
 ghost use Rattle.declarations.specs.Declares.{Declares};
-ghost use Rattle.fault_notes.specs.Among.{among};
+ghost use Rattle.cocoon_types.specs.Among.{among};
 ghost use Rattle.form_rules.specs.Parts.{bodiless, host_faults};
 
 use crate::declared::host_roles;
 use crate::same_trees::{is_named, is_truth, same_params};
 use cocoon_syntax::{Design, HostDecl, Role};
-use cocoon_types::{Noted, TypeRule};
+use cocoon_types::{Noted, TypeRule, among_laws, note_unless};
 use declarations::Declarations;
-use fault_notes::{among_laws, note_unless};
 
 /// Notes roles that have a body and are the sink, or have none and are not.
 fn note_bodiless(sink: &[u8], roles: &[&Role], noted: &mut Noted)

@@ -9,14 +9,13 @@ ghost use Rattle.cocoon_types.specs.Noting.{Notes};
 ghost use Rattle.cocoon_types.specs.RuleParts.{roles_of};
 ghost use Rattle.cocoon_types.specs.Rules.{not_switch_form};
 ghost use Rattle.declarations.specs.Declares.{Declares};
-ghost use Rattle.fault_notes.specs.Among.{among};
+ghost use Rattle.cocoon_types.specs.Among.{among};
 ghost use Rattle.form_rules.specs.Parts.{not_two_ports, where_named};
 
 use crate::same_trees::is_named;
 use cocoon_syntax::{Design, Param, Role};
-use cocoon_types::{Noted, TypeRule};
+use cocoon_types::{Noted, TypeRule, among_laws, note_unless};
 use declarations::Declarations;
-use fault_notes::{among_laws, note_unless};
 
 /// The width of switches and of ports, in bits.
 pub(crate) const PORT_WIDTH: u8 = 16;

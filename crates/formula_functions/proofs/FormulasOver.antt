@@ -23,15 +23,15 @@ use Rattle.symbolic_laws.specs.Leaves.{End, sent_to, inside, Leaf, Tree, body_tr
 use Rattle.symbolic_laws.specs.States.{NewInput, input_term, inputs_from, term_world}
 use Rattle.symbolic_laws.proofs.Ascending.{tree_ascends}
 use Rattle.symbolic_laws.proofs.Followings.{passed}
-use Rattle.leaf_laws.specs.MadeOf.{AllMade, LeafMade, Made, MadeArgs, OfInputs}
-use Rattle.leaf_laws.proofs.MadeLeaves.{have_back, have_front, leaf_made}
-use Rattle.leaf_laws.proofs.Replaced.{Pairs, Standing, beside_pairs, pairs_join, pairs_stand}
+use Rattle.obligation_laws.specs.MadeOf.{AllMade, LeafMade, Made, MadeArgs, OfInputs}
+use Rattle.obligation_laws.proofs.MadeLeaves.{have_back, have_front, leaf_made}
+use Rattle.obligation_laws.proofs.Replaced.{Pairs, Standing, beside_pairs, pairs_join, pairs_stand}
 use Rattle.obligation_laws.specs.Formulas.{any_of, chain, equals, formula, leaf_inputs, part, parts, read_back, replacing, sending_to, sent_at, stand_ins}
 use Rattle.obligation_laws.specs.Obligations.{Obligation, all_obligations, obligation_of, of_block, of_blocks, of_leaves, of_role, of_roles, old_tree, refined_tree}
 use Rattle.obligation_laws.proofs.Parts.{sent_wide, widths_kept}
 use Rattle.obligation_laws.proofs.RunsFound.{params_there}
 use Rattle.obligation_laws.proofs.Untrue.{role_of}
-use Rattle.formula_forms.proofs.Fitting.{formula_fits, new_role}
+use Rattle.obligation_laws.proofs.Fitting.{formula_fits, new_role}
 use Rattle.formula_functions.specs.LeafTerms.{AppliesDeclared, LeafApplies, Stands, any_input}
 
 -- ---- lists

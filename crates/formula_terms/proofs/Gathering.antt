@@ -16,7 +16,7 @@ use Rattle.declarations.specs.Declares.{role_number}
 use Rattle.expr_term_laws.specs.Shown.{HasWidth}
 use Rattle.expr_terms.specs.Variables.{Keeps, Makes, MakesAll, terms_at}
 use Rattle.expr_terms.proofs.Making.{keeps_on}
-use Rattle.formula_forms.specs.FormulaForms.{PartFits}
+use Rattle.obligation_laws.specs.FormulaForms.{PartFits}
 use Rattle.hop_inline.specs.Shown.{ShowsEnd, ShowsLeaf, ShowsLeaves}
 use Rattle.hop_inline.specs.declared.tree.End.{End}
 use Rattle.hop_inline.specs.declared.tree.End.TheVariants.{Sent, Inside}

@@ -6,7 +6,7 @@ use Rattle.cocoon_num.specs.Names.{same_name}
 use Rattle.cocoon_num.specs.Tree.{Design}
 use Rattle.cocoon_types.specs.RuleParts.{roles_of}
 use Rattle.declarations.specs.Declares.{role_number, role_texts}
-use Rattle.name_table.specs.NameNumbers.{firsts, index_of}
+use Rattle.numbering.specs.NameNumbers.{firsts, index_of}
 use Rattle.sound_types.proofs.Options.{same_text}
 
 pub same_itself : (x : List ℕ) → same_name x x ≡ true

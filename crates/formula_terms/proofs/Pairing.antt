@@ -11,7 +11,7 @@ use Rattle.bv_terms.specs.TermTrees as term
 use Rattle.bv_terms.specs.TermTrees.{Term, width}
 use Rattle.expr_term_laws.specs.Shown.{HasWidth}
 use Rattle.expr_terms.specs.Variables.{Makes, MakesAll, terms_at}
-use Rattle.formula_forms.specs.FormulaForms.{PartFits, SameWidths}
+use Rattle.obligation_laws.specs.FormulaForms.{PartFits, SameWidths}
 use Rattle.hop_inline.specs.Shown.{ShowsEnd, ShowsInputs}
 use Rattle.hop_inline.specs.declared.tree.End.{End}
 use Rattle.hop_inline.specs.declared.tree.End.TheVariants.{Sent, Inside}

@@ -10,7 +10,7 @@ use Rattle.symbolic_laws.specs.Leaves.{end_role}
 use Rattle.hop_inline.specs.Shown.{ShowsInputs, ShowsLeaf, ShowsTree}
 use Rattle.hop_inline.specs.declared.tree.Leaf.{Leaf}
 use Rattle.hop_inline.specs.declared.tree.Tree.{Tree}
-use Rattle.formula_forms.specs.FormulaForms.{PartFits}
+use Rattle.obligation_laws.specs.FormulaForms.{PartFits}
 
 -- the number is that of a truth value
 abbrev pub IsTruth : List Node → ℕ → Type 0

@@ -6,7 +6,7 @@ use Rattle.bv_terms.specs.Replacements as formulas
 use Rattle.bv_terms.specs.Replacements.{beside, replaced}
 use Rattle.expr_term_laws.specs.Shown.{HasWidth}
 use Rattle.expr_terms.specs.Variables.{AreThere, Makes, MakesAll, terms_at}
-use Rattle.formula_forms.specs.FormulaForms.{SameWidths}
+use Rattle.obligation_laws.specs.FormulaForms.{SameWidths}
 use Rattle.hop_inline.specs.Shown.{ShowsInputs}
 use Rattle.hop_inline.specs.declared.tree.Leaf.{Leaf}
 use Rattle.symbolic_laws.specs.Leaves as laws

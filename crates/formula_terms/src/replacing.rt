@@ -6,7 +6,7 @@ ghost use Rattle.bv_terms.specs.Replacements.{replaced};
 ghost use Rattle.bv_terms.specs.TermTrees.{binary, width};
 ghost use Rattle.bv_terms.specs.declared.node.TermOp.TheVariants as op;
 ghost use Rattle.expr_terms.specs.Variables.{AreThere, Keeps, Makes, terms_at};
-ghost use Rattle.formula_forms.specs.FormulaForms.{SameWidths};
+ghost use Rattle.obligation_laws.specs.FormulaForms.{SameWidths};
 ghost use Rattle.obligation_laws.specs.Formulas.{chain, equals};
 ghost use Rattle.symbolic_laws.specs.Leaves as laws;
 ghost use Rattle.symbolic_laws.specs.Leaves.{end_fields, end_values};

@@ -8,7 +8,7 @@ use Rattle.cocoon_num.specs.Names.{same_name}
 use Rattle.cocoon_num.specs.Rows.{first_match, values_match}
 use Rattle.cocoon_num.specs.declared.bits.Bits.{Bits}
 use Rattle.cocoon_num.specs.declared.fun_table.FunRow.{FunRow}
-use Rattle.name_table.proofs.NameFacts.{same-true}
+use Rattle.numbering.proofs.NameFacts.{same-true}
 use Rattle.literal_tables.specs.FirstRows.{first_rows, has_values, with_row}
 
 pub all-append : {X : Type 0} (P : X → Type 0) (xs ys : List X) → AllByRecursion P xs → AllByRecursion P ys → AllByRecursion P (xs ++ ys)

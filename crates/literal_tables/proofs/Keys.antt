@@ -5,8 +5,8 @@ use Rattle.std.proofs.lemmas.Bool.{cond-true, cond-false}
 use Rattle.std.proofs.lemmas.List.{map-append}
 use Rattle.cocoon_num.specs.Names.{same_name}
 use Rattle.cocoon_num.specs.declared.fun_table.FunRow.{FunRow}
-use Rattle.key_table.specs.KeyPlaces.{first_place}
-use Rattle.name_table.proofs.NameFacts.{same-symm}
+use Rattle.numbering.specs.KeyPlaces.{first_place}
+use Rattle.numbering.proofs.NameFacts.{same-symm}
 use Rattle.runtime_defs.specs.RowKeys.{row_keys}
 use Rattle.literal_tables.specs.FirstRows.{has_values, with_row}
 

@@ -21,7 +21,7 @@ use Rattle.runtime_defs.specs.Places.{AllDeclared}
 use Rattle.runtime_defs.proofs.Looking.{both-true}
 use Rattle.literal_tables.specs.FirstRows.{first_rows}
 use Rattle.literal_tables.specs.LookupRows.{row_of, rows_for}
-use Rattle.tree_names.specs.Names.{IsNamed}
+use Rattle.cocoon_types.specs.Names.{IsNamed}
 use Rattle.literal_tables.specs.Made.{ArePlaces, HasWidths, IsPlace, IsTable, IsWidth}
 use Rattle.literal_tables.specs.Tables.{AreOfDesign, HaveFirstRows, IsOfDesign}
 use Rattle.literal_tables.specs.declared.lookups.Lookup.{Lookup}

@@ -2,7 +2,7 @@
 ghost use Rattle.std.specs.Prelude.{◌≡◌, ◌≤◌, ◌-◌, ◌^◌, IfOk, List as Items, OnOk, not};
 ghost use Rattle.cocoon_num.specs.declared.fun_table.FunRow.{FunRow as Row};
 ghost use Rattle.defs_text.specs.Fitting.{all_ones};
-ghost use Rattle.key_table.specs.KeyPlaces.{Holds};
+ghost use Rattle.numbering.specs.KeyPlaces.{Holds};
 ghost use Rattle.runtime_defs.specs.Places.{AllDeclared};
 ghost use Rattle.runtime_defs.specs.RowKeys.{row_keys};
 ghost use Rattle.literal_tables.specs.FirstRows.{first_rows, has_values, with_row};
@@ -12,7 +12,7 @@ ghost use Rattle.literal_tables.specs.LookupRows.{rows_for};
 use crate::lookups::Lookup;
 use cocoon_num::{FunRow, List, NoMemory};
 use declarations::FunId;
-use key_table::KeyTable;
+use numbering::key_table::KeyTable;
 use std::alloc::Global;
 
 /// Ones in so many bits.

@@ -8,7 +8,7 @@ ghost use Rattle.cocoon_types.specs.Design.{functions, widths_of};
 ghost use Rattle.defs_text.specs.Fitting as spec;
 ghost use Rattle.defs_text.specs.Fitting.{FitsDesign, literal_functions};
 ghost use Rattle.defs_text.specs.Places.{result_value};
-ghost use Rattle.tree_names.specs.Names.{IsNamed};
+ghost use Rattle.cocoon_types.specs.Names.{IsNamed};
 ghost use Rattle.literal_tables.specs.Made.{ArePlaces, HasWidths, IsPlace, IsTable, IsWidth};
 ghost use Rattle.literal_tables.specs.Tables.{AreOfDesign, HaveFirstRows};
 

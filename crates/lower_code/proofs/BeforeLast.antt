@@ -3,8 +3,8 @@ use Rattle.std.proofs.Common.{◌≡◌, List, [], ◌∷◌, ◌++◌, map, tak
 use Rattle.cocoon_num.specs.Tree.{Expr, Param, expr}
 use Rattle.cocoon_syntax.specs.TreeOf.{exprs_of}
 use Rattle.p4_ir.specs.P4Tree.{P4Expr}
-use Rattle.lower_body.specs.Lower.{before_last_from, params_before_last}
-use Rattle.lower_body.specs.LowerBlock.{exprs_before_last, before_last_after, second_of}
+use Rattle.lowering.specs.Lower.{before_last_from, params_before_last}
+use Rattle.lowering.specs.LowerBlock.{exprs_before_last, before_last_after, second_of}
 
 from_back : {A : Type 0} (f : A → Param) (p : A) (xs : List A) (x : A) → f p ∷ map f xs ≡ before_last_from (f p) (map f (xs ++ x ∷ []))
 from_back f p [] x = refl

@@ -3,8 +3,8 @@ use Rattle.std.proofs.Common.{◌≡◌, ℕ, suc, Bool, true, false, List, [], 
 use Rattle.std.proofs.lemmas.List.{append_assoc, append-nil}
 use Rattle.cocoon_num.specs.Tree.{Block}
 use Rattle.p4_ir.specs.P4Tree.{P4Expr, P4Stmt, p_meta, p_port, set_meta}
-use Rattle.lower_body.specs.Lower.{Counts, Lowered, Variable, a_field, var_name}
-use Rattle.lower_body.specs.LowerBlock.{LoweredBlock, Site, branches, copy_code, effect, forked, if_stmt, let_code, nowhere, then_block}
+use Rattle.lowering.specs.Lower.{Counts, Lowered, Variable, a_field, var_name}
+use Rattle.lowering.specs.LowerBlock.{LoweredBlock, Site, branches, copy_code, effect, forked, if_stmt, let_code, nowhere, then_block}
 use Rattle.lower_code.specs.Blocks.{BlockSoFar, in_branch, port_kept, port_vars, with_block, with_effect}
 use Rattle.lower_code.specs.Growth.{Counted, SoFar, grown, with_expr, with_variable}
 use Rattle.lower_code.proofs.Steps.{grown_none, grown_twice}

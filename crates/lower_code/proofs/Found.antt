@@ -6,7 +6,7 @@ use Rattle.cocoon_num.specs.Names.{same_name}
 use Rattle.cocoon_num.specs.Tree.{FunctionDecl, HeaderDecl, Design}
 use Rattle.cocoon_types.specs.Design.{functions}
 use Rattle.p4_ir.specs.P4Tree.{P4Expr}
-use Rattle.lower_body.specs.Lower.{Counts, by_group, lower_call, lower_group}
+use Rattle.lowering.specs.Lower.{Counts, by_group, lower_call, lower_group}
 use Rattle.lower_code.specs.Scopes.{function_lowered, functions_before, number_in}
 
 pub before_more : (d : Design) (n : ℕ) (g : FunctionDecl) → slice_get (functions d) n ≡ Some g → functions_before d (n + 1) ≡ g ∷ functions_before d n

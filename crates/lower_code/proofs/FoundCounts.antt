@@ -4,7 +4,7 @@ use Rattle.std.proofs.Common.{◌≡◌, inl, inr, ℕ, ◌++◌, zero, suc, ◌
 use Rattle.cocoon_num.specs.Names.{same_name}
 use Rattle.cocoon_num.specs.Tree.{FunctionDecl, Design}
 use Rattle.cocoon_types.specs.Design.{functions}
-use Rattle.lower_body.specs.Counting.{call_count, closed_count, expr_count, group_count}
+use Rattle.lowering.specs.Counting.{call_count, closed_count, expr_count, group_count}
 use Rattle.lower_code.specs.Scopes.{function_count, functions_before, KnowsCounts, number_in}
 use Rattle.lower_code.proofs.Found.{before_count, before_more, plus_one, there}
 

@@ -2,9 +2,9 @@
 use Rattle.std.proofs.Common.{◌≡◌, ℕ, suc, ◌+◌, ◌≤◌, Bool, true, false, List, [], ◌∷◌, ◌++◌, map, take, drop, length, reverse, refl, sym, ap, ◌∙◌, arith}
 use Rattle.std.proofs.lemmas.List.{append_assoc, length-append, length-map, length-reverse, length-take-le, map-append, reverse-append, take-append-drop}
 use Rattle.cocoon_num.specs.Tree.{Stmt, Block, let_, set_field, if_, filter, havoc_var, havoc_field, assume, fork, send, no_stmts, stmt}
-use Rattle.lower_body.specs.Lower.{Callees, Counts, Lowered, lower_exprs, then_called}
-use Rattle.lower_body.specs.Lower as lower
-use Rattle.lower_body.specs.LowerBlock.{LoweredBlock, fork_args, fork_function, forked, in_block, lower_block, lower_stmt}
+use Rattle.lowering.specs.Lower.{Callees, Counts, Lowered, lower_exprs, then_called}
+use Rattle.lowering.specs.Lower as lower
+use Rattle.lowering.specs.LowerBlock.{LoweredBlock, fork_args, fork_function, forked, in_block, lower_block, lower_stmt}
 use Rattle.lower_code.specs.Variables.{variable_of, variables_of}
 use Rattle.lower_code.specs.declared.variables.Variable.{Variable}
 

@@ -4,9 +4,9 @@ use Rattle.std.proofs.lemmas.List.{append_assoc}
 use Rattle.cocoon_num.specs.Values.{equal}
 use Rattle.p4_ir.specs.P4Tree.{P4Expr, P4Stmt, p_binary, p_if, p_lit, p_meta, p_return, p_rid, p_slice, set_meta}
 use Rattle.p4_ir.specs.Program.{block_of}
-use Rattle.lower_body.specs.Lower.{Callees, Counts, a_field, var_name}
-use Rattle.lower_body.specs.LowerBlock.{Site, lower_block}
-use Rattle.lower_body.specs.LowerSites.{LoweredSites, is_return, lower_site, then_sites, with_return}
+use Rattle.lowering.specs.Lower.{Callees, Counts, a_field, var_name}
+use Rattle.lowering.specs.LowerBlock.{Site, lower_block}
+use Rattle.lowering.specs.LowerSites.{LoweredSites, is_return, lower_site, then_sites, with_return}
 use Rattle.lower_code.specs.Blocks.{BlockSoFar, with_block, with_sites}
 use Rattle.lower_code.specs.Growth.{Counted, SoFar, with_variable}
 use Rattle.lower_code.proofs.Steps.{grown_twice}

@@ -4,7 +4,7 @@ use Rattle.std.proofs.lemmas.List.{append_assoc, append-nil, drop_more}
 use Rattle.cocoon_num.specs.Tree.{FunctionDecl, Param}
 use Rattle.cocoon_num.specs.declared.NoMemory.{NoMemory}
 use Rattle.p4_ir.specs.P4Tree.{P4Expr, P4Stmt, apply_table, p_pick, p_truth}
-use Rattle.lower_body.specs.Lower.{Counts, Made, key_name, result_name, var_name, a_field, fields_from, past, sets, Lowered, LoweredAll, after_args, and_then, closed, plain, second_third, then_all, then_called}
+use Rattle.lowering.specs.Lower.{Counts, Made, key_name, result_name, var_name, a_field, fields_from, past, sets, Lowered, LoweredAll, after_args, and_then, closed, plain, second_third, then_all, then_called}
 use Rattle.lower_code.specs.Growth.{Counted, SoFar, applied_code, applied_counts, applied_fields, grown, keeps_result, with_expr, with_exprs, with_field, with_keys, with_parameters, with_variable}
 
 -- ---- results and lists

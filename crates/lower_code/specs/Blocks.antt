@@ -5,10 +5,10 @@ use Rattle.cocoon_syntax.specs.TreeOf.{block_of, stmt_of}
 use Rattle.p4_ir.specs.P4Tree as tree
 use Rattle.p4_ir.specs.P4Tree.{p_port, set_meta}
 use Rattle.p4_ir.specs.declared.program.P4Stmt.{P4Stmt}
-use Rattle.lower_body.specs.Lower.{Lowered, LoweredAll, Variable, a_field, var_name}
-use Rattle.lower_body.specs.LowerBlock.{LoweredBlock, ports_kept, second_of, send_code}
-use Rattle.lower_body.specs.LowerBlock as block
-use Rattle.lower_body.specs.LowerSites.{LoweredSites}
+use Rattle.lowering.specs.Lower.{Lowered, LoweredAll, Variable, a_field, var_name}
+use Rattle.lowering.specs.LowerBlock.{LoweredBlock, ports_kept, second_of, send_code}
+use Rattle.lowering.specs.LowerBlock as block
+use Rattle.lowering.specs.LowerSites.{LoweredSites}
 use Rattle.lower_code.specs.Growth.{SoFar, grown, so_far}
 use Rattle.lower_code.specs.Variables.{variables_of}
 use Rattle.lower_code.specs.declared.blocks.Frame.{Frame}

@@ -7,8 +7,8 @@ use Rattle.p4_ir.specs.P4Tree.{set_meta, apply_table}
 use Rattle.p4_ir.specs.Program.{expr_of, stmt_of, table_of}
 use Rattle.p4_ir.specs.declared.program.P4Expr.{P4Expr}
 use Rattle.p4_ir.specs.declared.program.P4Stmt.{P4Stmt}
-use Rattle.lower_body.specs.Lower.{site_name, key_name, result_name, var_name, a_field, a_table, a_group, params_before_last, fields_from, numbers_from, past, sets, kept, kind_width, read_back, Lowered, LoweredAll}
-use Rattle.lower_body.specs.Lower as lower
+use Rattle.lowering.specs.Lower.{site_name, key_name, result_name, var_name, a_field, a_table, a_group, params_before_last, fields_from, numbers_from, past, sets, kept, kind_width, read_back, Lowered, LoweredAll}
+use Rattle.lowering.specs.Lower as lower
 use Rattle.lower_code.specs.declared.made.Counts.{Counts}
 use Rattle.lower_code.specs.declared.made.FieldName.{FieldName}
 use Rattle.lower_code.specs.declared.made.FieldName.TheVariants as names

@@ -6,9 +6,9 @@ use Rattle.cocoon_syntax.specs.TreeOf.{design_of}
 use Rattle.cocoon_types.specs.Design.{functions}
 use Rattle.cocoon_num.specs.Values.{BinaryOp, implies}
 use Rattle.p4_ir.specs.P4Tree.{P4Expr, p_binary}
-use Rattle.lower_body.specs.Lower.{Callees, Counts, Lowered, Variable, p_operation, after_args, by_table, callees, closed, lower_expr, variables_from}
-use Rattle.lower_body.specs.LowerBlock.{in_block}
-use Rattle.lower_body.specs.Counting.{call_count, closed_count, expr_count}
+use Rattle.lowering.specs.Lower.{Callees, Counts, Lowered, Variable, p_operation, after_args, by_table, callees, closed, lower_expr, variables_from}
+use Rattle.lowering.specs.LowerBlock.{in_block}
+use Rattle.lowering.specs.Counting.{call_count, closed_count, expr_count}
 use Rattle.lower_code.specs.declared.functions.Scope.{Scope}
 
 -- the first functions of a design, so many, the last first

@@ -2,7 +2,7 @@
 -- stand for.
 use Rattle.std.specs.Prelude.{List, map, reverse}
 use Rattle.p4_ir.specs.P4Tree.{P4Expr, p_lit, p_port, p_meta}
-use Rattle.lower_body.specs.Lower as lower
+use Rattle.lowering.specs.Lower as lower
 use Rattle.lower_code.specs.declared.variables.Reading.{Reading}
 use Rattle.lower_code.specs.declared.variables.Reading.TheVariants.{Switch, Port, Meta}
 use Rattle.lower_code.specs.declared.variables.Variable.{Variable}

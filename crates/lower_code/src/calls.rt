@@ -5,8 +5,8 @@ ghost use Rattle.cocoon_syntax.specs.TreeOf.{function_of, param_of, result_of};
 ghost use Rattle.cocoon_types.specs.Design.{functions};
 ghost use Rattle.p4_ir.specs.P4Tree.{p_lit};
 ghost use Rattle.p4_ir.specs.Program.{expr_of, stmt_of, table_of};
-ghost use Rattle.lower_body.specs.Lower as lower;
-ghost use Rattle.lower_body.specs.Lower.{after_args, fields_from, var_name};
+ghost use Rattle.lowering.specs.Lower as lower;
+ghost use Rattle.lowering.specs.Lower.{after_args, fields_from, var_name};
 ghost use Rattle.lower_code.specs.Growth.{applied_code, applied_counts, applied_fields, counts_of, grown, keeps_result, reached, so_far, table_for, with_expr};
 ghost use Rattle.lower_code.specs.Variables.{variables_of};
 

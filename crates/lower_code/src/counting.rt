@@ -4,8 +4,8 @@ ghost use Rattle.std.specs.Prelude.{◌≡◌, ◌<◌, ◌+◌, ◌*◌, IfOk, 
 ghost use Rattle.cocoon_num.specs.Tree.{FunctionDecl as Function};
 ghost use Rattle.cocoon_syntax.specs.TreeOf.{block_of, expr_of, exprs_of, stmt_of};
 ghost use Rattle.cocoon_types.specs.Design.{functions};
-ghost use Rattle.lower_body.specs.LowerBlock.{fork_args, fork_function};
-ghost use Rattle.lower_body.specs.Counting as spec;
+ghost use Rattle.lowering.specs.LowerBlock.{fork_args, fork_function};
+ghost use Rattle.lowering.specs.Counting as spec;
 ghost use Rattle.lower_code.specs.Scopes.{called_count, design_in, function_count as spec_count, functions_in, KnowsCounts, SeesFunctions};
 
 use crate::blocks::choice_parts;
@@ -360,8 +360,8 @@ pub fn count_tables(alloc: Global, scope: &Scope<'_>, stmts: &[Stmt]) -> Result<
     all_count(alloc, scope, 0, stmts)
 }
 
-/// How large the program of a body is at least: its tables, and the parts of its expressions and calls, each as two bytes. The law of
-/// `lowered_size` says that its text has as many bytes. The time, and when there is no memory, are as of `count_tables`.
+/// How large the program of a body is at least: its tables, and the parts of its expressions and calls, each as two bytes. A law of
+/// `lowering_fits` says that its text has as many bytes. The time, and when there is no memory, are as of `count_tables`.
 pub fn code_size(alloc: Global, scope: &Scope<'_>, stmts: &[Stmt]) -> Result<u64, NoMemory>
     requires { SeesFunctions scope.now }
     ensures { IfOk result (λ n. n ≡ spec.all_parts

@@ -7,7 +7,7 @@ ghost use Rattle.cocoon_syntax.specs.TreeOf.{exprs_of};
 ghost use Rattle.cocoon_types.specs.Design.{functions};
 ghost use Rattle.p4_ir.specs.P4Tree.{p_field};
 ghost use Rattle.p4_ir.specs.Program.{expr_of};
-ghost use Rattle.lower_body.specs.Lower as lower;
+ghost use Rattle.lowering.specs.Lower as lower;
 ghost use Rattle.lower_code.specs.Growth.{all_reached, counts_of, reached, so_far, with_expr, with_exprs};
 ghost use Rattle.lower_code.specs.Scopes.{body_lowered, callees_in, design_in, function_in, SeesFunctions};
 ghost use Rattle.lower_code.specs.Variables.{variables_of};

@@ -1,5 +1,5 @@
 //! The body of a switch's role, lowered to the code of a program: expressions, calls, statements and blocks, as the
-//! functions on trees of `lower_body` say it.
+//! functions on trees of `lowering` say it.
 #![tactic(auto)]
 
 pub mod blocks;

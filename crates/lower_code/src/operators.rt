@@ -3,7 +3,7 @@ ghost use Rattle.std.specs.Prelude.{◌≡◌, IfOk, option_map};
 ghost use Rattle.cocoon_syntax.specs.TreeOf as tree;
 ghost use Rattle.p4_ir.specs.P4Tree.{p_pick, p_slice, p_unary};
 ghost use Rattle.p4_ir.specs.Program.{binary_of, expr_of};
-ghost use Rattle.lower_body.specs.Lower.{p_operation};
+ghost use Rattle.lowering.specs.Lower.{p_operation};
 ghost use Rattle.lower_code.specs.Scopes.{IsOperator};
 
 use cocoon_num::{NoMemory, both, three};

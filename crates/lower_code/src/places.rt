@@ -2,7 +2,7 @@
 ghost use Rattle.std.specs.Prelude.{◌≡◌, IfOk, map};
 ghost use Rattle.cocoon_num.specs.Names.{same_name};
 ghost use Rattle.cocoon_syntax.specs.TreeOf.{header_of, param_of};
-ghost use Rattle.lower_body.specs.Lower as lower;
+ghost use Rattle.lowering.specs.Lower as lower;
 
 use crate::made::after;
 use cocoon_num::NoMemory;

@@ -3,7 +3,7 @@ ghost use Rattle.std.specs.Prelude.{[], ◌∷◌, ◌≡◌, ◌-◌, ◌++◌,
 ghost use Rattle.cocoon_num.specs.Values.{equal};
 ghost use Rattle.p4_ir.specs.P4Tree.{p_binary, p_if, p_lit, p_meta, p_return, p_rid, p_slice, set_meta};
 ghost use Rattle.p4_ir.specs.Program.{block_of, stmt_of};
-ghost use Rattle.lower_body.specs.LowerSites as lower;
+ghost use Rattle.lowering.specs.LowerSites as lower;
 ghost use Rattle.lower_code.specs.Blocks.{site_of, with_sites};
 ghost use Rattle.lower_code.specs.Growth.{counts_of, so_far};
 ghost use Rattle.lower_code.specs.Scopes.{callees_in, design_in, SeesFunctions};

@@ -4,7 +4,7 @@ ghost use Rattle.cocoon_num.specs.Values.{not_};
 ghost use Rattle.p4_ir.specs.P4Tree as tree;
 ghost use Rattle.p4_ir.specs.P4Tree.{p_lit, p_return, set_meta, verdict, egress_port, group};
 ghost use Rattle.p4_ir.specs.Program.{expr_of, stmt_of};
-ghost use Rattle.lower_body.specs.LowerBlock as block;
+ghost use Rattle.lowering.specs.LowerBlock as block;
 
 use crate::operators::unary;
 use cocoon_num::{Bits, NoMemory};

@@ -1,7 +1,7 @@
 //! Whether a name is used in an expression or in statements.
 ghost use Rattle.std.specs.Prelude.{◌≡◌, map};
 ghost use Rattle.cocoon_syntax.specs.TreeOf.{block_of, expr_of, exprs_of, stmt_of};
-ghost use Rattle.lower_body.specs.LowerBlock.{in_block, in_expr, in_exprs, in_stmt};
+ghost use Rattle.lowering.specs.LowerBlock.{in_block, in_expr, in_exprs, in_stmt};
 
 use crate::places::is_same;
 use cocoon_syntax::{Expr, ExprKind, Stmt, StmtKind};

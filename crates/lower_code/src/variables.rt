@@ -2,8 +2,8 @@
 ghost use Rattle.std.specs.Prelude.{◌≡◌, ◌+◌, IfOk, map};
 ghost use Rattle.cocoon_syntax.specs.TreeOf.{param_of};
 ghost use Rattle.p4_ir.specs.Program.{expr_of};
-ghost use Rattle.lower_body.specs.Lower as lower;
-ghost use Rattle.lower_body.specs.LowerBlock.{for_port, ports_kept};
+ghost use Rattle.lowering.specs.Lower as lower;
+ghost use Rattle.lowering.specs.LowerBlock.{for_port, ports_kept};
 ghost use Rattle.lower_code.specs.Variables.{reading_of, variables_of};
 
 use crate::places::is_same;

@@ -6,7 +6,7 @@ use Rattle.std.specs.Prelude.{IfSome}
 use Rattle.cocoon_num.specs.Tree.{Design, Role}
 use Rattle.cocoon_types.specs.Design.{last_level, layout, role_at}
 use Rattle.std.proofs.lemmas.Bool.Decides.{nat_tests}
-use Rattle.lowered_net.specs.Wires as spec
+use Rattle.lowering_correct.specs.Wires as spec
 use Rattle.role_values.specs.Worlds.{world_by}
 use Rattle.runtime_defs.proofs.Looking.{number-is}
 use Rattle.runtime_defs.specs.Places.{Places}

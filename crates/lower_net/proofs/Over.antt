@@ -4,10 +4,10 @@ use Rattle.std.specs.List.{AllZip}
 use Rattle.std.specs.Option.{option_or}
 use Rattle.cocoon_num.specs.Tree.{Design}
 use Rattle.cocoon_num.specs.declared.limit_name.LimitName.{LimitName}
-use Rattle.lower_body.specs.Whole.{SwitchRole}
-use Rattle.lowered.specs.Roles.{NetParts, net_parts}
-use Rattle.lowered_net.specs.Counts.{Counted, FirstOver, counts, first_over, program_counts}
-use Rattle.lowered_net.specs.Network.{HasNumbers}
+use Rattle.lowering.specs.Whole.{SwitchRole}
+use Rattle.lowering.specs.Roles.{NetParts, net_parts}
+use Rattle.lowering_correct.specs.Counts.{Counted, FirstOver, counts, first_over, program_counts}
+use Rattle.lowering_correct.specs.Network.{HasNumbers}
 use Rattle.runtime_defs.specs.Places.{Places}
 use Rattle.lower_net.specs.Limits.{of_network}
 

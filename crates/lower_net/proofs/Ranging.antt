@@ -1,7 +1,7 @@
 -- The links of ports, one by one.
 use Rattle.std.proofs.Common.{◌≡◌, ℕ, suc, ◌+◌, ◌-◌, ◌<◌, List, ◌++◌, ap, ◌∙◌, arith}
 use Rattle.std.specs.Prelude.{flat_map}
-use Rattle.lowered_net.specs.Network.{numbers_from}
+use Rattle.lowering_correct.specs.Network.{numbers_from}
 
 more : (k n : ℕ) → k < n → n - k ≡ suc (n - (k + 1))
 more k n h = omega arith

@@ -6,8 +6,8 @@ use Rattle.net_wiring.specs.Differences.{SameWires}
 use Rattle.p4_ir.specs.NetFits.{switch_numbers}
 use Rattle.p4_ir.specs.NetTree.{NetData}
 use Rattle.runtime_defs.specs.Places.{Places}
-use Rattle.lowered.specs.Roles.{NetParts, net_parts}
-use Rattle.lowered_net.specs.Network.{HasNumbers, network, switch_files}
+use Rattle.lowering.specs.Roles.{NetParts, net_parts}
+use Rattle.lowering_correct.specs.Network.{HasNumbers, network, switch_files}
 use Rattle.lower_net.specs.Wired.{HasWires, bare_network}
 
 same_numbers : (d : Design) (places : Places) (parts : NetParts) (ns : List ℕ) → switch_numbers (map bare_switch ns) ≡ switch_numbers (map (switch_files d places parts) ns)

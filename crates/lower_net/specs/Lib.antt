@@ -1,3 +1,5 @@
+pub mod NetDeclarations
+pub mod Halves
 pub mod Limits
 pub mod Refused
 pub mod Idle

@@ -4,12 +4,12 @@ use Rattle.std.specs.Prelude.{ℕ, nat_lt, List, [], ◌∷◌, map, length, if�
 use Rattle.cocoon_num.specs.Tree.{Design}
 use Rattle.cocoon_num.specs.declared.limit_name.LimitName.TheVariants as limit
 use Rattle.p4_ir.specs.FileSizes.{most_file_bytes}
-use Rattle.lower_body.specs.Counting.{role_size}
-use Rattle.lower_body.specs.Whole.{SwitchRole}
-use Rattle.lowered_net.specs.Counts.{Counted, most_hosts, most_members, most_sites, most_switches, most_tables}
-use Rattle.lowered.specs.SwitchProgram.{switch_made}
-use Rattle.lowered_rows.specs.Groups.{ForkGroup}
-use Rattle.lowered_rows.specs.SwitchRows.{switch_rows}
+use Rattle.lowering.specs.Counting.{role_size}
+use Rattle.lowering.specs.Whole.{SwitchRole}
+use Rattle.lowering_correct.specs.Counts.{Counted, most_hosts, most_members, most_sites, most_switches, most_tables}
+use Rattle.lowering.specs.SwitchProgram.{switch_made}
+use Rattle.lowering_correct.specs.Groups.{ForkGroup}
+use Rattle.lowering_correct.specs.SwitchRows.{switch_rows}
 use Rattle.lower_rows.specs.AllRows.{all_rows}
 use Rattle.runtime_defs.specs.Places.{Places}
 

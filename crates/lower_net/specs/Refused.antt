@@ -1,13 +1,13 @@
 -- Cited by the clauses of `lower` and of the laws on lengths in lower_p4: why no network is made.
 use Rattle.std.specs.Prelude.{◌≡◌, ℕ, slice_get, Option, Some, None, Result, Ok, Err}
 use Rattle.cocoon_num.specs.Tree.{Design}
-use Rattle.lowered_net.specs.Counts.{FirstOver}
-use Rattle.lowered_net.specs.Network.{IsNetwork}
-use Rattle.p4_ir.specs.NetOf.{net_of}
-use Rattle.p4_ir.specs.declared.network.NetData.{NetData}
+use Rattle.lowering_correct.specs.Counts.{FirstOver}
+use Rattle.lowering_correct.specs.Network.{IsNetwork}
 use Rattle.runtime_defs.specs.Places.{Places}
-use Rattle.lower_net.specs.declared.lowering.LowerFault.{LowerFault}
-use Rattle.lower_net.specs.declared.lowering.LowerFault.TheVariants.{Limit, LongProgram, ManyRows, NoMemory}
+use Rattle.shared_net.specs.Shared.{shared_of}
+use Rattle.shared_net.specs.declared.network.SharedNet.{SharedNet}
+use Rattle.lower_net.specs.declared.networks.LowerFault.{LowerFault}
+use Rattle.lower_net.specs.declared.networks.LowerFault.TheVariants.{Limit, LongProgram, ManyRows, NoMemory}
 use Rattle.lower_net.specs.Limits.{long_program, many_rows}
 
 -- No limit is exceeded, and this is the first switch, if there is one.
@@ -44,6 +44,6 @@ IsJudged d places (Ok switch) = FirstSwitch d places switch × FirstLongProgram 
 IsJudged d places (Err fault) = IsRefusedFirst d places fault
 
 -- the network of the design, within all limits and with programs that are not too long and rows that are not too many; or why there is none
-abbrev pub Lowers : Design → Places → Result NetData LowerFault → Type 0
-Lowers d places (Ok net) = IsNetwork d places (net_of net) × FirstLongProgram d places None × FirstManyRows d places None
+abbrev pub Lowers : Design → Places → Result SharedNet LowerFault → Type 0
+Lowers d places (Ok net) = IsNetwork d places (shared_of net) × FirstLongProgram d places None × FirstManyRows d places None
 Lowers d places (Err fault) = IsRefused d places fault

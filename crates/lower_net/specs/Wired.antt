@@ -5,8 +5,8 @@ use Rattle.net_wiring.specs.Bare.{bare_switch}
 use Rattle.net_wiring.specs.Differences.{SameWires}
 use Rattle.p4_ir.specs.NetTree.{NetData}
 use Rattle.runtime_defs.specs.Places.{Places}
-use Rattle.lowered.specs.Roles.{NetParts}
-use Rattle.lowered_net.specs.Network.{IsNetwork, network}
+use Rattle.lowering.specs.Roles.{NetParts}
+use Rattle.lowering_correct.specs.Network.{IsNetwork, network}
 
 -- the network of these parts, with these switches and hosts, of which each switch has an empty program and no rows
 abbrev pub bare_network : Design → Places → NetParts → (switches hosts : List ℕ) → NetData

@@ -4,7 +4,7 @@ ghost use Rattle.cocoon_num.specs.Names.{same_name};
 ghost use Rattle.cocoon_resolve.specs.Readers.{HasRole};
 ghost use Rattle.cocoon_syntax.specs.TreeOf.{design_of, host_of, switch_of};
 ghost use Rattle.cocoon_types.specs.Design.{last_level};
-ghost use Rattle.lowered_net.specs.Wires as spec;
+ghost use Rattle.lowering_correct.specs.Wires as spec;
 ghost use Rattle.p4_ir.specs.NetOf.{end_of};
 ghost use Rattle.p4_ir.specs.NetTree.{to_host, to_switch};
 ghost use Rattle.role_meaning.specs.Located.{loc_of, role_name};

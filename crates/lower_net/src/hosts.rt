@@ -1,7 +1,7 @@
 //! Where hosts are attached.
 ghost use Rattle.std.specs.Prelude.{◌≡◌, IfOk, map};
 ghost use Rattle.cocoon_syntax.specs.TreeOf.{design_of, host_of, switch_of};
-ghost use Rattle.lowered_net.specs.Wires as spec;
+ghost use Rattle.lowering_correct.specs.Wires as spec;
 ghost use Rattle.p4_ir.specs.NetOf.{host_port_of};
 ghost use Rattle.runtime_defs.specs.Fitting.{FitsDesign};
 

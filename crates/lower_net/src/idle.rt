@@ -5,7 +5,7 @@ ghost use Rattle.cocoon_resolve.specs.Readers.{field_widths};
 ghost use Rattle.cocoon_syntax.specs.TreeOf.{design_of};
 ghost use Rattle.cocoon_types.specs.Design.{layout};
 ghost use Rattle.lower_net.specs.Idle.{zeros};
-ghost use Rattle.lowered_net.specs.Wires as spec;
+ghost use Rattle.lowering_correct.specs.Wires as spec;
 ghost use Rattle.role_meaning.specs.Located.{sent_of};
 
 use cocoon_num::{List, NoMemory};

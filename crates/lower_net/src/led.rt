@@ -3,7 +3,7 @@ ghost use Rattle.std.specs.Prelude.{◌≡◌, IfOk, IfSome, None, option_map};
 ghost use Rattle.cocoon_resolve.specs.Readers.{HasRole};
 ghost use Rattle.cocoon_syntax.specs.TreeOf.{design_of};
 ghost use Rattle.cocoon_types.specs.Design.{last_level, role_at};
-ghost use Rattle.lowered_net.specs.Wires as spec;
+ghost use Rattle.lowering_correct.specs.Wires as spec;
 ghost use Rattle.lower_net.specs.Led.{IsDeclared, loc_at};
 ghost use Rattle.role_meaning.specs.Located.{loc_of};
 ghost use Rattle.runtime_defs.specs.Fitting.{FitsDesign};

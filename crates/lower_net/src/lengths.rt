@@ -5,13 +5,13 @@ ghost use Rattle.cocoon_syntax.specs.TreeOf.{design_of};
 ghost use Rattle.cocoon_types.specs.Design as design;
 ghost use Rattle.lower_net.specs.Limits.{long_program, many_rows};
 ghost use Rattle.lower_rows.specs.AllGroups.{fork_group_of};
-ghost use Rattle.lower_switch.specs.NetDeclarations.{switch_role};
-ghost use Rattle.lowered_rows.specs.Groups as spec;
+ghost use Rattle.lower_net.specs.NetDeclarations.{switch_role};
+ghost use Rattle.lowering_correct.specs.Groups as spec;
 
+use crate::{Parts, program_size, switch_code};
 use cocoon_num::NoMemory;
 use cocoon_resolve::Checked;
 use lower_rows::{ForkGroup, has_more_rows};
-use lower_switch::{Parts, program_size, switch_code};
 use p4_ir::MOST_FILE_BYTES;
 use runtime_defs::Defs;
 use std::alloc::Global;

@@ -2,11 +2,11 @@
 ghost use Rattle.std.specs.Prelude.{◌≡◌, map};
 ghost use Rattle.lower_net.specs.Limits.{of_groups, of_network, of_program};
 ghost use Rattle.lower_rows.specs.AllGroups.{fork_group_of};
-ghost use Rattle.lowered_net.specs.Counts as spec;
+ghost use Rattle.lowering_correct.specs.Counts as spec;
 
+use crate::ProgramCounts;
 use cocoon_num::LimitName;
 use lower_rows::ForkGroup;
-use lower_switch::ProgramCounts;
 
 /// The most switches that a network may have.
 pub const MOST_SWITCHES: u64 = 64;

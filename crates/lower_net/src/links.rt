@@ -1,8 +1,8 @@
 //! Where links lead.
 ghost use Rattle.std.specs.Prelude.{◌≡◌, ◌++◌, IfOk, OnOk, flat_map, map, option_and_then, option_map};
 ghost use Rattle.cocoon_syntax.specs.TreeOf.{design_of, host_of, switch_of};
-ghost use Rattle.lowered_net.specs.Network.{numbers_from};
-ghost use Rattle.lowered_net.specs.Wires as spec;
+ghost use Rattle.lowering_correct.specs.Network.{numbers_from};
+ghost use Rattle.lowering_correct.specs.Wires as spec;
 ghost use Rattle.p4_ir.specs.NetOf.{end_of, link_of};
 ghost use Rattle.runtime_defs.specs.Fitting.{FitsDesign};
 

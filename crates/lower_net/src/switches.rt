@@ -3,47 +3,55 @@ ghost use Rattle.std.specs.Prelude.{◌≡◌, IfOk, length, map};
 ghost use Rattle.cocoon_syntax.specs.TreeOf.{design_of};
 ghost use Rattle.cocoon_types.specs.Design as design;
 ghost use Rattle.lower_rows.specs.AllGroups.{fork_group_of};
-ghost use Rattle.lower_switch.specs.NetDeclarations.{parts_of};
-ghost use Rattle.lowered_rows.specs.Groups as spec;
-ghost use Rattle.lowered_net.specs.Network.{switch_files};
-ghost use Rattle.p4_ir.specs.NetOf.{switch_of};
+ghost use Rattle.lower_net.specs.NetDeclarations.{parts_of, switch_role};
+ghost use Rattle.lowering_fits.specs.Sharing.{HasOneProgram};
+ghost use Rattle.lowering_correct.specs.Groups as spec;
+ghost use Rattle.lowering_correct.specs.Network.{switch_files};
+ghost use Rattle.shared_net.specs.Shared.{switches_of};
 
-use cocoon_num::NoMemory;
+use crate::{Parts, switch_code};
+use cocoon_num::{List, NoMemory};
 use cocoon_resolve::Checked;
 use lower_rows::{ForkGroup, switch_rows};
-use lower_switch::{Parts, switch_code};
-use p4_ir::SwitchFiles;
 use runtime_defs::Defs;
+use shared_net::SharedSwitches;
 use std::alloc::Global;
 
-/// The switch of this number, with its program and rows.
-fn switch(
+/// The program of every switch, made from those with the numbers 0 and 1, and their rows. They are made once, however many switches
+/// there are.
+fn shared(
     alloc: Global,
     checked: &Checked,
     defs: &Defs,
     functions: u32,
     parts: &Parts<'_>,
     groups: &[ForkGroup<'_>],
-    number: u16,
-) -> Result<SwitchFiles, NoMemory>
+    numbers: &[u16],
+) -> Result<SharedSwitches, NoMemory>
     requires functions { functions ≡ length (design.functions (design_of checked.now)) }
     requires groups { map fork_group_of groups.now
         ≡ spec.fork_groups (design_of checked.now) defs.now }
-    ensures { IfOk result (λ s. switch_of s
-        ≡ switch_files (design_of checked.now) defs.now
-        (parts_of (design_of checked.now) parts.now) number) }
+    requires one { HasOneProgram (switch_role (design_of checked.now) parts.now.ingress) }
+    ensures { IfOk result (λ ss. switches_of ss
+        ≡ map (switch_files (design_of checked.now) defs.now
+        (parts_of (design_of checked.now) parts.now))
+        numbers.now) }
 {
-    let code = switch_code(alloc, checked, functions, &parts.ingress, number)?;
+    let code = switch_code(alloc, checked, functions, &parts.ingress, 0)?;
     let rows = switch_rows(alloc, checked, defs, groups, &code.ingress, &code.egress)?;
     let program = code.program;
-    Ok(SwitchFiles {
-        number,
+    let others = switch_code(alloc, checked, functions, &parts.ingress, 1)?;
+    let other = others.program;
+    let numbers = List::from(numbers.to_vec(alloc)?);
+    Ok(SharedSwitches {
+        numbers,
         program,
+        other,
         rows,
     })
 }
 
-/// All switches of these numbers.
+/// All switches of these numbers. Where there is none, no program is made.
 pub(crate) fn switches(
     alloc: Global,
     checked: &Checked,
@@ -52,18 +60,18 @@ pub(crate) fn switches(
     parts: &Parts<'_>,
     groups: &[ForkGroup<'_>],
     numbers: &[u16],
-) -> Result<Vec<SwitchFiles>, NoMemory>
+) -> Result<SharedSwitches, NoMemory>
     requires functions { functions ≡ length (design.functions (design_of checked.now)) }
     requires groups { map fork_group_of groups.now
         ≡ spec.fork_groups (design_of checked.now) defs.now }
-    ensures { IfOk result (λ ss. map switch_of ss.items
+    requires one { HasOneProgram (switch_role (design_of checked.now) parts.now.ingress) }
+    ensures { IfOk result (λ ss. switches_of ss
         ≡ map (switch_files (design_of checked.now) defs.now
         (parts_of (design_of checked.now) parts.now))
         numbers.now) }
 {
-    let mut made = Vec::new(alloc);
-    for number in numbers {
-        made.push(switch(alloc, checked, defs, functions, parts, groups, *number)?)?;
+    if numbers.is_empty() {
+        return Ok(SharedSwitches::none(alloc));
     }
-    Ok(made)
+    shared(alloc, checked, defs, functions, parts, groups, numbers)
 }

@@ -2,17 +2,17 @@
 ghost use Rattle.std.specs.Prelude.{◌≡◌, IfOk, Some};
 ghost use Rattle.cocoon_syntax.specs.TreeOf.{design_of};
 ghost use Rattle.lower_net.specs.Wired.{HasWires, bare_network};
-ghost use Rattle.lower_switch.specs.NetDeclarations.{parts_of};
-ghost use Rattle.lowered.specs.Roles.{net_parts};
+ghost use Rattle.lower_net.specs.NetDeclarations.{parts_of};
+ghost use Rattle.lowering.specs.Roles.{net_parts};
 ghost use Rattle.p4_ir.specs.NetOf.{net_of};
 ghost use Rattle.runtime_defs.specs.Fitting.{FitsDesign};
 
 use crate::hosts::host_ports;
 use crate::links::port_links;
+use crate::{Parts, find_parts};
 use cocoon_num::{List, NoMemory};
 use cocoon_resolve::Checked;
-use lower_switch::{Parts, find_parts};
-use lowered_types::laws::forks_are;
+use lowering_correct::types::forks_are;
 use net_wiring::bare_switches;
 use p4_ir::NetData;
 use runtime_defs::Defs;

@@ -8,9 +8,10 @@ use Rattle.cocoon_num.specs.Tokens.{is_shallow}
 use Rattle.cocoon_num.specs.Tree.{Design, DefsText}
 use Rattle.cocoon_num.specs.Values.{fits_width}
 use Rattle.cocoon_num.specs.declared.limit_name.LimitName.TheVariants as limit
-use Rattle.p4_ir.specs.NetOf.{switch_of}
 use Rattle.p4_ir.specs.NetTree.{NetData}
-use Rattle.p4_ir.specs.declared.network.SwitchFiles.{SwitchFiles as Files}
+use Rattle.p4_ir.specs.Program.{program_of}
+use Rattle.shared_net.specs.Shared.{shared_switch}
+use Rattle.shared_net.specs.declared.network.SharedSwitches.{SharedSwitches}
 use Rattle.p4_ir.specs.P4Kinds.{kinds_fit}
 use Rattle.p4_ir.specs.P4Text.{p4_bounds, program_tokens}
 use Rattle.p4_ir.specs.P4Tree.{Program}
@@ -18,14 +19,14 @@ use Rattle.p4_ir.specs.WellKinded.{is_well_kinded}
 use Rattle.runtime_defs.specs.Guards.{host_table, is_true_at, switch_table}
 use Rattle.runtime_defs.specs.Places.{Places}
 use Rattle.sound_types.specs.Defined.{HasDefinitions, HasTables}
-use Rattle.lower_body.specs.Log.{tables_in}
-use Rattle.lower_body.specs.Lower.{Made, a_field, a_group, a_table}
-use Rattle.lower_body.specs.Whole.{SwitchRole, role_lowered}
-use Rattle.lowered_net.specs.Counts.{Counted, FirstOver, counts, first_over}
-use Rattle.lowered_rows.specs.Groups.{ForkGroup, fork_groups}
-use Rattle.lowered_net.specs.Network.{IsNetwork, switch_files}
-use Rattle.lowered.specs.Roles.{NetParts, net_parts}
-use Rattle.lowered.specs.SwitchProgram.{fields_in, switch_made, switch_program}
+use Rattle.lowering.specs.Log.{tables_in}
+use Rattle.lowering.specs.Lower.{Made, a_field, a_group, a_table}
+use Rattle.lowering.specs.Whole.{SwitchRole, role_lowered}
+use Rattle.lowering_correct.specs.Counts.{Counted, FirstOver, counts, first_over}
+use Rattle.lowering_correct.specs.Groups.{ForkGroup, fork_groups}
+use Rattle.lowering_correct.specs.Network.{IsNetwork, switch_files}
+use Rattle.lowering.specs.Roles.{NetParts, net_parts}
+use Rattle.lowering.specs.SwitchProgram.{fields_in, switch_made, switch_program}
 use Rattle.lower_net.specs.Refused.{FirstSwitch}
 use Rattle.lower_p4.specs.Grounds.{Grounds, HoldsFields}
 use Rattle.lower_p4.specs.Lowering.{RunPrograms}
@@ -171,6 +172,6 @@ well_kinded p h k = ap₂ (λ a b. a && b) h k
 
 -- ---- the fields of all programs
 
-pub all_held : (xs : List Files) → All (λ s. HoldsFields (switch_of s)) xs → All HoldsFields (map switch_of xs)
-all_held [] a = All-nil HoldsFields
-all_held (x ∷ xs) a = All-cons HoldsFields (switch_of x) (map switch_of xs) (All-head (λ s. HoldsFields (switch_of s)) x xs a) (all_held xs (All-tail (λ s. HoldsFields (switch_of s)) x xs a))
+pub all_held : (ss : SharedSwitches) → length (program_of ss.program).meta < 2 ^ 63 → (ns : List ℕ) → All HoldsFields (map (shared_switch ss) ns)
+all_held ss h [] = All-nil HoldsFields
+all_held ss h (n ∷ ns) = All-cons HoldsFields (shared_switch ss n) (map (shared_switch ss) ns) h (all_held ss h ns)

@@ -8,17 +8,17 @@ use Rattle.p4_ir.specs.NetTree.{NetData}
 use Rattle.p4_ir.specs.P4Tree.{Program}
 use Rattle.runtime_defs.specs.Guards.{ListsTrue, switch_table}
 use Rattle.runtime_defs.specs.Places.{Places}
-use Rattle.lower_body.specs.Counting.{role_size}
-use Rattle.lower_body.specs.Whole.{SwitchRole}
-use Rattle.lowered_net.specs.Counts.{FirstOver}
-use Rattle.lowered_net.specs.Network.{IsNetwork, network}
-use Rattle.lowered.specs.Roles.{NetParts, net_parts}
-use Rattle.lowered.specs.SwitchProgram.{switch_made, switch_program}
-use Rattle.lowered_rows.specs.SwitchRows.{switch_rows}
+use Rattle.lowering.specs.Counting.{role_size}
+use Rattle.lowering.specs.Whole.{SwitchRole}
+use Rattle.lowering_correct.specs.Counts.{FirstOver}
+use Rattle.lowering_correct.specs.Network.{IsNetwork, network}
+use Rattle.lowering.specs.Roles.{NetParts, net_parts}
+use Rattle.lowering.specs.SwitchProgram.{switch_made, switch_program}
+use Rattle.lowering_correct.specs.SwitchRows.{switch_rows}
 use Rattle.lower_net.specs.Limits.{long_program, many_rows, most_file_rows}
 use Rattle.lower_net.specs.Refused.{FirstLongProgram, FirstManyRows, FirstSwitch, IsRefused}
-use Rattle.lower_net.specs.declared.lowering.LowerFault.{LowerFault}
-use Rattle.lower_net.specs.declared.lowering.LowerFault.TheVariants.{Limit, LongProgram, ManyRows, NoMemory}
+use Rattle.lower_net.specs.declared.networks.LowerFault.{LowerFault}
+use Rattle.lower_net.specs.declared.networks.LowerFault.TheVariants.{Limit, LongProgram, ManyRows, NoMemory}
 use Rattle.lower_rows.specs.AllRows.{all_rows}
 use Rattle.lower_p4.specs.Lowers.{RunsProgram}
 use Rattle.lower_p4.specs.Lowering.{HasNoNetwork, StartsFull, StartsLong, StartsShort}

@@ -8,10 +8,10 @@ use Rattle.p4_ir.specs.NetTree.{NetData}
 use Rattle.p4_ir.specs.P4Tree.{Program}
 use Rattle.runtime_defs.specs.Guards.{ListsTrue, host_table, switch_table}
 use Rattle.runtime_defs.specs.Places.{Places}
-use Rattle.lowered_net.specs.Counts.{FirstOver, counts, first_over}
-use Rattle.lowered_net.specs.Network.{IsNetwork, network}
-use Rattle.lowered.specs.Roles.{NetParts, net_parts}
-use Rattle.lowered.specs.SwitchProgram.{switch_program}
+use Rattle.lowering_correct.specs.Counts.{FirstOver, counts, first_over}
+use Rattle.lowering_correct.specs.Network.{IsNetwork, network}
+use Rattle.lowering.specs.Roles.{NetParts, net_parts}
+use Rattle.lowering.specs.SwitchProgram.{switch_program}
 use Rattle.lower_p4.specs.Lowers.{Lowers, RunsProgram}
 use Rattle.lower_p4.specs.LowerLimits.{IsOver, IsWithin}
 use Rattle.lower_p4.specs.OfText.{AreOfText}

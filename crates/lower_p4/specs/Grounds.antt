@@ -4,7 +4,7 @@ use Rattle.cocoon_num.specs.Spelled.{is_spelled}
 use Rattle.cocoon_num.specs.Tree.{Design, DefsText}
 use Rattle.cocoon_resolve.specs.Resolved.{WasRead}
 use Rattle.cocoon_types.specs.Rules.{WellFormed}
-use Rattle.lowered_net.specs.Counts.{FirstOver}
+use Rattle.lowering_correct.specs.Counts.{FirstOver}
 use Rattle.p4_emit.specs.Printed.{printed}
 use Rattle.p4_ir.specs.FileSizes.{most_file_bytes}
 use Rattle.p4_ir.specs.NetTree.{SwitchFiles}

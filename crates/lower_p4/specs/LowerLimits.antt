@@ -3,9 +3,9 @@
 use Rattle.std.specs.Prelude.{ℕ, Some, None}
 use Rattle.cocoon_num.specs.Tree.{Design, DefsText}
 use Rattle.cocoon_num.specs.declared.limit_name.LimitName.{LimitName}
-use Rattle.lowered_net.specs.Counts.{FirstOver}
+use Rattle.lowering_correct.specs.Counts.{FirstOver}
 -- the most of each, which reports tell
-pub use Rattle.lowered_net.specs.Counts.{most_hosts, most_members, most_sites, most_switches, most_tables}
+pub use Rattle.lowering_correct.specs.Counts.{most_hosts, most_members, most_sites, most_switches, most_tables}
 use Rattle.runtime_defs.specs.Places.{Places}
 use Rattle.lower_p4.specs.OfText.{AreOfText}
 

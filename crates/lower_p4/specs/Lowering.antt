@@ -4,22 +4,22 @@
 use Rattle.std.specs.Prelude.{◌≡◌, ◌<◌, ◌≤◌, ℕ, List, [], ◌∷◌, IsTrue, length, Some, None}
 use Rattle.cocoon_num.specs.Tree.{Design, DefsText}
 use Rattle.cocoon_types.specs.Tables.{defs_of}
-use Rattle.lowered.specs.Delivers.{DeliversExactly}
+use Rattle.lowering.specs.Delivers.{DeliversExactly}
 use Rattle.p4_ir.specs.FileSizes.{most_file_bytes}
 use Rattle.p4_ir.specs.P4Tree.{Program}
 use Rattle.p4_ir.specs.NetTree.{SwitchFiles, NetData}
 use Rattle.p4_ir.specs.NetFits.{net_fits}
 use Rattle.p4_emit.specs.Printed.{printed}
 use Rattle.runtime_defs.specs.Places.{Places}
-use Rattle.lowered_net.specs.Counts.{FirstOver}
-use Rattle.lowered_net.specs.Network.{IsNetwork}
+use Rattle.lowering_correct.specs.Counts.{FirstOver}
+use Rattle.lowering_correct.specs.Network.{IsNetwork}
 use Rattle.lower_rows.specs.AllRows.{all_rows}
 use Rattle.lower_net.specs.Limits.{most_file_rows}
 use Rattle.lower_p4.specs.Lowers.{Lowers, RunsProgram}
 use Rattle.lower_p4.specs.LowerLimits.{IsOver, IsWithin}
 pub use Rattle.lower_p4.specs.OfText.{AreOfText}
-use Rattle.lower_net.specs.declared.lowering.LowerFault.{LowerFault}
-use Rattle.lower_net.specs.declared.lowering.LowerFault.TheVariants.{Limit, LongProgram, ManyRows, NoMemory}
+use Rattle.lower_net.specs.declared.networks.LowerFault.{LowerFault}
+use Rattle.lower_net.specs.declared.networks.LowerFault.TheVariants.{Limit, LongProgram, ManyRows, NoMemory}
 
 -- each switch runs the program of its number
 abbrev pub RunPrograms : (ℕ → Program → Type 0) → List SwitchFiles → Type 0

@@ -6,9 +6,9 @@ use Rattle.cocoon_num.specs.Tree.{Design, DefsText}
 use Rattle.p4_ir.specs.P4Tree.{Program}
 use Rattle.p4_ir.specs.NetTree.{NetData}
 use Rattle.runtime_defs.specs.Places.{Places}
-use Rattle.lowered_net.specs.Network.{IsNetwork}
-use Rattle.lowered.specs.Roles.{NetParts, net_parts}
-use Rattle.lowered.specs.SwitchProgram.{switch_program}
+use Rattle.lowering_correct.specs.Network.{IsNetwork}
+use Rattle.lowering.specs.Roles.{NetParts, net_parts}
+use Rattle.lowering.specs.SwitchProgram.{switch_program}
 use Rattle.lower_p4.specs.OfText.{AreOfText}
 
 -- the program that the switch of this number runs, whatever the definitions are

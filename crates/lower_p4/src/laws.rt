@@ -11,9 +11,9 @@ ghost use Rattle.lower_p4.specs.LowerLimits.{IsOver, IsWithin};
 ghost use Rattle.lower_p4.specs.Lowering.{IsLowering, RunPrograms, StartsLong};
 ghost use Rattle.lower_p4.specs.Lowers.{Lowers, RunsProgram};
 ghost use Rattle.lower_net.specs.Refused.{FirstLongProgram, FirstSwitch};
-ghost use Rattle.lowered_net.specs.Counts.{FirstOver};
-ghost use Rattle.lowered.specs.Delivers.{DeliversExactly};
-ghost use Rattle.lowered_net.specs.Network.{IsNetwork};
+ghost use Rattle.lowering_correct.specs.Counts.{FirstOver};
+ghost use Rattle.lowering.specs.Delivers.{DeliversExactly};
+ghost use Rattle.lowering_correct.specs.Network.{IsNetwork};
 ghost use Rattle.p4_emit.specs.Printed.{printed};
 ghost use Rattle.p4_ir.specs.FileSizes.{most_file_bytes};
 ghost use Rattle.p4_ir.specs.NetFits.{net_fits};
@@ -23,13 +23,13 @@ ghost use Rattle.p4_ir.specs.WellKinded.{is_well_kinded};
 ghost use Rattle.runtime_defs.specs.Places.{Places};
 ghost use Rattle.sound_types.specs.Literals.{DesignLiteralsFit};
 
-use lower_switch::laws::programs_count_alike;
-use lowered_depth::programs_are_shallow;
-use lowered_kinds::laws::{programs_are_kinded, readings_are_plain};
-use lowered_rows::{groups_are_few, rows_are_few};
-use lowered_size::programs_are_long;
-use lowered_whole::laws::{networks_are_exact, networks_fit};
-use tree_depth::readings_are_shallow;
+use lower_net::switch_laws::programs_count_alike;
+use lowering_correct::rows::{groups_are_few, rows_are_few};
+use lowering_correct::whole::{networks_are_exact, networks_fit};
+use lowering_fits::depth::programs_are_shallow;
+use lowering_fits::kinds::{programs_are_kinded, readings_are_plain};
+use lowering_fits::size::programs_are_long;
+use lowering_fits::tree_depth::readings_are_shallow;
 
 /// The network of a design under definitions delivers exactly what the last level delivers, however many levels there are.
 pub fn networks_deliver()

@@ -1,6 +1,6 @@
 -- The last number of a row, and those before it.
 use Rattle.std.proofs.Common.{◌≡◌, ℕ, List, [], ◌∷◌, ◌++◌, refl, ap}
-use Rattle.lowered_rows.specs.Groups.{before_last, last_of}
+use Rattle.lowering_correct.specs.Groups.{before_last, last_of}
 
 before-last-from : (m : ℕ) (xs : List ℕ) (x : ℕ) → m ∷ xs ≡ before_last (m ∷ (xs ++ x ∷ []))
 before-last-from m [] x = refl

@@ -13,7 +13,7 @@ use Rattle.cocoon_num.specs.Names.{same_name}
 use Rattle.cocoon_num.specs.declared.fun_table.FunRow.{FunRow}
 use Rattle.declarations.specs.NameNumbers.{index_of}
 use Rattle.declarations.proofs.NameFacts.{same-symm, same-true}
-use Rattle.lowered_rows.specs.Groups.{ascending, before_last, last_of, put_in}
+use Rattle.lowering_correct.specs.Groups.{ascending, before_last, last_of, put_in}
 use Rattle.lower_rows.specs.Grouping.{keys_of, lists_of, no_members, put_at, with_choice}
 use Rattle.lower_rows.proofs.Distinct.{none-there}
 use Rattle.lower_rows.specs.Sets.{choice_by, members_by}

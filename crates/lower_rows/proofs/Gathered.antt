@@ -6,7 +6,7 @@ use Rattle.cocoon_num.specs.Names.{same_name}
 use Rattle.cocoon_num.specs.declared.fun_table.FunRow.{FunRow}
 use Rattle.cocoon_num.specs.declared.fun_table.FunTable.{FunTable}
 use Rattle.declarations.specs.NameNumbers.{firsts}
-use Rattle.lowered_rows.specs.Groups.{ascending, before_last, Grouped, last_of, members_at, table_groups, true_choice, where_members}
+use Rattle.lowering_correct.specs.Groups.{ascending, before_last, Grouped, last_of, members_at, table_groups, true_choice, where_members}
 use Rattle.lower_rows.specs.Sets.{choice_by, grouped_with, IsDecided, members_by, row_args, true_first}
 
 choices-same : (t : FunTable) (test : List ℕ → Bool) → ((x : List ℕ) → test x ≡ true_first t.rows x) → (args : List ℕ) (rows : List FunRow) → All (IsDecided t) rows

@@ -3,7 +3,7 @@ use Rattle.std.proofs.Common.{◌≡◌, ℕ, zero, suc, ◌+◌, ◌<◌, List,
 use Rattle.cocoon_num.specs.Lists.{is_one_of}
 use Rattle.cocoon_num.specs.Tree.{FunctionDecl}
 use Rattle.cocoon_num.specs.declared.fun_table.FunTable.{FunTable}
-use Rattle.lowered_rows.specs.Groups.{ForkGroup, groups_at, groups_of}
+use Rattle.lowering_correct.specs.Groups.{ForkGroup, groups_at, groups_of}
 
 pub there-at : {A : Type 0} (xs : List A) (i : ℕ) (x : A) → i < length xs → x ≡ get_or xs i x → slice_get xs i ≡ Some x
 there-at [] i x l e = absurd (omega arith)

@@ -4,7 +4,7 @@ use Rattle.std.proofs.lemmas.List.{append-nil, length-append}
 use Rattle.std.proofs.lemmas.List.Sums.{sum_by-cons}
 use Rattle.cocoon_num.specs.Names.{same_name}
 use Rattle.p4_ir.specs.P4Tree.{KeyRow}
-use Rattle.lowered_rows.specs.SwitchRows.{rows_from}
+use Rattle.lowering_correct.specs.SwitchRows.{rows_from}
 use Rattle.lower_rows.specs.AllGroups.{fork_group_of}
 use Rattle.lower_rows.specs.AllRows.{rows_in}
 use Rattle.lower_rows.specs.declared.groups.ForkGroup.{ForkGroup}

@@ -1,8 +1,8 @@
 -- Two lists that are walked side by side.
 use Rattle.std.proofs.Common.{◌≡◌, ℕ, ◌+◌, ◌<◌, List, [], ◌∷◌, ◌++◌, drop, length, get_or, bit_and, Vec, Global, refl, ap₂}
 use Rattle.std.proofs.lemmas.List.{drop_more}
-use Rattle.lowered_rows.specs.Groups.{where_members}
-use Rattle.lowered_rows.specs.SwitchRows.{masked}
+use Rattle.lowering_correct.specs.Groups.{where_members}
+use Rattle.lowering_correct.specs.SwitchRows.{masked}
 use Rattle.lower_code.proofs.Steps.{mapped_from}
 use Rattle.lower_rows.specs.Grouping.{lists_of}
 use Rattle.lower_rows.specs.Sets.{grouped_with}

@@ -5,8 +5,8 @@ use Rattle.cocoon_num.specs.Tree.{FunctionDecl, Design}
 use Rattle.cocoon_num.specs.declared.fun_table.FunTable.{FunTable}
 use Rattle.cocoon_types.specs.DefsRules.{fork_calls}
 use Rattle.cocoon_types.specs.Design.{functions}
-use Rattle.lowered_rows.specs.Groups.{groups_at}
-use Rattle.lowered_rows.specs.Groups as spec
+use Rattle.lowering_correct.specs.Groups.{groups_at}
+use Rattle.lowering_correct.specs.Groups as spec
 use Rattle.lower_rows.specs.Grouping.{grouped_of}
 use Rattle.lower_rows.specs.Sets.{IsDecided}
 use Rattle.lower_rows.specs.declared.groups.ForkGroup.{ForkGroup}

@@ -3,8 +3,8 @@ use Rattle.std.specs.Prelude.{◌≡◌, ℕ, zero, suc, Bool, List, [], ◌∷�
 use Rattle.std.specs.BTreeSet.{BTreeSet}
 use Rattle.std.specs.declared.alloc.Global.{Global}
 use Rattle.cocoon_num.specs.declared.fun_table.FunRow.{FunRow}
-use Rattle.lowered_rows.specs.Groups.{before_last, last_of, put_in}
-use Rattle.lowered_rows.specs.Groups as spec
+use Rattle.lowering_correct.specs.Groups.{before_last, last_of, put_in}
+use Rattle.lowering_correct.specs.Groups as spec
 use Rattle.lower_rows.specs.FirstRows.{is_some_true, said_by}
 use Rattle.lower_rows.specs.Numbered.{held_index}
 use Rattle.lower_rows.specs.declared.args_table.ArgsTable.{ArgsTable}

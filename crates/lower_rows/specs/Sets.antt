@@ -4,7 +4,7 @@ use Rattle.cocoon_num.specs.FunTables.{looked}
 use Rattle.cocoon_num.specs.Names.{same_name}
 use Rattle.cocoon_num.specs.declared.fun_table.FunRow.{FunRow}
 use Rattle.cocoon_num.specs.declared.fun_table.FunTable.{FunTable}
-use Rattle.lowered_rows.specs.Groups.{ascending, before_last, Grouped, last_of, where_members}
+use Rattle.lowering_correct.specs.Groups.{ascending, before_last, Grouped, last_of, where_members}
 use Rattle.lower_rows.specs.FirstRows.{is_some_true, said_first}
 
 -- the arguments before the choice, of each row

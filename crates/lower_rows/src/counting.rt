@@ -3,8 +3,8 @@ ghost use Rattle.std.specs.Prelude.{◌≡◌, ◌++◌, count_by, flat_map, len
 ghost use Rattle.cocoon_num.specs.Names.{same_name};
 ghost use Rattle.cocoon_syntax.specs.TreeOf.{design_of};
 ghost use Rattle.lower_code.specs.Growth.{made_in, made_of};
-ghost use Rattle.lowered_rows.specs.Groups.{fork_groups};
-ghost use Rattle.lowered_rows.specs.SwitchRows as spec;
+ghost use Rattle.lowering_correct.specs.Groups.{fork_groups};
+ghost use Rattle.lowering_correct.specs.SwitchRows as spec;
 ghost use Rattle.lower_rows.specs.AllGroups.{fork_group_of};
 ghost use Rattle.lower_rows.specs.AllRows.{all_rows, room_left, rows_in};
 

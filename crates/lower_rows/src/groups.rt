@@ -3,7 +3,7 @@ ghost use Rattle.std.specs.Prelude.{◌≡◌, ◌++◌, IfOk, map, OnOk, slice_
 ghost use Rattle.cocoon_num.specs.Tree.{FunctionDecl as Function};
 ghost use Rattle.cocoon_syntax.specs.TreeOf.{design_of, function_of};
 ghost use Rattle.cocoon_types.specs.Design.{functions};
-ghost use Rattle.lowered_rows.specs.Groups as spec;
+ghost use Rattle.lowering_correct.specs.Groups as spec;
 ghost use Rattle.lower_rows.specs.AllGroups.{fork_group_of, function_groups, IsDecidedAt, of_function, place_groups};
 ghost use Rattle.lower_rows.specs.Grouping.{grouped_of};
 ghost use Rattle.cocoon_num.specs.declared.fun_table.FunTable.{FunTable as Table};

@@ -1,6 +1,6 @@
 //! The numbers of a row: its arguments, of which the last is the choice of a fork.
 ghost use Rattle.std.specs.Prelude.{◌≡◌};
-ghost use Rattle.lowered_rows.specs.Groups as spec;
+ghost use Rattle.lowering_correct.specs.Groups as spec;
 
 /// All but the last.
 pub(crate) fn before_last(numbers: &[u64]) -> &[u64]

@@ -1,4 +1,4 @@
-//! The rows of a switch's tables, and the groups of copies, as `lowered_rows` says them.
+//! The rows of a switch's tables, and the groups of copies, as `lowering_correct` says them.
 #![tactic(auto)]
 
 mod args_table;

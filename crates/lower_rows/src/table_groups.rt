@@ -1,7 +1,7 @@
 //! The groups of one table.
 ghost use Rattle.std.specs.Prelude.{◌≡◌, ◌++◌, All, [], IfOk, List, ℕ, length, map, OnOk, true};
 ghost use Rattle.cocoon_num.specs.Lists.{all_distinct};
-ghost use Rattle.lowered_rows.specs.Groups as spec;
+ghost use Rattle.lowering_correct.specs.Groups as spec;
 ghost use Rattle.lower_rows.specs.Grouping.{AddsChoice, grouped_of, keys_of, lists_of, no_members, said_true};
 ghost use Rattle.lower_rows.specs.Numbered.{Holds};
 ghost use Rattle.lower_rows.specs.Sets.{grouped_with, IsDecided, members_by, row_args, true_first};

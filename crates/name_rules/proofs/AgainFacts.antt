@@ -12,8 +12,8 @@ use Rattle.cocoon_types.specs.RuleParts.{unless_named, has_name, repeated}
 use Rattle.cocoon_types.specs.FirstFault.{Fault}
 use Rattle.cocoon_types.specs.Noting.{Notes}
 use Rattle.declarations.specs.NameNumbers.{index_of, number_of}
-use Rattle.name_table.specs.declared.table.NameTable.{NameTable}
-use Rattle.fault_notes.specs.Among.{among, AmongLaws}
+use Rattle.numbering.specs.declared.name_table.NameTable.{NameTable}
+use Rattle.cocoon_types.specs.Among.{among, AmongLaws}
 use Rattle.name_rules.specs.Among.{Seen, again, function_names, unless_other, sink_in}
 use Rattle.name_rules.proofs.AmongFacts.{taken}
 

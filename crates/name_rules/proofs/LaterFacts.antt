@@ -9,7 +9,7 @@ use Rattle.cocoon_types.specs.NameRules.{hosts_at}
 use Rattle.cocoon_types.specs.Rules.{twice}
 use Rattle.cocoon_types.specs.FirstFault.{Fault}
 use Rattle.cocoon_types.specs.Noting.{Notes}
-use Rattle.fault_notes.specs.Among.{among, AmongLaws}
+use Rattle.cocoon_types.specs.Among.{among, AmongLaws}
 use Rattle.name_rules.specs.Among.{any_at, later, host_places, switch_places, block_hosts, block_switches, hosts_twice, switches_twice}
 
 pub later-append : (found : Bool) (xs ys : List ℕ) → later found (xs ++ ys) ≡ later found xs ++ later (found || any_at xs) ys

@@ -1,3 +1,10 @@
+mod Membership
+mod NameTests
+mod ExprParts
+mod StmtParts
+mod DeclParts
+mod DeclSteps
+mod Whole
 pub mod AmongFacts
 pub mod AgainFacts
 pub mod SiteFacts

@@ -6,7 +6,7 @@ use Rattle.cocoon_num.specs.Tree.{Name, Role, Decl, Refine}
 use Rattle.cocoon_types.specs.Design.{as_role}
 use Rattle.cocoon_types.specs.RuleParts.{role_names, blocks_from}
 use Rattle.declarations.specs.NameNumbers.{Numbers}
-use Rattle.name_table.specs.declared.table.NameTable.{NameTable}
+use Rattle.numbering.specs.declared.name_table.NameTable.{NameTable}
 use Rattle.name_rules.specs.Among.{Seen}
 use Rattle.name_rules.proofs.AmongFacts.{taken}
 

@@ -10,8 +10,8 @@ use Rattle.cocoon_types.specs.RuleParts.{repeated, role_names, each_block}
 use Rattle.cocoon_types.specs.Design.{decls_to}
 use Rattle.cocoon_types.specs.Sites.{all_stmts, decl_sites}
 use Rattle.cocoon_types.specs.FirstFault.{Fault, is_fault_of}
-use Rattle.fault_notes.specs.Among.{among}
-use Rattle.use_rules.specs.Uses.{is_use_fault}
+use Rattle.cocoon_types.specs.Among.{among}
+use Rattle.name_rules.specs.Uses.{is_use_fault}
 use Rattle.name_rules.specs.Among.{header_names, repeated_fields, design_functions, params_twice, hosts_twice, switches_twice, twice_declared, is_list_fault}
 use Rattle.name_rules.proofs.RedeclaredFacts.{outside-is, blocks-are}
 

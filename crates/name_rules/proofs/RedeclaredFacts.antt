@@ -12,7 +12,7 @@ use Rattle.cocoon_types.specs.Rules.{twice}
 use Rattle.cocoon_types.specs.RuleParts.{unless_named, has_name, role_names, blocks_from, each_block}
 use Rattle.cocoon_types.specs.FirstFault.{Fault}
 use Rattle.cocoon_types.specs.Noting.{Notes}
-use Rattle.fault_notes.specs.Among.{among, AmongLaws}
+use Rattle.cocoon_types.specs.Among.{among, AmongLaws}
 use Rattle.name_rules.specs.Among.{may_stand, declared_again, again_outside, again_in_block}
 use Rattle.name_rules.proofs.AgainFacts.{bytes_same, has-append}
 use Rattle.name_rules.proofs.ListedFacts.{called, picked-append}

@@ -8,9 +8,9 @@ use Rattle.cocoon_types.specs.Rules.{fails_at, unknown_role, not_refinable, sink
 use Rattle.cocoon_types.specs.Sites.{DeclSite, decl_sites, params_of}
 use Rattle.cocoon_types.specs.RuleParts.{unless_named, has_name, repeated, param_names, role_names, blocks_from}
 use Rattle.cocoon_types.specs.FirstFault.{Fault}
-use Rattle.fault_notes.specs.Among.{among}
+use Rattle.cocoon_types.specs.Among.{among}
 use Rattle.declarations.specs.NameNumbers.{Numbers}
-use Rattle.name_table.specs.declared.table.NameTable.{NameTable}
+use Rattle.numbering.specs.declared.name_table.NameTable.{NameTable}
 
 -- a table of these names
 abbrev pub Seen : NameTable → List Name → Type 0

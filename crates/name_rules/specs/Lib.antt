@@ -1,1 +1,3 @@
+pub mod Uses
+pub mod Tests
 pub mod Among

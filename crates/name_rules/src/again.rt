@@ -7,14 +7,13 @@ ghost use Rattle.cocoon_types.specs.Noting.{Notes};
 ghost use Rattle.cocoon_types.specs.RuleNames.{rule_of};
 ghost use Rattle.cocoon_types.specs.RuleParts.{param_names, repeated};
 ghost use Rattle.cocoon_types.specs.Rules.{twice};
-ghost use Rattle.fault_notes.specs.Among.{among};
+ghost use Rattle.cocoon_types.specs.Among.{among};
 ghost use Rattle.name_rules.specs.Among.{Seen, again, block_functions, design_functions, function_names, header_names, repeated_fields};
 
 use cocoon_num::NoMemory;
 use cocoon_syntax::{Decl, Design, FunctionDecl, HeaderDecl, Name, Param, Refine};
-use cocoon_types::{Noted, TypeRule};
+use cocoon_types::{Noted, TypeRule, among_laws, note_unless};
 use declarations::NameTable;
-use fault_notes::{among_laws, note_unless};
 use std::alloc::Global;
 
 /// Notes a name that is in the table, and puts it there.

@@ -4,12 +4,11 @@ ghost use Rattle.cocoon_syntax.specs.TreeOf.{design_of};
 ghost use Rattle.cocoon_types.specs.Noting.{Notes};
 ghost use Rattle.cocoon_types.specs.Rules.{fails_at, no_host, no_switch};
 ghost use Rattle.declarations.specs.Declares.{Declares};
-ghost use Rattle.fault_notes.specs.Among.{among};
+ghost use Rattle.cocoon_types.specs.Among.{among};
 
 use cocoon_syntax::Design;
-use cocoon_types::{Noted, TypeRule};
+use cocoon_types::{Noted, TypeRule, note_unless};
 use declarations::Declarations;
-use fault_notes::note_unless;
 
 /// Notes that no hosts are declared.
 pub(crate) fn note_no_host(names: &Declarations, design: &Design, noted: &mut Noted)

@@ -5,12 +5,11 @@ ghost use Rattle.cocoon_syntax.specs.TreeOf.{decl_of, design_of, refine_of};
 ghost use Rattle.cocoon_types.specs.Design.{as_host, as_switch};
 ghost use Rattle.cocoon_types.specs.Noting.{Notes};
 ghost use Rattle.cocoon_types.specs.Rules.{twice};
-ghost use Rattle.fault_notes.specs.Among.{among};
+ghost use Rattle.cocoon_types.specs.Among.{among};
 ghost use Rattle.name_rules.specs.Among.{any_at, block_hosts, block_switches, host_places, hosts_twice, later, switch_places, switches_twice};
 
 use cocoon_syntax::{Decl, Design, Refine};
-use cocoon_types::{Noted, TypeRule};
-use fault_notes::{among_laws, note_unless};
+use cocoon_types::{Noted, TypeRule, among_laws, note_unless};
 
 /// Notes a token index, where one was found before; says whether one was found by now.
 fn note_later(found: bool, at: Option<u32>, noted: &mut Noted) -> bool

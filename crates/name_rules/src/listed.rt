@@ -7,7 +7,7 @@ ghost use Rattle.cocoon_types.specs.Noting.{Notes};
 ghost use Rattle.cocoon_types.specs.RuleParts.{blocks_from, repeated, role_names};
 ghost use Rattle.cocoon_types.specs.Rules.{fails_at, not_refinable};
 ghost use Rattle.declarations.specs.Declares.{Declares};
-ghost use Rattle.fault_notes.specs.Among.{among};
+ghost use Rattle.cocoon_types.specs.Among.{among};
 ghost use Rattle.name_rules.specs.Among.{Seen, unrefinable};
 
 use crate::again::note_again;
@@ -15,9 +15,8 @@ use crate::levels::{next_level, role_in};
 use crate::truth::both_hold;
 use cocoon_num::NoMemory;
 use cocoon_syntax::{Decl, Design, Name, Refine};
-use cocoon_types::{Noted, TypeRule};
+use cocoon_types::{Noted, TypeRule, among_laws, note_unless};
 use declarations::{Declarations, NameTable};
-use fault_notes::{among_laws, note_unless};
 use std::alloc::Global;
 
 /// Notes names that stand twice in the list of a block.

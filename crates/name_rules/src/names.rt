@@ -5,25 +5,24 @@ ghost use Rattle.cocoon_types.specs.FirstFault.{is_fault_of};
 ghost use Rattle.cocoon_types.specs.Noting.{Notes};
 ghost use Rattle.cocoon_types.specs.Rules.{twice};
 ghost use Rattle.declarations.specs.Declares.{Declares};
-ghost use Rattle.fault_notes.specs.Among.{among};
+ghost use Rattle.cocoon_types.specs.Among.{among};
 ghost use Rattle.name_rules.specs.Among.{is_list_fault, twice_declared};
 
 use crate::again::{note_fields, note_functions, note_headers};
 use crate::hosts::{note_no_host, note_no_switch};
 use crate::later::{note_hosts, note_switches};
 use crate::listed::note_not_refinable;
+use crate::note_uses;
 use crate::params::note_all_params;
 use crate::redeclared::note_roles_again;
 use crate::refined::note_sink_refined;
 use crate::unknown::note_unknown_roles;
 use cocoon_num::NoMemory;
 use cocoon_syntax::Design;
-use cocoon_types::Noted;
 use cocoon_types::first_faults::noting_laws;
+use cocoon_types::{Noted, among_laws};
 use declarations::Declarations;
-use fault_notes::among_laws;
 use std::alloc::Global;
-use use_rules::note_uses;
 
 /// Notes names that stand twice among declarations.
 fn note_twice(

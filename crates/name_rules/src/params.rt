@@ -4,14 +4,13 @@ ghost use Rattle.cocoon_syntax.specs.TreeOf.{decl_of, design_of, param_of, refin
 ghost use Rattle.cocoon_types.specs.Noting.{Notes};
 ghost use Rattle.cocoon_types.specs.Rules.{twice};
 ghost use Rattle.cocoon_types.specs.Sites.{params_of};
-ghost use Rattle.fault_notes.specs.Among.{among};
+ghost use Rattle.cocoon_types.specs.Among.{among};
 ghost use Rattle.name_rules.specs.Among.{params_twice, repeated_in_block, repeated_params};
 
 use crate::again::note_params;
 use cocoon_num::NoMemory;
 use cocoon_syntax::{Decl, Design, Param, Refine};
-use cocoon_types::Noted;
-use fault_notes::among_laws;
+use cocoon_types::{Noted, among_laws};
 use std::alloc::Global;
 
 /// The parameters of a declaration.

@@ -7,16 +7,15 @@ ghost use Rattle.cocoon_types.specs.Noting.{Notes};
 ghost use Rattle.cocoon_types.specs.RuleParts.{blocks_from, role_names};
 ghost use Rattle.cocoon_types.specs.Rules.{twice};
 ghost use Rattle.declarations.specs.Declares.{Declares};
-ghost use Rattle.fault_notes.specs.Among.{among};
+ghost use Rattle.cocoon_types.specs.Among.{among};
 ghost use Rattle.name_rules.specs.Among.{Seen, again_in_block, again_outside, declared_again, may_stand, roles_twice};
 
 use crate::levels::{next_level, role_in};
 use crate::truth::{both_hold, either_holds};
 use cocoon_num::NoMemory;
 use cocoon_syntax::{Decl, Design, Name, Refine};
-use cocoon_types::{Noted, TypeRule};
+use cocoon_types::{Noted, TypeRule, among_laws, note_unless};
 use declarations::{Declarations, NameTable};
-use fault_notes::{among_laws, note_unless};
 use std::alloc::Global;
 
 /// Notes a role that is in the table or may not stand, and puts it there.

@@ -4,13 +4,12 @@ ghost use Rattle.cocoon_syntax.specs.TreeOf.{design_of, name_of, refine_of};
 ghost use Rattle.cocoon_types.specs.Noting.{Notes};
 ghost use Rattle.cocoon_types.specs.Rules.{fails_at, sink_refined};
 ghost use Rattle.declarations.specs.Declares.{Declares};
-ghost use Rattle.fault_notes.specs.Among.{among};
+ghost use Rattle.cocoon_types.specs.Among.{among};
 ghost use Rattle.name_rules.specs.Among.{sink_in, unless_other};
 
 use cocoon_syntax::{Design, Name, Refine};
-use cocoon_types::{Noted, TypeRule};
+use cocoon_types::{Noted, TypeRule, among_laws, note_unless};
 use declarations::Declarations;
-use fault_notes::{among_laws, note_unless};
 
 /// Notes the sink in the list of one block.
 fn note_sink_in(sink: &Name, roles: &[Name], noted: &mut Noted)

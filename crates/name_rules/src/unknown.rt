@@ -7,15 +7,14 @@ ghost use Rattle.cocoon_types.specs.RuleParts.{blocks_from};
 ghost use Rattle.cocoon_types.specs.Rules.{unknown_role};
 ghost use Rattle.cocoon_types.specs.Sites.{decl_sites};
 ghost use Rattle.declarations.specs.Declares.{Declares};
-ghost use Rattle.fault_notes.specs.Among.{among};
+ghost use Rattle.cocoon_types.specs.Among.{among};
 ghost use Rattle.name_rules.specs.Among.{unknown_at, unknown_in_block, unknown_named};
 
 use crate::levels::next_level;
 use cocoon_num::NoMemory;
 use cocoon_syntax::{Decl, Design, Name, Refine};
-use cocoon_types::{Noted, TypeRule};
+use cocoon_types::{Noted, TypeRule, among_laws, note_unless};
 use declarations::Declarations;
-use fault_notes::{among_laws, note_unless};
 
 /// Notes a role that no level up to this one declares.
 fn note_role(names: &Declarations, design: &Design, level: u32, role: &Name, noted: &mut Noted)

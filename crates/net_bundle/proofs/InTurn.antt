@@ -1,12 +1,12 @@
 -- Files that are made one after another, each tested in its turn.
 use Rattle.std.proofs.Common.{◌≡◌, ℕ, List, [], ◌∷◌, ◌++◌, Option, Result, Ok, Err, IfErr, inl, inr, subst, sym}
 use Rattle.std.specs.Result.{IsErrAnd}
-use Rattle.p4_ir.specs.NetTree.{SwitchFiles, NetData}
+use Rattle.p4_ir.specs.NetTree.{NetData}
 use Rattle.net_bundle.specs.declared.fault.BundleFault.{BundleFault}
 use Rattle.net_bundle.specs.declared.fault.BundleFault.TheVariants.{Folder, Limit, NoMemory}
 use Rattle.net_bundle.specs.declared.file.BundleFile.{BundleFile}
 use Rattle.net_bundle.specs.declared.file.BundleFile.TheVariants.{Network}
-use Rattle.net_bundle.specs.Bundle.{MadeFile, all_switch_files, certificate_files, net_text, bundle}
+use Rattle.net_bundle.specs.Bundle.{MadeFile, all_switch_files, certificate_files, last_files, net_text, bundle}
 use Rattle.net_bundle.specs.Writing.{AllFit, FirstOver, NotMade}
 
 -- ---- files, and more of them
@@ -39,23 +39,25 @@ stops_after fs gs NoMemory a h = tt
 abbrev network_file : List ℕ → MadeFile
 network_file text = record { file = Network; bytes = text }
 
-pub switches_stop : (design : List ℕ) (net : NetData) (certificates : Option (List ℕ)) (ss : List SwitchFiles) (fault : BundleFault) → ss ≡ net.switches
-    → NotMade (all_switch_files ss) fault → NotMade (bundle design net certificates) fault
-switches_stop design net certificates ss fault e h = stops_before _ _ fault (subst (λ xs. NotMade (all_switch_files xs) fault) e h)
+pub certificates_stop : (design : List ℕ) (net : NetData) (certificates : Option (List ℕ)) (fault : BundleFault) → NotMade (certificate_files certificates) fault
+    → NotMade (last_files design net certificates) fault
+certificates_stop design net certificates fault h = stops_before _ _ fault h
 
-pub certificates_stop : (design : List ℕ) (net : NetData) (certificates : Option (List ℕ)) (ss : List SwitchFiles) (fault : BundleFault) → ss ≡ net.switches
-    → AllFit (all_switch_files ss) → NotMade (certificate_files certificates) fault → NotMade (bundle design net certificates) fault
-certificates_stop design net certificates ss fault e a h = stops_after _ _ fault (subst (λ xs. AllFit (all_switch_files xs)) e a) (stops_before _ _ fault h)
+pub network_stops : (design : List ℕ) (net : NetData) (certificates : Option (List ℕ)) (text : List ℕ) (fault : BundleFault) → text ≡ net_text design net
+    → AllFit (certificate_files certificates) → NotMade (network_file text ∷ []) fault → NotMade (last_files design net certificates) fault
+network_stops design net certificates text fault t a h = stops_after _ _ fault a (subst (λ bytes. NotMade (network_file bytes ∷ []) fault) t h)
 
-pub network_stops : (design : List ℕ) (net : NetData) (certificates : Option (List ℕ)) (ss : List SwitchFiles) (text : List ℕ) (fault : BundleFault) → ss ≡ net.switches → text ≡ net_text design net
-    → AllFit (all_switch_files ss) → AllFit (certificate_files certificates) → NotMade (network_file text ∷ []) fault → NotMade (bundle design net certificates) fault
-network_stops design net certificates ss text fault e t a b h =
-    stops_after _ _ fault (subst (λ xs. AllFit (all_switch_files xs)) e a) (stops_after _ _ fault b (subst (λ bytes. NotMade (network_file bytes ∷ []) fault) t h))
+pub last_fit : (design : List ℕ) (net : NetData) (certificates : Option (List ℕ)) (text : List ℕ) → text ≡ net_text design net
+    → AllFit (certificate_files certificates) → AllFit (network_file text ∷ []) → AllFit (last_files design net certificates)
+last_fit design net certificates text t a b = both_fit _ _ a (subst (λ bytes. AllFit (network_file bytes ∷ [])) t b)
 
-pub bundle_fits : (design : List ℕ) (net : NetData) (certificates : Option (List ℕ)) (ss : List SwitchFiles) (text : List ℕ) → ss ≡ net.switches → text ≡ net_text design net
-    → AllFit (all_switch_files ss) → AllFit (certificate_files certificates) → AllFit (network_file text ∷ []) → AllFit (bundle design net certificates)
-bundle_fits design net certificates ss text e t a b c =
-    both_fit _ _ (subst (λ xs. AllFit (all_switch_files xs)) e a) (both_fit _ _ b (subst (λ bytes. AllFit (network_file bytes ∷ [])) t c))
+pub switches_stop : (design : List ℕ) (net : NetData) (certificates : Option (List ℕ)) (fault : BundleFault) → NotMade (all_switch_files net.switches) fault
+    → NotMade (bundle design net certificates) fault
+switches_stop design net certificates fault h = stops_before _ _ fault h
+
+pub last_stop : (design : List ℕ) (net : NetData) (certificates : Option (List ℕ)) (fault : BundleFault) → AllFit (all_switch_files net.switches)
+    → NotMade (last_files design net certificates) fault → NotMade (bundle design net certificates) fault
+last_stop design net certificates fault a h = stops_after _ _ fault a h
 
 -- what a call passes on
 pub passed : {A : Type 0} (fs : List MadeFile) (r : Result A BundleFault) (fault : BundleFault) → IsErrAnd r (λ e. e ≡ fault) → NotMade fs fault → IfErr r (NotMade fs)

@@ -3,9 +3,15 @@ mod RowsValue
 mod RowsLong
 mod InOrder
 mod InTurn
+mod InParts
 mod Fitting
 mod ReadingLists
 pub mod ReadingDigests
 mod ReadingNames
 mod ReadingBack
 mod Held
+mod Shared
+mod RowsExact
+mod NetSeen
+mod Sought
+mod NetExact

@@ -63,7 +63,10 @@ net_file design net = record {
 abbrev pub net_text : (design : List ℕ) → NetData → List ℕ
 net_text design net = compact_text (net_data (net_file design net))
 
+-- the certificates, if there are any, and the network
+abbrev pub last_files : (design : List ℕ) → NetData → (certificates : Option (List ℕ)) → List MadeFile
+last_files design net certificates = certificate_files certificates ++ record { file = Network; bytes = net_text design net } ∷ []
+
 -- the bundle of a network of a design: the switches in their order, the certificates, and the network last
 abbrev pub bundle : (design : List ℕ) → NetData → (certificates : Option (List ℕ)) → List MadeFile
-bundle design net certificates =
-    all_switch_files net.switches ++ (certificate_files certificates ++ record { file = Network; bytes = net_text design net } ∷ [])
+bundle design net certificates = all_switch_files net.switches ++ last_files design net certificates

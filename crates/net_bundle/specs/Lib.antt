@@ -5,3 +5,5 @@ pub mod Bundle
 pub mod Writing
 pub mod NetFileOf
 pub mod Readable
+pub mod RowsForm
+pub mod NetForm

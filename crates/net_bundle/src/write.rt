@@ -1,16 +1,16 @@
 //! The writing of a bundle.
 ghost use Rattle.std.specs.Prelude.{◌≡◌, ◌≤◌, List, [], ◌∷◌, IfErr, IsTrue, OnOk, map, option_map};
-ghost use Rattle.p4_ir.specs.NetFits.{net_fits};
-ghost use Rattle.p4_ir.specs.NetOf.{net_of};
-ghost use Rattle.net_bundle.specs.Bundle.{bundle};
+ghost use Rattle.cocoon_num.specs.Lists.{each};
+ghost use Rattle.p4_ir.specs.NetFits.{net_fits, switch_fits};
+ghost use Rattle.net_bundle.specs.Bundle.{all_switch_files, bundle};
 ghost use Rattle.net_bundle.specs.NetFileOf.{made_of};
 ghost use Rattle.net_bundle.specs.Writing.{AllFit, ContentHolds, NamesFailure, NotWritten, WriteFaultRose, with_files};
 
 use crate::fault::BundleFault;
 use crate::file::BundleFile;
-use crate::make::{MadeFile, make};
+use crate::make::{MadeFile, keep_switches, last_files, switch_files_again};
+use crate::writable::WritableNet;
 use cocoon_io::{Folder, FolderFault};
-use p4_ir::NetData;
 use std::alloc::Global;
 
 /// Why a bundle is not written, where this is the fault of the folder at this file.
@@ -76,37 +76,66 @@ fn write_files<F: Folder>(
     Ok(())
 }
 
-/// Writes the bundle `out` of this network of a design: for each switch its program and its rows, then the certificates, if
-/// there are any, and the file of the network last.
-///
-/// All bytes are made before the first write, and none after the first file that has too many of them: `Limit` has that
-/// file, and then nothing is written. `Folder` has the file at which the writes stopped: those before it in that order
-/// stand, and none after it was touched.
-/// The network has to be one that can be read back: what that asks is `net_fits`, as docs/FORMATS.md has it under "How a bundle
-/// is read back".
-pub fn write_bundle<F: Folder>(
+/// Writes the files of all switches, each switch in its turn: they are made again, written, and let go.
+fn write_switches<F: Folder, N: WritableNet>(
     alloc: Global,
     folder: &mut F,
     out: &str,
-    net: &NetData,
+    net: &N,
+) -> Result<(), BundleFault>
+    requires fits { IsTrue (each switch_fits (N.net net.now).switches) }
+    requires fit { AllFit (all_switch_files (N.net net.now).switches) }
+    ensures written { OnOk result (F.content folder.new
+        ≡ with_files out.now (all_switch_files (N.net net.now).switches) (F.content folder.old)) }
+    ensures refused { IfErr result (NotWritten out.now
+        (all_switch_files (N.net net.now).switches) (F.content folder.old) (F.content folder.new)) }
+    ensures failed { IfErr result (WriteFaultRose F.last_write_fault
+        (F.write_faults folder.old) (F.write_faults folder.new)) }
+    ensures counted { OnOk result (F.write_faults folder.new ≡ F.write_faults folder.old) }
+    ensures named { IfErr result (NamesFailure (F.last_failure folder.new) out.now) }
+    ensures reads { F.read_faults folder.new ≡ F.read_faults folder.old }
+    ensures writes { F.write_faults folder.old ≤ F.write_faults folder.new }
+{
+    for index in 0..net.count() {
+        let switch = net.switch(alloc, index)?;
+        let files = switch_files_again(alloc, &switch)?;
+        write_files(alloc, folder, out, &files)?;
+    }
+    Ok(())
+}
+
+/// Writes the bundle `out` of this network of a design: for each switch its program and its rows, then the certificates, if
+/// there are any, and the file of the network last.
+///
+/// All files are made before the first write, and none after the first that has too many bytes: `Limit` has that
+/// file, and then nothing is written. Those of a switch are let go then, and made again for their writes, so no more than
+/// those of one switch are held. `Folder` has the file at which the writes stopped: those before it in that order
+/// stand, and none after it was touched.
+/// The network has to be one that can be read back: what that asks is `net_fits`, as docs/FORMATS.md has it under "How a bundle
+/// is read back".
+pub fn write_bundle<F: Folder, N: WritableNet>(
+    alloc: Global,
+    folder: &mut F,
+    out: &str,
+    net: &N,
     design: &[u8],
     certificates: Option<&[u8]>,
 ) -> Result<(), BundleFault>
-    requires fits { IsTrue (net_fits (net_of net.now)) }
+    requires fits { IsTrue (net_fits (N.net net.now)) }
 
     // the folder then has exactly these files set, and they give the network
     ensures written { OnOk result (F.content folder.new
         ≡ with_files out.now
-        (bundle design.now (net_of net.now) (option_map (λ c. c.now) certificates.entry))
+        (bundle design.now (N.net net.now) (option_map (λ c. c.now) certificates.entry))
         (F.content folder.old)) }
     ensures holds { OnOk result (ContentHolds (F.content folder.old) (F.content folder.new)
-        out.now design.now (net_of net.now) (option_map (λ c. c.now) certificates.entry)) }
+        out.now design.now (N.net net.now) (option_map (λ c. c.now) certificates.entry)) }
     ensures fit { OnOk result (AllFit
-        (bundle design.now (net_of net.now) (option_map (λ c. c.now) certificates.entry))) }
+        (bundle design.now (N.net net.now) (option_map (λ c. c.now) certificates.entry))) }
 
     // any other answer has its cause, and what it leaves
     ensures refused { IfErr result (NotWritten out.now
-        (bundle design.now (net_of net.now) (option_map (λ c. c.now) certificates.entry))
+        (bundle design.now (N.net net.now) (option_map (λ c. c.now) certificates.entry))
         (F.content folder.old) (F.content folder.new)) }
     ensures failed { IfErr result (WriteFaultRose F.last_write_fault
         (F.write_faults folder.old) (F.write_faults folder.new)) }
@@ -115,6 +144,9 @@ pub fn write_bundle<F: Folder>(
     ensures reads { F.read_faults folder.new ≡ F.read_faults folder.old }
     ensures writes { F.write_faults folder.old ≤ F.write_faults folder.new }
 {
-    let files = make(alloc, net, design, certificates)?;
-    write_files(alloc, folder, out, &files)
+    let kept = keep_switches(alloc, net)?;
+    let last = last_files(alloc, net, design, kept, certificates)?;
+    write_switches(alloc, folder, out, net)?;
+    write_files(alloc, folder, out, &last)?;
+    Ok(())
 }

@@ -1,4 +1,4 @@
--- What the answers of `deliver` stand for, and why it may stop. Its clauses cite it.
+-- What the answers of `deliver` stand for, and why it may stop. Its clauses cite it, and those of `deliver_in`.
 use Rattle.std.specs.Prelude.{◌≡◌, ℕ, suc, ◌<◌, false, List}
 use Rattle.cocoon_num.specs.Lists.{has_number}
 use Rattle.p4_ir.specs.NetTree.{NetData}

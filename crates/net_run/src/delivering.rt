@@ -5,10 +5,12 @@ ghost use Rattle.loaded_net.specs.Nets.{net_in};
 ghost use Rattle.net_run.specs.Delivering.{delivery_of, RunStops};
 ghost use Rattle.net_run.specs.Outcomes.{AreDelivered, AreTravelling};
 ghost use Rattle.net_run.specs.RunCounts.{most_runs, runs};
+ghost use Rattle.net_run.specs.Stations.{StationsFit};
 ghost use Rattle.p4_ir.specs.Wiring.{host_numbers};
 
 use crate::fault::RunFault;
 use crate::following::Walk;
+use crate::stations::Stations;
 use cocoon_num::{List, Text};
 use loaded_net::Net;
 use std::alloc::Global;
@@ -30,7 +32,53 @@ pub struct Outcome {
     pub travelling: u32,
 }
 
-/// Follows a packet of a host, and all its copies, through at most `hops` visits each.
+/// What becomes of a packet, and the frames in which its runs were made.
+#[derive(Drop)]
+pub struct Delivered<'n> {
+    pub outcome: Outcome,
+    pub stations: Stations<'n>,
+}
+
+/// Follows a packet of a host, and all its copies, through at most `hops` visits each. Frames that earlier packets of the network
+/// left are used again.
+pub fn deliver_in<'n>(
+    alloc: Global,
+    net: &'n Net,
+    stations: Stations<'n>,
+    host: u64,
+    bytes: &[u8],
+    hops: u32,
+) -> Result<Delivered<'n>, RunFault>
+    requires { StationsFit net.now stations }
+    ensures fit { IfOk result (λ d. StationsFit net.now d.stations) }
+    ensures delivered { IfOk result (λ d.
+        AreDelivered (net_in net.now) host bytes.now hops (map delivery_of d.outcome.delivered)) }
+    ensures travelling { IfOk result (λ d.
+        AreTravelling (net_in net.now) host bytes.now hops d.outcome.travelling) }
+    ensures known { IfOk result (λ d.
+        has_number host (host_numbers (net_in net.now).hosts) ≡ true) }
+    ensures within { IfOk result (λ d. runs (net_in net.now) host bytes.now hops ≤ most_runs) }
+    ensures stops { IfErr result (RunStops (net_in net.now) host bytes.now hops) }
+{
+    if !net.has_host(host) {
+        return Err(RunFault::NoSuchHost);
+    }
+    let mut walk = Walk::start(alloc, net, stations, host, bytes, hops)?;
+    while let Some(copy) = walk.stack.pop() {
+        walk.follow(alloc, net, copy)?;
+    }
+    let mut stations = walk.stations;
+    stations.room.keep_stack(walk.stack);
+    Ok(Delivered {
+        outcome: Outcome {
+            delivered: List::from(walk.delivered),
+            travelling: walk.travelling,
+        },
+        stations,
+    })
+}
+
+/// The same of one packet alone.
 pub fn deliver(
     alloc: Global,
     net: &Net,
@@ -47,15 +95,8 @@ pub fn deliver(
     ensures within { IfOk result (λ o. runs (net_in net.now) host bytes.now hops ≤ most_runs) }
     ensures stops { IfErr result (RunStops (net_in net.now) host bytes.now hops) }
 {
-    if !net.has_host(host) {
-        return Err(RunFault::NoSuchHost);
+    match deliver_in(alloc, net, Stations::new(alloc), host, bytes, hops) {
+        Ok(delivered) => Ok(delivered.outcome),
+        Err(fault) => Err(fault),
     }
-    let mut walk = Walk::start(alloc, net, host, bytes, hops)?;
-    while let Some(copy) = walk.stack.pop() {
-        walk.follow(alloc, net, copy)?;
-    }
-    Ok(Outcome {
-        delivered: List::from(walk.delivered),
-        travelling: walk.travelling,
-    })
 }

@@ -5,10 +5,12 @@ ghost use Rattle.net_run.specs.Following.{CanFollow, FollowStops, IsFollowed, Is
 ghost use Rattle.net_run.specs.Delivering.{delivery_of};
 ghost use Rattle.net_run.specs.Ends.{ends};
 ghost use Rattle.net_run.specs.RunCounts.{runs};
+ghost use Rattle.net_run.specs.Stations.{StationsFit};
 ghost use Rattle.net_run.specs.UnderWay.{stack_ends, stack_runs};
 
 use crate::delivering::Delivery;
 use crate::fault::{MOST_RUNS, RunFault};
+use crate::room::Room;
 use crate::standing::Standing;
 use crate::stations::Stations;
 use cocoon_num::{List, NoMemory, Text};
@@ -31,6 +33,7 @@ pub(crate) struct Walk<'n> {
 /// The packet alone, where its host is attached; nothing, where it is attached nowhere.
 fn first_stack(
     alloc: Global,
+    room: &mut Room,
     net: &Net,
     host: u64,
     bytes: &[u8],
@@ -42,28 +45,28 @@ fn first_stack(
         ≡ runs (net_in net.now) host bytes.now hops) }
     ensures one { IfOk result (λ v. length v.items ≤ 1) }
 {
-    let mut stack = Vec::new(alloc);
+    let mut stack = room.no_copies(alloc);
     let Some((switch, port)) = net.attachment(host) else {
         return Ok(stack);
     };
     stack.push(Standing {
         at: LinkEnd::Switch(switch, port),
         choices: Vec::new(alloc),
-        bytes: bytes.to_vec(alloc)?,
+        bytes: room.copied(alloc, bytes)?,
         visits: hops,
     })?;
     Ok(stack)
 }
 
 /// The delivery of a copy at a host.
-fn delivery(alloc: Global, host: u64, copy: Standing) -> Result<Delivery, NoMemory>
+fn delivery(alloc: Global, host: u64, choices: Vec<u64>, bytes: &[u8]) -> Result<Delivery, NoMemory>
     ensures { IfOk result (λ d. delivery_of d
-        ≡ record { host = host; choices = copy.choices.items; bytes = copy.bytes.items }) }
+        ≡ record { host = host; choices = choices.items; bytes = bytes.now }) }
 {
     Ok(Delivery {
         host,
-        choices: List::from(copy.choices),
-        bytes: Text::from(alloc, &copy.bytes)?,
+        choices: List::from(choices),
+        bytes: Text::from(alloc, bytes)?,
     })
 }
 
@@ -72,42 +75,48 @@ impl<'n> Walk<'n> {
     pub(crate) fn start(
         alloc: Global,
         net: &'n Net,
+        stations: Stations<'n>,
         host: u64,
         bytes: &[u8],
         hops: u32,
     ) -> Result<Walk<'n>, NoMemory>
+        requires { StationsFit net.now stations }
         ensures { IfOk result (IsUnderWay net.now host bytes.now hops) }
     {
+        let mut stations = stations;
+        let stack = first_stack(alloc, &mut stations.room, net, host, bytes, hops)?;
         Ok(Walk {
-            stack: first_stack(alloc, net, host, bytes, hops)?,
+            stack,
             delivered: Vec::new(alloc),
             travelling: 0,
             runs: 0,
-            stations: Stations::new(alloc),
+            stations,
         })
     }
 
-    /// A visit of a switch by a copy that may make one more.
+    /// A visit of a switch by a copy that may make one more, and whose memory is left to others.
     fn visit(
         &mut self,
         alloc: Global,
         net: &'n Net,
         switch: u16,
         port: u16,
-        copy: &Standing,
+        copy: Standing,
     ) -> Result<(), RunFault>
-        requires at { copy.now.at ≡ LinkEnd.Switch switch port }
-        requires more { 0 < copy.now.visits }
-        requires can { CanFollow net.now copy.now self.old }
-        ensures followed { OnOk result (IsFollowed net.now copy.now self.old self.new) }
-        ensures stops { IfErr result (FollowStops net.now copy.now self.old) }
+        requires at { copy.at ≡ LinkEnd.Switch switch port }
+        requires more { 0 < copy.visits }
+        requires can { CanFollow net.now copy self.old }
+        ensures followed { OnOk result (IsFollowed net.now copy self.old self.new) }
+        ensures stops { IfErr result (FollowStops net.now copy self.old) }
     {
         let left = MOST_RUNS as usize - self.runs;
         let visited = self
             .stations
             .visit(alloc, net, switch, port, &copy.bytes, left)?;
         self.runs += visited.runs;
-        copy.push_all(alloc, net, switch, visited.departed, &mut self.stack)?;
+        let none = copy.push_all(alloc, net, switch, visited.departed, &mut self.stack)?;
+        self.stations.room.departed = none;
+        self.stations.room.bytes.push(copy.bytes)?;
         Ok(())
     }
 
@@ -124,7 +133,9 @@ impl<'n> Walk<'n> {
     {
         match copy.at {
             LinkEnd::Host(host) => {
-                self.delivered.push(delivery(alloc, host, copy)?)?;
+                let delivered = delivery(alloc, host, copy.choices, &copy.bytes)?;
+                self.delivered.push(delivered)?;
+                self.stations.room.bytes.push(copy.bytes)?;
                 Ok(())
             }
             LinkEnd::Switch(switch, port) => {
@@ -132,7 +143,7 @@ impl<'n> Walk<'n> {
                     self.travelling += 1;
                     return Ok(());
                 }
-                self.visit(alloc, net, switch, port, &copy)
+                self.visit(alloc, net, switch, port, copy)
             }
         }
     }

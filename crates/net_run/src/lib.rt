@@ -6,10 +6,13 @@ pub mod departed;
 pub mod fault;
 mod following;
 pub mod laws;
+pub mod room;
 mod standing;
-mod stations;
+pub mod stations;
 pub mod visiting;
 
-pub use delivering::{Delivery, Outcome, deliver};
+pub use delivering::{Delivered, Delivery, Outcome, deliver, deliver_in};
 pub use departed::{Departed, Visited};
 pub use fault::{MOST_RUNS, RunFault};
+pub use room::Room;
+pub use stations::Stations;

@@ -71,7 +71,8 @@ impl Standing {
         Ok(())
     }
 
-    /// Puts on the stack all that departed from a switch that this copy visited, with the first on top.
+    /// Puts on the stack all that departed from a switch that this copy visited, with the first on top. The list of what departed
+    /// is left empty.
     pub(crate) fn push_all(
         &self,
         alloc: Global,
@@ -79,7 +80,7 @@ impl Standing {
         switch: u16,
         departed: Vec<Departed>,
         stack: &mut Vec<Standing>,
-    ) -> Result<(), NoMemory>
+    ) -> Result<Vec<Departed>, NoMemory>
         requires { 0 < self.now.visits }
         ensures ends { OnOk result (stack_ends (net_in net.now) stack.new.items
             ≡ behind self.now.choices.items (flat_map (followed (net_in net.now)
@@ -97,6 +98,6 @@ impl Standing {
         while let Some(last) = left.pop() {
             self.push_next(alloc, net, switch, last, stack)?;
         }
-        Ok(())
+        Ok(left)
     }
 }

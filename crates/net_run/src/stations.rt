@@ -1,7 +1,8 @@
 //! Switches that copies have visited, each with a frame for its runs.
-ghost use Rattle.std.specs.Prelude.{◌≡◌, ◌≤◌, ◌<◌, [], IfErr, IfOk, length, map, OnOk};
+ghost use Rattle.std.specs.Prelude.{◌≡◌, ◌≤◌, ◌<◌, IfErr, IfOk, length, map, OnOk};
 ghost use Rattle.std.specs.List.{All};
 ghost use Rattle.loaded_net.specs.Nets.{net_in};
+ghost use Rattle.loaded_net.specs.declared.net.Net.{Net as NetOf};
 ghost use Rattle.net_run.specs.Departures.{departures_at};
 ghost use Rattle.net_run.specs.DepartedOf.{departed_of, VisitStops};
 ghost use Rattle.net_run.specs.RunCounts.{visit_runs};
@@ -10,6 +11,7 @@ ghost use Rattle.p4_ir.specs.NetRuns.{switch_at};
 
 use crate::departed::Visited;
 use crate::fault::RunFault;
+use crate::room::Room;
 use crate::visiting::visit;
 use cocoon_num::NoMemory;
 use loaded_net::Net;
@@ -24,18 +26,21 @@ struct Station<'n> {
     frame: Frame,
 }
 
-/// The switches that were visited, in ascending order of their numbers.
+/// The switches that were visited, in ascending order of their numbers, each with its frame.
 #[derive(Drop)]
-pub(crate) struct Stations<'n> {
+pub struct Stations<'n> {
     visited: Vec<Station<'n>>,
+    pub(crate) room: Room,
 }
 
 impl<'n> Stations<'n> {
-    pub(crate) fn new(alloc: Global) -> Stations<'n>
-        ensures { result.visited.items ≡ [] }
+    /// Before any visit.
+    pub fn new(alloc: Global) -> Stations<'n>
+        ensures { (net : NetOf) → StationsFit net result }
     {
         Stations {
             visited: Vec::new(alloc),
+            room: Room::new(alloc),
         }
     }
 
@@ -93,6 +98,14 @@ impl<'n> Stations<'n> {
             });
         };
         let station = &mut self.visited[index];
-        visit(alloc, station.loaded, &mut station.frame, port, bytes, most)
+        visit(
+            alloc,
+            station.loaded,
+            &mut station.frame,
+            &mut self.room,
+            port,
+            bytes,
+            most,
+        )
     }
 }

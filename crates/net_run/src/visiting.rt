@@ -9,15 +9,22 @@ ghost use Rattle.p4_run.specs.Visits.{after_ingress, departs, ingress_left};
 
 use crate::departed::{Departed, Visited};
 use crate::fault::{MOST_RUNS, RunFault};
+use crate::room::Room;
 use cocoon_num::NoMemory;
 use p4_run::{Frame, Loaded, Next};
 use std::alloc::Global;
 
 /// The headers, and what comes behind as many bytes.
-fn departing_bytes(alloc: Global, headers: &[u8], bytes: &[u8]) -> Result<Vec<u8>, NoMemory>
+fn departing_bytes(
+    alloc: Global,
+    room: &mut Room,
+    headers: &[u8],
+    bytes: &[u8],
+) -> Result<Vec<u8>, NoMemory>
     ensures { IfOk result (λ v. v.items ≡ headers.now ++ drop (length headers.now) bytes.now) }
 {
-    let mut all = headers.to_vec(alloc)?;
+    let mut all = room.no_bytes(alloc, bytes.len())?;
+    all.extend_from_slice(headers)?;
     if headers.len() < bytes.len() {
         all.extend_from_slice(&bytes[headers.len()..])?;
     }
@@ -27,6 +34,7 @@ fn departing_bytes(alloc: Global, headers: &[u8], bytes: &[u8]) -> Result<Vec<u8
 /// Adds what departs, if anything does.
 fn push_departed(
     alloc: Global,
+    room: &mut Room,
     all: &mut Vec<Departed>,
     member: Option<u64>,
     next: Next,
@@ -38,7 +46,7 @@ fn push_departed(
 {
     match next {
         Next::Port(port) => {
-            let bytes = departing_bytes(alloc, headers, bytes)?;
+            let bytes = departing_bytes(alloc, room, headers, bytes)?;
             all.push(Departed {
                 member,
                 port,
@@ -66,6 +74,7 @@ pub fn visit(
     alloc: Global,
     loaded: &Loaded,
     frame: &mut Frame,
+    room: &mut Room,
     port: u16,
     bytes: &[u8],
     most: usize,
@@ -84,16 +93,24 @@ pub fn visit(
         (after_ingress
         (ingress_left (program_in loaded.now) (rows_in loaded.now) port bytes.now)))) }
 {
-    let mut all = Vec::new(alloc);
+    let mut all = room.none_departed(alloc);
     let next = loaded.ingress(frame, port, bytes);
-    push_departed(alloc, &mut all, None, next, frame.headers(), bytes)?;
+    push_departed(alloc, room, &mut all, None, next, frame.headers(), bytes)?;
     let members = members_after(loaded, next);
     if members.len() >= most {
         return Err(RunFault::Copies(MOST_RUNS + 1));
     }
     for member in members {
         let next = loaded.egress(frame, *member);
-        push_departed(alloc, &mut all, Some(*member), next, frame.headers(), bytes)?;
+        push_departed(
+            alloc,
+            room,
+            &mut all,
+            Some(*member),
+            next,
+            frame.headers(),
+            bytes,
+        )?;
     }
     Ok(Visited {
         departed: all,

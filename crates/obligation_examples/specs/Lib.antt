@@ -1,3 +1,7 @@
+pub mod DesignM
+pub mod DesignT
+pub mod DesignThree
+pub mod Places
 pub mod DesignR
 pub mod DesignWays
 pub mod DesignW

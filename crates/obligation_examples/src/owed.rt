@@ -1,9 +1,9 @@
 //! The obligations of seven designs. The functions do nothing; their contracts are the laws.
 ghost use Rattle.std.specs.Prelude.{[], ◌∷◌, ◌≡◌, codes, filter, length, map, true, false};
 ghost use Rattle.bv_terms.specs.TermTrees.{not_};
-ghost use Rattle.refinement_examples.specs.DesignM.{m_design};
-ghost use Rattle.refinement_examples.specs.DesignT.{t_design};
-ghost use Rattle.refinement_examples.specs.DesignThree.{three_design};
+ghost use Rattle.obligation_examples.specs.DesignM.{m_design};
+ghost use Rattle.obligation_examples.specs.DesignT.{t_design};
+ghost use Rattle.obligation_examples.specs.DesignThree.{three_design};
 ghost use Rattle.obligation_examples.specs.DesignR.{r_design};
 ghost use Rattle.obligation_examples.specs.DesignWays.{ways_design};
 ghost use Rattle.obligation_examples.specs.Seen.{is_inside};

@@ -6,7 +6,7 @@ use Rattle.cocoon_num.specs.Tree.{Refine, Design}
 use Rattle.bv_terms.specs.declared.node.Node.{Node}
 use Rattle.bv_terms.specs.Arenas.{KeepsTerms, inputs_in}
 use Rattle.expr_term_laws.specs.Shown.{HasWidth}
-use Rattle.formula_forms.specs.FormulaForms.{PartFits}
+use Rattle.obligation_laws.specs.FormulaForms.{PartFits}
 use Rattle.hop_inline.specs.Counted.{most_leaves}
 use Rattle.hop_inline.specs.Shown.{ShowsTree}
 use Rattle.hop_inline.specs.declared.tree.InlineFault.{InlineFault}

@@ -3,7 +3,7 @@ use Rattle.std.specs.Prelude.{◌≡◌, ℕ, List, Some, slice_get}
 use Rattle.cocoon_num.specs.Tree.{Design}
 use Rattle.bv_terms.specs.declared.node.Node.{Node}
 use Rattle.expr_term_laws.specs.Shown.{HasWidth}
-use Rattle.formula_forms.specs.FormulaForms.{PartFits}
+use Rattle.obligation_laws.specs.FormulaForms.{PartFits}
 use Rattle.hop_inline.specs.Shown.{ShowsTree}
 use Rattle.hop_inline.specs.declared.tree.Tree.{Tree}
 use Rattle.symbolic_laws.specs.Leaves as laws

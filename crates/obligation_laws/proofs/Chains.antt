@@ -12,7 +12,7 @@ use Rattle.expr_term_laws.specs.Shown.{HasNumber}
 use Rattle.expr_term_laws.proofs.OperatorTerms.{shown}
 use Rattle.symbolic_laws.specs.Meant.{IsOne}
 use Rattle.symbolic_laws.proofs.Values.{IsBit, and_bit, chain_holds, holds, is_one, not_bit, parts_hold}
-use Rattle.leaf_laws.proofs.Replaced.{of_width}
+use Rattle.obligation_laws.proofs.Replaced.{of_width}
 use Rattle.obligation_laws.specs.Formulas.{any_of, chain}
 
 or_bits : (a b : Bool) → operated ops.Or (shown (truth a)) (shown (truth b)) ≡ shown (truth (a || b))

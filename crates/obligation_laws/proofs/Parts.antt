@@ -40,11 +40,11 @@ use Rattle.symbolic_laws.proofs.Meaning.{Holds}
 use Rattle.symbolic_laws.proofs.Values.{IsBit}
 use Rattle.obligation_laws.specs.Formulas.{chain, equals, leaf_inputs, part, position, read_back, replacing, sent_at, stand_ins}
 use Rattle.obligation_laws.proofs.Chains.{AllBits, AllOne, chain_bit, chain_true, compare}
-use Rattle.leaf_laws.specs.LeafShown.{LeafShown}
-use Rattle.leaf_laws.specs.MadeOf.{AllMade, Have, LeafMade, Made, OfInputs}
-use Rattle.leaf_laws.proofs.LeafValues.{leaf_shown}
-use Rattle.leaf_laws.proofs.MadeLeaves.{have_back, have_front, leaf_made}
-use Rattle.leaf_laws.proofs.Replaced.{Pairs, Standing, beside_pairs, pairs_given, pairs_join, pairs_split, pairs_stand, pairs_weaker, replaced_made, replaced_value, standing_fit, values_of}
+use Rattle.obligation_laws.specs.LeafShown.{LeafShown}
+use Rattle.obligation_laws.specs.MadeOf.{AllMade, Have, LeafMade, Made, OfInputs}
+use Rattle.obligation_laws.proofs.LeafValues.{leaf_shown}
+use Rattle.obligation_laws.proofs.MadeLeaves.{have_back, have_front, leaf_made}
+use Rattle.obligation_laws.proofs.Replaced.{Pairs, Standing, beside_pairs, pairs_given, pairs_join, pairs_split, pairs_stand, pairs_weaker, replaced_made, replaced_value, standing_fit, values_of}
 use Rattle.bv_terms.specs.declared.node.TermOp.TheVariants as ops
 
 -- ---- parameters of a role at two levels

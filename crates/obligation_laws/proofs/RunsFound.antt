@@ -28,7 +28,7 @@ use Rattle.symbolic_laws.specs.Meant.{AllFit, IsOne, arrives, given}
 use Rattle.symbolic_laws.specs.States.{term_world}
 use Rattle.symbolic_laws.proofs.Leading.{some_there}
 use Rattle.symbolic_laws.proofs.Together.{RolesTyped}
-use Rattle.leaf_laws.proofs.Starting.{flat, flat_fits, flat_packet, ran_at, same_fit, started}
+use Rattle.obligation_laws.proofs.Starting.{flat, flat_fits, flat_packet, ran_at, same_fit, started}
 
 pub params_there : (level : ℕ) (d : Design) (role : List ℕ) (r : Role) → role_at level d role ≡ Some r → params_of (term_world level d) role ≡ r.params
 params_there level d role r is = ap (λ (o : Option Role). elim o as (λ x. List Param) [ None ↦ [] | Some x ↦ x.params ]) is

@@ -29,12 +29,12 @@ use Rattle.symbolic_laws.specs.Meant.{AllFit, IsOne, arrives}
 use Rattle.symbolic_laws.specs.States.{State, input_term, term_world}
 use Rattle.symbolic_laws.proofs.Followings.{each_in, passed}
 use Rattle.symbolic_laws.proofs.Values.{IsBit}
-use Rattle.leaf_laws.specs.MadeOf.{AllMade, Made, OfInputs}
-use Rattle.leaf_laws.proofs.LeafValues.{leaf_shown}
-use Rattle.leaf_laws.proofs.LeafWays.{one_way}
-use Rattle.leaf_laws.proofs.Made.{made_fit}
-use Rattle.leaf_laws.proofs.MadeLeaves.{leaf_made}
-use Rattle.leaf_laws.proofs.Together.{holds_of}
+use Rattle.obligation_laws.specs.MadeOf.{AllMade, Made, OfInputs}
+use Rattle.obligation_laws.proofs.LeafValues.{leaf_shown}
+use Rattle.obligation_laws.proofs.LeafWays.{one_way}
+use Rattle.obligation_laws.proofs.Made.{made_fit}
+use Rattle.obligation_laws.proofs.MadeLeaves.{leaf_made}
+use Rattle.obligation_laws.proofs.Together.{holds_of}
 use Rattle.obligation_laws.specs.Failing.{IsKept, NeverTrue, NoRunFails}
 use Rattle.obligation_laws.specs.Formulas.{any_of, chain, formula, part, parts, sending_to}
 use Rattle.obligation_laws.specs.Obligations.{Kind, bounded, contained, kind_of}

@@ -1,4 +1,9 @@
+pub mod MadeOf
+pub mod LeafShown
 pub mod Formulas
 pub mod Obligations
 pub mod Failing
 pub mod SmallTrees
+pub mod FormulaForms
+pub mod ReadBackLeaves
+pub mod FailingRuns

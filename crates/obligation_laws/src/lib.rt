@@ -1,5 +1,12 @@
-//! Obligations of refinements as terms: for each leaf of a refined role the term that is true where the leaf fails, and that a
-//! refinement keeps what it owes if none of these terms is ever true.
+//! What the formulas of obligations mean, as laws: a formula is true exactly at a failure, in a design whose refined bodies
+//! read back ([`exactness_laws`]). Before that, what is known of the leaves of trees ([`leaf_laws`]), the widths of
+//! formulas, which code that makes them asks for ([`form_laws`]), and the read-back rule on leaves: a choice of a body that
+//! a later level refines is read back from what a leaf sends, or is read nowhere ([`read_back_laws`]). Each law is the
+//! contract of a function that does nothing.
 #![tactic(auto)]
 
+pub mod exactness_laws;
+pub mod form_laws;
 pub mod laws;
+pub mod leaf_laws;
+pub mod read_back_laws;

@@ -1,1 +1,4 @@
-mod Shown
+pub mod Standing
+pub mod Made
+pub mod QuestionTerms
+pub mod Shown

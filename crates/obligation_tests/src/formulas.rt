@@ -1,10 +1,11 @@
 //! What refinements owe, and where formulas are true, in the words of the cases.
 use crate::asking::digest;
+use crate::numbers::small;
+use crate::texts::Question;
 use crate::told::{Given, Owed};
 use bv_terms::Terms;
 use case_files::{Printer, first_word, last_line, number};
 use cocoon_resolve::Checked;
-use design_cases::{Question, small};
 use hop_inline::InlineFault;
 use obligation_gen::{Obligation, all_obligations, obligations};
 use std::alloc::Global;

@@ -1,9 +1,13 @@
 //! Obligations, told in words: what each is of, and where its formula is true.
+use crate::copies::copied_tables;
+use crate::fitting::value;
+use crate::inputs::{put_in, zeros};
+use crate::names::role_name;
+use crate::texts::Question;
 use bv_terms::{Env, Terms};
 use case_files::{Printer, numbers};
 use cocoon_num::List;
 use cocoon_resolve::Checked;
-use design_cases::{Question, copied_tables, put_in, role_name, value, zeros};
 use obligation_gen::{Kind, Obligation};
 use std::alloc::Global;
 

@@ -5,7 +5,7 @@ use Rattle.cocoon_num.specs.Tokens.{Kind}
 use Rattle.p4_texts.specs.Machine.{Goals}
 use Rattle.p4_texts.specs.Written.{ExprText}
 use Rattle.p4_parse.specs.Phrases.{Fixed, ReadExpr, Refused, Phrase, RefusedExpr, ExprAt}
-use Rattle.p4_written.specs.declared.WrittenExpr.{WrittenExpr}
+use Rattle.p4_texts.specs.declared.written.WrittenExpr.{WrittenExpr}
 use Rattle.parsing.specs.declared.stop.Stop.{Stop}
 use Rattle.parsing.specs.declared.stop.Stop.TheVariants.{Unexpected, NoMemory}
 

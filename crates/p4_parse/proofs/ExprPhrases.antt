@@ -11,10 +11,10 @@ use Rattle.p4_ir.specs.declared.program.P4Binary.{P4Binary}
 use Rattle.p4_texts.specs.Machine.{Follow, to_close, to_operator, to_colon, Goals, Way, way, by_text, an_expr, after_expr, opened, the_mark, any_name, takes, follow_ways, stuck}
 use Rattle.p4_texts.specs.Written.{ExprText, w_lit, w_meta, w_field, w_unary, w_binary, w_pick, expr_then}
 use Rattle.p4_texts.proofs.Complete.{passes, op_pass}
-use Rattle.p4_written.specs.TreeOf.{expr_of}
+use Rattle.p4_texts.specs.TreeOf.{expr_of}
 use Rattle.p4_parse.specs.Phrases.{Read, Refused, Phrase, ReadExpr, RefusedExpr, ExprAt, ReadOpened, OpenedAt, Literal, Sign, Sides, among, signs, operator_at, mark_in, is_mark, is_word, literal_in, range_goals, dotted_goals, dotted_then, path_goals, path_then, sides_goals, sides_then, sides_of, with_mark}
 use Rattle.parsing.specs.Joins.{Makes}
-use Rattle.p4_written.specs.declared.WrittenExpr.{WrittenExpr}
+use Rattle.p4_texts.specs.declared.written.WrittenExpr.{WrittenExpr}
 use Rattle.parsing.specs.declared.stop.Stop.{Stop}
 use Rattle.parsing.specs.declared.stop.Stop.TheVariants.{Unexpected, NoMemory}
 use Rattle.p4_parse.proofs.Tokens.{drop_some, drop_none, left, refused_at, taken_at, mark_is, word_is, literal_is, same_text}

@@ -7,10 +7,10 @@ use Rattle.cocoon_num.specs.Names.{same_name}
 use Rattle.cocoon_num.specs.Tokens.{Kind, a_name, keyword, plain, literal, mark, finish}
 use Rattle.p4_texts.specs.Machine.{Goals, fields, stuck}
 use Rattle.p4_texts.specs.Written.{FieldText, each_then, field_then}
-use Rattle.p4_written.specs.TreeOf.{field_of}
+use Rattle.p4_texts.specs.TreeOf.{field_of}
 use Rattle.p4_parse.specs.Fields.{field_phrase, field_tokens}
 use Rattle.p4_parse.specs.Phrases.{Read, Refused, is_mark}
-use Rattle.p4_written.specs.declared.WrittenField.{WrittenField}
+use Rattle.p4_texts.specs.declared.written.WrittenField.{WrittenField}
 use Rattle.p4_parse.proofs.Tokens.{drop_some, drop_none, mark_is}
 
 pub record FieldsSoFar (ts : List Kind) (pos : ℕ) (fs : List FieldText) (next : ℕ) : Type 0 where

@@ -1,3 +1,4 @@
+pub mod Names
 pub mod Compose
 pub mod ExprPhrases
 pub mod FieldPhrases

@@ -6,8 +6,8 @@ use Rattle.std.proofs.lemmas.Option.{slice_get_within}
 use Rattle.std.proofs.lemmas.List.{length-map}
 use Rattle.cocoon_num.specs.Tokens.{Kind, a_name, keyword, plain, literal, mark, finish, kinds, lex, without_finish}
 use Rattle.p4_ir.specs.P4Text.{p4_lexicon, said}
-use Rattle.p4_lex.specs.Kinds.{token_of}
-use Rattle.p4_lex.specs.declared.token.Token.{Token}
+use Rattle.p4_parse.specs.Kinds.{token_of}
+use Rattle.p4_parse.specs.declared.token.Token.{Token}
 use Rattle.p4_texts.specs.Machine.{Goals, exactly, fixed, same_token, stuck}
 use Rattle.p4_texts.specs.Reading.{is_end}
 use Rattle.p4_texts.proofs.Complete.{same_kind}

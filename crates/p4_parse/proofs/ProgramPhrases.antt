@@ -7,13 +7,13 @@ use Rattle.cocoon_num.specs.Names.{same_name}
 use Rattle.cocoon_num.specs.Tokens.{Kind, a_name, keyword, plain, literal, mark, finish}
 use Rattle.p4_texts.specs.Machine.{Goals, a_line, a_member, after_struct, exactly, fields, fixed, headers, lines, stmts, stuck, tables, takes, the_mark, the_word}
 use Rattle.p4_texts.specs.Written.{ControlText, control_then, each_then, header_then}
-use Rattle.p4_written.specs.TreeOf.{body_of, control_of, header_of, table_of}
-use Rattle.p4_written.specs.declared.WrittenControl.{WrittenControl}
-use Rattle.p4_written.specs.declared.WrittenField.{WrittenField}
-use Rattle.p4_written.specs.declared.WrittenHeader.{WrittenHeader}
-use Rattle.p4_written.specs.declared.WrittenMember.{WrittenMember}
-use Rattle.p4_written.specs.declared.WrittenStmt.{WrittenStmt}
-use Rattle.p4_written.specs.declared.WrittenTable.{WrittenTable}
+use Rattle.p4_texts.specs.TreeOf.{body_of, control_of, header_of, table_of}
+use Rattle.p4_texts.specs.declared.written.WrittenControl.{WrittenControl}
+use Rattle.p4_texts.specs.declared.written.WrittenField.{WrittenField}
+use Rattle.p4_texts.specs.declared.written.WrittenHeader.{WrittenHeader}
+use Rattle.p4_texts.specs.declared.written.WrittenMember.{WrittenMember}
+use Rattle.p4_texts.specs.declared.written.WrittenStmt.{WrittenStmt}
+use Rattle.p4_texts.specs.declared.written.WrittenTable.{WrittenTable}
 use Rattle.p4_parse.specs.Fields.{fields_tokens, header_goals, header_tokens}
 use Rattle.p4_parse.specs.Lines.{control_goals, control_tokens, declarations_goals, declarations_tokens, ended_goals, ended_tokens, headers_tokens, listed_goals, listed_tokens, lines_tokens, members_tokens, struct_goals}
 use Rattle.p4_parse.specs.Onward.{Onward, Several}

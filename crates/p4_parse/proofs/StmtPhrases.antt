@@ -9,11 +9,11 @@ use Rattle.p4_texts.specs.Machine.{Goal, Goals, any_name, after_else, after_firs
 use Rattle.p4_texts.specs.Written.{StmtText, BlockText, w_done, w_if, w_if_else, stmt_then, block_then}
 use Rattle.std.specs.Prelude.{Vec}
 use Rattle.std.specs.Global.{Global}
-use Rattle.p4_written.specs.TreeOf.{block_of, body_of, expr_of, stmt_of}
-use Rattle.p4_written.specs.declared.WrittenExpr.{WrittenExpr}
+use Rattle.p4_texts.specs.TreeOf.{block_of, body_of, expr_of, stmt_of}
+use Rattle.p4_texts.specs.declared.written.WrittenExpr.{WrittenExpr}
 use Rattle.p4_parse.specs.Phrases.{NoName, Read, Refused, Phrase, Fixed, else_at, is_mark, is_word, name_in}
 use Rattle.p4_parse.specs.Tails.{ReadTail, TailAt, SoFar, after_if, braced_goals, braced_then, guarded_then, call_goals, setting_goals, assignment_goals, verdict_goals, if_goals, guarded_goals}
-use Rattle.p4_written.specs.declared.WrittenStmt.{WrittenStmt}
+use Rattle.p4_texts.specs.declared.written.WrittenStmt.{WrittenStmt}
 use Rattle.parsing.specs.declared.stop.Stop.{Stop}
 use Rattle.parsing.specs.declared.stop.Stop.TheVariants.{Unexpected, NoMemory}
 use Rattle.p4_parse.proofs.Tokens.{drop_some, drop_none, left, refused_at, mark_is, word_is, same_text}

@@ -3,7 +3,7 @@ use Rattle.std.specs.Prelude.{◌≡◌, ℕ, List, Result, Err}
 use Rattle.std.proofs.Common.{sym, subst}
 use Rattle.cocoon_num.specs.Tokens.{Kind}
 use Rattle.p4_texts.specs.Machine.{Goals}
-use Rattle.p4_written.specs.declared.WrittenProgram.{WrittenProgram}
+use Rattle.p4_texts.specs.declared.written.WrittenProgram.{WrittenProgram}
 use Rattle.p4_parse.specs.Onward.{Onwards}
 use Rattle.p4_parse.specs.Phrases.{Fixed, Phrase, Refused}
 use Rattle.p4_parse.specs.Program.{EndAt, ProgramAt, WholeStuck}

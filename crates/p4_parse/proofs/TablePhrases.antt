@@ -8,8 +8,8 @@ use Rattle.cocoon_num.specs.Names.{same_name}
 use Rattle.cocoon_num.specs.Tokens.{Kind, a_name, keyword, plain, literal, mark, finish}
 use Rattle.p4_texts.specs.Machine.{Goal, Goals, Leaves, by_text, first_key, first_match, keys, stuck, tables, takes, the_word, way}
 use Rattle.p4_texts.specs.Written.{each_then, key_then, keys_then, table_then}
-use Rattle.p4_written.specs.TreeOf.{keys_of, table_of}
-use Rattle.p4_written.specs.declared.WrittenTable.{WrittenTable}
+use Rattle.p4_texts.specs.TreeOf.{keys_of, table_of}
+use Rattle.p4_texts.specs.declared.written.WrittenTable.{WrittenTable}
 use Rattle.cocoon_num.specs.declared.bits.Bits.{Bits}
 use Rattle.p4_parse.specs.Fields.{action_goals, action_tokens, actions_goals, actions_tokens, default_goals, default_tokens, result_goals, result_tokens, table_goals, table_tokens}
 use Rattle.p4_parse.specs.Onward.{Onward}

@@ -4,13 +4,13 @@ use Rattle.std.specs.Global.{Global}
 use Rattle.std.proofs.Common.{rules}
 use Rattle.cocoon_num.specs.declared.bits.Bits.{Bits}
 use Rattle.p4_texts.specs.Written as written
-use Rattle.p4_written.specs.TreeOf.{body_of, expr_of, stmt_of}
-use Rattle.p4_written.specs.declared.WrittenExpr.{WrittenExpr}
-use Rattle.p4_written.specs.declared.WrittenExpr as exprs
-use Rattle.p4_written.specs.declared.WrittenExpr.TheVariants as e
-use Rattle.p4_written.specs.declared.WrittenStmt.{WrittenStmt}
-use Rattle.p4_written.specs.declared.WrittenStmt as statements
-use Rattle.p4_written.specs.declared.WrittenStmt.TheVariants as s
+use Rattle.p4_texts.specs.TreeOf.{body_of, expr_of, stmt_of}
+use Rattle.p4_texts.specs.declared.written.WrittenExpr.{WrittenExpr}
+use Rattle.p4_texts.specs.declared.written.WrittenExpr as exprs
+use Rattle.p4_texts.specs.declared.written.WrittenExpr.TheVariants as e
+use Rattle.p4_texts.specs.declared.written.WrittenStmt.{WrittenStmt}
+use Rattle.p4_texts.specs.declared.written.WrittenStmt as statements
+use Rattle.p4_texts.specs.declared.written.WrittenStmt.TheVariants as s
 
 pub lit_is : (b : Bits) → expr_of (e.Lit b) ≡ written.w_lit b.width b.value
 lit_is b = search (rules, exprs.the_lemmas)

@@ -8,11 +8,11 @@ use Rattle.p4_ir.specs.P4Text.{architecture}
 use Rattle.p4_texts.specs.Machine.{Goals, a_line, a_member, fields, fixed, headers, lines, stmts, stuck, tables, the_deparser, the_egress, the_ingress, the_mark, the_parser, whole_text}
 use Rattle.p4_texts.specs.Written.{ProgramText}
 use Rattle.std.specs.Prelude.{codes}
-use Rattle.p4_written.specs.TreeOf.{control_of, field_of, header_of, member_of}
-use Rattle.p4_written.specs.declared.WrittenControl.{WrittenControl}
-use Rattle.p4_written.specs.declared.WrittenField.{WrittenField}
-use Rattle.p4_written.specs.declared.WrittenHeader.{WrittenHeader}
-use Rattle.p4_written.specs.declared.WrittenMember.{WrittenMember}
+use Rattle.p4_texts.specs.TreeOf.{control_of, field_of, header_of, member_of}
+use Rattle.p4_texts.specs.declared.written.WrittenControl.{WrittenControl}
+use Rattle.p4_texts.specs.declared.written.WrittenField.{WrittenField}
+use Rattle.p4_texts.specs.declared.written.WrittenHeader.{WrittenHeader}
+use Rattle.p4_texts.specs.declared.written.WrittenMember.{WrittenMember}
 use Rattle.p4_parse.specs.Lines.{control_goals, control_tokens, declarations_goals, declarations_tokens, ended_goals, headers_tokens, listed_goals, listed_tokens, struct_goals}
 use Rattle.p4_parse.specs.Onward.{Onward}
 use Rattle.p4_parse.specs.Phrases.{Read, Refused}

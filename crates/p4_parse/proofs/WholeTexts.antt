@@ -7,7 +7,7 @@ use Rattle.std.proofs.lemmas.Bool.Decides.{nat_tests}
 use Rattle.std.proofs.lemmas.List.{append_assoc, append-nil, drop_all, length-map, length-take-le, take-append-drop, take-take}
 use Rattle.cocoon_num.specs.Tokens.{Kind, finish, is_shallow}
 use Rattle.p4_ir.specs.P4Text.{p4_bounds}
-use Rattle.p4_lex.specs.declared.token.Token.{Token}
+use Rattle.p4_parse.specs.declared.token.Token.{Token}
 use Rattle.p4_texts.specs.Machine.{stuck, whole_text}
 use Rattle.p4_texts.specs.Reading as reading
 use Rattle.p4_texts.specs.Reading.{Ended, P4Reading, is_end, one_before, the_end}

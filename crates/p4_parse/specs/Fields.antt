@@ -6,10 +6,10 @@ use Rattle.p4_texts.specs.Machine.{Goals, any_literal, any_name, any_plain, fiel
 use Rattle.p4_texts.specs.Written.{each_then, field_then, header_then, member_then}
 use Rattle.cocoon_num.specs.Tokens.{literal}
 use Rattle.cocoon_num.specs.declared.bits.Bits.{Bits}
-use Rattle.p4_written.specs.TreeOf.{field_of, header_of, member_of}
-use Rattle.p4_written.specs.declared.WrittenField.{WrittenField}
-use Rattle.p4_written.specs.declared.WrittenHeader.{WrittenHeader}
-use Rattle.p4_written.specs.declared.WrittenMember.{WrittenMember}
+use Rattle.p4_texts.specs.TreeOf.{field_of, header_of, member_of}
+use Rattle.p4_texts.specs.declared.written.WrittenField.{WrittenField}
+use Rattle.p4_texts.specs.declared.written.WrittenHeader.{WrittenHeader}
+use Rattle.p4_texts.specs.declared.written.WrittenMember.{WrittenMember}
 
 -- bit<W>
 abbrev pub width_goals : Goals

@@ -1,3 +1,5 @@
+pub mod LexFaults
+pub mod Kinds
 pub mod Faults
 pub mod Fields
 pub mod Lines

@@ -4,11 +4,11 @@ use Rattle.std.specs.Global.{Global}
 use Rattle.cocoon_num.specs.Tokens.{Kind, a_name, finish, mark}
 use Rattle.p4_texts.specs.Machine.{Goals, a_control, a_line, a_member, after_struct, any_name, exactly, fields, fixed, lines, the_mark, the_word}
 use Rattle.p4_texts.specs.Written.{control_then, each_then, field_then, header_then, member_then}
-use Rattle.p4_written.specs.TreeOf.{control_of, field_of, header_of, member_of}
-use Rattle.p4_written.specs.declared.WrittenControl.{WrittenControl}
-use Rattle.p4_written.specs.declared.WrittenField.{WrittenField}
-use Rattle.p4_written.specs.declared.WrittenHeader.{WrittenHeader}
-use Rattle.p4_written.specs.declared.WrittenMember.{WrittenMember}
+use Rattle.p4_texts.specs.TreeOf.{control_of, field_of, header_of, member_of}
+use Rattle.p4_texts.specs.declared.written.WrittenControl.{WrittenControl}
+use Rattle.p4_texts.specs.declared.written.WrittenField.{WrittenField}
+use Rattle.p4_texts.specs.declared.written.WrittenHeader.{WrittenHeader}
+use Rattle.p4_texts.specs.declared.written.WrittenMember.{WrittenMember}
 use Rattle.p4_parse.specs.Pieces.{piece_text, piece_tokens}
 use Rattle.p4_parse.specs.declared.pieces.Piece.{Piece}
 use Rattle.p4_parse.specs.declared.pieces.Piece.TheVariants.{Headers, Meta, End}

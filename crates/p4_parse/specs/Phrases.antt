@@ -6,13 +6,13 @@ use Rattle.cocoon_num.specs.Tokens.{Kind, a_name, plain, literal, mark}
 use Rattle.cocoon_num.specs.declared.bits.Bits.{Bits}
 use Rattle.p4_ir.specs.declared.program.P4Binary.{P4Binary}
 use Rattle.p4_ir.specs.declared.program.P4Binary.TheVariants as op
-use Rattle.p4_lex.specs.Kinds.{kind_of, mark_text}
-use Rattle.p4_lex.specs.declared.token.Mark.{Mark}
-use Rattle.p4_lex.specs.declared.token.Token.{Token}
+use Rattle.p4_parse.specs.Kinds.{kind_of, mark_text}
+use Rattle.p4_parse.specs.declared.token.Mark.{Mark}
+use Rattle.p4_parse.specs.declared.token.Token.{Token}
 use Rattle.p4_texts.specs.Machine.{Follow, Goals, an_expr, any_name, any_plain, opened, stuck, the_mark, to_close, to_colon}
 use Rattle.p4_texts.specs.Written.{ExprText, expr_then}
-use Rattle.p4_written.specs.TreeOf.{expr_of}
-use Rattle.p4_written.specs.declared.WrittenExpr.{WrittenExpr}
+use Rattle.p4_texts.specs.TreeOf.{expr_of}
+use Rattle.p4_texts.specs.declared.written.WrittenExpr.{WrittenExpr}
 use Rattle.parsing.specs.declared.stop.Stop.{Stop}
 use Rattle.parsing.specs.declared.stop.Stop.TheVariants.{Unexpected, NoMemory}
 

@@ -4,8 +4,8 @@ use Rattle.cocoon_num.specs.Tokens.{Kind, finish}
 use Rattle.p4_ir.specs.P4Text.{architecture}
 use Rattle.p4_texts.specs.Machine.{stuck, whole_text}
 use Rattle.p4_texts.specs.Written.{Lines, ProgramText, each_then, header_then, rest_then}
-use Rattle.p4_written.specs.TreeOf.{text_of}
-use Rattle.p4_written.specs.declared.WrittenProgram.{WrittenProgram}
+use Rattle.p4_texts.specs.TreeOf.{text_of}
+use Rattle.p4_texts.specs.declared.written.WrittenProgram.{WrittenProgram}
 use Rattle.p4_parse.specs.Lines.{ended_goals, ended_tokens}
 use Rattle.p4_parse.specs.Phrases.{Refused}
 use Rattle.parsing.specs.declared.stop.Stop.{Stop}

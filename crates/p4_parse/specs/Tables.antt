@@ -6,8 +6,8 @@ use Rattle.p4_ir.specs.P4Text.{match_kind}
 use Rattle.p4_texts.specs.Machine as machine
 use Rattle.p4_texts.specs.Machine.{Goals, any_name, exactly, first_key, first_match, the_mark, the_word}
 use Rattle.p4_texts.specs.Written.{each_then, key_then, keys_then, table_then}
-use Rattle.p4_written.specs.TreeOf.{keys_of, table_of}
-use Rattle.p4_written.specs.declared.WrittenTable.{WrittenTable}
+use Rattle.p4_texts.specs.TreeOf.{keys_of, table_of}
+use Rattle.p4_texts.specs.declared.written.WrittenTable.{WrittenTable}
 use Rattle.p4_parse.specs.Fields.{action_goals, actions_goals, default_goals, result_goals, table_goals}
 
 -- m.NAME :

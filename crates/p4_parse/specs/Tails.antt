@@ -5,10 +5,10 @@ use Rattle.cocoon_num.specs.Tokens.{Kind, a_name, literal, mark}
 use Rattle.cocoon_num.specs.declared.bits.Bits.{Bits}
 use Rattle.p4_texts.specs.Machine.{Goals, an_expr, any_literal, any_name, stmts, stmts_or_else, stuck, the_mark, to_close, to_semicolon}
 use Rattle.p4_texts.specs.Written.{StmtText, BlockText, block_then, expr_then, stmt_then}
-use Rattle.p4_written.specs.TreeOf.{body_of, expr_of, stmt_of}
+use Rattle.p4_texts.specs.TreeOf.{body_of, expr_of, stmt_of}
 use Rattle.p4_parse.specs.Phrases.{Refused}
-use Rattle.p4_written.specs.declared.WrittenExpr.{WrittenExpr}
-use Rattle.p4_written.specs.declared.WrittenStmt.{WrittenStmt}
+use Rattle.p4_texts.specs.declared.written.WrittenExpr.{WrittenExpr}
+use Rattle.p4_texts.specs.declared.written.WrittenStmt.{WrittenStmt}
 use Rattle.parsing.specs.declared.stop.Stop.{Stop}
 use Rattle.parsing.specs.declared.stop.Stop.TheVariants.{Unexpected, NoMemory}
 

@@ -4,11 +4,11 @@ ghost use Rattle.p4_texts.specs.Machine.{a_member, fields as field_goals};
 ghost use Rattle.p4_parse.specs.Phrases.{Phrase};
 ghost use Rattle.p4_parse.specs.Fields.{action_goals, action_tokens, actions_goals, actions_tokens, default_goals, default_tokens, field_phrase, field_tokens, fields_tokens, header_goals, header_tokens, member_tokens, result_goals, result_tokens, table_goals, table_tokens, width_goals, width_tokens};
 
+use crate::Mark;
 use crate::exprs::dotted;
 use crate::source::Source;
 use cocoon_num::{Bits, List, Text};
-use p4_lex::Mark;
-use p4_written::{WrittenField, WrittenHeader, WrittenMember};
+use p4_texts::written::{WrittenField, WrittenHeader, WrittenMember};
 use parsing::Stop;
 use std::alloc::Global;
 

@@ -5,7 +5,7 @@ ghost use Rattle.p4_ir.specs.P4Text.{p4_bounds};
 ghost use Rattle.p4_parse.specs.Phrases.{mark_kind};
 ghost use Rattle.parsing.specs.Depth.{closing, opening, restarting};
 
-use p4_lex::{Mark, Token, TokenKind};
+use crate::{Mark, Token, TokenKind};
 use parsing::Depth;
 
 /// P4 texts.

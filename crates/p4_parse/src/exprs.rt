@@ -1,21 +1,21 @@
 //! Expressions. Each operation stands in brackets of its own.
 ghost use Rattle.std.specs.Prelude.{◌≡◌, ◌+◌, ◌<◌, ◌≤◌, [], ◌∷◌, None, codes, false, length, slice_get, true, IfOk, IsSome, ◌^◌};
 ghost use Rattle.cocoon_num.specs.Tokens.{mark as the_kind};
-ghost use Rattle.p4_lex.specs.Kinds.{mark_text};
+ghost use Rattle.p4_parse.specs.Kinds.{mark_text};
 ghost use Rattle.p4_ir.specs.Program.{unary_of};
 ghost use Rattle.p4_texts.specs.Machine.{an_expr, to_close, to_colon};
 ghost use Rattle.p4_texts.specs.Written as written;
 ghost use Rattle.p4_texts.specs.Written.{expr_then};
-ghost use Rattle.p4_written.specs.TreeOf.{expr_of};
+ghost use Rattle.p4_texts.specs.TreeOf.{expr_of};
 ghost use Rattle.p4_parse.specs.Phrases.{ExprAt, OpenedAt, Phrase, dotted_goals, dotted_then, is_mark, literal_in, mark_in, operator_at, path_goals, path_then, range_goals, range_then, sides_goals, sides_of, sides_then};
 ghost use Rattle.parsing.specs.Joins.{Makes};
 
+use crate::Mark;
 use crate::joins::then;
 use crate::source::{Source, operation};
 use cocoon_num::Text;
 use p4_ir::{P4Binary, P4Unary};
-use p4_lex::Mark;
-use p4_written::WrittenExpr;
+use p4_texts::written::WrittenExpr;
 use parsing::{Stop, both};
 use std::alloc::Global;
 

@@ -1,11 +1,11 @@
 //! What was read, with what stands beside it: each is made by a function of its own, since a check is much faster on a
 //! phrase with few early returns.
 ghost use Rattle.std.specs.Prelude.{◌≡◌};
-ghost use Rattle.p4_lex.specs.Kinds.{mark_text};
+ghost use Rattle.p4_parse.specs.Kinds.{mark_text};
 ghost use Rattle.p4_parse.specs.Phrases.{with_mark};
 
+use crate::Mark;
 use crate::source::Source;
-use p4_lex::Mark;
 use parsing::Stop;
 
 /// What was read, where this mark comes after it.

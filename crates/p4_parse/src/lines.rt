@@ -8,12 +8,12 @@ ghost use Rattle.p4_parse.specs.Onward.{Several};
 ghost use Rattle.p4_parse.specs.Phrases.{Phrase};
 ghost use Rattle.p4_parse.specs.Pieces.{piece_text, piece_tokens};
 
+use crate::Mark;
 use crate::decls::member;
 use crate::pieces::{Piece, expect_all, lexed};
 use crate::source::Source;
 use cocoon_num::Text;
-use p4_lex::Mark;
-use p4_written::WrittenMember;
+use p4_texts::written::WrittenMember;
 use parsing::Stop;
 use std::alloc::Global;
 

@@ -6,7 +6,7 @@ ghost use Rattle.p4_parse.specs.Phrases.{Fixed, kinds_at};
 ghost use Rattle.p4_parse.specs.Pieces.{piece_text, piece_tokens};
 
 use crate::source::Source;
-use p4_lex::{LexFault, Token, lex};
+use crate::{LexFault, Token, lex};
 use parsing::Stop;
 use std::alloc::Global;
 

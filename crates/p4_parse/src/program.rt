@@ -6,6 +6,7 @@ ghost use Rattle.p4_parse.specs.Onward.{Onwards, Several};
 ghost use Rattle.p4_parse.specs.Phrases.{Phrase};
 ghost use Rattle.p4_parse.specs.Program.{EndAt, ProgramAt};
 
+use crate::Mark;
 use crate::decls::{fields, header};
 use crate::lines::{lines, members};
 use crate::pieces::{Piece, expect_piece};
@@ -13,8 +14,9 @@ use crate::source::Source;
 use crate::stmts::block;
 use crate::tables::tables;
 use cocoon_num::{List, Text};
-use p4_lex::Mark;
-use p4_written::{WrittenControl, WrittenField, WrittenHeader, WrittenMember, WrittenProgram};
+use p4_texts::written::{
+    WrittenControl, WrittenField, WrittenHeader, WrittenMember, WrittenProgram,
+};
 use parsing::Stop;
 use std::alloc::Global;
 

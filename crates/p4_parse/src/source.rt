@@ -2,16 +2,16 @@
 ghost use Rattle.std.specs.Prelude.{◌≡◌, ◌<◌, ◌≤◌, ◌+◌, ◌^◌, ℕ, List, [], ◌∷◌, IfOk, IsSome, Some, false, option_map, length, slice_get, true};
 ghost use Rattle.cocoon_num.specs.Tokens.{a_name, finish, literal, mark as the_kind, plain};
 ghost use Rattle.cocoon_num.specs.declared.bits.Bits.{Bits as CodeBits};
-ghost use Rattle.p4_lex.specs.Kinds.{kind_of, mark_text};
+ghost use Rattle.p4_parse.specs.Kinds.{kind_of, mark_text};
 ghost use Rattle.p4_texts.specs.Machine.{any_literal, any_name, any_plain, exactly, same_token, the_mark, the_word};
 ghost use Rattle.p4_texts.specs.Reading.{is_end as is_the_end};
 ghost use Rattle.p4_parse.specs.Phrases.{Fixed, NoName, Phrase, is_mark, is_word, kind_at, kinds_at, literal_in, literal_of, among, mark_in, name_in, plain_in, signs};
 ghost use Rattle.p4_parse.specs.Pieces.{ends_at, has_end, is_some_literal, is_some_name, is_some_number, same_at};
 
+use crate::{Mark, Token, TokenKind};
 use cocoon_num::{Bits, Text};
 use lexing::bytes::same_bytes;
 use p4_ir::P4Binary;
-use p4_lex::{Mark, Token, TokenKind};
 use parsing::{Stop, bytes_between};
 use std::alloc::Global;
 use std::marker::Model;

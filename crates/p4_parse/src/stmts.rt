@@ -1,19 +1,19 @@
 //! Statements. The first tokens tell which one it is: any name may be that of a table.
 ghost use Rattle.std.specs.Prelude.{◌≡◌, ◌+◌, ◌<◌, ◌≤◌, ◌^◌, ◌&&◌, [], ◌∷◌, codes, false, length, slice_get, true};
 ghost use Rattle.cocoon_num.specs.Names.{same_name};
-ghost use Rattle.p4_lex.specs.Kinds.{mark_text};
+ghost use Rattle.p4_parse.specs.Kinds.{mark_text};
 ghost use Rattle.p4_texts.specs.Machine as machine;
 ghost use Rattle.p4_texts.specs.Machine.{after_first, an_expr, stmts as statements, to_semicolon};
 ghost use Rattle.p4_parse.specs.Phrases.{Fixed, Phrase, else_at, is_mark};
 ghost use Rattle.p4_parse.specs.Tails.{TailAt, after_dot as past_dot, after_if, assignment_goals, assignment_then, after_name as past_name, after_names, block_ended, braced_goals, braced_then, call_goals, call_tokens, guarded_goals, guarded_then, if_goals, nothing, setting_goals, setting_then, value_then, verdict_goals, verdict_then};
 
+use crate::Mark;
 use crate::exprs::{expr, operand};
 use crate::joins::then;
 use crate::source::Source;
 use cocoon_num::{Bits, Text};
 use lexing::bytes::same_bytes;
-use p4_lex::Mark;
-use p4_written::{WrittenExpr, WrittenStmt};
+use p4_texts::written::{WrittenExpr, WrittenStmt};
 use parsing::{Stop, both};
 use std::alloc::Global;
 

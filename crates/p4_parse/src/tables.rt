@@ -8,12 +8,12 @@ ghost use Rattle.p4_parse.specs.Onward.{Onwards};
 ghost use Rattle.p4_parse.specs.Phrases.{Phrase, is_mark};
 ghost use Rattle.p4_parse.specs.Tables.{after_first_key, after_kind, declaration_goals, declaration_tokens, first_key_goals, first_key_tokens, key_goals, key_name_goals, key_name_tokens, keys_tokens, kind_tokens, tables_tokens};
 
+use crate::Mark;
 use crate::decls::{action, actions, default, result, table};
 use crate::exprs::dotted;
 use crate::source::Source;
 use cocoon_num::{List, Text};
-use p4_lex::Mark;
-use p4_written::WrittenTable;
+use p4_texts::written::WrittenTable;
 use parsing::Stop;
 use std::alloc::Global;
 

@@ -4,16 +4,16 @@ ghost use Rattle.cocoon_num.specs.Tokens.{is_shallow};
 ghost use Rattle.p4_ir.specs.P4Text.{p4_bounds};
 ghost use Rattle.p4_texts.specs.Reading.{Ended};
 ghost use Rattle.p4_texts.specs.Written.{P4TextAt};
-ghost use Rattle.p4_written.specs.TreeOf.{text_of};
+ghost use Rattle.p4_texts.specs.TreeOf.{text_of};
 ghost use Rattle.p4_parse.specs.Faults.{IsFirstFault};
 ghost use Rattle.p4_parse.specs.Phrases.{kinds_at};
 
+use crate::Token;
 use crate::deep::P4;
 use crate::program::program;
 use crate::source::Source;
-use p4_lex::Token;
 use p4_texts::reader_laws::reading;
-use p4_written::WrittenProgram;
+use p4_texts::written::WrittenProgram;
 use parsing::{ParseFault, fault_of, first_deep, up_to};
 use std::alloc::Global;
 

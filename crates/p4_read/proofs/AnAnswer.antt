@@ -8,7 +8,7 @@ use Rattle.cocoon_num.specs.Tokens.{Kind as Token-kind, Token, Lexed, is_shallow
 use Rattle.p4_ir.specs.P4Reads.{P4Reads}
 use Rattle.p4_ir.specs.P4Text.{p4_bounds, p4_lexicon}
 use Rattle.p4_ir.specs.P4Tree.{Program}
-use Rattle.p4_lex.specs.Kinds.{fault_offset}
+use Rattle.p4_parse.specs.Kinds.{fault_offset}
 use Rattle.p4_names.specs.KindFaults.{kind_faults}
 use Rattle.p4_names.specs.Meant.{program_of_text}
 use Rattle.p4_names.specs.ReadText.{StandsFor}

@@ -5,10 +5,10 @@ use Rattle.std.proofs.lemmas.List.{length-map}
 use Rattle.cocoon_num.specs.Tokens.{is_shallow, kinds, lex}
 use Rattle.p4_ir.specs.P4Text.{p4_bounds, p4_lexicon}
 use Rattle.p4_ir.specs.P4Tree.{Program}
-use Rattle.p4_lex.specs.Kinds.{HasFault, token_of}
-use Rattle.p4_lex.specs.declared.lexer.LexFault.{LexFault}
-use Rattle.p4_lex.specs.declared.lexer.LexFault.TheVariants as lexed
-use Rattle.p4_lex.specs.declared.token.Token.{Token}
+use Rattle.p4_parse.specs.Kinds.{HasFault, token_of}
+use Rattle.p4_parse.specs.declared.lexer.LexFault.{LexFault}
+use Rattle.p4_parse.specs.declared.lexer.LexFault.TheVariants as lexed
+use Rattle.p4_parse.specs.declared.token.Token.{Token}
 use Rattle.p4_names.specs.KindFaults.{kind_faults}
 use Rattle.p4_names.specs.Meant.{program_of_text}
 use Rattle.p4_names.specs.ReadText.{StandsFor}

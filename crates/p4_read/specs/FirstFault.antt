@@ -6,9 +6,9 @@ use Rattle.std.specs.Prelude.{◌≡◌, ℕ, List, Some, Ok, IsTrue}
 use Rattle.cocoon_num.specs.FirstFaults.{Unexpected as UnexpectedAt, TooDeep as TooDeepAt}
 use Rattle.cocoon_num.specs.Tokens.{Kind as TokenKind, Token, is_shallow, kinds, lex}
 use Rattle.p4_ir.specs.P4Text.{p4_bounds, p4_lexicon}
-use Rattle.p4_lex.specs.Kinds.{FaultAt}
-use Rattle.p4_lex.specs.declared.lexer.LexFault.{LexFault}
-use Rattle.p4_lex.specs.declared.lexer.LexFault.TheVariants as lexed
+use Rattle.p4_parse.specs.Kinds.{FaultAt}
+use Rattle.p4_parse.specs.declared.lexer.LexFault.{LexFault}
+use Rattle.p4_parse.specs.declared.lexer.LexFault.TheVariants as lexed
 use Rattle.p4_names.specs.KindFaults.{kind_faults}
 use Rattle.parsing.specs.declared.fault.ParseFault.{ParseFault}
 use Rattle.parsing.specs.declared.fault.ParseFault.TheVariants as parsed

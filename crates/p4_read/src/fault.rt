@@ -1,6 +1,5 @@
 //! The first fault of a P4 text.
-use p4_lex::LexFault;
-use p4_parse::ParseFault;
+use p4_parse::{LexFault, ParseFault};
 use p4_resolve::KindFault;
 
 /// The first fault of a P4 text.

@@ -4,10 +4,10 @@ use Rattle.cocoon_num.specs.Tokens.{Kind, mark}
 use Rattle.std.specs.Prelude.{codes}
 use Rattle.p4_ir.specs.P4Text.{architecture, said}
 use Rattle.p4_texts.specs.Written.{FieldText, HeaderText, MemberText, ProgramText, each_then, field_then, header_then, member_then, parser_then, text_tokens}
-use Rattle.name_table.specs.NameNumbers.{Numbers}
-use Rattle.name_table.specs.declared.table.NameTable.{NameTable}
-use Rattle.p4_written.specs.TreeOf.{header_of}
-use Rattle.p4_written.specs.declared.WrittenHeader.{WrittenHeader}
+use Rattle.numbering.specs.NameNumbers.{Numbers}
+use Rattle.numbering.specs.declared.name_table.NameTable.{NameTable}
+use Rattle.p4_texts.specs.TreeOf.{header_of}
+use Rattle.p4_texts.specs.declared.written.WrittenHeader.{WrittenHeader}
 use Rattle.p4_resolve.specs.Scopes.{EachFew}
 use Rattle.std.proofs.lemmas.List.{length-map, length-take-le}
 

@@ -7,9 +7,9 @@ use Rattle.p4_ir.specs.P4Tree.{P4Field, P4Header, field_widths}
 use Rattle.p4_names.specs.KindFaults.{Piece, field_pieces, fixed, header_keeps, header_pieces, meta_pieces}
 use Rattle.p4_names.specs.Meant.{field_meant, header_meant, meta_meant}
 use Rattle.p4_texts.specs.Written.{FieldText, HeaderText}
-use Rattle.p4_written.specs.TreeOf.{field_of, header_of}
-use Rattle.p4_written.specs.declared.WrittenField.{WrittenField}
-use Rattle.p4_written.specs.declared.WrittenHeader.{WrittenHeader}
+use Rattle.p4_texts.specs.TreeOf.{field_of, header_of}
+use Rattle.p4_texts.specs.declared.written.WrittenField.{WrittenField}
+use Rattle.p4_texts.specs.declared.written.WrittenHeader.{WrittenHeader}
 use Rattle.p4_resolve.specs.FieldForms.{field_piece, header_own, meta_piece}
 use Rattle.p4_resolve.proofs.DeclarationFacts.{Forms}
 

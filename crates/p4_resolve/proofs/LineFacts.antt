@@ -1,7 +1,7 @@
 -- Lines that name headers, each that of its place.
 use Rattle.std.proofs.Common.{◌≡◌, ℕ, zero, suc, ◌+◌, ◌<◌, ◌==◌, ◌&&◌, Bool, true, false, List, [], ◌∷◌, ◌++◌, length, map, drop, get_or, nat_eq, Option, slice_get, refl, sym, ap, subst, ◌∙◌, arith, add-one}
-use Rattle.p4_written.specs.TreeOf.{member_of}
-use Rattle.p4_written.specs.declared.WrittenMember.{WrittenMember}
+use Rattle.p4_texts.specs.TreeOf.{member_of}
+use Rattle.p4_texts.specs.declared.written.WrittenMember.{WrittenMember}
 use Rattle.p4_resolve.specs.Judged.{Rest}
 use Rattle.std.specs.List.{starts_with}
 use Rattle.std.proofs.lemmas.List.{at_drop_more}

@@ -8,7 +8,7 @@ use Rattle.cocoon_num.specs.Names.{same_name}
 use Rattle.cocoon_num.specs.Tokens as tokens
 use Rattle.p4_kinds.specs.Seen.{has_key, Joins}
 use Rattle.p4_resolve.specs.Judged.{Sees}
-use Rattle.name_table.proofs.NameFacts.{same-symm}
+use Rattle.numbering.proofs.NameFacts.{same-symm}
 
 -- `starts_with` on bytes says whether a text begins so
 pub begins_is : (p s : List ℕ) → starts_with nat_eq s p ≡ tokens.begins p s

@@ -12,7 +12,7 @@ use Rattle.cocoon_num.specs.Names.{same_name}
 use Rattle.cocoon_num.specs.Tokens.{dec_digit, digits_after, is_digit, kept_if}
 use Rattle.p4_names.specs.Meant.{number_in}
 use Rattle.p4_resolve.specs.Numbered.{begins_with, is_canonical, is_small, small}
-use Rattle.name_table.proofs.NameFacts.{same-refl, same-true}
+use Rattle.numbering.proofs.NameFacts.{same-refl, same-true}
 
 abbrev value : ℕ → List ℕ → Option ℕ
 value v ds = digits_after 10 dec_digit v ds

@@ -3,13 +3,13 @@ use Rattle.std.proofs.Common.{◌≡◌, ℕ, zero, suc, ◌+◌, ◌<◌, Bool,
 use Rattle.std.specs.Prelude.{option_map, unwrap_or}
 use Rattle.std.proofs.lemmas.List.{map-append, take_more}
 use Rattle.cocoon_num.specs.Names.{same_name}
-use Rattle.name_table.specs.declared.table.NameTable.{NameTable}
-use Rattle.name_table.specs.NameNumbers.{index_of, Numbers}
-use Rattle.name_table.proofs.NameFacts.{same-symm}
+use Rattle.numbering.specs.declared.name_table.NameTable.{NameTable}
+use Rattle.numbering.specs.NameNumbers.{index_of, Numbers}
+use Rattle.numbering.proofs.NameFacts.{same-symm}
 use Rattle.p4_names.specs.Meant.{field_at, names_of, place_in}
 use Rattle.p4_texts.specs.Written.{HeaderText, ProgramText}
-use Rattle.p4_written.specs.TreeOf.{header_of}
-use Rattle.p4_written.specs.declared.WrittenHeader.{WrittenHeader}
+use Rattle.p4_texts.specs.TreeOf.{header_of}
+use Rattle.p4_texts.specs.declared.written.WrittenHeader.{WrittenHeader}
 use Rattle.p4_resolve.specs.Scopes.{EachNumbers}
 
 pub place_is : (names : List (List ℕ)) (x : List ℕ) → unwrap_or (index_of x names) (length names) ≡ place_in names x

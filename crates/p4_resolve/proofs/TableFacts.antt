@@ -14,9 +14,9 @@ use Rattle.p4_ir.specs.declared.program.Table.{Table}
 use Rattle.p4_names.specs.KindFaults.{Piece, action_keeps, action_tokens, least_after, own_table_tokens, table_keeps, table_pieces}
 use Rattle.p4_names.specs.Meant.{number_in, program_of_text, table_meant}
 use Rattle.p4_texts.specs.Written.{ProgramText, TableText, each_then, key_then, keys_then}
-use Rattle.p4_written.specs.TreeOf.{keys_of, table_of}
-use Rattle.p4_written.specs.declared.WrittenTable.{WrittenTable}
-use Rattle.name_table.proofs.NameFacts.{same-true}
+use Rattle.p4_texts.specs.TreeOf.{keys_of, table_of}
+use Rattle.p4_texts.specs.declared.written.WrittenTable.{WrittenTable}
+use Rattle.numbering.proofs.NameFacts.{same-true}
 use Rattle.p4_resolve.proofs.ScopeFacts.{taken}
 use Rattle.p4_resolve.specs.Controls.{IsBefore, TablesKeep, action_names, table_numbers}
 use Rattle.p4_resolve.specs.Judged.{Rest, Sees, Stops, StopsBy, index}

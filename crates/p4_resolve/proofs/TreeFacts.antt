@@ -11,13 +11,13 @@ use Rattle.p4_ir.specs.declared.program.P4Expr.TheVariants as code_variants
 use Rattle.p4_ir.specs.declared.program.P4Stmt as code_stmt
 use Rattle.p4_ir.specs.declared.program.P4Stmt.TheVariants as code_stmts
 use Rattle.p4_texts.specs.Written as text
-use Rattle.p4_written.specs.TreeOf.{body_of, expr_of, stmt_of}
-use Rattle.p4_written.specs.declared.WrittenExpr.{WrittenExpr}
-use Rattle.p4_written.specs.declared.WrittenExpr as expr
-use Rattle.p4_written.specs.declared.WrittenExpr.TheVariants as variants
-use Rattle.p4_written.specs.declared.WrittenStmt.{WrittenStmt}
-use Rattle.p4_written.specs.declared.WrittenStmt as stmt
-use Rattle.p4_written.specs.declared.WrittenStmt.TheVariants as stmts
+use Rattle.p4_texts.specs.TreeOf.{body_of, expr_of, stmt_of}
+use Rattle.p4_texts.specs.declared.written.WrittenExpr.{WrittenExpr}
+use Rattle.p4_texts.specs.declared.written.WrittenExpr as expr
+use Rattle.p4_texts.specs.declared.written.WrittenExpr.TheVariants as variants
+use Rattle.p4_texts.specs.declared.written.WrittenStmt.{WrittenStmt}
+use Rattle.p4_texts.specs.declared.written.WrittenStmt as stmt
+use Rattle.p4_texts.specs.declared.written.WrittenStmt.TheVariants as stmts
 
 pub lit_is : (b : Bits) → expr_of (variants.Lit b) ≡ text.w_lit b.width b.value
 lit_is b = search (rules, expr.the_lemmas)

@@ -9,7 +9,7 @@ use Rattle.p4_names.specs.Meant.{control_meant, header_meant, meta_meant, names_
 use Rattle.p4_texts.specs.Written.{ControlText, ProgramText, TableText}
 use Rattle.p4_resolve.specs.Judged.{Passes, Sees}
 use Rattle.p4_resolve.specs.Numbered.{is_small}
-use Rattle.name_table.specs.NameNumbers.{Numbers}
+use Rattle.numbering.specs.NameNumbers.{Numbers}
 use Rattle.p4_resolve.specs.Scopes.{EachNumbers, member_names}
 use Rattle.p4_resolve.specs.declared.controls.Before.{Before}
 use Rattle.p4_resolve.specs.declared.scope.Scope.{Scope}

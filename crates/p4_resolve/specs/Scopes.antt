@@ -6,9 +6,9 @@ use Rattle.p4_ir.specs.Program.{field_of, header_of}
 use Rattle.p4_kinds.specs.Seen.{HasNumbers}
 use Rattle.p4_names.specs.Meant.{names_of}
 use Rattle.p4_texts.specs.Written.{HeaderText, MemberText, ProgramText}
-use Rattle.name_table.specs.NameNumbers.{Numbers}
+use Rattle.numbering.specs.NameNumbers.{Numbers}
 use Rattle.p4_resolve.specs.Numbered.{is_small}
-use Rattle.name_table.specs.declared.table.NameTable.{NameTable}
+use Rattle.numbering.specs.declared.name_table.NameTable.{NameTable}
 use Rattle.p4_resolve.specs.declared.scope.Scope.{Scope}
 
 abbrev pub member_names : List MemberText → List (List ℕ)

@@ -6,7 +6,7 @@ ghost use Rattle.p4_ir.specs.P4Text.{said};
 ghost use Rattle.p4_resolve.specs.Controls.{ControlKeeps, IsBefore, KnowsText, TablesKeep, action_names, table_numbers};
 ghost use Rattle.p4_resolve.specs.Judged.{StopsBy};
 ghost use Rattle.p4_texts.specs.Written.{ProgramText, TableText};
-ghost use Rattle.p4_written.specs.TreeOf.{control_of, table_of};
+ghost use Rattle.p4_texts.specs.TreeOf.{control_of, table_of};
 
 use crate::fault::KindFault;
 use crate::pieces::{after, pass};
@@ -16,7 +16,7 @@ use crate::table_rules::{action_fits, after_keys, fitting_table};
 use cocoon_num::List;
 use p4_ir::{Control, Table};
 use p4_kinds::numbers::numbers_of;
-use p4_written::{WrittenControl, WrittenTable};
+use p4_texts::written::{WrittenControl, WrittenTable};
 use std::alloc::Global;
 use std::collections::BTreeSet;
 

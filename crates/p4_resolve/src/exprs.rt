@@ -12,14 +12,14 @@ ghost use Rattle.p4_resolve.specs.Scopes.{Knows};
 ghost use Rattle.p4_resolve.specs.Typed.{Means, expr_count};
 ghost use Rattle.p4_texts.specs.Written as written;
 ghost use Rattle.p4_texts.specs.Written.{ProgramText};
-ghost use Rattle.p4_written.specs.TreeOf.{expr_of};
+ghost use Rattle.p4_texts.specs.TreeOf.{expr_of};
 
 use crate::pieces::after;
 use crate::scope::Scope;
 use cocoon_num::{Bits, NoMemory};
 use p4_ir::{P4Binary, P4Expr, P4Unary};
 use p4_kinds::sort::{Sort, binary_sort, pick_sort, slice_sort, unary_sort, where_allowed};
-use p4_written::WrittenExpr;
+use p4_texts::written::WrittenExpr;
 use std::alloc::Global;
 
 /// An expression with its type.

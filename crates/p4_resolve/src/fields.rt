@@ -8,7 +8,7 @@ ghost use Rattle.p4_names.specs.KindFaults.{field_keeps, field_pieces, meta_keep
 ghost use Rattle.p4_names.specs.Meant as meant;
 ghost use Rattle.p4_resolve.specs.FieldForms.{Declares, Keeps, field_fits, field_piece, meta_piece};
 ghost use Rattle.p4_resolve.specs.Judged.{Breaks, Passes, Sees, StopsBy};
-ghost use Rattle.p4_written.specs.TreeOf.{field_of};
+ghost use Rattle.p4_texts.specs.TreeOf.{field_of};
 
 use crate::fault::KindFault;
 use crate::pieces::pass;
@@ -16,7 +16,7 @@ use cocoon_num::Text;
 use p4_ir::P4Field;
 use p4_kinds::bytes::{is_meta_name, is_run};
 use p4_kinds::names::is_new;
-use p4_written::WrittenField;
+use p4_texts::written::WrittenField;
 use std::alloc::Global;
 use std::collections::BTreeSet;
 

@@ -8,7 +8,7 @@ ghost use Rattle.p4_names.specs.KindFaults.{header_pieces};
 ghost use Rattle.p4_names.specs.Meant as meant;
 ghost use Rattle.p4_resolve.specs.FieldForms.{Keeps, header_own};
 ghost use Rattle.p4_resolve.specs.Judged.{Passes, Sees, StopsBy};
-ghost use Rattle.p4_written.specs.TreeOf.{field_of, header_of};
+ghost use Rattle.p4_texts.specs.TreeOf.{field_of, header_of};
 
 use crate::fault::KindFault;
 use crate::fields::{fields, rest_after};
@@ -17,7 +17,7 @@ use cocoon_num::{List, NoMemory, Text};
 use p4_ir::{P4Field, P4Header};
 use p4_kinds::bytes::is_run;
 use p4_kinds::names::is_new;
-use p4_written::{WrittenField, WrittenHeader};
+use p4_texts::written::{WrittenField, WrittenHeader};
 use std::alloc::Global;
 use std::collections::BTreeSet;
 

@@ -6,14 +6,14 @@ ghost use Rattle.p4_ir.specs.Program as ir;
 ghost use Rattle.p4_names.specs.KindFaults.{line_pieces, member_pieces};
 ghost use Rattle.p4_resolve.specs.Judged.{Passes, StopsBy};
 ghost use Rattle.p4_resolve.specs.Lines.{line_fits, member_fits};
-ghost use Rattle.p4_written.specs.TreeOf.{member_of};
+ghost use Rattle.p4_texts.specs.TreeOf.{member_of};
 
 use crate::fault::KindFault;
 use crate::pieces::pass;
 use cocoon_num::Text;
 use p4_ir::P4Header;
 use p4_kinds::bytes::is_same;
-use p4_written::WrittenMember;
+use p4_texts::written::WrittenMember;
 
 /// The bytes from this index on.
 fn rest_from(name: &[u8], from: usize) -> &[u8]

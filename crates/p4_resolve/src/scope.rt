@@ -6,17 +6,17 @@ ghost use Rattle.p4_ir.specs.P4Kinds.{Within};
 ghost use Rattle.p4_kinds.specs.Typed.{sort_of};
 ghost use Rattle.p4_names.specs.Meant as meant;
 ghost use Rattle.p4_resolve.specs.Controls.{KnowsText};
-ghost use Rattle.name_table.specs.NameNumbers.{Numbers};
+ghost use Rattle.numbering.specs.NameNumbers.{Numbers};
 ghost use Rattle.p4_resolve.specs.Scopes.{EachFew, EachNumbers, Knows, member_names};
 ghost use Rattle.p4_texts.specs.Written.{ProgramText, text_tokens};
-ghost use Rattle.p4_written.specs.TreeOf.{field_of, header_of, member_of, text_of};
+ghost use Rattle.p4_texts.specs.TreeOf.{field_of, header_of, member_of, text_of};
 
 use cocoon_num::{List, NoMemory};
-use name_table::NameTable;
+use numbering::NameTable;
 use p4_ir::{Control, P4Field, P4Header, Program};
 use p4_kinds::exprs::{field_sort, meta_sort};
 use p4_kinds::sort::Sort;
-use p4_written::{WrittenField, WrittenHeader, WrittenMember, WrittenProgram};
+use p4_texts::written::{WrittenField, WrittenHeader, WrittenMember, WrittenProgram};
 use std::alloc::Global;
 use std::collections::BTreeSet;
 

@@ -12,7 +12,7 @@ ghost use Rattle.p4_resolve.specs.StmtForms.{BlockKeeps, ConditionKeeps, StmtKee
 ghost use Rattle.p4_resolve.specs.Typed.{Means};
 ghost use Rattle.p4_texts.specs.Written as text;
 ghost use Rattle.p4_texts.specs.Written.{ProgramText};
-ghost use Rattle.p4_written.specs.TreeOf.{body_of, expr_of, stmt_of};
+ghost use Rattle.p4_texts.specs.TreeOf.{body_of, expr_of, stmt_of};
 
 use crate::exprs::{Typed, after_expr, meaning};
 use crate::fault::KindFault;
@@ -22,7 +22,7 @@ use crate::scope::Scope;
 use cocoon_num::Bits;
 use p4_ir::{P4Expr, P4Stmt};
 use p4_kinds::sort::{Sort, are_same};
-use p4_written::{WrittenExpr, WrittenStmt};
+use p4_texts::written::{WrittenExpr, WrittenStmt};
 use std::alloc::Global;
 
 /// The expression, if it has the type that is wanted, and may stand there.

@@ -10,7 +10,7 @@ ghost use Rattle.p4_resolve.specs.Judged.{Sees, index};
 ghost use Rattle.p4_resolve.specs.TableForms as spec;
 ghost use Rattle.p4_resolve.specs.TableForms.{is_wide, own_keeps};
 ghost use Rattle.p4_texts.specs.Written.{ProgramText};
-ghost use Rattle.p4_written.specs.TreeOf.{table_of};
+ghost use Rattle.p4_texts.specs.TreeOf.{table_of};
 
 use crate::numbers::{is_numbered, is_with, table_number, tail};
 use crate::pieces::after;
@@ -20,7 +20,7 @@ use p4_ir::{P4Field, Table};
 use p4_kinds::bytes::is_same;
 use p4_kinds::names::is_new;
 use p4_kinds::numbers::is_fitting;
-use p4_written::WrittenTable;
+use p4_texts::written::WrittenTable;
 use std::alloc::Global;
 use std::collections::BTreeSet;
 

@@ -9,7 +9,7 @@ ghost use Rattle.p4_resolve.specs.FirstKind.{IsFirstKind};
 ghost use Rattle.p4_resolve.specs.Judged.{StopsBy};
 ghost use Rattle.p4_resolve.specs.Parts.{ControlsKeep, Declared};
 ghost use Rattle.p4_texts.specs.Written.{text_tokens};
-ghost use Rattle.p4_written.specs.TreeOf.{text_of};
+ghost use Rattle.p4_texts.specs.TreeOf.{text_of};
 
 use crate::controls::{Before, control};
 use crate::fault::KindFault;
@@ -20,7 +20,7 @@ use crate::pieces::after;
 use crate::scope::Scope;
 use p4_ir::{Control, Program};
 use p4_names::program_laws::faults_are_tokens;
-use p4_written::WrittenProgram;
+use p4_texts::written::WrittenProgram;
 use std::alloc::Global;
 use std::collections::BTreeSet;
 

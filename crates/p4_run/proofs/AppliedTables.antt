@@ -3,8 +3,8 @@ use Rattle.std.proofs.Common.{All, ◌≡◌, ℕ, zero, suc, ◌+◌, ◌<◌, 
 use Rattle.std.proofs.lemmas.Bool.{and_from, and_parts, eqb-true}
 use Rattle.std.proofs.lemmas.List.{length-map, map-append, take_more}
 use Rattle.cocoon_num.specs.Lists.{each, has_number}
-use Rattle.flat_rows.specs.Keyed.{HasKeys, keyed}
-use Rattle.number_table.specs.NumberPlaces.{place_of}
+use Rattle.row_search.specs.Keyed.{HasKeys, keyed}
+use Rattle.numbering.specs.NumberPlaces.{place_of}
 use Rattle.p4_ir.specs.Loading.{all_tables, row_fits, rows_load, table_numbers, table_rows_fit}
 use Rattle.p4_ir.specs.NetOf.{key_row_of, table_rows_of}
 use Rattle.p4_ir.specs.P4Kinds.{kinds_fit, table_fits}

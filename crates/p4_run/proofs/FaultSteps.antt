@@ -3,7 +3,7 @@ use Rattle.std.proofs.Common.{◌≡◌, ◌⊎◌, ℕ, suc, ◌+◌, ◌<◌, 
 use Rattle.std.proofs.lemmas.Bool.{and_right, cases_eq, eq-eqb, ne_eqb, or_right}
 use Rattle.std.proofs.lemmas.List.{drop_more, get_or-set_other, get_or-set_same}
 use Rattle.cocoon_num.specs.Lists.{ascend, has_number}
-use Rattle.number_table.specs.NumberPlaces.{place_of}
+use Rattle.numbering.specs.NumberPlaces.{place_of}
 use Rattle.p4_ir.specs.Loading.{group_fits, key_fits, keys_fit, table_numbers}
 use Rattle.p4_ir.specs.NetOf.{group_of, table_rows_of}
 use Rattle.p4_ir.specs.P4Tree.{Group, meta_width, P4Table, Program, TableRows}

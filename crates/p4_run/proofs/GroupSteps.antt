@@ -1,7 +1,7 @@
 -- Groups, the numbers that were seen, and where the group of a number stands.
 use Rattle.std.proofs.Common.{◌≡◌, ℕ, ◌<◌, ◌≤◌, List, [], length, map, get_or, slice_get, Option, Some, None, option_map, refl, sym, ◌∙◌, ap}
 use Rattle.std.proofs.lemmas.Option.{slice_get-map, slice_get_past, slice_get_read}
-use Rattle.number_table.specs.NumberPlaces.{place_of}
+use Rattle.numbering.specs.NumberPlaces.{place_of}
 use Rattle.p4_ir.specs.NetOf.{group_of}
 use Rattle.p4_ir.specs.P4Tree.{Group}
 use Rattle.p4_ir.specs.Switch.{members}

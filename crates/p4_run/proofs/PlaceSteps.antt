@@ -4,7 +4,7 @@ use Rattle.std.proofs.lemmas.Bool.{eq-eqb}
 use Rattle.std.proofs.lemmas.Bool.Decides.{nat_tests}
 use Rattle.std.proofs.lemmas.List.{map-append, map_more}
 use Rattle.cocoon_num.specs.Lists.{has_number}
-use Rattle.number_table.specs.NumberPlaces.{place_of}
+use Rattle.numbering.specs.NumberPlaces.{place_of}
 use Rattle.p4_run.proofs.TestSteps.{is_symmetric}
 
 pub numbers_more : {A B : Type 0} (f : A → B) (number : B → ℕ) (xs : List A) (i : ℕ) (x : A) → i < length xs → x ≡ get_or xs i x

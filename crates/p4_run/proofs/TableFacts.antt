@@ -4,8 +4,8 @@ use Rattle.std.specs.List.{find}
 use Rattle.std.proofs.lemmas.Bool.{and_parts, eqb-true, eq-eqb, ltb-true, or_cases, or_left, or_right}
 use Rattle.cocoon_num.specs.Lists.{ascend, each, has_number, no_repeats}
 use Rattle.cocoon_num.specs.Rows.{values_match}
-use Rattle.flat_rows.specs.Keyed.{HasKeys}
-use Rattle.number_table.specs.NumberPlaces.{place_of}
+use Rattle.row_search.specs.Keyed.{HasKeys}
+use Rattle.numbering.specs.NumberPlaces.{place_of}
 use Rattle.p4_ir.specs.Loading.{all_tables, group_fits, keys_fit, key_fits, row_fits, rows_load, table_numbers, table_rows_fit}
 use Rattle.p4_ir.specs.NetOf.{key_row_of}
 use Rattle.p4_ir.specs.P4Kinds.{block_fits, kinds_fit, names_fit, numbers_of, tables_fit, table_fits, widths_fit}

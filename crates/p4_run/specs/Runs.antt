@@ -1,9 +1,9 @@
 -- Cited by what loading keeps, and by the private clauses of visits: resolved statements leave what the control leaves, in
 -- all registers that fit. The facts are equations, which have one proof each, so that a loaded program can hold them.
 use Rattle.std.specs.Prelude.{◌≡◌, ℕ, ◌&&◌, Bool, true, List, [], ◌∷◌, length, map, option_map, slice_get, slice_set, Some}
-use Rattle.flat_rows.specs.Keyed.{keyed}
-use Rattle.number_table.specs.NumberPlaces.{HasPlaces, place_in, place_of}
-use Rattle.number_table.specs.declared.NumberTable.{NumberTable}
+use Rattle.row_search.specs.Keyed.{keyed}
+use Rattle.numbering.specs.NumberPlaces.{HasPlaces, place_in, place_of}
+use Rattle.numbering.specs.declared.number_table.NumberTable.{NumberTable}
 use Rattle.packed_fields.specs.AtOnce.{widths_in}
 use Rattle.p4_ir.specs.Loading.{all_tables, table_numbers, table_rows_fit}
 use Rattle.p4_ir.specs.P4Kinds.{numbers_of}

@@ -1,7 +1,7 @@
 //! The faults of rows that are not loaded into a program, found in the order of the tests.
 ghost use Rattle.std.specs.Prelude.{◌≡◌, ◌+◌, ◌^◌, ◌<◌, ◌≤◌, ◌==◌, ◌&&◌, ℕ, [], false, get_or, IfOk, length, List, map, not, nat_le, nat_lt, option_and_then, option_map};
 ghost use Rattle.cocoon_num.specs.Lists as lists;
-ghost use Rattle.number_table.specs.NumberPlaces.{HasPlaces, place_of};
+ghost use Rattle.numbering.specs.NumberPlaces.{HasPlaces, place_of};
 ghost use Rattle.p4_ir.specs.Loading as loading;
 ghost use Rattle.p4_ir.specs.Loading.{all_tables, table_numbers};
 ghost use Rattle.p4_ir.specs.NetOf.{group_of, key_row_of, rows_of, table_rows_of};
@@ -15,7 +15,7 @@ ghost use Rattle.p4_run.specs.Runs.{PlacesTables};
 
 use crate::places::{TablePlaces, table_of_either};
 use cocoon_num::NoMemory;
-use number_table::NumberTable;
+use numbering::number_table::NumberTable;
 use p4_ir::{Group, KeyRow, Program, RowsFile, Table, TableRows};
 use std::alloc::Global;
 

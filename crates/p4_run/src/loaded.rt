@@ -11,7 +11,7 @@ ghost use Rattle.std.proofs.Props.{props};
 ghost use Rattle.p4_run.specs.Runs.{ArePlaced, Runs};
 
 use crate::origin::Origin;
-use number_table::NumberTable;
+use numbering::number_table::NumberTable;
 use p4_ir::Group;
 use p4_steps::{Application, StmtCode};
 

@@ -1,6 +1,6 @@
 //! Loading: the tests, and then what is resolved once.
 ghost use Rattle.std.specs.Prelude.{◌≡◌, false, IfErr, IfOk, IsTrue, map, None, true};
-ghost use Rattle.number_table.specs.NumberPlaces.{HasPlaces};
+ghost use Rattle.numbering.specs.NumberPlaces.{HasPlaces};
 ghost use Rattle.p4_ir.specs.Loading.{rows_load, table_numbers};
 ghost use Rattle.p4_ir.specs.NetOf.{rows_of};
 ghost use Rattle.p4_ir.specs.P4Kinds.{kinds_fit};
@@ -22,7 +22,7 @@ use crate::places::{
 };
 use crate::tables::tables_with;
 use cocoon_num::NoMemory;
-use number_table::NumberTable;
+use numbering::number_table::NumberTable;
 use p4_code::Names;
 use p4_ir::{Program, RowsFile};
 use p4_steps::{Application, Constants, StmtCode, resolved_stmts};

@@ -1,7 +1,7 @@
 //! What is looked up once, at loading: the widths of all fields, where those of each header begin, and where the table, the
 //! rows and the group of each number stand.
 ghost use Rattle.std.specs.Prelude.{◌≡◌, ◌++◌, IfOk, List, map, OnOk, option_map, slice_get, ℕ};
-ghost use Rattle.number_table.specs.NumberPlaces.{HasPlaces};
+ghost use Rattle.numbering.specs.NumberPlaces.{HasPlaces};
 ghost use Rattle.packed_fields.specs.AtOnce.{widths_in};
 ghost use Rattle.p4_ir.specs.Loading.{all_tables, table_numbers};
 ghost use Rattle.p4_ir.specs.NetOf.{group_of, rows_of, table_rows_of};
@@ -14,7 +14,7 @@ ghost use Rattle.p4_run.specs.Runs.{ArePlaced, PlacesTables};
 
 use cocoon_num::NoMemory;
 use cocoon_num::copies::copy_list;
-use number_table::NumberTable;
+use numbering::number_table::NumberTable;
 use p4_ir::{Group, P4Field, P4Header, Program, RowsFile, Table, TableRows};
 use std::alloc::Global;
 

@@ -1,7 +1,7 @@
 //! The tables of a program with their rows, as they are applied.
 ghost use Rattle.std.specs.Prelude.{◌≡◌, IfOk, IsTrue, map};
 ghost use Rattle.cocoon_num.specs.Lists.{each};
-ghost use Rattle.number_table.specs.NumberPlaces.{HasPlaces};
+ghost use Rattle.numbering.specs.NumberPlaces.{HasPlaces};
 ghost use Rattle.p4_ir.specs.Loading.{all_tables};
 ghost use Rattle.p4_ir.specs.NetOf.{table_rows_of};
 ghost use Rattle.p4_ir.specs.P4Kinds.{kinds_fit, numbers_of};
@@ -10,7 +10,7 @@ ghost use Rattle.p4_run.specs.Runs.{AreApplied, IsApplied, own_rows_fit};
 
 use crate::places::table_of_either;
 use cocoon_num::NoMemory;
-use number_table::NumberTable;
+use numbering::number_table::NumberTable;
 use p4_ir::{Program, TableRows};
 use p4_steps::{Application, Constants};
 use std::alloc::Global;

@@ -12,8 +12,8 @@ use Rattle.cocoon_num.specs.Values.{number, truth, Value}
 use Rattle.packed_fields.specs.AtOnce.{grouped, widths_in}
 use Rattle.packed_fields.proofs.Packing.{fit_length}
 use Rattle.packed_fields.proofs.Steps.{width_is}
-use Rattle.flat_rows.specs.Keyed.{keyed}
-use Rattle.number_table.specs.NumberPlaces.{place_of}
+use Rattle.row_search.specs.Keyed.{keyed}
+use Rattle.numbering.specs.NumberPlaces.{place_of}
 use Rattle.p4_ir.specs.Loading.{table_numbers}
 use Rattle.p4_ir.specs.P4Kinds.{block_fits, field_sort, meta_sort, p4_sort, stmt_fits, widths_fit, Within}
 use Rattle.p4_ir.specs.P4Tree.{P4Expr, P4Field, P4Header, P4Block, P4Stmt, set_meta, set_header, apply_table, p_if, p_if_else}

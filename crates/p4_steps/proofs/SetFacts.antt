@@ -2,8 +2,8 @@
 use Rattle.std.proofs.Common.{◌≡◌, ℕ, zero, suc, ◌≤◌, nat_le, Bool, true, if◌then◌else◌, List, [], ◌∷◌, length, slice_index, slice_set, refl, ap, ◌∙◌, arith}
 use Rattle.std.proofs.lemmas.Bool.{le-leb}
 use Rattle.std.proofs.lemmas.List.{length-map}
-use Rattle.grouped_rows.specs.Laid.{Holds, looked_up}
-use Rattle.flat_rows.specs.Keyed.{keyed}
+use Rattle.row_search.specs.GroupsLaid.{Holds, looked_up}
+use Rattle.row_search.specs.Keyed.{keyed}
 use Rattle.p4_ir.specs.P4Tree.{TableRows}
 use Rattle.p4_ir.specs.Switch.{table_result}
 use Rattle.p4_steps.specs.Effects.{applied_to}

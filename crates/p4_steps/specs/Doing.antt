@@ -2,8 +2,8 @@
 use Rattle.std.specs.Prelude.{All, ◌≡◌, ℕ, ◌<◌, ◌^◌, Bool, true, List, [], ◌∷◌, length, Some, slice_set}
 use Rattle.cocoon_num.specs.Lists.{has_number}
 use Rattle.cocoon_num.specs.Packets.{Layout}
-use Rattle.flat_rows.specs.Keyed.{keyed}
-use Rattle.number_table.specs.NumberPlaces.{place_of}
+use Rattle.row_search.specs.Keyed.{keyed}
+use Rattle.numbering.specs.NumberPlaces.{place_of}
 use Rattle.p4_ir.specs.Loading.{table_numbers}
 use Rattle.p4_ir.specs.P4Kinds.{numbers_of}
 use Rattle.p4_ir.specs.P4Tree.{meta_width, P4Block, P4Stmt, P4Table, Program, program_layout, TableRows}

@@ -1,7 +1,7 @@
 -- Cited by the clauses of running: what statements make of what registers hold.
 use Rattle.std.specs.Prelude.{ℕ, ◌%◌, ◌^◌, nat_le, List, [], ◌∷◌, length, if◌then◌else◌, slice_get, slice_set, Some, None}
-use Rattle.grouped_rows.specs.Laid.{looked_up}
-use Rattle.flat_rows.specs.Keyed.{keyed}
+use Rattle.row_search.specs.GroupsLaid.{looked_up}
+use Rattle.row_search.specs.Keyed.{keyed}
 use Rattle.p4_code.specs.Held.{Held}
 use Rattle.p4_code.specs.Meaning.{number_by, truth_by}
 use Rattle.p4_steps.specs.declared.running.Way.{Way}

@@ -1,6 +1,6 @@
 //! Tables with their rows, for resolved statements.
 ghost use Rattle.std.specs.Prelude.{All, ◌≡◌, ◌<◌, IfOk, length, List, map, slice_set, ℕ};
-ghost use Rattle.flat_rows.specs.Keyed.{HasKeys, keyed};
+ghost use Rattle.row_search.specs.Keyed.{HasKeys, keyed};
 ghost use Rattle.p4_ir.specs.NetOf.{key_row_of};
 ghost use Rattle.p4_ir.specs.Switch.{table_result};
 ghost use Rattle.p4_steps.specs.Effects.{applied_to};
@@ -8,8 +8,8 @@ ghost use Rattle.p4_steps.specs.Effects.{applied_to};
 use crate::codes::Application;
 use crate::constants::Constants;
 use cocoon_num::NoMemory;
-use grouped_rows::{Hint, LaidRows};
 use p4_ir::{Table, TableRows};
+use row_search::{Hint, LaidRows};
 use std::alloc::Global;
 
 /// The first key that mostly has a number which is known.

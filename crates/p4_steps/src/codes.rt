@@ -1,10 +1,10 @@
 //! Resolved statements.
 ghost use Rattle.std.specs.Prelude.{All, ◌≡◌, ◌<◌, length};
 ghost use Rattle.std.proofs.Props.{props};
-ghost use Rattle.grouped_rows.specs.Laid.{key_count};
+ghost use Rattle.row_search.specs.GroupsLaid.{key_count};
 
-use grouped_rows::LaidRows;
 use p4_code::{NumberCode, TruthCode};
+use row_search::LaidRows;
 
 /// A table as it is applied: its rows, laid flat, and which meta fields are its keys and its result.
 #[derive(Drop)]

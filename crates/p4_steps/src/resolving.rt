@@ -1,6 +1,6 @@
 //! Statements, resolved: of parts before the whole, down the tree.
 ghost use Rattle.std.specs.Prelude.{◌≡◌, IfOk, IsTrue, map};
-ghost use Rattle.number_table.specs.NumberPlaces.{HasPlaces};
+ghost use Rattle.numbering.specs.NumberPlaces.{HasPlaces};
 ghost use Rattle.p4_ir.specs.Loading.{table_numbers};
 ghost use Rattle.p4_ir.specs.NetOf.{table_rows_of};
 ghost use Rattle.p4_ir.specs.P4Kinds.{block_fits, stmt_fits};
@@ -12,7 +12,7 @@ ghost use Rattle.p4_steps.specs.Effects.{stmt_by, stmts_by};
 
 use crate::codes::{Application, StmtCode};
 use cocoon_num::NoMemory;
-use number_table::NumberTable;
+use numbering::number_table::NumberTable;
 use p4_code::{Names, field_place, resolved_number, resolved_truth};
 use p4_ir::{P4Stmt, TableRows};
 use std::alloc::Global;

@@ -1,4 +1,7 @@
-//! P4 texts as they may be written: trees whose names are not yet looked up, and a plain reader of their tokens.
+//! P4 texts as they may be written: trees whose names are not yet looked up, where any name stands that the grammar has one
+//! for, and a plain reader of their tokens. What reads tokens makes the trees of [`written`], and what looks names up takes
+//! them.
 #![tactic(auto)]
 
 pub mod reader_laws;
+pub mod written;

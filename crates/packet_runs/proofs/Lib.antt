@@ -1,2 +1,4 @@
+pub mod Pairs
+pub mod Known
 pub mod Reporting
 mod OneReport

@@ -2,7 +2,7 @@
 use Rattle.std.proofs.Common.{◌≡◌, ℕ, List, [], ◌∷◌, ap, refl, sym, ◌∙◌}
 use Rattle.net_run.specs.Outcomes.{AreDelivered, AreTravelling, Delivery}
 use Rattle.p4_ir.specs.NetTree.{NetData}
-use Rattle.packet_file.specs.Packets.{Packet}
+use Rattle.packet_runs.specs.Packets.{Packet}
 use Rattle.packet_runs.specs.Reports.{AreOutcomes, IsOutcome, IsReport, lines_from, Outcome}
 
 abbrev pub OneDelivered : Type 0

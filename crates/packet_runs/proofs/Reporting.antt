@@ -1,13 +1,14 @@
 -- Reports that grow packet by packet.
-use Rattle.std.proofs.Common.{◌≡◌, ◌≤◌, ◌<◌, ◌++◌, ◌+◌, ℕ, suc, List, [], ◌∷◌, length, drop, take, map, slice_index_or, append_assoc, sym, ap, subst, ◌∙◌, inr, refl, arith}
+use Rattle.std.proofs.Common.{◌≡◌, ◌≤◌, ◌<◌, ◌++◌, ◌+◌, ℕ, suc, List, [], ◌∷◌, length, drop, take, map, slice_index_or, append_assoc, codes, decimal, sym, ap, subst, ◌∙◌, inr, refl, arith}
 use Rattle.std.proofs.lemmas.List.{append-nil, at_drop_more, length-map, length-take-le, map_more}
 use Rattle.net_run.specs.RunCounts.{most_runs, runs}
 use Rattle.p4_ir.specs.NetTree.{NetData}
-use Rattle.packet_file.specs.Judging.{packet_in}
-use Rattle.packet_file.specs.Packets.{AllKnown, Packet}
-use Rattle.packet_file.specs.declared.packet.Packet as code
+use Rattle.packet_runs.specs.Judging.{packet_in}
+use Rattle.packet_runs.specs.Packets.{AllKnown, Packet}
+use Rattle.packet_runs.specs.declared.packet.Packet as code
 use Rattle.packet_runs.specs.Growing.{AddsPacket}
-use Rattle.packet_runs.specs.Reports.{AreOutcomes, delivery_lines, IsOutcome, IsReport, lines_from, Outcome, outcome_line, outcome_lines}
+use Rattle.net_run.specs.Outcomes.{Delivery}
+use Rattle.packet_runs.specs.Reports.{AreOutcomes, bytes_text, delivery_line, delivery_lines, IsOutcome, IsReport, lines_from, Outcome, outcome_line, outcome_lines}
 use Rattle.packet_runs.specs.Stopping.{AllWithin, SomeOver}
 
 -- the line of a packet, and those of what is delivered of it
@@ -17,6 +18,17 @@ one_outcome before with_line after line number n o e p q r =
     r
     ∙ ap (λ x. x ++ delivery_lines o.delivered) (q ∙ ap (λ l. before ++ l) (p ∙ ap (λ k. outcome_line number k o.travelling) e))
     ∙ append_assoc before (outcome_line number (length o.delivered) o.travelling) (delivery_lines o.delivered)
+
+-- the parts of the line of a delivery
+regrouped : (before a b c text end : List ℕ) → ((before ++ (a ++ (b ++ c))) ++ text) ++ end ≡ before ++ (a ++ (b ++ (c ++ (text ++ end))))
+regrouped before a b c text end = simp append_assoc
+
+pub one_delivery : (before with_front with_text after front text : List ℕ) (d : Delivery) → front ≡ codes "> " ++ (decimal d.host ++ codes " ") → text ≡ bytes_text d.bytes
+    → with_front ≡ before ++ front → with_text ≡ with_front ++ text → after ≡ with_text ++ codes "\n" → after ≡ before ++ delivery_line d
+one_delivery before with_front with_text after front text d f t p q r =
+    r
+    ∙ ap (λ x. x ++ codes "\n") (q ∙ (λ k. p k ++ t k) ∙ ap (λ x. (before ++ x) ++ bytes_text d.bytes) f)
+    ∙ regrouped before (codes "> ") (decimal d.host) (codes " ") (bytes_text d.bytes) (codes "\n")
 
 -- ---- one packet more
 

@@ -4,7 +4,7 @@ use Rattle.std.specs.Prelude.{◌≡◌, ℕ, List, ◌++◌, map}
 use Rattle.net_run.specs.Delivering.{delivery_of}
 use Rattle.net_run.specs.declared.delivering.Outcome.{Outcome}
 use Rattle.p4_ir.specs.NetTree.{NetData}
-use Rattle.packet_file.specs.Packets.{Packet}
+use Rattle.packet_runs.specs.Packets.{Packet}
 use Rattle.packet_runs.specs.Reports as spec
 use Rattle.packet_runs.specs.Reports.{IsOutcome, outcome_lines}
 

@@ -1,3 +1,5 @@
+pub mod Packets
+pub mod Judging
 pub mod Reports
 pub mod Stopping
 pub mod Growing

@@ -6,7 +6,7 @@ use Rattle.std.specs.Prelude.{◌≡◌, ℕ, ◌+◌, List, [], ◌∷◌, ◌+
 use Rattle.hex.specs.Hex.{encode_lower}
 use Rattle.net_run.specs.Outcomes.{AreDelivered, AreTravelling, Delivery}
 use Rattle.p4_ir.specs.NetTree.{NetData}
-use Rattle.packet_file.specs.Packets.{Packet}
+use Rattle.packet_runs.specs.Packets.{Packet}
 
 -- ---- what becomes of packets
 

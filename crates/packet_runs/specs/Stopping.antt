@@ -2,7 +2,7 @@
 use Rattle.std.specs.Prelude.{◌≡◌, ◌⊎◌, ℕ, suc, ◌≤◌, ◌<◌, List, [], ◌∷◌}
 use Rattle.net_run.specs.RunCounts.{most_runs, runs}
 use Rattle.p4_ir.specs.NetTree.{NetData}
-use Rattle.packet_file.specs.Packets.{Packet}
+use Rattle.packet_runs.specs.Packets.{Packet}
 use Rattle.packet_runs.specs.declared.running.PacketsFault.{PacketsFault}
 use Rattle.packet_runs.specs.declared.running.PacketsFault.TheVariants.{Copies, NoMemory}
 

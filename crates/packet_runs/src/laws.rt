@@ -1,7 +1,7 @@
 //! A law of reports. The function does nothing; its contract is the law.
 ghost use Rattle.std.specs.Prelude.{◌≡◌, List, ℕ};
 ghost use Rattle.p4_ir.specs.NetTree.{NetData};
-ghost use Rattle.packet_file.specs.Packets.{Packet};
+ghost use Rattle.packet_runs.specs.Packets.{Packet};
 ghost use Rattle.packet_runs.specs.Reports.{IsReport};
 
 use net_run::laws::{one_delivered, one_travelling};

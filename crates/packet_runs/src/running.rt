@@ -3,18 +3,19 @@ ghost use Rattle.std.specs.Prelude.{◌≡◌, ◌≤◌, IfErr, IfOk, map, OnOk
 ghost use Rattle.cocoon_num.specs.Lists.{has_number};
 ghost use Rattle.loaded_net.specs.Nets.{net_in};
 ghost use Rattle.net_run.specs.RunCounts.{most_runs, runs};
+ghost use Rattle.net_run.specs.Stations.{StationsFit};
 ghost use Rattle.p4_ir.specs.Wiring.{host_numbers};
-ghost use Rattle.packet_file.specs.Judging.{packet_in};
-ghost use Rattle.packet_file.specs.Packets.{AllKnown};
+ghost use Rattle.packet_runs.specs.Judging.{packet_in};
+ghost use Rattle.packet_runs.specs.Packets.{AllKnown};
 ghost use Rattle.packet_runs.specs.Growing.{AddsPacket, outcome_of};
 ghost use Rattle.packet_runs.specs.Reports.{IsOutcome, IsReport};
 ghost use Rattle.packet_runs.specs.Stopping.{AllWithin, Stops, StopsAt};
 
-use crate::lines::push_outcome;
+use crate::Packet;
+use crate::lines::{LineRoom, push_outcome};
 use cocoon_num::NoMemory;
 use loaded_net::Net;
-use net_run::{Outcome, RunFault, deliver};
-use packet_file::Packet;
+use net_run::{Delivered, RunFault, Stations, deliver_in};
 use std::alloc::Global;
 
 /// Why packets are not all run.
@@ -38,16 +39,24 @@ impl From<NoMemory> for PacketsFault {
 }
 
 /// What becomes of a packet whose host the network has.
-fn outcome_of(alloc: Global, net: &Net, packet: &Packet, hops: u32) -> Result<Outcome, PacketsFault>
+fn outcome_of<'n>(
+    alloc: Global,
+    net: &'n Net,
+    stations: Stations<'n>,
+    packet: &Packet,
+    hops: u32,
+) -> Result<Delivered<'n>, PacketsFault>
+    requires fit { StationsFit net.now stations }
     requires known { has_number packet.now.host (host_numbers (net_in net.now).hosts) ≡ true }
-    ensures outcome { IfOk result (λ o.
-        IsOutcome (net_in net.now) hops (packet_in packet.now) (outcome_of o)) }
-    ensures within { IfOk result (λ o.
+    ensures fit { IfOk result (λ d. StationsFit net.now d.stations) }
+    ensures outcome { IfOk result (λ d.
+        IsOutcome (net_in net.now) hops (packet_in packet.now) (outcome_of d.outcome)) }
+    ensures within { IfOk result (λ d.
         runs (net_in net.now) packet.now.host packet.now.bytes.items hops ≤ most_runs) }
     ensures stops { IfErr result (StopsAt (net_in net.now) hops (packet_in packet.now)) }
 {
-    match deliver(alloc, net, packet.host, &packet.bytes, hops) {
-        Ok(outcome) => Ok(outcome),
+    match deliver_in(alloc, net, stations, packet.host, &packet.bytes, hops) {
+        Ok(delivered) => Ok(delivered),
         Err(RunFault::NoSuchHost) => unreachable!(),
         Err(RunFault::Copies(count)) => Err(PacketsFault::Copies(count)),
         Err(RunFault::NoMemory) => Err(PacketsFault::NoMemory),
@@ -55,24 +64,28 @@ fn outcome_of(alloc: Global, net: &Net, packet: &Packet, hops: u32) -> Result<Ou
 }
 
 /// Runs a packet, and reports what becomes of it.
-fn push_packet(
+fn push_packet<'n>(
     alloc: Global,
-    net: &Net,
+    net: &'n Net,
+    stations: Stations<'n>,
+    room: &mut LineRoom,
     report: &mut Vec<u8>,
     number: u64,
     packet: &Packet,
     hops: u32,
-) -> Result<(), PacketsFault>
+) -> Result<Stations<'n>, PacketsFault>
+    requires fit { StationsFit net.now stations }
     requires known { has_number packet.now.host (host_numbers (net_in net.now).hosts) ≡ true }
+    ensures fit { IfOk result (λ stations. StationsFit net.now stations) }
     ensures lines { OnOk result (AddsPacket (net_in net.now) hops number (packet_in packet.now)
         report.old.items report.new.items) }
     ensures within { IfOk result (λ o.
         runs (net_in net.now) packet.now.host packet.now.bytes.items hops ≤ most_runs) }
     ensures stops { IfErr result (StopsAt (net_in net.now) hops (packet_in packet.now)) }
 {
-    let outcome = outcome_of(alloc, net, packet, hops)?;
-    push_outcome(alloc, report, number, &outcome)?;
-    Ok(())
+    let delivered = outcome_of(alloc, net, stations, packet, hops)?;
+    push_outcome(room, report, number, &delivered.outcome)?;
+    Ok(delivered.stations)
 }
 
 /// The report of packets that are run one after another, each with at most `hops` visits: for each a line with its number,
@@ -92,10 +105,21 @@ pub fn run_packets(
     ensures stops { IfErr result (Stops (net_in net.now) hops (map packet_in packets.now)) }
 {
     let mut report = Vec::new(alloc);
+    let mut stations = Stations::new(alloc);
+    let mut room = LineRoom::new(alloc);
     let mut number = 0;
     for packet in packets {
         number += 1;
-        push_packet(alloc, net, &mut report, number, packet, hops)?;
+        stations = push_packet(
+            alloc,
+            net,
+            stations,
+            &mut room,
+            &mut report,
+            number,
+            packet,
+            hops,
+        )?;
     }
     Ok(report)
 }

@@ -10,7 +10,7 @@ ghost use Rattle.pattern_instances.specs.Found.{found_patterns, tuple_found, tup
 use crate::patterns::Pattern;
 use bv_terms::{Node, TermId, Terms};
 use cocoon_num::NoMemory;
-use key_table::KeyTable;
+use numbering::key_table::KeyTable;
 use std::alloc::Global;
 
 /// More instances of a goal are left out.

@@ -22,9 +22,9 @@ ghost use Rattle.pattern_laws.specs.Tuples.{pattern_terms, tuples_of};
 
 use crate::over::definitions_fit_design_terms;
 use application_laws::laws::terms_apply_declared_functions;
+use flat_laws::fitting::values_fit;
 use fun_instances::laws::{assumptions_have_width_1, met_assumptions_are_true};
 use sound_types::laws::declarations_are_typed;
-use term_laws::fitting::values_fit;
 
 /// The term of an assumption over inputs of its own applies run-time functions of the design alone,
 /// each at the widths that it is declared with.

@@ -18,7 +18,7 @@ use pattern_instances::pattern_instances;
 use query_laws::laws::{added_terms_fit, own_names_are_by_place, queries_are_goals};
 use sound_types::laws::code_literals_fit;
 use std::alloc::Global;
-use term_copy::copy;
+use term_walk::copy;
 
 /// A goal in an arena of its own.
 #[derive(Drop)]

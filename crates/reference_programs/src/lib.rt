@@ -1,5 +1,5 @@
 //! The plain and slow program beside the definitions: packets bit by bit. Each call computes what its definition says on
-//! small inputs, so that cases (those of `p4_tests`) speak of the definitions themselves.
+//! small inputs, so that cases (those of `text_tests`) speak of the definitions themselves.
 #![tactic(auto)]
 
 mod bits;

@@ -1,4 +1,4 @@
--- Cited by the clauses of the laws here and of `refinement_examples`: segments, which are the runs
+-- Cited by the clauses of the laws here and of `obligation_examples`: segments, which are the runs
 -- of a role that a block refines, followed through the roles that are new in the block. The block
 -- stands behind the level `above`, so its own level is the next one. It follows the section
 -- "Refinement" of docs/LANGUAGE.md.

@@ -2,7 +2,7 @@
 use Rattle.std.proofs.Common.{◌≡◌, ℕ, Bool, true, false, cond, List, Option, Some, refl, sym, ap, subst, ◌∙◌, Vec, Global, BTreeMap}
 use Rattle.std.specs.BTreeMap.{UpdatesBy}
 use Rattle.cocoon_num.specs.Names.{same_name}
-use Rattle.name_table.proofs.NameFacts.{key_cmp, same-true, value-updated}
+use Rattle.numbering.proofs.NameFacts.{key_cmp, same-true, value-updated}
 use Rattle.cocoon_num.specs.Tree.{Design}
 use Rattle.cocoon_num.specs.declared.fun_table.FunTable.{FunTable}
 use Rattle.role_values.specs.Kept.{AreValues, IsValueOf, kept_at}

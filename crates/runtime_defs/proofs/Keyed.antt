@@ -13,8 +13,8 @@ use Rattle.cocoon_num.specs.Values.{fits_width}
 use Rattle.cocoon_num.specs.declared.bits.Bits.{Bits}
 use Rattle.cocoon_num.specs.declared.fun_table.FunRow.{FunRow}
 use Rattle.cocoon_num.specs.declared.fun_table.FunTable.{FunTable}
-use Rattle.key_table.specs.KeyPlaces.{first_place}
-use Rattle.key_table.specs.declared.KeyTable.{KeyTable}
+use Rattle.numbering.specs.KeyPlaces.{first_place}
+use Rattle.numbering.specs.declared.key_table.KeyTable.{KeyTable}
 use Rattle.runtime_defs.specs.Places.{all_fit_widths, table_at}
 use Rattle.runtime_defs.specs.RowKeys.{ComparesAll, compares_all, IsKeyed, MayBeKeyed, row_keys}
 use Rattle.runtime_defs.proofs.Looking.{both-true, kept, number-is}

@@ -3,8 +3,8 @@ use Rattle.std.specs.Prelude.{◌≡◌, ℕ, ◌-◌, ◌^◌, ◌==◌, ◌&&�
 use Rattle.cocoon_num.specs.Values.{fits_width}
 use Rattle.cocoon_num.specs.declared.fun_table.FunRow.{FunRow}
 use Rattle.cocoon_num.specs.declared.fun_table.FunTable.{FunTable}
-use Rattle.key_table.specs.KeyPlaces.{Holds}
-use Rattle.key_table.specs.declared.KeyTable.{KeyTable}
+use Rattle.numbering.specs.KeyPlaces.{Holds}
+use Rattle.numbering.specs.declared.key_table.KeyTable.{KeyTable}
 
 -- each value fits its width, and its mask compares all bits of this width
 abbrev pub compares_all : (widths values masks : List ℕ) → Bool

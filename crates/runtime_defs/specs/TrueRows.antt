@@ -8,7 +8,7 @@ use Rattle.cocoon_num.specs.Values.{fits_width}
 use Rattle.cocoon_num.specs.declared.fun_table.FunRow.{FunRow}
 use Rattle.cocoon_num.specs.declared.fun_table.FunTable.{FunTable}
 use Rattle.runtime_defs.specs.Places.{MayHaveShape, Places, table_at}
-use Rattle.key_table.specs.declared.KeyTable.{KeyTable}
+use Rattle.numbering.specs.declared.key_table.KeyTable.{KeyTable}
 use Rattle.runtime_defs.specs.RowKeys.{MayBeKeyed}
 use Rattle.runtime_defs.specs.declared.true_numbers.TrueNumbers.{TrueNumbers}
 

@@ -32,7 +32,7 @@ use cocoon_syntax::DefsText;
 use declarations::FunId;
 use defs_text::laws::{definitions_fit, tables_come_back};
 use defs_text::print_defs;
-use key_table::KeyTable;
+use numbering::key_table::KeyTable;
 use std::alloc::Global;
 use std::marker::Model;
 

@@ -8,7 +8,7 @@ ghost use Rattle.runtime_defs.specs.RowKeys as spec;
 ghost use Rattle.runtime_defs.specs.RowKeys.{IsKeyed, MayBeKeyed};
 
 use cocoon_num::{Bits, FunRow, FunTable, NoMemory};
-use key_table::KeyTable;
+use numbering::key_table::KeyTable;
 use std::alloc::Global;
 
 /// Ones in so many bits.

@@ -3,7 +3,7 @@ use crate::drafts::Draft;
 use bv_terms::{Node, Terms};
 use case_files::Printer;
 use std::alloc::Global;
-use term_copy::{Copied, copy};
+use term_walk::{Copied, copy};
 
 fn put_head(node: &Node, given: &mut Printer) {
     match node {

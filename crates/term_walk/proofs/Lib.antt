@@ -1,3 +1,5 @@
 pub mod Sights
 pub mod Walking
 pub mod Applied
+pub mod InputLists
+pub mod Copies

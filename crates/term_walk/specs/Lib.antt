@@ -1,2 +1,5 @@
 pub mod Seen
 pub mod Steps
+pub mod Copies
+pub mod Copying
+pub mod Values

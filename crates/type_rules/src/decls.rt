@@ -21,8 +21,7 @@ use cocoon_syntax::{
 };
 use cocoon_types::first_faults::noting_laws;
 use cocoon_types::{Noted, TypeRule};
-use declarations::Declarations;
-use scopes::Scopes;
+use declarations::{Declarations, Scopes};
 use std::alloc::Global;
 
 /// Notes parameters or fields whose width may not be declared.

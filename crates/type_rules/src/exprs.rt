@@ -14,8 +14,7 @@ use crate::sort::{Sort, Typed, binary_sort, bits, pick_sort, slice_sort, unary_s
 use cocoon_syntax::{Design, Expr, ExprKind, Name, Param};
 use cocoon_types::Noted;
 use cocoon_types::first_faults::noting_laws;
-use declarations::Declarations;
-use scopes::Scopes;
+use declarations::{Declarations, Scopes};
 
 /// Notes the faults of an expression and of its parts, and says of what type it is.
 #[cycle(note)]

@@ -12,8 +12,7 @@ use crate::exprs::{note_args, note_expr};
 use cocoon_syntax::{Design, Expr, Name};
 use cocoon_types::Noted;
 use cocoon_types::first_faults::noting_laws;
-use declarations::Declarations;
-use scopes::Scopes;
+use declarations::{Declarations, Scopes};
 
 /// Of a `let`.
 pub(crate) fn note_let_and_value(

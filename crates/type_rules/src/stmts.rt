@@ -15,8 +15,7 @@ use cocoon_num::NoMemory;
 use cocoon_syntax::{Design, Expr, Name, Stmt, StmtKind};
 use cocoon_types::Noted;
 use cocoon_types::first_faults::noting_laws;
-use declarations::Declarations;
-use scopes::Scopes;
+use declarations::{Declarations, Scopes};
 use std::alloc::Global;
 
 /// The first ends, or the second.

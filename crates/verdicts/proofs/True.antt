@@ -10,7 +10,7 @@ use Rattle.bv_terms.specs.declared.node.Node.{Node}
 use Rattle.candidate_laws.specs.Candidates.{MakeTrue}
 use Rattle.cocoon_num.specs.Tree.{Design}
 use Rattle.cocoon_num.specs.declared.bits.Bits.{Bits}
-use Rattle.failure_laws.specs.Witnesses.{HasFailure, IsTrueFor, OthersAreZero}
+use Rattle.failure_reading.specs.Witnesses.{HasFailure, IsTrueFor, OthersAreZero}
 use Rattle.failure_reading.specs.OfObligation.{AreShort, begin_of, Fails, FailsIn, IsBegin}
 use Rattle.failures.specs.Found.{BeginFits, BeginsAt, CanFail, defined, FailureFits, failure_of, NoneBegins}
 use Rattle.failures.specs.declared.failure.Failure as code
@@ -22,10 +22,10 @@ use Rattle.query_laws.proofs.InputNumbers.{are_inputs}
 use Rattle.query_laws.proofs.Renaming.{from_zero}
 use Rattle.query_laws.specs.OwnNames.{inputs_of}
 use Rattle.role_meaning.specs.Located.{loc_of, sent_of}
-use Rattle.input_values.specs.Values.{values_of}
+use Rattle.term_walk.specs.Values.{values_of}
 use Rattle.failures.specs.Failures.{OfLevel}
 use Rattle.table_terms.specs.WithRows.{Tables}
-use Rattle.term_copy.specs.Copies.{index_in}
+use Rattle.term_walk.specs.Copies.{index_in}
 use Rattle.verdicts.specs.Failing.{GoesBy, IsFailureOf}
 use Rattle.verdicts.specs.Telling.{IsVerdictOn, SaysItFails}
 use Rattle.verdicts.specs.declared.deciding.Verdict.{Verdict}

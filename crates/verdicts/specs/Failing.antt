@@ -3,7 +3,7 @@
 use Rattle.std.specs.Prelude.{◌≡◌, ℕ, List, Some, slice_get}
 use Rattle.cocoon_num.specs.Tree.{Design}
 use Rattle.bv_terms.specs.declared.node.Node.{Node}
-pub use Rattle.failure_laws.specs.Witnesses.{GoesBy}
+pub use Rattle.failure_reading.specs.Witnesses.{GoesBy}
 pub use Rattle.failure_reading.specs.OfObligation.{Fails}
 use Rattle.failures.specs.Failures.{Failure, OfLevel}
 use Rattle.failures.specs.Found.{failure_of, FailureFits}

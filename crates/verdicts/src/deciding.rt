@@ -3,10 +3,10 @@ ghost use Rattle.std.specs.Prelude.{◌^◌, ◌<◌, ◌≤◌, IfOk};
 ghost use Rattle.bv_terms.specs.Arenas.{term_at};
 ghost use Rattle.candidate_laws.specs.Candidates.{MakeTrue};
 ghost use Rattle.cocoon_syntax.specs.TreeOf.{design_of};
-ghost use Rattle.failure_laws.specs.Witnesses.{OthersAreZero};
+ghost use Rattle.failure_reading.specs.Witnesses.{OthersAreZero};
 ghost use Rattle.failures.specs.Found.{CanFail};
 ghost use Rattle.obligation_gen.specs.Owed.{IsOwed};
-ghost use Rattle.input_values.specs.Values.{values_of};
+ghost use Rattle.term_walk.specs.Values.{values_of};
 ghost use Rattle.verdicts.specs.Deciding.{Decides};
 ghost use Rattle.verdicts.specs.Telling.{IsVerdictOn, SaysItFails};
 
@@ -16,17 +16,17 @@ use cnf_core::Log;
 use cocoon_num::{List, NoMemory};
 use cocoon_resolve::Checked;
 use discharge::Budget;
-use failure_laws::laws::true_formulas_are_failures;
 use failure_reading::failure;
+use failure_reading::laws::true_formulas_are_failures;
 use failures::Failure;
 use formula_functions::laws::{formulas_apply_declared_functions, obligations_have_levels};
-use input_values::InputValues;
 use obligation_gen::{Kind, Obligation};
 use obligation_laws::laws::untrue_formulas_never_fail;
 use refinement::laws::segments_are_hops;
 use rounds::{Outcome, Query, Witness, search};
 use sound_types::laws::code_literals_fit;
 use std::alloc::Global;
+use term_walk::InputValues;
 
 /// What a search says of an obligation.
 #[derive(Drop)]

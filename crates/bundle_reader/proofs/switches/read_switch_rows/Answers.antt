@@ -1,7 +1,22 @@
-use Rattle.bundle_reader.proofs.Steps.{rows_refused}
+use Rattle.std.proofs.Common.{Some}
+use Rattle.bundle_reader.proofs.Steps.{bytes_named, bytes_rose, bytes_told, passed}
 use Rattle.bundle_reader.proofs.switches.read_switch_rows.Goals as goal
 
-pub returns-clause-refused : goal.returns-clause-refused
-returns-clause-refused g c files e turn =
-    rows_refused files c.args.out.now c.args.switch c.args.kept.now c.in_ok-text.text.items _ c.in-Err.fault _ turn (c.in_ok-text.ensures.held files e) c.in_ok-text.ensures.fresh c.deref.ensures.value
-    c.in-Err.ensures.fault c.form_fault.ensures
+pub returns-in_err-bytes-clause-refused : goal.returns-in_err-bytes-clause-refused
+returns-in_err-bytes-clause-refused g c =
+    passed _ c.in_err-bytes.field-0.0 _ c.from_residual.ensures.1 (λ files e. c.in_err-bytes.ensures.refused files e (Some c.args.kept.now))
+
+pub returns-in_err-rows-clause-refused : goal.returns-in_err-rows-clause-refused
+returns-in_err-rows-clause-refused g c =
+    passed _ c.in_err-rows.field-0.0 _ c.from_residual-in_err-rows.ensures.1
+    (λ files e turn. c.in_err-rows.ensures.refused files c.args.out.now (c.in_ok-bytes.ensures.held files e) turn)
+
+pub returns-in_err-rows-clause-told : goal.returns-in_err-rows-clause-told
+returns-in_err-rows-clause-told g c = passed _ _ _ c.from_residual-in_err-rows.ensures.1 (bytes_told _ c.in_err-rows.ensures.about)
+
+pub returns-in_err-rows-clause-failed : goal.returns-in_err-rows-clause-failed
+returns-in_err-rows-clause-failed g c =
+    passed _ _ _ c.from_residual-in_err-rows.ensures.1 (bytes_rose _ _ _ _ c.in_ok-bytes.ensures.counted c.in_err-rows.ensures.about)
+
+pub returns-in_err-rows-clause-named : goal.returns-in_err-rows-clause-named
+returns-in_err-rows-clause-named g c = passed _ _ _ c.from_residual-in_err-rows.ensures.1 (bytes_named (g.F.Folder.last_failure c.read_file.new.folder) c.args.out.now _ c.in_err-rows.ensures.about)

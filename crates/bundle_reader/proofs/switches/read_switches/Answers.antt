@@ -43,6 +43,7 @@ loop-switch-preserved g c =
       writes = c.read_switch.ensures.writes ∙ h.writes;
       named = others_named _ _ _ _ _ _ two named;
       numbers = numbers_more ns i _ _ c.in_ok-read.read.files c.loop-switch-test.true c.in_ok-push.ensures.items c.in_ok-read.ensures.number h.numbers;
+      last = c.in_ok-read.ensures.last;
       runs = runs_more _ _ c.in_ok-read.read.loaded _ _ c.in_ok-read.read.files c.in_ok-push-2.ensures.items c.in_ok-push.ensures.items c.in_ok-read.ensures.runs h.runs;
       well = λ files e. well_pushed files c.args.out.now _ _ _ _ c.in_ok-read.read.files c.in_ok-push.ensures.items
           (one_more c.rows_form_is_exact.ensures c.rows_without_fault_load.ensures files c.args.out.now _ _ _ _ (switch_of c.in_ok-read.read.files) _ _ _ _ two named c.in_ok-read.ensures.number (h.well files e)

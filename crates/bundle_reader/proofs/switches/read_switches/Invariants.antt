@@ -4,7 +4,8 @@ use Rattle.p4_ir.specs.NetFits.{switch_numbers}
 use Rattle.p4_ir.specs.NetOf.{switch_of}
 use Rattle.loaded_net.specs.Runs.{runs_in, runs_of}
 use Rattle.net_bundle.specs.NetFileOf.{kept_of, net_file_of}
-use Rattle.bundle_forms.specs.NetForm.{are_names, file_names}
+use Rattle.net_bundle.specs.NetForm.{are_names, file_names}
+use Rattle.bundle_reader.specs.Parts.{LastIsRead}
 use Rattle.bundle_reader.proofs.Prefix.{SoFar}
 use Rattle.bundle_reader.proofs.switches.read_switches.Given as goal
 
@@ -15,6 +16,7 @@ invariant-loop-switch g l = record {
   writes : g.F.Folder.write_faults l.folder ≡ g.F.Folder.write_faults l.fn.folder;
   named : are_names (file_names (drop l.switch-index l.switch-items)) (map kept_of l.kept) ≡ true;
   numbers : switch_numbers (map switch_of l.switches.items) ≡ take l.switch-index l.switch-items;
+  last : LastIsRead l.last;
   runs : map runs_in l.loaded.items ≡ map runs_of (map switch_of l.switches.items);
   well : (files : Files) → g.F.Folder.content l.fn.folder ≡ Some files → SoFar files l.out (net_file_of l.file).files (map kept_of l.kept) (map switch_of l.switches.items);
 }

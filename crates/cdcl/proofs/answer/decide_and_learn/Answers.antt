@@ -2,8 +2,8 @@ use Rattle.std.proofs.Common.{◌≡◌, ◌<◌, ◌∙◌, List, ap, arith, le
 use Rattle.cnf_core.specs.Deriving.{EachDerived}
 use Rattle.cnf_core.specs.Licensing.{BringsNew}
 use Rattle.cnf_core.specs.declared.log.Step.{Step}
-use Rattle.unit_propagation.specs.States.{IsNextConflict}
-use Rattle.unit_propagation.proofs.FirstClauses.{if-ok-weaker, known-count}
+use Rattle.cdcl.specs.States.{IsNextConflict}
+use Rattle.cdcl.proofs.FirstClauses.{if-ok-weaker, known-count}
 use Rattle.cdcl.proofs.answer.decide_and_learn.Goals as goal
 
 pub returns-then-is_empty : goal.returns-then-is_empty

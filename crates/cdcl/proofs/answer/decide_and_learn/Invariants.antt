@@ -1,5 +1,5 @@
 use Rattle.std.proofs.Common.{◌-◌, ◌≤◌, length}
-use Rattle.unit_propagation.specs.States.{IsReady, IsSound}
+use Rattle.cdcl.specs.States.{IsReady, IsSound}
 use Rattle.cdcl.proofs.answer.decide_and_learn.Given as goal
 
 abbrev pub invariant-loop-alloc : goal.invariant-loop-alloc

@@ -1,10 +1,10 @@
 use Rattle.std.proofs.Common.{◌≡◌, ◌+◌, ◌-◌, ◌<◌, ◌∙◌, ◌++◌, ◌∷◌, [], ap, arith, inl, inr, length, subst, sym}
 use Rattle.cnf_core.specs.TrailViews.{trues}
-use Rattle.search_laws.specs.Marks.{Shows, count_from}
+use Rattle.cdcl.specs.Marks.{Shows, count_from}
 use Rattle.cdcl.specs.Resolving.{Analyzed}
-use Rattle.unit_propagation.specs.States.{clauses_of}
-use Rattle.search_laws.proofs.Conflicts.{conflict-counts, shows-conflict}
-use Rattle.search_laws.proofs.Counting.{count-below}
+use Rattle.cdcl.specs.States.{clauses_of}
+use Rattle.cdcl.proofs.Conflicts.{conflict-counts, shows-conflict}
+use Rattle.cdcl.proofs.Counting.{count-below}
 use Rattle.cdcl.proofs.learning.analyze.Goals as goal
 
 pub loop-analysis-init : goal.loop-analysis-init

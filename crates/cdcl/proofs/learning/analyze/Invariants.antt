@@ -1,7 +1,7 @@
 use Rattle.std.proofs.Common.{◌≡◌, ◌≤◌, length}
 use Rattle.cnf_core.specs.TrailViews.{trues}
 use Rattle.cdcl.specs.Resolving.{Analyzed}
-use Rattle.unit_propagation.specs.States.{clauses_of}
+use Rattle.cdcl.specs.States.{clauses_of}
 use Rattle.cdcl.proofs.learning.analyze.Given as goal
 
 abbrev pub invariant-loop-analysis : goal.invariant-loop-analysis

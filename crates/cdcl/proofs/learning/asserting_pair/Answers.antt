@@ -2,8 +2,8 @@ use Rattle.std.proofs.Common.{◌≡◌, ◌<◌, ◌≤◌, ◌∙◌, ℕ, ap,
 use Rattle.cnf_core.specs.Literals.{opposite}
 use Rattle.cnf_core.specs.Trails.{literal_at}
 use Rattle.cnf_core.specs.TrailViews.{trues}
-use Rattle.search_laws.specs.Marks.{count_from, is_marked}
-use Rattle.search_laws.proofs.Counting.{last-marked, some-last}
+use Rattle.cdcl.specs.Marks.{count_from, is_marked}
+use Rattle.cdcl.proofs.Counting.{last-marked, some-last}
 use Rattle.cdcl.proofs.learning.asserting_pair.Goals as goal
 
 pub opposite_before-first-requires-clause-some : goal.opposite_before-first-requires-clause-some

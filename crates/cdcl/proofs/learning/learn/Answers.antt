@@ -9,12 +9,12 @@ use Rattle.cnf_core.specs.Literals.{Names, opposite}
 use Rattle.cnf_core.specs.Trails.{HasStatus, literal_at}
 use Rattle.cnf_core.specs.TrailViews.{trues}
 use Rattle.cnf_core.specs.declared.clause_status.ClauseStatus.TheVariants.{Open}
-use Rattle.search_laws.specs.Marks.{count_from, is_marked, marked_literals}
-use Rattle.search_laws.specs.Searching.{IsAsserting, IsClosed}
-use Rattle.unit_propagation.specs.States.{clauses_of}
-use Rattle.search_laws.proofs.Backjumps.{back-asserting, back-new, back-unforced}
-use Rattle.search_laws.proofs.Jumping.{after-last}
-use Rattle.search_laws.proofs.LearnedClauses.{learned-follows}
+use Rattle.cdcl.specs.Marks.{count_from, is_marked, marked_literals}
+use Rattle.cdcl.specs.Searching.{IsAsserting, IsClosed}
+use Rattle.cdcl.specs.States.{clauses_of}
+use Rattle.cdcl.proofs.Backjumps.{back-asserting, back-new, back-unforced}
+use Rattle.cdcl.proofs.Jumping.{after-last}
+use Rattle.cdcl.proofs.LearnedClauses.{learned-follows}
 use Rattle.cdcl.proofs.learning.learn.Goals as goal
 
 pub analyze-requires-clause-forced : goal.analyze-requires-clause-forced

@@ -2,8 +2,8 @@ use Rattle.std.proofs.Common.{◌∙◌, ◌++◌, ap, arith, map}
 use Rattle.cnf_core.specs.Literals.{opposite}
 use Rattle.cnf_core.specs.Trails.{numbers}
 use Rattle.cnf_core.specs.TrailViews.{trues}
-use Rattle.search_laws.specs.Marks.{opposite_at}
-use Rattle.search_laws.proofs.LearnedClauses.{marked-all, marked-more}
+use Rattle.cdcl.specs.Marks.{opposite_at}
+use Rattle.cdcl.proofs.LearnedClauses.{marked-all, marked-more}
 use Rattle.cdcl.proofs.learning.learned.Goals as goal
 
 pub loop-place-preserved : goal.loop-place-preserved

@@ -2,7 +2,7 @@ use Rattle.std.proofs.Common.{◌≡◌, map, take}
 use Rattle.cnf_core.specs.Literals.{opposite}
 use Rattle.cnf_core.specs.Trails.{numbers}
 use Rattle.cnf_core.specs.TrailViews.{trues}
-use Rattle.search_laws.specs.Marks.{marked_literals}
+use Rattle.cdcl.specs.Marks.{marked_literals}
 use Rattle.cdcl.proofs.learning.learned.Given as goal
 
 abbrev pub invariant-loop-place : goal.invariant-loop-place

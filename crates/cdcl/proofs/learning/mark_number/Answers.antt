@@ -4,9 +4,9 @@ use Rattle.std.proofs.lemmas.Option.{same_Some}
 use Rattle.cnf_core.specs.Clauses.{literals}
 use Rattle.cnf_core.specs.Literals.{Names}
 use Rattle.cnf_core.specs.TrailViews.{trues}
-use Rattle.search_laws.specs.Marks.{MarksToo}
-use Rattle.unit_propagation.specs.States.{clauses_of}
-use Rattle.search_laws.proofs.Trailing.{at-some, known-named}
+use Rattle.cdcl.specs.Marks.{MarksToo}
+use Rattle.cdcl.specs.States.{clauses_of}
+use Rattle.cdcl.proofs.Trailing.{at-some, known-named}
 use Rattle.cdcl.proofs.learning.mark_number.Goals as goal
 
 pub mark_clause-requires-clause-named : goal.mark_clause-requires-clause-named

@@ -8,11 +8,11 @@ use Rattle.cnf_core.specs.Licensing.{BringsNew}
 use Rattle.cnf_core.specs.Literals.{Names, opposite}
 use Rattle.cnf_core.specs.TrailViews.{trues}
 use Rattle.cnf_core.specs.declared.log.Step.{Step}
-use Rattle.search_laws.specs.Marks.{count_from, marked_literals}
-use Rattle.unit_propagation.specs.States.{clauses_of}
-use Rattle.search_laws.proofs.Counting.{none-marked}
-use Rattle.search_laws.proofs.Jumping.{derived-push, get-last, new-prefix}
-use Rattle.search_laws.proofs.LearnedClauses.{marked-none, learned-follows}
+use Rattle.cdcl.specs.Marks.{count_from, marked_literals}
+use Rattle.cdcl.specs.States.{clauses_of}
+use Rattle.cdcl.proofs.Counting.{none-marked}
+use Rattle.cdcl.proofs.Jumping.{derived-push, get-last, new-prefix}
+use Rattle.cdcl.proofs.LearnedClauses.{marked-none, learned-follows}
 use Rattle.cdcl.proofs.learning.refute.Goals as goal
 
 pub returns : goal.returns

@@ -3,10 +3,10 @@ use Rattle.std.proofs.Math.ListN.{length-set}
 use Rattle.std.proofs.lemmas.Option.{none-some, same_Some}
 use Rattle.std.proofs.lemmas.Result.{on_ok_weaker}
 use Rattle.cnf_core.specs.TrailViews.{room, trues}
-use Rattle.search_laws.specs.Marks.{Shows}
-use Rattle.search_laws.specs.Searching.{IsForcedBy}
-use Rattle.unit_propagation.specs.States.{clauses_of}
-use Rattle.search_laws.proofs.Conflicts.{below-reason, below-skip, shows-reason, shows-skip}
+use Rattle.cdcl.specs.Marks.{Shows}
+use Rattle.cdcl.specs.Searching.{IsForcedBy}
+use Rattle.cdcl.specs.States.{clauses_of}
+use Rattle.cdcl.proofs.Conflicts.{below-reason, below-skip, shows-reason, shows-skip}
 use Rattle.cdcl.proofs.learning.resolve.Goals as goal
 
 pub reason-requires : goal.reason-requires

@@ -3,9 +3,10 @@ use Rattle.std.specs.Prelude.{string_bytes}
 use Rattle.command_line.specs.Command.{Command}
 use Rattle.command_line.specs.Command.{stands_for}
 use Rattle.command_reports.specs.Report.{IsEnding}
+use Rattle.command_answers.specs.FolderCalls.{count}
 use Rattle.cocoon_cli.specs.Certified.{CertifiedOf}
 use Rattle.cocoon_cli.specs.Headline.{CompiledOf}
-use Rattle.cocoon_cli.specs.Run.{Call, Cause, count}
+use Rattle.cocoon_cli.specs.Run.{Call, Cause}
 use Rattle.cocoon_cli.proofs.Performing.{ended}
 use Rattle.obligation_laws.specs.Obligations.{bounded, contained}
 use Rattle.cocoon_cli.proofs.Failed.{failed_words}

@@ -2,7 +2,7 @@ use Rattle.std.proofs.Common.{IfErr, subst, ◌∙◌}
 use Rattle.command_reports.specs.FileNames.{bundle_in, names_in}
 use Rattle.command_reports.specs.declared.files.CommandFile.TheVariants.{Case, Definitions, Packets}
 use Rattle.cocoon_cli.specs.Shell.{HasNet, LacksNet, ReadsNot}
-use Rattle.cocoon_cli.proofs.Counted.{passed}
+use Rattle.command_answers.proofs.Counted.{passed}
 use Rattle.cocoon_cli.proofs.Readings.{all_read, no_case, no_definitions, no_design, no_net, no_packets, still_has, still_lacks}
 use Rattle.cocoon_cli.proofs.reading.read_all.Goals as goal
 

@@ -1,9 +1,9 @@
 use Rattle.std.proofs.Common.{refl, subst, sym}
 use Rattle.command_line.specs.Command.{stands_for}
-use Rattle.cocoon_cli.specs.Commands.{files_of}
-use Rattle.cocoon_cli.specs.Run.{count}
-use Rattle.cocoon_cli.specs.Shell.{Asked, Called}
-use Rattle.cocoon_cli.specs.declared.answer.Answer.{Answer}
+use Rattle.command_answers.specs.Commands.{files_of}
+use Rattle.command_answers.specs.FolderCalls.{count, Called}
+use Rattle.command_answers.specs.Answering.{Asked}
+use Rattle.command_answers.specs.declared.answer.Answer.{Answer}
 use Rattle.cocoon_cli.proofs.shell.ask.Goals as goal
 
 pub returns-in-Update-clause-called : goal.returns-in-Update-clause-called

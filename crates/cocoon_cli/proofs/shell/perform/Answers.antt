@@ -1,9 +1,9 @@
 use Rattle.std.proofs.Common.{◌∙◌, refl, subst, sym}
 use Rattle.command_line.specs.Command.{stands_for}
-use Rattle.cocoon_cli.specs.Commands.{StandsFor, files_of}
-use Rattle.cocoon_cli.specs.Run.{count}
-use Rattle.cocoon_cli.specs.Shell.{Acts, AllWritten, CanWrite, NotAllWritten, ReadsAll, ReadsNot, writing_of}
-use Rattle.cocoon_cli.proofs.Counted.{called_after, called_ok, passed}
+use Rattle.command_answers.specs.Commands.{files_of}
+use Rattle.command_answers.specs.FolderCalls.{count}
+use Rattle.cocoon_cli.specs.Shell.{StandsFor, Acts, AllWritten, CanWrite, NotAllWritten, ReadsAll, ReadsNot, writing_of}
+use Rattle.command_answers.proofs.Counted.{called_after, called_ok, passed}
 use Rattle.cocoon_cli.proofs.Certified.{certified_of}
 use Rattle.cocoon_cli.proofs.Commands.{can_write, headline}
 use Rattle.cocoon_cli.proofs.Performing.{done, unanswered, unread, unwritten}

@@ -1,6 +1,6 @@
 use Rattle.std.proofs.Common.{◌++◌, ◌∷◌, [], map, take, sym, subst}
 use Rattle.cocoon_syntax.specs.TreeOf.{header_of, param_of}
-use Rattle.name_table.specs.NameNumbers.{Numbers}
+use Rattle.numbering.specs.NameNumbers.{Numbers}
 use Rattle.declarations.specs.Declares.{HoldsFields, field_texts}
 use Rattle.declarations.proofs.TableFacts.{taken, HoldsFields-push}
 use Rattle.declarations.proofs.header_table.field_tables.Goals as goal

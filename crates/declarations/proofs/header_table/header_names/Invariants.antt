@@ -1,6 +1,6 @@
 use Rattle.std.proofs.Common.{map, take}
 use Rattle.cocoon_syntax.specs.TreeOf.{header_of}
-use Rattle.name_table.specs.NameNumbers.{Numbers}
+use Rattle.numbering.specs.NameNumbers.{Numbers}
 use Rattle.declarations.specs.Declares.{header_texts}
 use Rattle.declarations.proofs.header_table.header_names.Given as goal
 

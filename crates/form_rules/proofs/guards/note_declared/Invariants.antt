@@ -4,7 +4,7 @@ use Rattle.cocoon_syntax.specs.TreeOf.{design_of, role_of}
 use Rattle.cocoon_types.specs.FormRules.{declared_as}
 use Rattle.cocoon_types.specs.Noting.{Notes}
 use Rattle.cocoon_types.specs.Rules.{guard_form}
-use Rattle.fault_notes.specs.Among.{among}
+use Rattle.cocoon_types.specs.Among.{among}
 use Rattle.form_rules.specs.Guards.{other_guard}
 use Rattle.form_rules.proofs.guards.note_declared.Given as goal
 

@@ -6,7 +6,7 @@ use Rattle.cocoon_types.specs.FormRules.{declared_as}
 use Rattle.cocoon_types.specs.Noting.{Notes}
 use Rattle.cocoon_types.specs.RuleParts.{roles_of}
 use Rattle.cocoon_types.specs.Rules.{guard_form}
-use Rattle.fault_notes.specs.Among.{among}
+use Rattle.cocoon_types.specs.Among.{among}
 use Rattle.form_rules.specs.Guards.{other_guard}
 use Rattle.form_rules.proofs.GuardForms.{guards_some}
 use Rattle.form_rules.proofs.RoleLists.{two_noted}

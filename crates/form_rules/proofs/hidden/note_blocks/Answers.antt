@@ -4,7 +4,7 @@ use Rattle.cocoon_syntax.specs.TreeOf.{design_of, name_of, refine_of}
 use Rattle.cocoon_types.specs.FormRules.{hidden_above}
 use Rattle.cocoon_types.specs.Noting.{Notes}
 use Rattle.cocoon_types.specs.Rules.{hidden_choice}
-use Rattle.fault_notes.specs.Among.{among}
+use Rattle.cocoon_types.specs.Among.{among}
 use Rattle.form_rules.specs.Parts.{hidden_of}
 use Rattle.form_rules.proofs.Joined.{blocks-noted}
 use Rattle.form_rules.proofs.hidden.note_blocks.Goals as goal

@@ -4,7 +4,7 @@ use Rattle.cocoon_types.specs.FormRules.{hidden_above}
 use Rattle.cocoon_types.specs.Noting.{Notes}
 use Rattle.cocoon_types.specs.RuleParts.{blocks_from}
 use Rattle.cocoon_types.specs.Rules.{hidden_choice}
-use Rattle.fault_notes.specs.Among.{among}
+use Rattle.cocoon_types.specs.Among.{among}
 use Rattle.form_rules.proofs.hidden.note_blocks.Given as goal
 
 abbrev pub invariant-loop-block : goal.invariant-loop-block

@@ -4,7 +4,7 @@ use Rattle.cocoon_types.specs.FormRules.{changed_in}
 use Rattle.cocoon_types.specs.Noting.{Notes}
 use Rattle.cocoon_types.specs.RuleParts.{blocks_from}
 use Rattle.cocoon_types.specs.Rules.{header_changed}
-use Rattle.fault_notes.specs.Among.{among}
+use Rattle.cocoon_types.specs.Among.{among}
 use Rattle.form_rules.proofs.refined.note_blocks.Given as goal
 
 abbrev pub invariant-loop-block : goal.invariant-loop-block

@@ -4,7 +4,7 @@ use Rattle.cocoon_syntax.specs.TreeOf.{decl_of, design_of}
 use Rattle.cocoon_types.specs.Design.{as_role}
 use Rattle.cocoon_types.specs.Noting.{Notes}
 use Rattle.cocoon_types.specs.Rules.{header_changed}
-use Rattle.fault_notes.specs.Among.{among}
+use Rattle.cocoon_types.specs.Among.{among}
 use Rattle.form_rules.specs.Parts.{changed}
 use Rattle.form_rules.proofs.refined.note_decls.Given as goal
 

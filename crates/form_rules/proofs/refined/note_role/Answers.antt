@@ -6,7 +6,7 @@ use Rattle.cocoon_types.specs.Noting.{Notes}
 use Rattle.cocoon_types.specs.RuleParts.{unless_named}
 use Rattle.cocoon_types.specs.Rules.{header_changed}
 use Rattle.cocoon_types.specs.SameTrees.{same_expr, same_params}
-use Rattle.fault_notes.specs.Among.{among}
+use Rattle.cocoon_types.specs.Among.{among}
 use Rattle.form_rules.proofs.Joined.{noted-as}
 use Rattle.form_rules.proofs.refined.note_role.Goals as goal
 

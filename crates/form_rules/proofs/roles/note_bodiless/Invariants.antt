@@ -3,7 +3,7 @@ use Rattle.std.specs.Prelude.{flat_map}
 use Rattle.cocoon_syntax.specs.TreeOf.{role_of}
 use Rattle.cocoon_types.specs.Noting.{Notes}
 use Rattle.cocoon_types.specs.Rules.{sink_form}
-use Rattle.fault_notes.specs.Among.{among}
+use Rattle.cocoon_types.specs.Among.{among}
 use Rattle.form_rules.specs.Parts.{bodiless}
 use Rattle.form_rules.proofs.roles.note_bodiless.Given as goal
 

@@ -6,7 +6,7 @@ use Rattle.cocoon_types.specs.Noting.{Notes}
 use Rattle.cocoon_types.specs.RuleParts.{unless}
 use Rattle.cocoon_types.specs.Rules.{sink_form}
 use Rattle.cocoon_types.specs.SameTrees.{same_params}
-use Rattle.fault_notes.specs.Among.{among}
+use Rattle.cocoon_types.specs.Among.{among}
 use Rattle.form_rules.specs.Parts.{bodiless}
 use Rattle.form_rules.proofs.Joined.{noted-as}
 use Rattle.form_rules.proofs.RoleLists.{hosts_noted}

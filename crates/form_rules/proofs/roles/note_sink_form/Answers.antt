@@ -4,7 +4,7 @@ use Rattle.cocoon_syntax.specs.TreeOf.{design_of, host_of, role_of}
 use Rattle.cocoon_types.specs.Noting.{Notes}
 use Rattle.cocoon_types.specs.Rules.{sink_form}
 use Rattle.cocoon_types.specs.RuleParts.{roles_of}
-use Rattle.fault_notes.specs.Among.{among}
+use Rattle.cocoon_types.specs.Among.{among}
 use Rattle.form_rules.specs.Parts.{host_faults}
 use Rattle.form_rules.proofs.RoleLists.{of_some, of_none}
 use Rattle.form_rules.proofs.roles.note_sink_form.Goals as goal

@@ -4,7 +4,7 @@ use Rattle.cocoon_syntax.specs.TreeOf.{role_of}
 use Rattle.cocoon_types.specs.FormRules.{declared_as}
 use Rattle.cocoon_types.specs.Noting.{Notes}
 use Rattle.cocoon_types.specs.Rules.{not_switch_form}
-use Rattle.fault_notes.specs.Among.{among}
+use Rattle.cocoon_types.specs.Among.{among}
 use Rattle.form_rules.specs.Parts.{not_two_ports}
 use Rattle.form_rules.proofs.switches.note_declared.Given as goal
 

@@ -6,7 +6,7 @@ use Rattle.cocoon_types.specs.FormRules.{declared_as}
 use Rattle.cocoon_types.specs.Noting.{Notes}
 use Rattle.cocoon_types.specs.Rules.{not_switch_form}
 use Rattle.cocoon_types.specs.RuleParts.{roles_of}
-use Rattle.fault_notes.specs.Among.{among}
+use Rattle.cocoon_types.specs.Among.{among}
 use Rattle.form_rules.specs.Parts.{not_two_ports}
 use Rattle.form_rules.proofs.RoleLists.{switch_some, switch_none, two_noted}
 use Rattle.form_rules.proofs.switches.note_not_switch_form.Goals as goal

@@ -1,5 +1,5 @@
 use Rattle.std.proofs.Common.{◌≡◌, drop, fold}
-use Rattle.key_table.specs.KeyPlaces.{Holds}
+use Rattle.numbering.specs.KeyPlaces.{Holds}
 use Rattle.runtime_defs.specs.RowKeys.{row_keys}
 use Rattle.literal_tables.specs.FirstRows.{first_rows, with_row}
 use Rattle.literal_tables.specs.LookupRows.{rows_for}

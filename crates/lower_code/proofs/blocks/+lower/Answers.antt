@@ -4,9 +4,9 @@ use Rattle.cocoon_syntax.specs.declared.stmt.StmtKind as kinds
 use Rattle.cocoon_syntax.specs.TreeOf as tree
 use Rattle.p4_ir.specs.P4Tree.{set_header}
 use Rattle.p4_ir.specs.Program.{expr_of, stmt_of}
-use Rattle.lower_body.specs.Lower as lower
-use Rattle.lower_body.specs.Lower.{Counts, Variable}
-use Rattle.lower_body.specs.LowerBlock as block
+use Rattle.lowering.specs.Lower as lower
+use Rattle.lowering.specs.Lower.{Counts, Variable}
+use Rattle.lowering.specs.LowerBlock as block
 use Rattle.lower_code.specs.Blocks.{BlockSoFar, block_so_far, with_block, with_effect}
 use Rattle.lower_code.specs.Growth.{so_far, with_expr}
 use Rattle.lower_code.specs.Scopes.{callees_in, design_in}

@@ -1,6 +1,6 @@
 use Rattle.std.proofs.Common.{◌≡◌, ◌+◌, ◌*◌, drop, map}
 use Rattle.cocoon_syntax.specs.TreeOf as tree
-use Rattle.lower_body.specs.LowerBlock.{lower_block}
+use Rattle.lowering.specs.LowerBlock.{lower_block}
 use Rattle.lower_code.specs.Blocks.{block_so_far, with_block}
 use Rattle.lower_code.specs.Growth.{counts_of}
 use Rattle.lower_code.specs.Scopes.{callees_in, design_in}

@@ -1,6 +1,6 @@
 use Rattle.std.proofs.Common.{map, sym, ap, ◌∙◌}
 use Rattle.cocoon_syntax.specs.TreeOf.{expr_of, exprs_of}
-use Rattle.lower_body.specs.LowerBlock.{exprs_before_last}
+use Rattle.lowering.specs.LowerBlock.{exprs_before_last}
 use Rattle.lower_code.proofs.BeforeLast.{exprs_back}
 use Rattle.lower_code.proofs.blocks.exprs_before_last.Goals as goal
 

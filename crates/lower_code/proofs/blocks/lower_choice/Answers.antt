@@ -1,8 +1,8 @@
 use Rattle.std.proofs.Common.{List, ℕ, map, ap, ◌∙◌}
 use Rattle.cocoon_syntax.specs.TreeOf as tree
 use Rattle.p4_ir.specs.Program.{expr_of}
-use Rattle.lower_body.specs.Lower.{lower_exprs}
-use Rattle.lower_body.specs.LowerBlock.{fork_args, fork_function}
+use Rattle.lowering.specs.Lower.{lower_exprs}
+use Rattle.lowering.specs.LowerBlock.{fork_args, fork_function}
 use Rattle.lower_code.specs.Growth.{so_far, with_expr, with_exprs}
 use Rattle.lower_code.specs.Scopes.{callees_in, design_in}
 use Rattle.lower_code.specs.Variables.{variables_of}

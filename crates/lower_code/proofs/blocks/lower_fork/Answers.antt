@@ -2,8 +2,8 @@ use Rattle.std.proofs.Common.{◌≡◌, List, ℕ, suc, [], ◌∷◌, ◌++◌
 use Rattle.std.proofs.lemmas.List.{map-append}
 use Rattle.cocoon_syntax.specs.TreeOf as tree
 use Rattle.p4_ir.specs.Program.{expr_of, stmt_of}
-use Rattle.lower_body.specs.Lower as lower
-use Rattle.lower_body.specs.LowerBlock.{copy_code, fork_args, fork_function, in_block}
+use Rattle.lowering.specs.Lower as lower
+use Rattle.lowering.specs.LowerBlock.{copy_code, fork_args, fork_function, in_block}
 use Rattle.lower_code.specs.Blocks.{block_so_far, port_vars, site_of}
 use Rattle.lower_code.specs.Growth.{so_far, with_expr}
 use Rattle.lower_code.specs.Scopes.{callees_in, design_in}

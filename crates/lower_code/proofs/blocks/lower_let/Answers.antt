@@ -2,7 +2,7 @@ use Rattle.std.proofs.Common.{List, ℕ, ◌∷◌, ap, map, ◌∙◌}
 use Rattle.cocoon_syntax.specs.TreeOf as tree
 use Rattle.p4_ir.specs.P4Tree.{p_meta}
 use Rattle.p4_ir.specs.Program.{expr_of, stmt_of}
-use Rattle.lower_body.specs.Lower as lower
+use Rattle.lowering.specs.Lower as lower
 use Rattle.lower_code.specs.Blocks.{block_so_far}
 use Rattle.lower_code.specs.Growth.{counted, so_far, with_expr}
 use Rattle.lower_code.specs.Scopes.{callees_in, design_in}

@@ -2,7 +2,7 @@ use Rattle.std.proofs.Common.{◌≡◌, true, [], ◌∷◌, ◌++◌, map, sym
 use Rattle.cocoon_syntax.specs.TreeOf as tree
 use Rattle.p4_ir.specs.P4Tree.{set_meta}
 use Rattle.p4_ir.specs.Program.{stmt_of}
-use Rattle.lower_body.specs.LowerBlock.{in_block}
+use Rattle.lowering.specs.LowerBlock.{in_block}
 use Rattle.lower_code.specs.Blocks.{port_kept}
 use Rattle.lower_code.specs.Growth.{so_far}
 use Rattle.lower_code.specs.Scopes.{design_in}

@@ -2,7 +2,7 @@ use Rattle.std.proofs.Common.{◌≡◌, suc, List, [], ◌∷◌, ◌++◌, map
 use Rattle.cocoon_syntax.specs.TreeOf.{param_of}
 use Rattle.p4_ir.specs.P4Tree as tree
 use Rattle.p4_ir.specs.Program.{expr_of, stmt_of}
-use Rattle.lower_body.specs.Lower.{result_name}
+use Rattle.lowering.specs.Lower.{result_name}
 use Rattle.lower_code.specs.Growth.{Counted, counted, so_far, with_field}
 use Rattle.p4_ir.specs.declared.program.P4Stmt.{P4Stmt}
 use Rattle.cocoon_num.specs.Tree.{Design}

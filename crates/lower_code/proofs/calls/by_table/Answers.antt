@@ -3,7 +3,7 @@ use Rattle.std.proofs.lemmas.List.{map-append}
 use Rattle.cocoon_syntax.specs.TreeOf.{function_of, param_of}
 use Rattle.p4_ir.specs.P4Tree.{P4Table}
 use Rattle.p4_ir.specs.Program.{expr_of, table_of}
-use Rattle.lower_body.specs.Lower.{a_table, kind_width, read_back}
+use Rattle.lowering.specs.Lower.{a_table, kind_width, read_back}
 use Rattle.lower_code.specs.Growth.{applied_code, applied_counts, applied_fields, counts_of, grown, made_in, made_of, so_far, table_for}
 use Rattle.lower_code.specs.declared.made.Made.TheVariants as parts
 use Rattle.lower_code.proofs.Steps.{table_put}

@@ -2,7 +2,7 @@ use Rattle.std.proofs.Common.{[], ◌∷◌, ◌++◌, map, ap, ◌∙◌}
 use Rattle.cocoon_syntax.specs.TreeOf.{result_of}
 use Rattle.p4_ir.specs.P4Tree.{set_meta}
 use Rattle.p4_ir.specs.Program.{expr_of, stmt_of}
-use Rattle.lower_body.specs.Lower.{read_back}
+use Rattle.lowering.specs.Lower.{read_back}
 use Rattle.lower_code.specs.Growth.{counted, with_variable}
 use Rattle.p4_ir.specs.declared.program.P4Stmt.{P4Stmt}
 use Rattle.lower_code.proofs.Forms.{one_more, set_form}

@@ -1,6 +1,6 @@
 use Rattle.std.proofs.Common.{◌≡◌, ◌++◌, drop, map}
 use Rattle.cocoon_syntax.specs.TreeOf.{param_of}
-use Rattle.lower_body.specs.Lower.{numbers_from}
+use Rattle.lowering.specs.Lower.{numbers_from}
 use Rattle.lower_code.proofs.calls.numbers.Given as goal
 
 abbrev pub invariant-loop : goal.invariant-loop

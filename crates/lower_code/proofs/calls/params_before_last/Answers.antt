@@ -1,6 +1,6 @@
 use Rattle.std.proofs.Common.{map, sym, ap, ◌∙◌}
 use Rattle.cocoon_syntax.specs.TreeOf.{param_of}
-use Rattle.lower_body.specs.Lower.{params_before_last}
+use Rattle.lowering.specs.Lower.{params_before_last}
 use Rattle.lower_code.proofs.BeforeLast.{params_back}
 use Rattle.lower_code.proofs.calls.params_before_last.Goals as goal
 

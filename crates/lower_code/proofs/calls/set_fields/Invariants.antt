@@ -1,6 +1,6 @@
 use Rattle.std.proofs.Common.{◌≡◌, ◌++◌, map}
 use Rattle.p4_ir.specs.Program.{expr_of, stmt_of}
-use Rattle.lower_body.specs.Lower.{sets}
+use Rattle.lowering.specs.Lower.{sets}
 use Rattle.lower_code.proofs.calls.set_fields.Given as goal
 
 abbrev pub invariant-loop-arg : goal.invariant-loop-arg

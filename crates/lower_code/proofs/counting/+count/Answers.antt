@@ -3,7 +3,7 @@ use Rattle.std.proofs.lemmas.Result.{IfOk-weaker}
 use Rattle.cocoon_num.specs.Tree.{Expr, pick}
 use Rattle.cocoon_syntax.specs.TreeOf.{expr_of}
 use Rattle.cocoon_syntax.specs.declared.expr.ExprKind as kinds
-use Rattle.lower_body.specs.Counting as spec
+use Rattle.lowering.specs.Counting as spec
 use Rattle.lower_code.specs.Scopes.{called_count}
 use Rattle.lower_code.proofs.counting.+count.Goals as goal
 

@@ -1,6 +1,6 @@
 use Rattle.std.proofs.Common.{◌≡◌, ◌+◌, drop, map}
 use Rattle.cocoon_syntax.specs.TreeOf.{expr_of, exprs_of}
-use Rattle.lower_body.specs.Counting as spec
+use Rattle.lowering.specs.Counting as spec
 use Rattle.lower_code.specs.Scopes.{called_count}
 use Rattle.lower_code.proofs.counting.+count.Given as goal
 

@@ -1,6 +1,6 @@
 use Rattle.std.proofs.Common.{◌≡◌, ◌+◌, drop, map}
 use Rattle.cocoon_syntax.specs.TreeOf.{block_of, stmt_of}
-use Rattle.lower_body.specs.Counting as spec
+use Rattle.lowering.specs.Counting as spec
 use Rattle.lower_code.proofs.counting.+fork.Given as goal
 
 abbrev pub invariant-count_forks-loop-stmt : goal.invariant-count_forks-loop-stmt

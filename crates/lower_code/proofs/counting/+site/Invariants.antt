@@ -1,6 +1,6 @@
 use Rattle.std.proofs.Common.{◌≡◌, ◌+◌, ◌*◌, drop, map}
 use Rattle.cocoon_syntax.specs.TreeOf.{block_of, stmt_of}
-use Rattle.lower_body.specs.Counting as spec
+use Rattle.lowering.specs.Counting as spec
 use Rattle.lower_code.specs.Scopes.{functions_in}
 use Rattle.lower_code.proofs.Sizes.{block_nodes, stmt_nodes}
 use Rattle.lower_code.proofs.counting.+site.Given as goal

@@ -4,7 +4,7 @@ use Rattle.cocoon_num.specs.Tree.{Stmt, let_, set_field, if_, filter}
 use Rattle.cocoon_syntax.specs.TreeOf.{block_of, expr_of, name_of, stmt_of}
 use Rattle.cocoon_syntax.specs.declared.stmt.Stmt.{Stmt as Statement}
 use Rattle.cocoon_syntax.specs.declared.stmt.StmtKind as kinds
-use Rattle.lower_body.specs.Counting as spec
+use Rattle.lowering.specs.Counting as spec
 use Rattle.lower_code.specs.Scopes.{functions_in}
 use Rattle.lower_code.proofs.Sizes.{block_nodes, one_stmt, stmt_nodes}
 use Rattle.lower_code.proofs.counting.+stmt.Goals as goal

@@ -8,8 +8,8 @@ use Rattle.cocoon_syntax.specs.TreeOf.{design_of, exprs_of, function_of, name_of
 use Rattle.cocoon_types.specs.Design.{functions}
 use Rattle.p4_ir.specs.Program.{expr_of}
 use Rattle.p4_ir.specs.declared.program.P4Expr.{P4Expr as P4}
-use Rattle.lower_body.specs.Lower as lower
-use Rattle.lower_body.specs.Lower.{Counts, by_table, p_operation}
+use Rattle.lowering.specs.Lower as lower
+use Rattle.lowering.specs.Lower.{Counts, by_table, p_operation}
 use Rattle.lower_code.specs.Growth.{all_reached, counts_of, reached, so_far, with_expr, with_exprs}
 use Rattle.lower_code.specs.Scopes.{body_lowered, callees_in, design_in, function_in, functions_before}
 use Rattle.lower_code.specs.Variables.{variables_of}

@@ -2,7 +2,7 @@ use Rattle.std.proofs.Common.{◌≡◌, ◌+◌, ◌*◌, drop, map, take}
 use Rattle.cocoon_syntax.specs.TreeOf as tree
 use Rattle.cocoon_syntax.specs.TreeOf.{design_of, exprs_of}
 use Rattle.cocoon_types.specs.Design.{functions}
-use Rattle.lower_body.specs.Lower.{lower_exprs}
+use Rattle.lowering.specs.Lower.{lower_exprs}
 use Rattle.p4_ir.specs.Program.{expr_of}
 use Rattle.lower_code.specs.Growth.{counts_of, so_far, with_exprs}
 use Rattle.lower_code.specs.Scopes.{callees_in, design_in}

@@ -2,7 +2,7 @@ use Rattle.std.proofs.Common.{◌≡◌, ◌<◌, ◌≤◌, false, length, map,
 use Rattle.cocoon_num.specs.Tree.{FunctionDecl}
 use Rattle.cocoon_syntax.specs.TreeOf.{function_of}
 use Rattle.cocoon_types.specs.Design.{functions}
-use Rattle.lower_body.specs.Lower.{by_group}
+use Rattle.lowering.specs.Lower.{by_group}
 use Rattle.p4_ir.specs.Program.{expr_of}
 use Rattle.p4_ir.specs.declared.program.P4Expr.{P4Expr as P4}
 use Rattle.lower_code.specs.Growth.{so_far, with_expr}

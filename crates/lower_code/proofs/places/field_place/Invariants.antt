@@ -1,6 +1,6 @@
 use Rattle.std.proofs.Common.{◌≡◌, drop, map}
 use Rattle.cocoon_syntax.specs.TreeOf.{header_of}
-use Rattle.lower_body.specs.Lower.{field_place}
+use Rattle.lowering.specs.Lower.{field_place}
 use Rattle.lower_code.proofs.places.field_place.Given as goal
 
 abbrev pub invariant-loop-declared : goal.invariant-loop-declared

@@ -1,6 +1,6 @@
 use Rattle.std.proofs.Common.{◌≡◌, ◌+◌, drop, map}
 use Rattle.cocoon_syntax.specs.TreeOf.{header_of}
-use Rattle.lower_body.specs.Lower.{header_place}
+use Rattle.lowering.specs.Lower.{header_place}
 use Rattle.lower_code.proofs.places.header_place.Given as goal
 
 abbrev pub invariant-loop-header : goal.invariant-loop-header

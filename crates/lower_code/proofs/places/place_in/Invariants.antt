@@ -1,6 +1,6 @@
 use Rattle.std.proofs.Common.{◌≡◌, ◌+◌, drop, map}
 use Rattle.cocoon_syntax.specs.TreeOf.{param_of}
-use Rattle.lower_body.specs.Lower.{place_in}
+use Rattle.lowering.specs.Lower.{place_in}
 use Rattle.lower_code.proofs.places.place_in.Given as goal
 
 abbrev pub invariant-loop-field : goal.invariant-loop-field

@@ -2,7 +2,7 @@ use Rattle.std.proofs.Common.{◌≡◌, [], ◌∷◌, ◌++◌, if◌then◌el
 use Rattle.std.proofs.lemmas.List.{map-append}
 use Rattle.p4_ir.specs.P4Tree as tree
 use Rattle.p4_ir.specs.Program.{stmt_of}
-use Rattle.lower_body.specs.LowerSites.{with_return}
+use Rattle.lowering.specs.LowerSites.{with_return}
 use Rattle.lower_code.proofs.SiteSteps.{return_last}
 use Rattle.lower_code.proofs.sites.ends_with_return.Goals as goal
 

@@ -1,7 +1,7 @@
 use Rattle.std.proofs.Common.{◌≡◌, List, [], ◌∷◌, ◌++◌, ◌-◌, map, ap, ◌∙◌, rules}
 use Rattle.p4_ir.specs.P4Tree.{p_meta, p_rid, p_slice, set_meta}
 use Rattle.p4_ir.specs.Program.{stmt_of}
-use Rattle.lower_body.specs.Lower.{Variable}
+use Rattle.lowering.specs.Lower.{Variable}
 use Rattle.lower_code.specs.Blocks.{block_so_far, site_of}
 use Rattle.lower_code.specs.Growth.{counted, so_far}
 use Rattle.lower_code.specs.Scopes.{callees_in, design_in}

@@ -1,5 +1,5 @@
 use Rattle.std.proofs.Common.{◌≡◌, drop, map}
-use Rattle.lower_body.specs.LowerSites.{lower_sites}
+use Rattle.lowering.specs.LowerSites.{lower_sites}
 use Rattle.lower_code.specs.Blocks.{site_of, with_sites}
 use Rattle.lower_code.specs.Growth.{counts_of, so_far}
 use Rattle.lower_code.specs.Scopes.{callees_in, design_in}

@@ -1,6 +1,6 @@
 use Rattle.std.proofs.Common.{◌≡◌, drop, map}
 use Rattle.cocoon_syntax.specs.TreeOf.{expr_of, exprs_of}
-use Rattle.lower_body.specs.LowerBlock.{in_exprs}
+use Rattle.lowering.specs.LowerBlock.{in_exprs}
 use Rattle.lower_code.proofs.uses.+expr.Given as goal
 
 abbrev pub invariant-exprs_use-loop-expr : goal.invariant-exprs_use-loop-expr

@@ -1,6 +1,6 @@
 use Rattle.std.proofs.Common.{◌≡◌, drop, map}
 use Rattle.cocoon_syntax.specs.TreeOf.{block_of, stmt_of}
-use Rattle.lower_body.specs.LowerBlock.{in_block}
+use Rattle.lowering.specs.LowerBlock.{in_block}
 use Rattle.lower_code.proofs.uses.+stmt.Given as goal
 
 abbrev pub invariant-block_uses-loop-stmt : goal.invariant-block_uses-loop-stmt

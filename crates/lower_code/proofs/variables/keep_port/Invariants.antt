@@ -1,5 +1,5 @@
 use Rattle.std.proofs.Common.{◌≡◌, take}
-use Rattle.lower_body.specs.LowerBlock.{ports_kept}
+use Rattle.lowering.specs.LowerBlock.{ports_kept}
 use Rattle.lower_code.specs.Variables.{variables_of}
 use Rattle.lower_code.proofs.variables.keep_port.Given as goal
 

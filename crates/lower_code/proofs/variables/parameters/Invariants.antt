@@ -1,6 +1,6 @@
 use Rattle.std.proofs.Common.{◌≡◌, ◌+◌, ◌≤◌, drop, length, map}
 use Rattle.cocoon_syntax.specs.TreeOf.{param_of}
-use Rattle.lower_body.specs.Lower.{variables_from}
+use Rattle.lowering.specs.Lower.{variables_from}
 use Rattle.lower_code.specs.Variables.{variables_of}
 use Rattle.lower_code.proofs.variables.parameters.Given as goal
 

@@ -1,5 +1,5 @@
 use Rattle.std.proofs.Common.{◌≡◌, ◌≤◌, take, length}
-use Rattle.lower_body.specs.Lower.{variable_expr}
+use Rattle.lowering.specs.Lower.{variable_expr}
 use Rattle.lower_code.specs.Variables.{variables_of}
 use Rattle.lower_code.proofs.variables.read_variable.Given as goal
 

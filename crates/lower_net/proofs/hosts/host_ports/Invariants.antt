@@ -1,6 +1,6 @@
 use Rattle.std.proofs.Common.{◌≡◌, map, take}
 use Rattle.cocoon_syntax.specs.TreeOf.{design_of, host_of, switch_of}
-use Rattle.lowered_net.specs.Wires.{host_port}
+use Rattle.lowering_correct.specs.Wires.{host_port}
 use Rattle.p4_ir.specs.NetOf.{host_port_of}
 use Rattle.lower_net.proofs.hosts.host_ports.Given as goal
 

@@ -1,7 +1,7 @@
 use Rattle.std.proofs.Common.{◌∙◌}
 use Rattle.std.proofs.lemmas.Result.{IfOk-weaker}
 use Rattle.cocoon_syntax.specs.TreeOf.{design_of}
-use Rattle.lowered_net.specs.Wires as spec
+use Rattle.lowering_correct.specs.Wires as spec
 use Rattle.role_meaning.proofs.Guards.{role_name_of}
 use Rattle.lower_net.proofs.led.led.Goals as goal
 

@@ -1,5 +1,5 @@
 use Rattle.std.proofs.Common.{◌≡◌, drop, map}
-use Rattle.lowered_net.specs.Counts.{first_over}
+use Rattle.lowering_correct.specs.Counts.{first_over}
 use Rattle.lower_rows.specs.AllGroups.{fork_group_of}
 use Rattle.lower_net.specs.Limits.{of_groups}
 use Rattle.lower_net.proofs.limits.groups_over.Given as goal

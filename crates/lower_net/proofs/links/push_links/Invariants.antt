@@ -1,8 +1,8 @@
 use Rattle.std.proofs.Common.{◌≡◌, ◌≤◌, ◌-◌, ◌++◌, map}
 use Rattle.std.specs.Prelude.{flat_map}
 use Rattle.cocoon_syntax.specs.TreeOf.{design_of, host_of, switch_of}
-use Rattle.lowered_net.specs.Network.{numbers_from}
-use Rattle.lowered_net.specs.Wires.{port_link}
+use Rattle.lowering_correct.specs.Network.{numbers_from}
+use Rattle.lowering_correct.specs.Wires.{port_link}
 use Rattle.p4_ir.specs.NetOf.{link_of}
 use Rattle.lower_net.proofs.links.push_links.Given as goal
 

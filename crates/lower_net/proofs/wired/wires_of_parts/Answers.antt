@@ -1,7 +1,7 @@
 use Rattle.std.proofs.Common.{rules}
 use Rattle.cocoon_syntax.specs.TreeOf.{design_of}
-use Rattle.lower_switch.specs.NetDeclarations.{parts_of}
-use Rattle.lowered_net.specs.Network.{HasNumbers}
+use Rattle.lower_net.specs.NetDeclarations.{parts_of}
+use Rattle.lowering_correct.specs.Network.{HasNumbers}
 use Rattle.lower_net.specs.Wired.{HasWires}
 use Rattle.p4_ir.specs.NetOf.{net_of}
 use Rattle.std.proofs.lemmas.Result.{IfOk-weaker}

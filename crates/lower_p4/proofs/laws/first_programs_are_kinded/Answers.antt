@@ -1,6 +1,6 @@
 use Rattle.std.proofs.Common.{◌≡◌, ◌<◌, ◌^◌, length, true, sym, subst}
 use Rattle.p4_ir.specs.WellKinded.{is_well_kinded}
-use Rattle.lowered.specs.SwitchProgram.{switch_program}
+use Rattle.lowering.specs.SwitchProgram.{switch_program}
 use Rattle.lower_p4.proofs.Grounded.{few_first, made_by, program_of_role, short_first, well_kinded}
 use Rattle.lower_p4.proofs.laws.first_programs_are_kinded.Goals as goal
 

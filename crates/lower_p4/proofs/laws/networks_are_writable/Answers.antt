@@ -1,6 +1,6 @@
 use Rattle.std.proofs.Common.{◌<◌, ◌^◌, length, arith}
-use Rattle.lowered_rows.specs.Groups.{fork_groups}
-use Rattle.lowered.specs.SwitchProgram.{switch_program}
+use Rattle.lowering_correct.specs.Groups.{fork_groups}
+use Rattle.lowering.specs.SwitchProgram.{switch_program}
 use Rattle.lower_p4.proofs.Grounded.{CountAlike, few_made, few_of, has_tables, short_number, well_kinded}
 use Rattle.lower_p4.proofs.laws.networks_are_writable.Goals as goal
 

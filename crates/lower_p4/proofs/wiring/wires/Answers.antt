@@ -7,7 +7,7 @@ use Rattle.p4_ir.specs.NetOf.{net_of}
 use Rattle.p4_ir.specs.NetTree.{NetData}
 use Rattle.runtime_defs.specs.Places.{Places}
 use Rattle.lower_net.specs.Wired.{HasWires}
-use Rattle.lowered_net.specs.Network.{IsNetwork}
+use Rattle.lowering_correct.specs.Network.{IsNetwork}
 use Rattle.lower_p4.specs.Lowering.{AreOfText}
 use Rattle.lower_p4.specs.Lowers.{Lowers}
 use Rattle.lower_p4.proofs.wiring.wires.Goals as goal

@@ -1,7 +1,7 @@
 use Rattle.std.proofs.Common.{◌≡◌, drop, length}
 use Rattle.std.specs.Prelude.{flat_map}
 use Rattle.cocoon_syntax.specs.TreeOf.{design_of}
-use Rattle.lowered_rows.specs.SwitchRows.{made_rows}
+use Rattle.lowering_correct.specs.SwitchRows.{made_rows}
 use Rattle.lower_code.specs.Growth.{made_in}
 use Rattle.lower_rows.specs.AllRows.{room_left, rows_in}
 use Rattle.lower_rows.proofs.counting.room_after.Given as goal

@@ -3,10 +3,10 @@ use Rattle.cocoon_num.specs.Names.{same_name}
 use Rattle.cocoon_syntax.specs.TreeOf.{design_of}
 use Rattle.cocoon_types.specs.Design.{widths_of}
 use Rattle.defs_text.specs.Fitting.{all_ones}
-use Rattle.lower_body.specs.Lower.{params_before_last}
+use Rattle.lowering.specs.Lower.{params_before_last}
 use Rattle.lower_code.specs.Growth.{made_of, params_at, text_at}
-use Rattle.lowered_rows.specs.Groups.{ForkGroup}
-use Rattle.lowered_rows.specs.SwitchRows.{made_rows, rows_from}
+use Rattle.lowering_correct.specs.Groups.{ForkGroup}
+use Rattle.lowering_correct.specs.SwitchRows.{made_rows, rows_from}
 use Rattle.lower_rows.specs.AllRows.{rows_in}
 use Rattle.lower_rows.proofs.RowCounts.{table-rows}
 use Rattle.lower_rows.proofs.counting.row_count.Goals as goal

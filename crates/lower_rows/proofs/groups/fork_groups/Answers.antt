@@ -3,7 +3,7 @@ use Rattle.std.proofs.lemmas.List.{append_assoc, append-nil, drop_all}
 use Rattle.cocoon_syntax.specs.TreeOf.{design_of}
 use Rattle.cocoon_types.specs.DefsRules.{fork_calls}
 use Rattle.cocoon_types.specs.Design.{functions}
-use Rattle.lowered_rows.specs.Groups.{groups_of}
+use Rattle.lowering_correct.specs.Groups.{groups_of}
 use Rattle.lower_rows.specs.AllGroups.{fork_group_of, place_groups}
 use Rattle.lower_rows.proofs.Deciding.{decided-at}
 use Rattle.lower_rows.proofs.Placing.{groups-end, groups-step, there-at}

@@ -2,7 +2,7 @@ use Rattle.std.proofs.Common.{◌≡◌, ◌++◌, drop, map}
 use Rattle.cocoon_syntax.specs.TreeOf.{design_of}
 use Rattle.cocoon_types.specs.DefsRules.{fork_calls}
 use Rattle.cocoon_types.specs.Design.{functions}
-use Rattle.lowered_rows.specs.Groups.{fork_groups, groups_of}
+use Rattle.lowering_correct.specs.Groups.{fork_groups, groups_of}
 use Rattle.lower_rows.specs.AllGroups.{fork_group_of}
 use Rattle.lower_rows.proofs.groups.fork_groups.Given as goal
 

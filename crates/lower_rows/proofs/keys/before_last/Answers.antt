@@ -1,5 +1,5 @@
 use Rattle.std.proofs.Common.{sym, ap, ◌∙◌}
-use Rattle.lowered_rows.specs.Groups.{before_last}
+use Rattle.lowering_correct.specs.Groups.{before_last}
 use Rattle.lower_rows.proofs.Ends.{before-last-is}
 use Rattle.lower_rows.proofs.keys.before_last.Goals as goal
 

@@ -1,5 +1,5 @@
 use Rattle.std.proofs.Common.{sym, ap, ◌∙◌}
-use Rattle.lowered_rows.specs.Groups.{last_of}
+use Rattle.lowering_correct.specs.Groups.{last_of}
 use Rattle.lower_rows.proofs.Ends.{last-is}
 use Rattle.lower_rows.proofs.keys.last.Goals as goal
 

@@ -1,7 +1,7 @@
 use Rattle.std.proofs.Common.{◌≡◌, ◌++◌, drop, map}
 use Rattle.std.specs.Prelude.{flat_map}
 use Rattle.cocoon_syntax.specs.TreeOf.{design_of}
-use Rattle.lowered_rows.specs.SwitchRows.{made_rows}
+use Rattle.lowering_correct.specs.SwitchRows.{made_rows}
 use Rattle.lower_code.specs.Growth.{made_in}
 use Rattle.p4_ir.specs.NetOf.{table_rows_of}
 use Rattle.lower_rows.proofs.rows.all_made_rows.Given as goal

@@ -1,5 +1,5 @@
 use Rattle.std.proofs.Common.{◌≡◌, ◌++◌, drop, map}
-use Rattle.lowered_rows.specs.SwitchRows.{rows_from}
+use Rattle.lowering_correct.specs.SwitchRows.{rows_from}
 use Rattle.p4_ir.specs.NetOf.{key_row_of}
 use Rattle.lower_rows.specs.AllGroups.{fork_group_of}
 use Rattle.lower_rows.proofs.rows.group_rows.Given as goal

@@ -1,5 +1,5 @@
 use Rattle.std.proofs.Common.{◌≡◌, map, take}
-use Rattle.lowered_rows.specs.SwitchRows.{key_row}
+use Rattle.lowering_correct.specs.SwitchRows.{key_row}
 use Rattle.p4_ir.specs.NetOf.{key_row_of}
 use Rattle.lower_rows.proofs.rows.key_rows.Given as goal
 

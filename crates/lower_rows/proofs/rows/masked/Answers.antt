@@ -1,6 +1,6 @@
 use Rattle.std.proofs.Common.{◌++◌, drop, sym, ap, ◌∙◌}
 use Rattle.std.proofs.lemmas.List.{append-nil, drop_all}
-use Rattle.lowered_rows.specs.SwitchRows.{masked}
+use Rattle.lowering_correct.specs.SwitchRows.{masked}
 use Rattle.lower_rows.proofs.Walks.{masked-end}
 use Rattle.lower_rows.proofs.rows.masked.Goals.{then-loop-at-test+else-at-masks, else-loop-at-test}
 use Rattle.lower_rows.proofs.rows.masked.Goals as goal

@@ -1,5 +1,5 @@
 use Rattle.std.proofs.Common.{◌≡◌, ◌≤◌, ◌-◌, ◌++◌, drop, length}
-use Rattle.lowered_rows.specs.SwitchRows.{masked}
+use Rattle.lowering_correct.specs.SwitchRows.{masked}
 use Rattle.lower_rows.proofs.rows.masked.Given as goal
 
 abbrev pub invariant-loop-at : goal.invariant-loop-at

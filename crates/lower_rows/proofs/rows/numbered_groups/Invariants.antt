@@ -1,5 +1,5 @@
 use Rattle.std.proofs.Common.{◌≡◌, ◌++◌, drop, map}
-use Rattle.lowered_rows.specs.SwitchRows.{groups_from}
+use Rattle.lowering_correct.specs.SwitchRows.{groups_from}
 use Rattle.p4_ir.specs.NetOf.{group_of}
 use Rattle.lower_rows.specs.AllGroups.{fork_group_of}
 use Rattle.lower_rows.proofs.rows.numbered_groups.Given as goal

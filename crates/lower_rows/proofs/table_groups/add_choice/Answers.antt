@@ -1,6 +1,6 @@
 use Rattle.std.proofs.Common.{◌≡◌, ◌<◌, ◌≤◌, true, Some, get_or, length, rules, sym, ap, ap₂, ◌∙◌, arith}
 use Rattle.std.proofs.lemmas.List.{length-map}
-use Rattle.lowered_rows.specs.Groups.{before_last, last_of}
+use Rattle.lowering_correct.specs.Groups.{before_last, last_of}
 use Rattle.lower_rows.specs.Grouping.{keys_of, put_at, said_true, with_choice}
 use Rattle.lower_rows.specs.Numbered.{held_index}
 use Rattle.lower_rows.proofs.Filling.{put-past, set-put}

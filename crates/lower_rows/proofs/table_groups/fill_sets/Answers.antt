@@ -1,5 +1,5 @@
 use Rattle.std.proofs.Common.{◌<◌, ◌≤◌, length, map, ap, ◌∙◌, arith}
-use Rattle.lowered_rows.specs.Groups.{before_last}
+use Rattle.lowering_correct.specs.Groups.{before_last}
 use Rattle.lower_rows.specs.Grouping.{keys_of, no_members, said_true}
 use Rattle.lower_rows.proofs.Filling.{sets-begin, sets-more}
 use Rattle.lower_rows.proofs.table_groups.fill_sets.Goals as goal

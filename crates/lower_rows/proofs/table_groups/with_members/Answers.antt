@@ -1,6 +1,6 @@
 use Rattle.std.proofs.Common.{◌≡◌, ◌<◌, ◌+◌, ◌++◌, drop, length, map, rules, sym, ap, ap₂, ◌∙◌, arith}
 use Rattle.std.proofs.lemmas.List.{append_assoc, append-nil, drop_all}
-use Rattle.lowered_rows.specs.Groups.{where_members}
+use Rattle.lowering_correct.specs.Groups.{where_members}
 use Rattle.lower_rows.specs.Grouping.{grouped_of, lists_of}
 use Rattle.lower_rows.specs.Sets.{grouped_with}
 use Rattle.lower_rows.proofs.Walks.{grouped-end, grouped-step}

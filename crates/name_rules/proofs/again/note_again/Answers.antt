@@ -2,7 +2,7 @@ use Rattle.std.proofs.Common.{subst}
 use Rattle.cocoon_types.specs.Noting.{Notes}
 use Rattle.cocoon_types.specs.RuleNames.{rule_of}
 use Rattle.cocoon_types.specs.RuleParts.{unless}
-use Rattle.fault_notes.specs.Among.{among}
+use Rattle.cocoon_types.specs.Among.{among}
 use Rattle.name_rules.proofs.AgainFacts.{none-found}
 use Rattle.name_rules.proofs.again.note_again.Goals as goal
 

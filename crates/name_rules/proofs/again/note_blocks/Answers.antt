@@ -4,7 +4,7 @@ use Rattle.cocoon_syntax.specs.TreeOf.{decl_of, refine_of}
 use Rattle.cocoon_types.specs.Noting.{Notes}
 use Rattle.cocoon_types.specs.Rules.{twice}
 use Rattle.cocoon_types.specs.RuleParts.{repeated}
-use Rattle.fault_notes.specs.Among.{among}
+use Rattle.cocoon_types.specs.Among.{among}
 use Rattle.name_rules.specs.Among.{Seen, function_names}
 use Rattle.name_rules.proofs.AgainFacts.{block_decls, notes-level, seen-level, taken-decls}
 use Rattle.name_rules.proofs.again.note_blocks.Goals as goal

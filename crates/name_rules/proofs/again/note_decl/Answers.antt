@@ -4,7 +4,7 @@ use Rattle.cocoon_syntax.specs.TreeOf.{decl_of, function_of}
 use Rattle.cocoon_types.specs.Noting.{Notes}
 use Rattle.cocoon_types.specs.Rules.{twice}
 use Rattle.cocoon_types.specs.RuleParts.{repeated}
-use Rattle.fault_notes.specs.Among.{among}
+use Rattle.cocoon_types.specs.Among.{among}
 use Rattle.name_rules.specs.Among.{Seen, again}
 use Rattle.name_rules.proofs.AgainFacts.{one-function, no-function}
 use Rattle.name_rules.proofs.again.note_decl.Goals as goal

@@ -3,7 +3,7 @@ use Rattle.cocoon_types.specs.Noting.{Notes}
 use Rattle.cocoon_syntax.specs.TreeOf.{header_of, param_of}
 use Rattle.cocoon_types.specs.Rules.{twice}
 use Rattle.cocoon_types.specs.RuleParts.{repeated, param_names}
-use Rattle.fault_notes.specs.Among.{among}
+use Rattle.cocoon_types.specs.Among.{among}
 use Rattle.name_rules.specs.Among.{repeated_fields}
 use Rattle.name_rules.proofs.AmongFacts.{notes-more}
 use Rattle.name_rules.proofs.again.note_fields.Goals as goal

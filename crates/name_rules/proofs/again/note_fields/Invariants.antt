@@ -3,7 +3,7 @@ use Rattle.std.specs.Prelude.{flat_map}
 use Rattle.cocoon_types.specs.Noting.{Notes}
 use Rattle.cocoon_syntax.specs.TreeOf.{header_of}
 use Rattle.cocoon_types.specs.Rules.{twice}
-use Rattle.fault_notes.specs.Among.{among}
+use Rattle.cocoon_types.specs.Among.{among}
 use Rattle.name_rules.specs.Among.{repeated_fields}
 use Rattle.name_rules.proofs.again.note_fields.Given as goal
 

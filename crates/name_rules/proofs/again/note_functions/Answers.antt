@@ -5,7 +5,7 @@ use Rattle.cocoon_types.specs.Design.{all_decls}
 use Rattle.cocoon_types.specs.Noting.{Notes}
 use Rattle.cocoon_types.specs.Rules.{twice}
 use Rattle.cocoon_types.specs.RuleParts.{repeated}
-use Rattle.fault_notes.specs.Among.{among}
+use Rattle.cocoon_types.specs.Among.{among}
 use Rattle.name_rules.specs.Among.{Seen, function_names, block_functions}
 use Rattle.name_rules.proofs.AgainFacts.{block_decls, notes-level, whole}
 use Rattle.name_rules.proofs.again.note_functions.Goals as goal

@@ -3,7 +3,7 @@ use Rattle.cocoon_syntax.specs.TreeOf.{header_of}
 use Rattle.cocoon_types.specs.Noting.{Notes}
 use Rattle.cocoon_types.specs.RuleParts.{repeated}
 use Rattle.cocoon_types.specs.Rules.{twice}
-use Rattle.fault_notes.specs.Among.{among}
+use Rattle.cocoon_types.specs.Among.{among}
 use Rattle.name_rules.specs.Among.{Seen, header_names}
 use Rattle.name_rules.proofs.again.note_headers.Given as goal
 

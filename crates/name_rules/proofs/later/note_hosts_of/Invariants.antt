@@ -3,7 +3,7 @@ use Rattle.std.specs.Prelude.{flat_map}
 use Rattle.cocoon_types.specs.Noting.{Notes}
 use Rattle.cocoon_syntax.specs.TreeOf.{refine_of}
 use Rattle.cocoon_types.specs.Rules.{twice}
-use Rattle.fault_notes.specs.Among.{among}
+use Rattle.cocoon_types.specs.Among.{among}
 use Rattle.name_rules.specs.Among.{block_hosts}
 use Rattle.name_rules.proofs.later.note_hosts_of.Given as goal
 

@@ -3,7 +3,7 @@ use Rattle.std.specs.Prelude.{flat_map}
 use Rattle.cocoon_syntax.specs.TreeOf.{decl_of, refine_of}
 use Rattle.cocoon_types.specs.Noting.{Notes}
 use Rattle.cocoon_types.specs.Rules.{twice}
-use Rattle.fault_notes.specs.Among.{among}
+use Rattle.cocoon_types.specs.Among.{among}
 use Rattle.name_rules.specs.Among.{any_at, later, switch_places, block_switches}
 use Rattle.name_rules.proofs.AmongFacts.{taken-all}
 use Rattle.name_rules.proofs.LaterFacts.{any-more, any-none, notes-later, notes-start}

@@ -4,7 +4,7 @@ use Rattle.cocoon_types.specs.Noting.{Notes}
 use Rattle.cocoon_types.specs.Rules.{not_refinable}
 use Rattle.cocoon_types.specs.RuleParts.{blocks_from}
 use Rattle.cocoon_types.specs.NameRules.{not_refinable_in}
-use Rattle.fault_notes.specs.Among.{among}
+use Rattle.cocoon_types.specs.Among.{among}
 use Rattle.name_rules.proofs.ListedFacts.{blocks-more}
 use Rattle.name_rules.proofs.listed.note_blocks.Goals as goal
 

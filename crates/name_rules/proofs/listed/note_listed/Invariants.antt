@@ -3,7 +3,7 @@ use Rattle.cocoon_syntax.specs.TreeOf.{name_of}
 use Rattle.cocoon_types.specs.Noting.{Notes}
 use Rattle.cocoon_types.specs.Rules.{not_refinable}
 use Rattle.cocoon_types.specs.RuleParts.{repeated}
-use Rattle.fault_notes.specs.Among.{among}
+use Rattle.cocoon_types.specs.Among.{among}
 use Rattle.name_rules.specs.Among.{Seen}
 use Rattle.name_rules.proofs.listed.note_listed.Given as goal
 

@@ -3,7 +3,7 @@ use Rattle.cocoon_syntax.specs.TreeOf.{design_of, name_of, role_of}
 use Rattle.cocoon_types.specs.Noting.{Notes}
 use Rattle.cocoon_types.specs.Rules.{not_refinable}
 use Rattle.cocoon_types.specs.RuleParts.{unless}
-use Rattle.fault_notes.specs.Among.{among}
+use Rattle.cocoon_types.specs.Among.{among}
 use Rattle.name_rules.specs.Among.{unrefinable}
 use Rattle.name_rules.proofs.AmongFacts.{notes-more, some-map}
 use Rattle.name_rules.proofs.AgainFacts.{seen-found}

@@ -4,7 +4,7 @@ use Rattle.cocoon_num.specs.Tree.{Name}
 use Rattle.cocoon_syntax.specs.TreeOf.{design_of, name_of}
 use Rattle.cocoon_types.specs.Noting.{Notes}
 use Rattle.cocoon_types.specs.Rules.{not_refinable}
-use Rattle.fault_notes.specs.Among.{among}
+use Rattle.cocoon_types.specs.Among.{among}
 use Rattle.name_rules.specs.Among.{Seen, unrefinable}
 use Rattle.name_rules.proofs.listed.note_unrefinable.Given as goal
 

@@ -4,7 +4,7 @@ use Rattle.cocoon_syntax.specs.TreeOf.{design_of}
 use Rattle.cocoon_types.specs.NameRules.{unknown_role_in_decl}
 use Rattle.cocoon_types.specs.Rules.{fails_at, unknown_role, not_refinable, sink_refined, no_host, no_switch}
 use Rattle.cocoon_types.specs.Sites.{decl_sites}
-use Rattle.fault_notes.specs.Among.{among}
+use Rattle.cocoon_types.specs.Among.{among}
 use Rattle.name_rules.proofs.names.note_lists.Goals as goal
 
 pub returns : goal.returns

@@ -2,8 +2,8 @@ use Rattle.std.proofs.Common.{◌||◌, sym}
 use Rattle.cocoon_syntax.specs.TreeOf.{design_of}
 use Rattle.cocoon_types.specs.FirstFault.{is_fault_of}
 use Rattle.cocoon_types.specs.Rules.{twice}
-use Rattle.fault_notes.specs.Among.{among}
-use Rattle.use_rules.specs.Uses.{is_use_fault}
+use Rattle.cocoon_types.specs.Among.{among}
+use Rattle.name_rules.specs.Uses.{is_use_fault}
 use Rattle.name_rules.specs.Among.{is_list_fault, twice_declared}
 use Rattle.name_rules.proofs.Phase.{noted, of_phase}
 use Rattle.name_rules.proofs.names.note_names.Goals as goal

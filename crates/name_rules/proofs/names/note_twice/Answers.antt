@@ -4,7 +4,7 @@ use Rattle.cocoon_syntax.specs.TreeOf.{design_of, header_of}
 use Rattle.cocoon_types.specs.Noting.{Notes}
 use Rattle.cocoon_types.specs.RuleParts.{repeated}
 use Rattle.cocoon_types.specs.Rules.{twice}
-use Rattle.fault_notes.specs.Among.{among}
+use Rattle.cocoon_types.specs.Among.{among}
 use Rattle.name_rules.specs.Among.{design_functions, header_names, hosts_twice, params_twice, repeated_fields, roles_twice, switches_twice}
 use Rattle.name_rules.proofs.names.note_twice.Goals as goal
 

@@ -3,7 +3,7 @@ use Rattle.std.specs.Prelude.{flat_map}
 use Rattle.cocoon_types.specs.Noting.{Notes}
 use Rattle.cocoon_syntax.specs.TreeOf.{decl_of}
 use Rattle.cocoon_types.specs.Rules.{twice}
-use Rattle.fault_notes.specs.Among.{among}
+use Rattle.cocoon_types.specs.Among.{among}
 use Rattle.name_rules.specs.Among.{repeated_params}
 use Rattle.name_rules.proofs.params.note_in_level.Given as goal
 

@@ -3,7 +3,7 @@ use Rattle.std.specs.Prelude.{option_map}
 use Rattle.cocoon_syntax.specs.TreeOf.{decl_of, role_of}
 use Rattle.cocoon_types.specs.Noting.{Notes}
 use Rattle.cocoon_types.specs.Rules.{twice}
-use Rattle.fault_notes.specs.Among.{among}
+use Rattle.cocoon_types.specs.Among.{among}
 use Rattle.name_rules.specs.Among.{Seen, declared_again}
 use Rattle.name_rules.proofs.ListedFacts.{one-role, no-role}
 use Rattle.name_rules.proofs.redeclared.note_decl.Goals as goal

@@ -4,7 +4,7 @@ use Rattle.cocoon_syntax.specs.TreeOf.{decl_of, design_of}
 use Rattle.cocoon_types.specs.Noting.{Notes}
 use Rattle.cocoon_types.specs.RuleParts.{role_names}
 use Rattle.cocoon_types.specs.Rules.{twice}
-use Rattle.fault_notes.specs.Among.{among}
+use Rattle.cocoon_types.specs.Among.{among}
 use Rattle.name_rules.specs.Among.{Seen, declared_again, may_stand}
 use Rattle.name_rules.proofs.redeclared.note_declared.Given as goal
 

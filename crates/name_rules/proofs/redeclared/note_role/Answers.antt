@@ -3,7 +3,7 @@ use Rattle.cocoon_syntax.specs.TreeOf.{name_of}
 use Rattle.cocoon_types.specs.Noting.{Notes}
 use Rattle.cocoon_types.specs.Rules.{twice}
 use Rattle.cocoon_types.specs.RuleParts.{unless, unless_named, has_name}
-use Rattle.fault_notes.specs.Among.{among}
+use Rattle.cocoon_types.specs.Among.{among}
 use Rattle.name_rules.proofs.AgainFacts.{none-found}
 use Rattle.name_rules.proofs.redeclared.note_role.Goals as goal
 

@@ -3,7 +3,7 @@ use Rattle.cocoon_syntax.specs.TreeOf.{decl_of, design_of, refine_of}
 use Rattle.cocoon_types.specs.Noting.{Notes}
 use Rattle.cocoon_types.specs.RuleParts.{blocks_from}
 use Rattle.cocoon_types.specs.Rules.{twice}
-use Rattle.fault_notes.specs.Among.{among}
+use Rattle.cocoon_types.specs.Among.{among}
 use Rattle.name_rules.specs.Among.{again_in_block, again_outside}
 use Rattle.name_rules.proofs.redeclared.note_roles_again.Goals as goal
 

@@ -3,7 +3,7 @@ use Rattle.std.specs.Prelude.{flat_map}
 use Rattle.cocoon_types.specs.Noting.{Notes}
 use Rattle.cocoon_syntax.specs.TreeOf.{name_of, refine_of}
 use Rattle.cocoon_types.specs.Rules.{sink_refined}
-use Rattle.fault_notes.specs.Among.{among}
+use Rattle.cocoon_types.specs.Among.{among}
 use Rattle.name_rules.specs.Among.{unless_other, sink_in}
 use Rattle.name_rules.proofs.AmongFacts.{notes-more}
 use Rattle.name_rules.proofs.refined.note_sink.Goals as goal

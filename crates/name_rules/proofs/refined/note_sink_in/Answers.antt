@@ -4,7 +4,7 @@ use Rattle.cocoon_types.specs.Noting.{Notes}
 use Rattle.cocoon_syntax.specs.TreeOf.{name_of}
 use Rattle.cocoon_types.specs.Rules.{sink_refined}
 use Rattle.cocoon_types.specs.RuleParts.{unless}
-use Rattle.fault_notes.specs.Among.{among}
+use Rattle.cocoon_types.specs.Among.{among}
 use Rattle.name_rules.proofs.AgainFacts.{bytes_same}
 use Rattle.name_rules.specs.Among.{unless_other}
 use Rattle.name_rules.proofs.AmongFacts.{notes-more}

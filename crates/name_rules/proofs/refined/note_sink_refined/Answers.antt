@@ -3,7 +3,7 @@ use Rattle.std.specs.Prelude.{option_map, flat_map}
 use Rattle.cocoon_syntax.specs.TreeOf.{design_of, host_of, name_of, refine_of}
 use Rattle.cocoon_types.specs.Noting.{Notes}
 use Rattle.cocoon_types.specs.Rules.{sink_refined}
-use Rattle.fault_notes.specs.Among.{among}
+use Rattle.cocoon_types.specs.Among.{among}
 use Rattle.name_rules.specs.Among.{sink_in}
 use Rattle.name_rules.proofs.AgainFacts.{sink-all, sink-none}
 use Rattle.name_rules.proofs.refined.note_sink_refined.Goals as goal

@@ -4,7 +4,7 @@ use Rattle.cocoon_syntax.specs.TreeOf.{decl_of, design_of, refine_of}
 use Rattle.cocoon_types.specs.Noting.{Notes}
 use Rattle.cocoon_types.specs.RuleParts.{blocks_from}
 use Rattle.cocoon_types.specs.Rules.{unknown_role}
-use Rattle.fault_notes.specs.Among.{among}
+use Rattle.cocoon_types.specs.Among.{among}
 use Rattle.name_rules.specs.Among.{unknown_in_block, unknown_named}
 use Rattle.name_rules.proofs.ListedFacts.{blocks-more}
 use Rattle.name_rules.proofs.unknown.note_in_blocks.Goals as goal

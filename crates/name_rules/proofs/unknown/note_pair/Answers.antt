@@ -2,7 +2,7 @@ use Rattle.std.proofs.Common.{[], ◌++◌, subst, sym, append-nil}
 use Rattle.cocoon_syntax.specs.TreeOf.{design_of, name_of}
 use Rattle.cocoon_types.specs.Noting.{Notes}
 use Rattle.cocoon_types.specs.Rules.{unknown_role}
-use Rattle.fault_notes.specs.Among.{among}
+use Rattle.cocoon_types.specs.Among.{among}
 use Rattle.name_rules.specs.Among.{unknown_at}
 use Rattle.name_rules.proofs.unknown.note_pair.Goals as goal
 

@@ -4,7 +4,7 @@ use Rattle.cocoon_types.specs.Design.{role_at}
 use Rattle.cocoon_types.specs.Noting.{Notes}
 use Rattle.cocoon_types.specs.Rules.{unknown_role}
 use Rattle.cocoon_types.specs.RuleParts.{unless}
-use Rattle.fault_notes.specs.Among.{among}
+use Rattle.cocoon_types.specs.Among.{among}
 use Rattle.name_rules.proofs.AmongFacts.{some-map}
 use Rattle.name_rules.proofs.unknown.note_role.Goals as goal
 

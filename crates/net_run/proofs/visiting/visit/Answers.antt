@@ -25,7 +25,7 @@ loop-member-init c =
     let size : length headers ≡ bytes_in (layout_in l) = ap length c.headers.ensures ∙ c.ingress-next.ensures.fits.bytes in
     let are : AreHeaders (layout_in l) (ingress_left p rows c.args.port bytes) headers =
     subst (AreHeaders (layout_in l) (ingress_left p rows c.args.port bytes)) (sym c.headers.ensures) c.ingress-next.ensures.headers in
-    let made = c.in_ok-push_departed.ensures ∙ ap (λ xs. map departed_of xs ++ put [] (departs c.ingress-next.result headers bytes) []) c.new-all.ensures.items in
+    let made = c.in_ok-push_departed.ensures ∙ ap (λ xs. map departed_of xs ++ put [] (departs c.ingress-next.result headers bytes) []) c.none_departed-all.ensures in
     record {
       fits = c.ingress-next.ensures.fits;
       left = c.ingress-next.ensures.left;

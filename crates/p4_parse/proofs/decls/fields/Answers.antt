@@ -1,6 +1,6 @@
 use Rattle.std.proofs.Common.{rules, ◌≡◌, true, false, codes, map, ◌∷◌, [], slice_get, refl, Err}
 use Rattle.p4_texts.specs.Machine as machine
-use Rattle.p4_written.specs.TreeOf.{field_of}
+use Rattle.p4_texts.specs.TreeOf.{field_of}
 use Rattle.p4_parse.specs.Fields.{field_phrase, field_tokens, fields_tokens}
 use Rattle.p4_parse.specs.Phrases.{is_mark}
 use Rattle.p4_parse.proofs.FieldPhrases.{all_fields, field_stopped, one_field_more}

@@ -1,5 +1,5 @@
 use Rattle.std.proofs.Common.{length, map, ◌-◌}
-use Rattle.p4_written.specs.TreeOf.{field_of}
+use Rattle.p4_texts.specs.TreeOf.{field_of}
 use Rattle.p4_parse.proofs.FieldPhrases.{FieldsSoFar}
 use Rattle.p4_parse.proofs.decls.fields.Given as goal
 

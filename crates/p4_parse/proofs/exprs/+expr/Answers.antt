@@ -2,7 +2,7 @@ use Rattle.std.proofs.Common.{rules, ◌≡◌, true, false, codes, slice_get, r
 use Rattle.cocoon_num.specs.Values.{flip, not_}
 use Rattle.p4_texts.specs.Machine.{to_close, to_colon}
 use Rattle.p4_texts.specs.Written.{w_lit}
-use Rattle.p4_written.specs.TreeOf.{expr_of}
+use Rattle.p4_texts.specs.TreeOf.{expr_of}
 use Rattle.p4_parse.specs.Phrases.{is_mark, literal_in, literal_of, mark_in, operator_at, range_goals, range_then}
 use Rattle.p4_parse.proofs.Compose.{expr_fails, reads_as}
 use Rattle.p4_parse.proofs.ExprPhrases.{binary_at, bracket_at, expr_ended, literal_read, opened_fails, pick_at, slice_refused, unary_at}

@@ -1,5 +1,5 @@
 use Rattle.std.proofs.Common.{length, ◌+◌, ◌-◌, ◌*◌}
-use Rattle.p4_written.specs.TreeOf.{expr_of}
+use Rattle.p4_texts.specs.TreeOf.{expr_of}
 use Rattle.p4_parse.specs.Phrases.{ReadExpr}
 use Rattle.p4_parse.proofs.exprs.+expr.Given as goal
 

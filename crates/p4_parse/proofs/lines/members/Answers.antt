@@ -2,7 +2,7 @@ use Rattle.std.proofs.Common.{rules, ◌≡◌, [], Err}
 use Rattle.p4_texts.specs.Machine as machine
 use Rattle.p4_texts.specs.Machine.{a_member}
 use Rattle.p4_texts.specs.Written.{member_then}
-use Rattle.p4_written.specs.TreeOf.{member_of}
+use Rattle.p4_texts.specs.TreeOf.{member_of}
 use Rattle.p4_parse.specs.Fields.{member_tokens}
 use Rattle.p4_parse.specs.Lines.{members_tokens}
 use Rattle.p4_parse.proofs.LinePhrases.{all_lines, line_stopped, one_line_more}

@@ -2,8 +2,8 @@ use Rattle.std.proofs.Common.{rules, ◌≡◌, ◌∷◌, [], map, codes, refl,
 use Rattle.cocoon_num.specs.Tokens.{mark}
 use Rattle.p4_texts.specs.Machine.{fixed, stmts, the_mark}
 use Rattle.p4_texts.specs.Machine as machine
-use Rattle.p4_written.specs.TreeOf.{body_of, control_of, table_of}
-use Rattle.p4_written.specs.declared.WrittenControl.{WrittenControl}
+use Rattle.p4_texts.specs.TreeOf.{body_of, control_of, table_of}
+use Rattle.p4_texts.specs.declared.written.WrittenControl.{WrittenControl}
 use Rattle.p4_parse.specs.Lines.{control_goals, control_tokens}
 use Rattle.p4_parse.specs.Pieces.{piece_tokens}
 use Rattle.p4_parse.specs.Tables.{tables_tokens}

@@ -1,8 +1,8 @@
 use Rattle.std.proofs.Common.{rules, ◌≡◌, ◌∷◌, [], length, refl, Err}
 use Rattle.p4_texts.specs.Machine.{fixed}
 use Rattle.p4_texts.specs.Machine as machine
-use Rattle.p4_written.specs.TreeOf.{text_of}
-use Rattle.p4_written.specs.declared.WrittenProgram.{WrittenProgram}
+use Rattle.p4_texts.specs.TreeOf.{text_of}
+use Rattle.p4_texts.specs.declared.written.WrittenProgram.{WrittenProgram}
 use Rattle.p4_parse.specs.Lines.{after_headers, control_goals, control_tokens, declarations_goals, declarations_tokens, ended_goals, headers_tokens, listed_goals, listed_tokens}
 use Rattle.p4_parse.specs.Pieces.{piece_tokens}
 use Rattle.p4_parse.specs.declared.pieces.Piece.TheVariants.{Architecture, Deparser, Egress, EgressBegins, Emit, Extract, Ingress, IngressBegins, Parser}

@@ -2,7 +2,7 @@ use Rattle.std.proofs.Common.{rules, List, ℕ, ◌≡◌, ◌+◌, ◌&&◌, �
 use Rattle.std.proofs.lemmas.Bool.{and_parts}
 use Rattle.cocoon_num.specs.Names.{same_name}
 use Rattle.p4_texts.specs.Machine as machine
-use Rattle.p4_written.specs.TreeOf.{block_of, stmt_of}
+use Rattle.p4_texts.specs.TreeOf.{block_of, stmt_of}
 use Rattle.p4_parse.specs.Phrases.{else_at, is_mark}
 use Rattle.p4_parse.specs.Tails.{after_if, after_name, block_ended, braced_goals, braced_then, guarded_then, if_goals, nothing}
 use Rattle.p4_parse.proofs.TreeForms as forms

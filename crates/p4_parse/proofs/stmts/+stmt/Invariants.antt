@@ -1,5 +1,5 @@
 use Rattle.std.proofs.Common.{length, ◌+◌, ◌-◌, ◌*◌, map}
-use Rattle.p4_written.specs.TreeOf.{block_of, stmt_of}
+use Rattle.p4_texts.specs.TreeOf.{block_of, stmt_of}
 use Rattle.p4_parse.specs.Tails.{SoFar}
 use Rattle.p4_parse.proofs.stmts.+stmt.Given as goal
 

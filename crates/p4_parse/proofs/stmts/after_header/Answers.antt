@@ -5,7 +5,7 @@ use Rattle.std.proofs.lemmas.Bool.{and_parts}
 use Rattle.cocoon_num.specs.Names.{same_name}
 use Rattle.p4_texts.specs.Machine as machine
 use Rattle.p4_texts.specs.Written as written
-use Rattle.p4_written.specs.TreeOf.{expr_of, stmt_of}
+use Rattle.p4_texts.specs.TreeOf.{expr_of, stmt_of}
 use Rattle.p4_parse.specs.Phrases.{is_mark}
 use Rattle.p4_parse.specs.Tails.{after_names, call_goals, call_tokens, setting_goals, setting_then}
 use Rattle.p4_parse.proofs.TreeForms as forms
@@ -13,7 +13,7 @@ use Rattle.p4_parse.proofs.StmtPhrases as phrases
 use Rattle.std.proofs.Common.{subst}
 use Rattle.p4_parse.specs.Tails.{ReadTail}
 use Rattle.p4_parse.proofs.Tokens.{same_text}
-use Rattle.p4_written.specs.declared.WrittenStmt.TheVariants as s
+use Rattle.p4_texts.specs.declared.written.WrittenStmt.TheVariants as s
 use Rattle.p4_parse.proofs.stmts.after_header.Goals as goal
 
 pub returns-in_err-end : goal.returns-in_err-end

@@ -2,14 +2,14 @@ use Rattle.std.proofs.Common.{rules, ◌≡◌, ◌∷◌, [], true, false, code
 use Rattle.cocoon_num.specs.Names.{same_name}
 use Rattle.p4_texts.specs.Machine as machine
 use Rattle.p4_texts.specs.Written as written
-use Rattle.p4_written.specs.TreeOf.{expr_of, stmt_of}
+use Rattle.p4_texts.specs.TreeOf.{expr_of, stmt_of}
 use Rattle.p4_parse.specs.Tails.{after_name, assignment_goals, assignment_then, verdict_goals, verdict_then}
 use Rattle.p4_parse.proofs.TreeForms as forms
 use Rattle.p4_parse.proofs.StmtPhrases as phrases
 use Rattle.std.proofs.Common.{subst}
 use Rattle.p4_parse.specs.Tails.{ReadTail}
 use Rattle.p4_parse.proofs.Tokens.{same_text}
-use Rattle.p4_written.specs.declared.WrittenStmt.TheVariants as s
+use Rattle.p4_texts.specs.declared.written.WrittenStmt.TheVariants as s
 use Rattle.p4_parse.proofs.stmts.assigned.Goals as goal
 
 pub returns-in_err-bits : goal.returns-in_err-bits

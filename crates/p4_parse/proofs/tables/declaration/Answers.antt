@@ -1,5 +1,5 @@
 use Rattle.std.proofs.Common.{rules, List, ℕ, ◌≡◌, ap, Err}
-use Rattle.p4_written.specs.declared.WrittenTable.{WrittenTable}
+use Rattle.p4_texts.specs.declared.written.WrittenTable.{WrittenTable}
 use Rattle.p4_parse.specs.Fields.{actions_goals, actions_tokens, result_goals, result_tokens}
 use Rattle.p4_parse.specs.Tables.{declaration_goals, declaration_tokens}
 use Rattle.p4_parse.proofs.Compose.{phrase_fails}

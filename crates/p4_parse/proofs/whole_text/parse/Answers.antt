@@ -1,7 +1,7 @@
 use Rattle.std.proofs.Common.{arith, ◌≤◌, length, sym, ◌∙◌, ap, subst}
 use Rattle.p4_ir.specs.P4Text.{p4_bounds}
 use Rattle.p4_texts.specs.Written.{BeginsP4}
-use Rattle.p4_written.specs.TreeOf.{text_of}
+use Rattle.p4_texts.specs.TreeOf.{text_of}
 use Rattle.p4_parse.specs.Faults.{IsFirstFault}
 use Rattle.p4_parse.specs.Phrases.{kinds_at}
 use Rattle.parsing.proofs.Reaches.{fault_fits, reach_few}

@@ -1,12 +1,12 @@
 use Rattle.std.proofs.Common.{rules, arith, ◌≡◌, ◌≤◌, List, length, Err, IfErr, IsTrue, subst, sym}
 use Rattle.cocoon_num.specs.Tokens.{is_shallow}
 use Rattle.p4_ir.specs.P4Text.{p4_bounds}
-use Rattle.p4_lex.specs.declared.token.Token.{Token}
+use Rattle.p4_parse.specs.declared.token.Token.{Token}
 use Rattle.p4_parse.specs.Faults as parsing
 use Rattle.p4_parse.specs.Phrases.{kinds_at}
 use Rattle.p4_texts.specs.Reading.{Ended}
 use Rattle.p4_texts.specs.Written.{P4TextAt}
-use Rattle.p4_written.specs.TreeOf.{text_of}
+use Rattle.p4_texts.specs.TreeOf.{text_of}
 use Rattle.p4_read.specs.FirstFault.{IsFirstFault, of_kind, of_lex, of_parse}
 use Rattle.p4_read.proofs.Steps.{kind_fault, lex_fault, parse_fault, stands_for, text_few, tokens_ended, tokens_few}
 use Rattle.p4_read.proofs.whole_text.read.Goals as goal

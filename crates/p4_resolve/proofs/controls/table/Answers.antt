@@ -7,7 +7,7 @@ use Rattle.p4_resolve.specs.Judged.{index}
 use Rattle.p4_resolve.specs.Numbered.{is_small}
 use Rattle.p4_resolve.specs.TableForms.{own_keeps}
 use Rattle.p4_resolve.specs.declared.controls.Before.{Before}
-use Rattle.p4_written.specs.TreeOf.{table_of}
+use Rattle.p4_texts.specs.TreeOf.{table_of}
 use Rattle.p4_resolve.proofs.TableFacts.{Found, least_is, named_of, one_table, own_stops, small_of}
 use Rattle.p4_resolve.proofs.controls.table.Goals as goal
 

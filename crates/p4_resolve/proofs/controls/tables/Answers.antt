@@ -2,7 +2,7 @@ use Rattle.std.proofs.Common.{◌≡◌, ◌∷◌, [], ◌∙◌, ap, map, rule
 use Rattle.std.proofs.lemmas.List.{map-append}
 use Rattle.p4_ir.specs.Program as ir
 use Rattle.p4_names.specs.KindFaults.{table_pieces}
-use Rattle.p4_written.specs.TreeOf.{table_of}
+use Rattle.p4_texts.specs.TreeOf.{table_of}
 use Rattle.p4_resolve.specs.Controls.{action_names, table_numbers}
 use Rattle.p4_resolve.specs.Judged.{StopsBy}
 use Rattle.p4_resolve.proofs.PieceFacts.{handed_on}

@@ -4,7 +4,7 @@ use Rattle.p4_ir.specs.P4Tree.{P4Field}
 use Rattle.p4_ir.specs.Program as ir
 use Rattle.cocoon_num.specs.Tokens.{is_run}
 use Rattle.p4_names.specs.Meant.{field_meant, rest_after}
-use Rattle.p4_written.specs.TreeOf.{field_of}
+use Rattle.p4_texts.specs.TreeOf.{field_of}
 use Rattle.p4_resolve.specs.FieldForms.{field_fits, field_piece}
 use Rattle.p4_resolve.proofs.KeepFacts.{keeps_one, stops_one}
 use Rattle.p4_resolve.proofs.fields.field.Goals as goal

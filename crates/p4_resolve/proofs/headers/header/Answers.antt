@@ -4,7 +4,7 @@ use Rattle.p4_ir.specs.P4Tree.{P4Header}
 use Rattle.p4_ir.specs.Program as ir
 use Rattle.p4_names.specs.KindFaults.{field_pieces, fixed}
 use Rattle.p4_names.specs.Meant.{field_meant, header_meant, rest_after}
-use Rattle.p4_written.specs.TreeOf.{field_of, header_of}
+use Rattle.p4_texts.specs.TreeOf.{field_of, header_of}
 use Rattle.p4_resolve.specs.FieldForms.{header_own}
 use Rattle.p4_resolve.specs.Judged.{Breaks, Passes, Sees, StopsBy}
 use Rattle.p4_resolve.proofs.FieldForms.{head_keeps, header_head}

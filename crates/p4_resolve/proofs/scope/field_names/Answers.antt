@@ -1,7 +1,7 @@
 use Rattle.std.proofs.Common.{length, map, take}
 use Rattle.p4_names.specs.Meant.{names_of}
 use Rattle.p4_texts.specs.Written.{FieldText}
-use Rattle.p4_written.specs.TreeOf.{field_of}
+use Rattle.p4_texts.specs.TreeOf.{field_of}
 use Rattle.p4_resolve.proofs.CountFacts.{room, taken_twice}
 use Rattle.p4_resolve.proofs.scope.field_names.Goals as goal
 

@@ -1,7 +1,7 @@
 use Rattle.std.proofs.Common.{map, take}
 use Rattle.p4_names.specs.Meant.{names_of}
-use Rattle.p4_written.specs.TreeOf.{field_of}
-use Rattle.name_table.specs.NameNumbers.{Numbers}
+use Rattle.p4_texts.specs.TreeOf.{field_of}
+use Rattle.numbering.specs.NameNumbers.{Numbers}
 use Rattle.p4_resolve.proofs.scope.field_names.Given as goal
 
 abbrev pub invariant-loop-field : goal.invariant-loop-field

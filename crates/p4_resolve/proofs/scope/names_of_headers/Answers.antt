@@ -1,8 +1,8 @@
 use Rattle.std.proofs.Common.{◌<◌, ◌^◌, length, map, subst, sym, arith}
 use Rattle.std.proofs.lemmas.List.{length-map}
 use Rattle.p4_names.specs.Meant.{names_of}
-use Rattle.p4_written.specs.TreeOf.{field_of}
-use Rattle.name_table.specs.NameNumbers.{Numbers}
+use Rattle.p4_texts.specs.TreeOf.{field_of}
+use Rattle.numbering.specs.NameNumbers.{Numbers}
 use Rattle.p4_resolve.proofs.CountFacts.{few_at}
 use Rattle.p4_resolve.proofs.ScopeFacts.{each_taken}
 use Rattle.p4_resolve.proofs.scope.names_of_headers.Goals as goal

@@ -1,5 +1,5 @@
 use Rattle.std.proofs.Common.{map, take}
-use Rattle.p4_written.specs.TreeOf.{header_of}
+use Rattle.p4_texts.specs.TreeOf.{header_of}
 use Rattle.p4_resolve.specs.Scopes.{EachNumbers}
 use Rattle.p4_resolve.proofs.scope.names_of_headers.Given as goal
 

@@ -1,6 +1,6 @@
 use Rattle.std.proofs.Common.{length, map, take}
 use Rattle.p4_texts.specs.Written.{MemberText}
-use Rattle.p4_written.specs.TreeOf.{member_of}
+use Rattle.p4_texts.specs.TreeOf.{member_of}
 use Rattle.p4_resolve.specs.Scopes.{member_names}
 use Rattle.p4_resolve.proofs.CountFacts.{room, taken_twice}
 use Rattle.p4_resolve.proofs.scope.names_of_members.Goals as goal

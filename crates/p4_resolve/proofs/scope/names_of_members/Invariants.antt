@@ -1,6 +1,6 @@
 use Rattle.std.proofs.Common.{map, take}
-use Rattle.p4_written.specs.TreeOf.{member_of}
-use Rattle.name_table.specs.NameNumbers.{Numbers}
+use Rattle.p4_texts.specs.TreeOf.{member_of}
+use Rattle.numbering.specs.NameNumbers.{Numbers}
 use Rattle.p4_resolve.specs.Scopes.{member_names}
 use Rattle.p4_resolve.proofs.scope.names_of_members.Given as goal
 

@@ -6,7 +6,7 @@ use Rattle.p4_ir.specs.declared.program.P4Stmt.TheVariants as code_stmts
 use Rattle.p4_names.specs.KindFaults.{Piece, block_pieces, stmt_pieces}
 use Rattle.p4_names.specs.Meant.{block_meant, expr_meant}
 use Rattle.p4_texts.specs.Written as text
-use Rattle.p4_written.specs.TreeOf.{body_of, expr_of, stmt_of}
+use Rattle.p4_texts.specs.TreeOf.{body_of, expr_of, stmt_of}
 use Rattle.p4_resolve.specs.Judged.{Passes, StopsBy}
 use Rattle.p4_resolve.specs.StmtForms.{StmtKeeps}
 use Rattle.p4_resolve.proofs.PieceFacts.{handed_on}

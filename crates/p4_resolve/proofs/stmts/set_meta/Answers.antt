@@ -6,7 +6,7 @@ use Rattle.p4_kinds.specs.Typed.{sort_of}
 use Rattle.p4_names.specs.KindFaults.{Piece, stmt_keeps, stmt_pieces}
 use Rattle.p4_names.specs.Meant.{expr_meant}
 use Rattle.p4_texts.specs.Written as text
-use Rattle.p4_written.specs.TreeOf.{expr_of}
+use Rattle.p4_texts.specs.TreeOf.{expr_of}
 use Rattle.p4_resolve.specs.Judged.{StopsBy}
 use Rattle.p4_resolve.specs.StmtForms.{value_fits}
 use Rattle.p4_resolve.proofs.PieceFacts.{handed_on}

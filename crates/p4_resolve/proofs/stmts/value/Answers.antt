@@ -1,5 +1,5 @@
 use Rattle.p4_names.specs.Meant.{expr_meant}
-use Rattle.p4_written.specs.TreeOf.{expr_of}
+use Rattle.p4_texts.specs.TreeOf.{expr_of}
 use Rattle.p4_resolve.proofs.stmts.value.Goals as goal
 
 pub returns-in-Some-clause-keeps : goal.returns-in-Some-clause-keeps

@@ -4,7 +4,7 @@ use Rattle.p4_ir.specs.Program as ir
 use Rattle.p4_names.specs.KindFaults.{header_pieces, line_pieces, member_pieces, meta_pieces, pieces}
 use Rattle.p4_names.specs.Meant.{header_meant, meta_meant, program_of_text}
 use Rattle.p4_texts.specs.Written.{extract_then}
-use Rattle.p4_written.specs.TreeOf.{field_of, header_of, member_of, text_of}
+use Rattle.p4_texts.specs.TreeOf.{field_of, header_of, member_of, text_of}
 use Rattle.p4_resolve.specs.Judged.{Passes, StopsBy}
 use Rattle.p4_resolve.specs.Parts.{from_extracts, from_ingress, from_members, from_meta}
 use Rattle.p4_resolve.proofs.PartFacts as parts

@@ -4,7 +4,7 @@ use Rattle.p4_ir.specs.Program as ir
 use Rattle.p4_names.specs.KindFaults.{fixed, line_pieces, pieces}
 use Rattle.p4_names.specs.Meant.{program_of_text}
 use Rattle.p4_texts.specs.Written.{emit_then}
-use Rattle.p4_written.specs.TreeOf.{text_of}
+use Rattle.p4_texts.specs.TreeOf.{text_of}
 use Rattle.p4_resolve.specs.FirstKind.{IsFirstKind}
 use Rattle.p4_resolve.specs.Judged.{Passes, StopsBy}
 use Rattle.p4_resolve.proofs.PartFacts as parts

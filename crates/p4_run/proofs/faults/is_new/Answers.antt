@@ -1,6 +1,6 @@
 use Rattle.std.proofs.Common.{◌≡◌, ◌==◌, ◌&&◌, true, sym, ◌∙◌, ap}
 use Rattle.cocoon_num.specs.Lists.{has_number}
-use Rattle.number_table.specs.NumberPlaces.{place_of}
+use Rattle.numbering.specs.NumberPlaces.{place_of}
 use Rattle.p4_ir.specs.Loading.{all_tables, table_numbers}
 use Rattle.p4_ir.specs.P4Kinds.{numbers_of}
 use Rattle.p4_run.proofs.faults.is_new.Goals as goal

@@ -1,5 +1,5 @@
 use Rattle.std.proofs.Common.{◌≡◌, ℕ, List, drop, map}
-use Rattle.number_table.specs.NumberPlaces.{HasPlaces}
+use Rattle.numbering.specs.NumberPlaces.{HasPlaces}
 use Rattle.p4_ir.specs.Program.{table_of}
 use Rattle.p4_run.specs.Faults.{first_missing}
 use Rattle.p4_run.proofs.faults.missing_of.Given as goal

@@ -1,6 +1,6 @@
 use Rattle.std.proofs.Common.{false, IsTrue, map, sym, subst}
 use Rattle.std.proofs.lemmas.Result.{IfOk-weaker}
-use Rattle.number_table.specs.NumberPlaces.{HasPlaces}
+use Rattle.numbering.specs.NumberPlaces.{HasPlaces}
 use Rattle.p4_ir.specs.Loading.{table_numbers}
 use Rattle.p4_ir.specs.NetOf.{rows_of, table_rows_of}
 use Rattle.p4_ir.specs.P4Kinds.{block_fits}

@@ -1,5 +1,5 @@
 use Rattle.std.proofs.Common.{◌++◌, ℕ, List, map, take}
-use Rattle.number_table.specs.NumberPlaces.{HasPlaces}
+use Rattle.numbering.specs.NumberPlaces.{HasPlaces}
 use Rattle.p4_ir.specs.P4Kinds.{numbers_of}
 use Rattle.p4_ir.specs.Program.{table_of}
 use Rattle.p4_run.proofs.places.append_tables.Given as goal

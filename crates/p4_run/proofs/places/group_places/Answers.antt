@@ -1,7 +1,7 @@
 use Rattle.std.proofs.Common.{◌≡◌, [], ◌∷◌, ◌++◌, map, take, rules, sym, subst, ◌∙◌}
 use Rattle.std.proofs.lemmas.List.{take_all}
-use Rattle.number_table.specs.NumberPlaces.{HasPlaces}
-use Rattle.number_table.proofs.NumberFacts.{place_is}
+use Rattle.numbering.specs.NumberPlaces.{HasPlaces}
+use Rattle.numbering.proofs.NumberFacts.{place_is}
 use Rattle.p4_ir.specs.NetOf.{group_of}
 use Rattle.p4_run.proofs.FaultSteps.{numbers_taken}
 use Rattle.p4_run.proofs.GroupSteps.{group_numbers}

@@ -1,5 +1,5 @@
 use Rattle.std.proofs.Common.{map, take}
-use Rattle.number_table.specs.NumberPlaces.{HasPlaces}
+use Rattle.numbering.specs.NumberPlaces.{HasPlaces}
 use Rattle.p4_ir.specs.NetOf.{group_of}
 use Rattle.p4_run.proofs.GroupSteps.{group_numbers}
 use Rattle.p4_run.proofs.places.group_places.Given as goal

@@ -1,6 +1,6 @@
 use Rattle.std.proofs.Common.{◌≡◌, [], ◌++◌, map, sym, ◌∙◌, subst}
 use Rattle.std.proofs.lemmas.List.{map-append}
-use Rattle.number_table.specs.NumberPlaces.{HasPlaces}
+use Rattle.numbering.specs.NumberPlaces.{HasPlaces}
 use Rattle.p4_ir.specs.Loading.{all_tables}
 use Rattle.p4_ir.specs.P4Kinds.{numbers_of}
 use Rattle.p4_ir.specs.P4Tree.{P4Table}

@@ -1,6 +1,6 @@
 use Rattle.std.proofs.Common.{map, take, sym, subst}
 use Rattle.std.proofs.lemmas.List.{take_all}
-use Rattle.number_table.specs.NumberPlaces.{HasPlaces}
+use Rattle.numbering.specs.NumberPlaces.{HasPlaces}
 use Rattle.p4_ir.specs.Loading.{table_numbers}
 use Rattle.p4_ir.specs.NetOf.{table_rows_of}
 use Rattle.p4_ir.specs.P4Tree.{TableRows}

@@ -1,5 +1,5 @@
 use Rattle.std.proofs.Common.{map, take}
-use Rattle.number_table.specs.NumberPlaces.{HasPlaces}
+use Rattle.numbering.specs.NumberPlaces.{HasPlaces}
 use Rattle.p4_ir.specs.Loading.{table_numbers}
 use Rattle.p4_ir.specs.NetOf.{table_rows_of}
 use Rattle.p4_run.proofs.places.row_places.Given as goal

@@ -10,5 +10,5 @@ pub returns : goal.returns
 returns c =
     one_outcome c.args.report.now.items c.extend_from_slice.new.self.items c.push_deliveries.new.report.items _ c.args.number _ (outcome_of c.args.outcome.now)
     (sym (length-map c.items-delivered.result.now delivery_of) ∙ ap (λ ds. length (map delivery_of ds)) c.items-delivered.ensures)
-    (c.as_bytes.ensures.value ∙ c.in_ok-line.ensures) c.in_ok-extend_from_slice.ensures.items
+    (c.as_bytes.ensures.value ∙ c.in_ok-write_outcome.ensures) c.in_ok-extend_from_slice.ensures.items
     (c.in_ok-push_deliveries.ensures ∙ ap (λ ds. c.extend_from_slice.new.self.items ++ delivery_lines (map delivery_of ds)) c.items-delivered.ensures)

@@ -1,5 +1,5 @@
 use Rattle.std.proofs.Common.{rules, ◌<◌, length, [], ◌∷◌, ◌++◌, get_or, take, sym, ap, subst, ◌≡◌, ◌∙◌}
-use Rattle.key_table.specs.KeyPlaces.{Holds}
+use Rattle.numbering.specs.KeyPlaces.{Holds}
 use Rattle.runtime_defs.specs.RowKeys.{row_keys, compares_all}
 use Rattle.runtime_defs.proofs.Keyed.{keys-added, row-added}
 use Rattle.runtime_defs.proofs.row_keys.keys_of.Goals as goal

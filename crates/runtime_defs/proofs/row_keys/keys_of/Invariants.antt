@@ -1,5 +1,5 @@
 use Rattle.std.proofs.Common.{All, take}
-use Rattle.key_table.specs.KeyPlaces.{Holds}
+use Rattle.numbering.specs.KeyPlaces.{Holds}
 use Rattle.runtime_defs.specs.RowKeys.{ComparesAll, row_keys}
 use Rattle.runtime_defs.proofs.row_keys.keys_of.Given as goal
 

@@ -1,5 +1,5 @@
 use Rattle.std.proofs.Common.{◌≡◌, ◌<◌, ◌≤◌, ℕ, false}
-use Rattle.search_laws.specs.Marks.{is_marked}
+use Rattle.cdcl.specs.Marks.{is_marked}
 use Rattle.cdcl.proofs.analysis.Analysis.last_before.Given as goal
 
 abbrev pub invariant-loop-end : goal.invariant-loop-end

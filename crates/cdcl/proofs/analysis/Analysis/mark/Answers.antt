@@ -1,7 +1,7 @@
 use Rattle.std.proofs.Common.{◌≡◌, ◌∙◌, ap, arith, false, sym, true}
 use Rattle.std.proofs.lemmas.List.{get_or_read}
-use Rattle.search_laws.specs.Marks.{is_marked}
-use Rattle.search_laws.proofs.Counting.{count-set, one}
+use Rattle.cdcl.specs.Marks.{is_marked}
+use Rattle.cdcl.proofs.Counting.{count-set, one}
 use Rattle.cdcl.proofs.analysis.Analysis.mark.Goals as goal
 
 pub invariant_of-self : goal.invariant_of-self

@@ -3,7 +3,7 @@ use Rattle.std.specs.List.{All}
 use Rattle.cnf_core.specs.Literals.{Names}
 use Rattle.cnf_core.specs.Trails.{numbers}
 use Rattle.cnf_core.specs.TrailViews.{room, trues}
-use Rattle.search_laws.proofs.Counting.{marks-more}
+use Rattle.cdcl.proofs.Counting.{marks-more}
 use Rattle.cnf_core.proofs.LiteralFacts.{named-item, taken-numbers}
 use Rattle.cdcl.proofs.analysis.Analysis.mark_clause.Goals as goal
 

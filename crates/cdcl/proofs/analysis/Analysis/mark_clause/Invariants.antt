@@ -2,7 +2,7 @@ use Rattle.std.proofs.Common.{◌≤◌, take}
 use Rattle.cnf_core.specs.Trails.{numbers}
 use Rattle.cnf_core.specs.TrailViews.{trues}
 use Rattle.cdcl.specs.Analyses.{IsSameBut}
-use Rattle.search_laws.specs.Marks.{MarksToo}
+use Rattle.cdcl.specs.Marks.{MarksToo}
 use Rattle.cdcl.proofs.analysis.Analysis.mark_clause.Given as goal
 
 abbrev pub invariant-loop-lit : goal.invariant-loop-lit

@@ -1,7 +1,7 @@
 use Rattle.std.proofs.Common.{rules, ◌≡◌, ◌∙◌, false}
 use Rattle.cnf_core.specs.Deriving.{is_false}
 use Rattle.cnf_core.specs.TrailViews.{trues}
-use Rattle.search_laws.proofs.Counting.{marks-none, marks-one}
+use Rattle.cdcl.proofs.Counting.{marks-none, marks-one}
 use Rattle.cdcl.proofs.analysis.Analysis.mark_false.Goals as goal
 
 pub returns-then-not-is_false-clause-marks : goal.returns-then-not-is_false-clause-marks

@@ -1,5 +1,5 @@
 use Rattle.std.proofs.Common.{rules, ◌≡◌, false, replicate}
-use Rattle.search_laws.proofs.Counting.{count-none}
+use Rattle.cdcl.proofs.Counting.{count-none}
 use Rattle.cdcl.proofs.analysis.Analysis.new.Goals as goal
 
 pub invariant_of-result : goal.invariant_of-result

@@ -1,5 +1,5 @@
 use Rattle.std.proofs.Common.{ap, arith, false}
-use Rattle.search_laws.proofs.Counting.{count-set, one}
+use Rattle.cdcl.proofs.Counting.{count-set, one}
 use Rattle.cdcl.proofs.analysis.Analysis.unmark.Goals as goal
 
 pub overflow_sub-self : goal.overflow_sub-self

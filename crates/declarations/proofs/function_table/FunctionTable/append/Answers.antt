@@ -1,6 +1,6 @@
 use Rattle.std.proofs.Common.{subst, ◌++◌, ◌∷◌, []}
 use Rattle.cocoon_syntax.specs.TreeOf.{function_of}
-use Rattle.name_table.specs.NameNumbers.{Numbers}
+use Rattle.numbering.specs.NameNumbers.{Numbers}
 use Rattle.declarations.proofs.TableFacts.{functions-more}
 use Rattle.declarations.proofs.function_table.FunctionTable.append.Goals as goal
 

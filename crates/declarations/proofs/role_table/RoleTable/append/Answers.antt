@@ -1,6 +1,6 @@
 use Rattle.std.proofs.Common.{◌∙◌, ap, sym, subst, refl}
 use Rattle.cocoon_syntax.specs.TreeOf.{role_of}
-use Rattle.name_table.specs.NameNumbers.{number_of}
+use Rattle.numbering.specs.NameNumbers.{number_of}
 use Rattle.declarations.specs.Declares.{AddsName}
 use Rattle.declarations.proofs.RoleFacts.{role-old, role-new, role-within}
 use Rattle.declarations.proofs.role_table.RoleTable.append.Goals as goal

@@ -1,6 +1,6 @@
 use Rattle.std.proofs.Common.{◌≡◌, ◌+◌, suc, drop, map, sym, ap, ◌∙◌, arith}
 use Rattle.std.proofs.lemmas.List.{drop_all}
-use Rattle.lower_body.specs.Lower.{key_name}
+use Rattle.lowering.specs.Lower.{key_name}
 use Rattle.cocoon_syntax.specs.TreeOf.{param_of}
 use Rattle.lower_code.specs.Growth.{counted, with_field, with_keys}
 use Rattle.lower_code.proofs.Steps.{keys_end, keys_step, mapped_from}

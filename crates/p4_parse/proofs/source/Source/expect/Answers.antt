@@ -1,6 +1,6 @@
 use Rattle.std.proofs.Common.{rules, ◌≡◌, true, false, slice_get, refl}
 use Rattle.cocoon_num.specs.Tokens.{mark}
-use Rattle.p4_lex.specs.Kinds.{mark_text}
+use Rattle.p4_parse.specs.Kinds.{mark_text}
 use Rattle.p4_texts.specs.Machine.{the_mark}
 use Rattle.p4_parse.specs.Phrases.{is_mark}
 use Rattle.p4_parse.proofs.Tokens.{mark_is, mark_left, mark_takes, one_read, one_refused}

@@ -2,8 +2,8 @@ use Rattle.std.proofs.Common.{◌∙◌, ◌<◌, ◌^◌, ap, length, map, subs
 use Rattle.std.proofs.lemmas.List.{length-map}
 use Rattle.p4_ir.specs.Program as ir
 use Rattle.p4_names.specs.Meant.{names_of}
-use Rattle.p4_written.specs.TreeOf.{field_of, header_of, member_of, text_of}
-use Rattle.name_table.specs.NameNumbers.{Numbers}
+use Rattle.p4_texts.specs.TreeOf.{field_of, header_of, member_of, text_of}
+use Rattle.numbering.specs.NameNumbers.{Numbers}
 use Rattle.p4_resolve.specs.Scopes.{EachFew, EachNumbers, member_names}
 use Rattle.p4_resolve.proofs.CountFacts.{few}
 use Rattle.p4_resolve.proofs.scope.Scope.new.Goals as goal

@@ -1,7 +1,7 @@
 use Rattle.std.proofs.Common.{◌≡◌, ◌==◌, ◌<◌, ◌≤◌, true, not, IsTrue, List, length, map, get_or, rules, sym, subst, ap, ◌∙◌}
 use Rattle.std.proofs.lemmas.Bool.{and_parts}
 use Rattle.cocoon_num.specs.Lists.{ascend, each}
-use Rattle.number_table.specs.NumberPlaces.{place_in, place_of}
+use Rattle.numbering.specs.NumberPlaces.{place_in, place_of}
 use Rattle.p4_ir.specs.Loading.{group_fits}
 use Rattle.p4_ir.specs.NetOf.{group_of}
 use Rattle.p4_ir.specs.P4Tree.{Group}

@@ -1,7 +1,7 @@
 use Rattle.std.proofs.Common.{◌≡◌, ℕ, [], ◌∷◌, ◌++◌, Vec, not, sym, ap, subst, ◌∙◌}
 use Rattle.std.specs.declared.alloc.Global.{Global}
 use Rattle.std.proofs.lemmas.List.{map-append}
-use Rattle.key_table.specs.KeyPlaces.{Holds, first_place}
+use Rattle.numbering.specs.KeyPlaces.{Holds, first_place}
 use Rattle.pattern_instances.specs.Found.{HasTuples, tuple_ids, with_ids}
 use Rattle.pattern_instances.proofs.Adding.{with-new, with-old}
 use Rattle.pattern_instances.proofs.tuples.Tuples.add.Goals as goal

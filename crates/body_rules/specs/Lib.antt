@@ -1,4 +1,0 @@
-pub mod BodyFaults
-pub mod Stmts
-pub mod Tested
-pub mod Walked

@@ -1,4 +1,0 @@
-mod DefsUtf8
-mod BudgetValue
-mod BudgetApart
-mod Example

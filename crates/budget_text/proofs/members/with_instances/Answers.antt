@@ -1,7 +1,0 @@
-use Rattle.std.proofs.Common.{map}
-use Rattle.certificates.specs.CertsOf.{instance_of}
-use Rattle.log_json.specs.LogsJson.{instances_data}
-use Rattle.budget_text.proofs.members.with_instances.Goals as goal
-
-pub returns : goal.returns
-returns c = λ members is. c.with.ensures members (instances_data (map instance_of c.args.instances.now)) is c.array-values.ensures

@@ -1,4 +1,0 @@
-mod RowsExact
-mod NetSeen
-mod Sought
-mod NetExact

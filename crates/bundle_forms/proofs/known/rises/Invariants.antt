@@ -1,6 +1,0 @@
-use Rattle.std.proofs.Common.{◌≡◌, ◌∷◌, drop}
-use Rattle.cocoon_num.specs.Lists.{ascend}
-use Rattle.bundle_forms.proofs.known.rises.Given as goal
-
-abbrev pub invariant-loop-number : goal.invariant-loop-number
-invariant-loop-number l = ascend (l.last ∷ drop l.number-index l.rest) ≡ ascend (l.fn.first ∷ l.rest)

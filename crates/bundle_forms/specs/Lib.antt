@@ -1,2 +1,0 @@
-pub mod RowsForm
-pub mod NetForm

@@ -1,4 +1,0 @@
-pub mod Widths
-pub mod Locations
-pub mod Reading
-pub mod Fitting

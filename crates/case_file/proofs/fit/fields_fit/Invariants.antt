@@ -1,6 +1,0 @@
-use Rattle.std.proofs.Common.{◌≡◌, drop}
-use Rattle.case_file.specs.Cases.{all_fit_widths}
-use Rattle.case_file.proofs.fit.fields_fit.Given as goal
-
-abbrev pub invariant-loop-at : goal.invariant-loop-at
-invariant-loop-at l = all_fit_widths l.widths l.fields ≡ all_fit_widths (drop l.at l.widths) (drop l.at l.fields)

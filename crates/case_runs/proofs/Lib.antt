@@ -1,4 +1,0 @@
-pub mod OneRun
-pub mod Flattened
-pub mod Cased
-pub mod Told

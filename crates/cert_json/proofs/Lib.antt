@@ -1,3 +1,0 @@
-mod CertsExact
-mod CertsValue
-mod Scanned

@@ -1,2 +1,0 @@
-pub mod CertsJson
-pub mod CertsForm

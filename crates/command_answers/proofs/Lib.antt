@@ -1,0 +1,14 @@
+pub mod Ending
+pub mod TextSteps
+pub mod Assuming
+pub mod Owing
+pub mod Kept
+pub mod Compiling
+pub mod Updating
+pub mod Fitting
+pub mod Stepped
+pub mod Forwarded
+pub mod Counted
+pub mod Calling
+pub mod Rewiring
+pub mod Generating

@@ -1,0 +1,17 @@
+pub mod ReportLines
+pub mod Assumed
+pub mod Owing
+pub mod Compiling
+pub mod Stepping
+pub mod Deciding
+pub mod Refining
+pub mod Forwarding
+pub mod Standing
+pub mod Steps
+pub mod Writing
+pub mod Answering
+pub mod Updating
+pub mod Commands
+pub mod Outcomes
+pub mod Generating
+pub mod FolderCalls

@@ -1,0 +1,17 @@
+pub mod OneProgram
+pub mod SameValues
+pub mod DeliveryDesign
+pub mod DeliveryNetwork
+pub mod NetworkFile
+pub mod NetworkRows
+pub mod NetworkReads
+pub mod ExampleNetwork
+pub mod ExampleBundle
+pub mod ExampleReads
+pub mod ExampleTables
+pub mod ExampleRuns
+pub mod SameBundle
+pub mod Telling
+pub mod Travelling
+pub mod Ending
+pub mod Spending

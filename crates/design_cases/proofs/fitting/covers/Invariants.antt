@@ -1,9 +1,0 @@
-use Rattle.std.proofs.Common.{take}
-use Rattle.std.specs.List.{All}
-use Rattle.bv_terms.specs.Arenas.{width_at}
-use Rattle.design_cases.proofs.Made.{IsAt}
-use Rattle.design_cases.specs.Plain.{CoversNode}
-use Rattle.design_cases.proofs.fitting.covers.Given as goal
-
-abbrev pub invariant-loop-id : goal.invariant-loop-id
-invariant-loop-id l = All (IsAt (CoversNode l.env (width_at l.terms)) l.terms) (take l.id-index l.id-items)

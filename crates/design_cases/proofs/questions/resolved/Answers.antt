@@ -1,4 +1,0 @@
-use Rattle.design_cases.proofs.questions.resolved.Goals as goal
-
-pub resolve-requires : goal.resolve-requires
-resolve-requires c = (c.args.text.now, c.requires)

@@ -1,6 +1,0 @@
-pub mod Owned
-pub mod Arenas
-pub mod Inputs
-pub mod Narrow
-pub mod Failing
-pub mod Beginning

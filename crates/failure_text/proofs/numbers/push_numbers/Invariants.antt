@@ -1,7 +1,0 @@
-use Rattle.std.proofs.Common.{drop}
-use Rattle.text_printer.proofs.Printing.{Leads}
-use Rattle.failure_text.specs.FailureTexts.{spaced}
-use Rattle.failure_text.proofs.numbers.push_numbers.Given as goal
-
-abbrev pub invariant-loop-number : goal.invariant-loop-number
-invariant-loop-number l = Leads l.fn.out l.out (spaced (drop l.number-index l.numbers)) (spaced l.numbers)

@@ -1,2 +1,0 @@
-pub mod FailureTexts
-pub mod Told

@@ -1,4 +1,0 @@
-pub mod FirstFacts
-pub mod Halves
-pub mod PairFacts
-pub mod ScanFacts

@@ -1,7 +1,0 @@
-use Rattle.std.proofs.Common.{◌≡◌, ◌++◌, drop, map}
-use Rattle.p4_ir.specs.NetOf.{key_row_of}
-use Rattle.flat_rows.specs.Laid as spec
-use Rattle.flat_rows.proofs.laying.masked_values.Given as goal
-
-abbrev pub invariant-loop-row : goal.invariant-loop-row
-invariant-loop-row l = l.laid.items ++ spec.masked_values l.masks (map key_row_of (drop l.row-index l.rows)) ≡ spec.masked_values l.masks (map key_row_of l.rows)

@@ -1,6 +1,0 @@
-use Rattle.std.proofs.Common.{◌≡◌, ◌++◌, drop}
-use Rattle.flat_rows.specs.Scanned.{row_tests}
-use Rattle.flat_rows.proofs.scanned.push_tests.Given as goal
-
-abbrev pub invariant-loop-index : goal.invariant-loop-index
-invariant-loop-index l = l.tests.items ++ row_tests (drop l.index l.values) (drop l.index l.masks) ≡ l.fn.tests.items ++ row_tests l.values l.masks

@@ -1,3 +1,0 @@
-pub mod SameBundle
-pub mod Telling
-pub mod Travelling

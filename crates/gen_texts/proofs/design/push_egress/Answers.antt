@@ -1,6 +1,0 @@
-use Rattle.text_printer.proofs.Printing.{followed}
-use Rattle.gen_texts.proofs.design.push_egress.Goals as goal
-
-pub returns : goal.returns
-returns c =
-    followed c.push.ensures (followed c.push-2.ensures (followed c.push-3.ensures (followed c.push-4.ensures c.push-5.ensures)))

@@ -1,0 +1,5 @@
+pub mod Whole
+pub mod Lengths
+pub mod Attached
+pub mod Counts
+pub mod Delivered

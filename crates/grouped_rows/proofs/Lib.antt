@@ -1,2 +1,0 @@
-pub mod MatchFacts
-pub mod PartFacts

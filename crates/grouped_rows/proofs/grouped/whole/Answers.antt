@@ -1,4 +1,0 @@
-use Rattle.grouped_rows.proofs.grouped.whole.Goals as goal
-
-pub returns : goal.returns
-returns c = record { many = c.in_ok-new.ensures.many; answers = c.in_ok-new.ensures.answers }

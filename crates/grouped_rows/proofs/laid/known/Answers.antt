@@ -1,4 +1,0 @@
-use Rattle.grouped_rows.proofs.laid.known.Goals as goal
-
-pub returns : goal.returns
-returns c = record { many = c.in_ok-new.ensures.count; answers = c.in_ok-new.ensures.answers }

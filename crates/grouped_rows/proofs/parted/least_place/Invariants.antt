@@ -1,7 +1,0 @@
-use Rattle.std.proofs.Common.{◌≡◌, drop}
-use Rattle.flat_rows.specs.Keyed.{keyed}
-use Rattle.grouped_rows.specs.Least as least
-use Rattle.grouped_rows.proofs.parted.least_place.Given as goal
-
-abbrev pub invariant-loop-part : goal.invariant-loop-part
-invariant-loop-part l = least.least_place l.found (drop l.part-index l.parts) (keyed l.meta l.keys) ≡ least.least_place l.place l.parts (keyed l.meta l.keys)

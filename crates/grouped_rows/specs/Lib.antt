@@ -1,5 +1,0 @@
-pub mod Held
-pub mod Laid
-pub mod Least
-pub mod Matching
-pub mod Placed

@@ -1,2 +1,0 @@
-pub mod MadeOf
-pub mod LeafShown

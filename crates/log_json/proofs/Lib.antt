@@ -1,3 +1,0 @@
-pub mod LogsExact
-pub mod LogsApart
-pub mod LogsValue

@@ -1,8 +1,0 @@
-use Rattle.log_json.proofs.LogsExact.{log_is_exact, instances_is_exact}
-use Rattle.log_json.proofs.laws.forms_are_exact.Goals as goal
-
-pub returns-clause-log : goal.returns-clause-log
-returns-clause-log c = log_is_exact
-
-pub returns-clause-instances : goal.returns-clause-instances
-returns-clause-instances c = instances_is_exact

@@ -1,8 +1,0 @@
-use Rattle.log_json.proofs.LogsApart.{logs_apart, all_instances_apart}
-use Rattle.log_json.proofs.laws.values_are_of_one.Goals as goal
-
-pub returns-clause-log : goal.returns-clause-log
-returns-clause-log c = logs_apart
-
-pub returns-clause-instances : goal.returns-clause-instances
-returns-clause-instances c = all_instances_apart

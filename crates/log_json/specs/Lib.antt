@@ -1,2 +1,0 @@
-pub mod LogsJson
-pub mod LogsForm

@@ -1,2 +1,0 @@
-mod ClauseNumbers
-mod ShortLogs

@@ -1,4 +1,0 @@
-//! Laws on logs. The functions do nothing; their contracts are the laws.
-#![tactic(auto)]
-
-pub mod laws;

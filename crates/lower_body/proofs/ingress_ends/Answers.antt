@@ -1,5 +1,0 @@
-use Rattle.lower_body.proofs.ChoicelessVisits as visits
-use Rattle.lower_body.proofs.ingress_ends.Goals as goal
-
-pub returns : goal.returns
-returns c r fill s p rows h port packet fits = visits.ingress_ends r fill s p rows h port packet fits

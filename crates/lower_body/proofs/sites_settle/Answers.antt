@@ -1,5 +1,0 @@
-use Rattle.lower_body.proofs.Settled as settled
-use Rattle.lower_body.proofs.sites_settle.Goals as goal
-
-pub returns : goal.returns
-returns k c b vars n h = settled.block_settled c b vars n h

@@ -1,5 +1,0 @@
-use Rattle.lower_body.proofs.ChoicelessVisits as visits
-use Rattle.lower_body.proofs.visit_is_body.Goals as goal
-
-pub returns : goal.returns
-returns c r fill s p rows h tag port bytes fits = visits.visit_shows r fill s p rows h tag port bytes fits

@@ -1,2 +1,0 @@
-pub mod NetDeclarations
-pub mod Halves

@@ -1,6 +1,0 @@
-pub mod Roles
-pub mod SwitchProgram
-pub mod Serving
-pub mod Departs
-pub mod Sends
-pub mod Delivers

@@ -1,4 +1,0 @@
-//! The programs that lowering makes keep the kind rules.
-#![tactic(auto)]
-
-pub mod laws;

@@ -1,6 +1,0 @@
-pub mod Wires
-pub mod Network
-pub mod Counts
-pub mod WiresLead
-pub mod Followed
-pub mod Ingress

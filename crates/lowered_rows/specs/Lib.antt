@@ -1,4 +1,0 @@
-pub mod Groups
-pub mod SwitchRows
-pub mod Logs
-pub mod Totals

@@ -1,9 +1,0 @@
-pub mod Names
-pub mod Conditions
-pub mod Reaching
-pub mod Made
-pub mod Laws
-pub mod Copies
-pub mod SwitchVisits
-pub mod Served
-pub mod Runs

@@ -1,0 +1,11 @@
+pub mod Groups
+pub mod SwitchRows
+pub mod Logs
+pub mod Totals
+pub mod Wires
+pub mod Network
+pub mod Counts
+pub mod WiresLead
+pub mod Followed
+pub mod Ingress
+pub mod Writable

@@ -1,0 +1,4 @@
+pub mod ShallowTrees
+pub mod WideLiterals
+pub mod Filling
+pub mod Sharing

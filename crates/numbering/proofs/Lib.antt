@@ -1,0 +1,3 @@
+pub mod NameFacts
+pub mod KeyFacts
+pub mod NumberFacts

@@ -1,0 +1,3 @@
+pub mod NameNumbers
+pub mod KeyPlaces
+pub mod NumberPlaces

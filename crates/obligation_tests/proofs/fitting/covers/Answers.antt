@@ -1,0 +1,25 @@
+use Rattle.std.proofs.Common.{arith, length, rules, subst, sym, ◌<◌, ◌≤◌}
+use Rattle.std.specs.List.{All}
+use Rattle.std.proofs.lemmas.List.{take_all}
+use Rattle.bv_terms.specs.Arenas.{width_at}
+use Rattle.bv_terms.specs.Needed.{AreNeeded}
+use Rattle.obligation_tests.specs.Plain.{CoversNode}
+use Rattle.obligation_tests.proofs.Made.{IsAt, covers-all, within}
+use Rattle.obligation_tests.proofs.fitting.covers.Goals as goal
+
+pub node-requires : goal.node-requires
+node-requires c =
+    let nodes = c.args.terms.now in
+    let ids = c.deref-id-items.result.now in
+    let needed : AreNeeded nodes c.args.goal ids = subst (AreNeeded nodes c.args.goal) (sym c.deref-id-items.ensures.value) c.in-Ok.ensures in
+    let there : c.args.goal < length nodes = search rules in
+    within nodes c.args.goal ids c.loop-id.id-index needed there c.loop-id-test.true
+
+pub returns-clause-covered : goal.returns-clause-covered
+returns-clause-covered c = λ t.
+    let nodes = c.args.terms.now in
+    let ids = c.deref-id-items.result.now in
+    let needed : AreNeeded nodes c.args.goal ids = subst (AreNeeded nodes c.args.goal) (sym c.deref-id-items.ensures.value) c.in-Ok.ensures in
+    let there : c.args.goal < length nodes = search rules in
+    let done : length ids ≤ c.loop-id.id-index = (let more = c.loop-id-test.false in omega (arith, more)) in
+    covers-all c.args.env.now nodes c.args.goal ids needed there (subst (All (IsAt (CoversNode c.args.env.now (width_at nodes)) nodes)) (take_all c.loop-id.id-index ids done) c.loop-id.invariant)

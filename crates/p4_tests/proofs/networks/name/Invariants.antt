@@ -1,6 +1,0 @@
-use Rattle.std.proofs.Common.{IsTrue}
-use Rattle.cocoon_num.specs.Tokens.{is_run}
-use Rattle.p4_tests.proofs.networks.name.Given as goal
-
-abbrev pub invariant-loop : goal.invariant-loop
-invariant-loop l = IsTrue (is_run l.name.items)

@@ -1,6 +1,0 @@
-use Rattle.p4_run.specs.Frames.{Fits}
-use Rattle.p4_run.specs.Running.{program_in}
-use Rattle.p4_tests.proofs.timed.put_digest.Given as goal
-
-abbrev pub invariant-loop-done : goal.invariant-loop-done
-invariant-loop-done l = Fits (program_in l.loaded) l.frame

@@ -1,8 +1,0 @@
-use Rattle.send_laws.proofs.Named.{roles_named}
-use Rattle.read_back_terms.proofs.Reading.{tree_reads}
-use Rattle.read_back_terms.proofs.laws.leaves_read_back.Goals as goal
-
-pub returns : goal.returns
-returns c = λ text d reads w l level role r is back first.
-    tree_reads d level role first r is (c.declarations_are_typed.ensures.roles d w l level role r is) (roles_named text d reads level role r is) back
-    (c.statements_differ.ensures text d reads level role r is)

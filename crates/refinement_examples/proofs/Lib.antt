@@ -1,4 +1,0 @@
-pub mod Computed
-pub mod SegmentsM
-pub mod SegmentsT
-pub mod SegmentsThree

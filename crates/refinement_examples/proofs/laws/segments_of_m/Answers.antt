@@ -1,6 +1,0 @@
-use Rattle.std.proofs.Common.{refl}
-use Rattle.refinement_examples.proofs.SegmentsM as law
-use Rattle.refinement_examples.proofs.laws.segments_of_m.Goals as goal
-
-pub returns : goal.returns
-returns c = let t = c.runs_are_taken.ensures in record { one = law.one t; two = law.two t; three = law.three t; new = refl; old = refl; above = law.above t }

@@ -1,5 +1,0 @@
-use Rattle.refinement_examples.proofs.SegmentsT as law
-use Rattle.refinement_examples.proofs.laws.segments_of_t.Goals as goal
-
-pub returns : goal.returns
-returns c = let t = c.runs_are_taken.ensures in record { one = law.one t; two = law.two t; three = law.three t; four = law.four t; five = law.five t; way = law.way }

@@ -1,4 +1,0 @@
-pub mod DesignM
-pub mod DesignT
-pub mod DesignThree
-pub mod Places

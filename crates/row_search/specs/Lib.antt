@@ -1,0 +1,13 @@
+pub mod FirstResults
+pub mod Held
+pub mod Keyed
+pub mod Laid
+pub mod Pairs
+pub mod Scanned
+pub mod Searched
+pub mod Spans
+pub mod GroupsHeld
+pub mod GroupsLaid
+pub mod Least
+pub mod Matching
+pub mod Placed

@@ -1,8 +1,0 @@
-use Rattle.std.proofs.Common.{rules}
-use Rattle.scopes.proofs.Keeping.{closing}
-use Rattle.scopes.proofs.variables.Scopes.close.Goals as goal
-
-pub loop-self-preserved : goal.loop-self-preserved
-loop-self-preserved c =
-    let more = closing c.args.depth c.args.self.now c.loop-self.self c.unbind.new.self c.loop-self.invariant.left (search rules) c.in_ok-unbind.ensures in
-    record { enough = more.0; left = more.1 }

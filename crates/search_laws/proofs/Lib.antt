@@ -1,9 +1,0 @@
-pub mod Membership
-pub mod Jumping
-pub mod Trailing
-pub mod Counting
-pub mod Conflicts
-pub mod LearnedClauses
-pub mod Totals
-pub mod Backjumps
-pub mod Asserting

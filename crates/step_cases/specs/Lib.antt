@@ -1,0 +1,4 @@
+pub mod Cases
+pub mod Agrees
+pub mod Reading
+pub mod Stepping

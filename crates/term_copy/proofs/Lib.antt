@@ -1,2 +1,0 @@
-pub mod InputLists
-pub mod Copies

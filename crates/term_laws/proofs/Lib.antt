@@ -1,3 +1,0 @@
-pub mod FittingValues
-pub mod RenamedTerms
-pub mod RenamedClauses

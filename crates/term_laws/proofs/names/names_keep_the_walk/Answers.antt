@@ -1,5 +1,0 @@
-use Rattle.term_laws.proofs.RenamedTerms.{walk-kept}
-use Rattle.term_laws.proofs.names.names_keep_the_walk.Goals as goal
-
-pub returns : goal.returns
-returns c = walk-kept

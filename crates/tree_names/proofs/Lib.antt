@@ -1,3 +1,0 @@
-pub mod NamedTokens
-pub mod Functions
-pub mod Headers

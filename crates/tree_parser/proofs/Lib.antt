@@ -1,5 +1,0 @@
-pub mod Blocks
-pub mod Closings
-pub mod Heads
-pub mod Refinements
-pub mod Rows

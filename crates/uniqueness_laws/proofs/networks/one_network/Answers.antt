@@ -1,6 +1,0 @@
--- Each file reads as one thing.
-use Rattle.uniqueness_laws.proofs.NetworkReads as reads
-use Rattle.uniqueness_laws.proofs.networks.one_network.Goals as goal
-
-pub returns : goal.returns
-returns c = reads.one_network c.one_program.ensures

@@ -1,3 +1,0 @@
-pub mod ExampleDesign
-pub mod ExampleP4
-pub mod ExampleNet

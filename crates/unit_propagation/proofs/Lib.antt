@@ -1,3 +1,0 @@
-pub mod Visiting
-pub mod Longer
-pub mod FirstClauses

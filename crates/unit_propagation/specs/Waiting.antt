@@ -1,6 +1,0 @@
--- Cited by private clauses: how many variables wait to be decided.
-use Rattle.std.specs.Prelude.{ℕ}
-use Rattle.unit_propagation.specs.declared.order.Order.{Order}
-
-abbrev pub waiting : Order → ℕ
-waiting order = order.heap.count

@@ -1,4 +1,0 @@
-pub mod Watched
-pub mod Looking
-pub mod Opening
-pub mod Attaching
