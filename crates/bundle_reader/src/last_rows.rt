@@ -47,7 +47,8 @@ impl LastRows {
     fn rows_for(&self, bytes: &[u8], kept: &str) -> Option<&RowsFile>
         requires { IsRead self.now }
         ensures fresh { IfSome result (λ _. digest_of bytes.now ≡ kept.now) }
-        ensures rows { IfSome result (λ rows. Answered rows_form bytes.now (Ok (rows_of rows.now))) }
+        ensures rows { IfSome result (λ rows.
+            Answered rows_form bytes.now (Ok (rows_of rows.now))) }
     {
         if self.digest.bytes() != kept.as_bytes() {
             return None;

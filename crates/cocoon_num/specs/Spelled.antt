@@ -1,4 +1,4 @@
--- How the names of a tree that was read are spelled. `headers_are_spelled` (tree_names) and what a `Checked` keeps (cocoon_resolve) cite it.
+-- How the names of a tree that was read are spelled. `headers_are_spelled` (cocoon_types) and what a `Checked` keeps (cocoon_resolve) cite it.
 use Rattle.std.specs.Prelude.{◌&&◌, Bool}
 use Rattle.cocoon_num.specs.Lists.{each}
 use Rattle.cocoon_num.specs.Tokens.{is_run}

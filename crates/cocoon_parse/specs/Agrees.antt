@@ -1,5 +1,5 @@
 -- When the answer of a parsing function agrees with what the plain parser gives of the same tokens. Clauses of all modules
--- cite it, and of tree_parser and cocoon_parse. An answer that is out of memory agrees with all.
+-- cite it. An answer that is out of memory agrees with all.
 use Rattle.std.specs.Prelude.{◌≡◌, ◌+◌, ◌<◌, ◌≤◌, ℕ, List, map, slice_get, slice_range, Bool, true, false, if◌then◌else◌, ⊤, Option, Some, None, Result, Ok, Err}
 use Rattle.cocoon_num.specs.Tokens.{Kind, a_name, keyword, mark}
 use Rattle.cocoon_num.specs.declared.bits.Bits.{Bits}

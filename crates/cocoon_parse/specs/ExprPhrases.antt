@@ -1,5 +1,5 @@
 -- The phrases of expressions for which the parser has functions of its own, and the levels of its operators. Clauses of
--- `source`, `operators` and `exprs` cite it, and definitions of tree_parser.
+-- `source`, `operators` and `exprs` cite it, and other definitions.
 use Rattle.std.specs.Prelude.{◌≡◌, ◌+◌, ℕ, suc, true, false, List, Option, Some, None, slice_get, Result, Ok, Err, if◌then◌else◌, codes}
 use Rattle.cocoon_num.specs.Tokens.{Kind}
 use Rattle.cocoon_num.specs.Tree.{Name, Expr, Exprs, name, call, lit, true_or_false, field}

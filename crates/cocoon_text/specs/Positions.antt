@@ -1,4 +1,4 @@
--- Cited by the clause of `position_of`, and by the clauses of cocoon_cli on broken rules: where the token of an index stands
+-- Cited by the clause of `position_of`, and by the clauses of command_reports on broken rules: where the token of an index stands
 -- in a text.
 use Rattle.std.specs.Prelude.{ℕ, List, length, slice_get, Option, Some, None, Ok, Err}
 use Rattle.cocoon_num.specs.Tokens.{Token, Lexed, language, lex}

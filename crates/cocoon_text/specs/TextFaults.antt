@@ -1,4 +1,4 @@
--- Cited by the clauses of `read_design` and `read_defs`, by the laws of this crate, and by the clauses of cocoon_cli on
+-- Cited by the clauses of `read_design` and `read_defs`, by the laws of this crate, and by the clauses of command_reports on
 -- refusals: the first fault of a text of designs or of definitions, by the offset at which it begins, with its position.
 use Rattle.std.specs.Prelude.{◌≡◌, ℕ, List, slice_get, Some, Ok, Err, codes}
 use Rattle.cocoon_num.specs.Tokens.{Kind, Token, kinds, language, language_bounds, lex}

@@ -1,5 +1,5 @@
--- Cited by the law `runs_are_taken`, by the clause `tables` of `go` of role_meaning, and by laws of lower_body,
--- lowered_visits, lowered_net and sound_types. A run that takes its choices from a list and hands on what it does not use of
+-- Cited by the law `runs_are_taken`, by the clause `tables` of `go` of role_meaning, and by laws of
+-- lowering_correct and sound_types. A run that takes its choices from a list and hands on what it does not use of
 -- it: the plain program beside the definition of runs.
 use Rattle.std.specs.Prelude.{◌≡◌, ℕ, zero, suc, true, false, List, [], ◌∷◌, ◌++◌, if◌then◌else◌, Option, Some, None, option_map, option_and_then}
 use Rattle.cocoon_num.specs.Values.{Value, number, truth, as_number, fits_width}

@@ -35,7 +35,7 @@ use Rattle.command_reports.specs.declared.report.Verdict.TheVariants as verdict
 use Rattle.command_answers.specs.Answering.{IsFound, PlansBy, Asked}
 use Rattle.command_answers.specs.Commands.{Reports, asks, compile_steps, generated_name, writing_steps}
 use Rattle.command_answers.specs.Compiling.{Compiles, CompilesTexts}
-use Rattle.command_answers.specs.Generating.{Counts, NotCounted, NotHeld, TellsCount}
+use Rattle.command_answers.specs.Generating.{Counts, NotCounted, NotHeld, NotTold, TellsCount}
 use Rattle.command_answers.specs.Outcomes.{AllGood, none, good, Ends, no_memory, at_step, at_fault, EndsAt, FirstWith, here, later, StopsAt}
 use Rattle.command_answers.specs.ReportLines.{generated_line}
 use Rattle.command_answers.specs.FolderCalls.{IsQuiet}
@@ -227,6 +227,16 @@ unsent hosts packets i x y net certs r m fit (inr (over, e)) =
     ends_of i hosts r (usual ++ (writing_steps ++ sending hosts packets))
     (ends_after g (Err r) usual (writing_steps ++ sending hosts packets) m.good
     (ends_after g (Err r) writing_steps (sending hosts packets) (files_good g x y net certs m.texts m.made fit) (refused g r (sent_within hosts packets) [] (on_net g x y net m.texts m.made.lowers (over, e)))))
+
+-- nothing is told
+pub untold : (hosts packets : ℕ) (i : Inputs) (x y : List ℕ) (net : NetData) (certs : List ℕ) (r : Refusal) → Made hosts x y net certs → NotTold (bundle_of.bundle x net (Some certs)) net hosts packets r → Asked (gen hosts packets) i (Err r)
+untold hosts packets i x y net certs r m (inl held) = unheld hosts packets i x y net certs r m held
+untold hosts packets i x y net certs r m (inr (fit, counted)) = unsent hosts packets i x y net certs r m fit counted
+
+pub untold_quiet : (files : List MadeFile) (net : NetData) (hosts packets : ℕ) (r : Refusal) → NotTold files net hosts packets r → IsQuiet r
+untold_quiet files net hosts packets r (inl (inl e)) = subst IsQuiet (sym e) tt
+untold_quiet files net hosts packets r (inl (inr (file, over, e))) = subst IsQuiet (sym e) tt
+untold_quiet files net hosts packets r (inr (fit, counted)) = counted_quiet net hosts packets r counted
 
 -- what the law on counts says
 abbrev pub AsManyReached : Type 0

@@ -6,7 +6,7 @@ use Rattle.generator.specs.Arriving.{Arrives}
 use Rattle.generator.specs.Counting.{IsCount}
 use Rattle.generator.specs.Stopping.{AllWithin, SomeOver}
 use Rattle.net_bundle.specs.Bundle.{MadeFile}
-use Rattle.net_bundle.specs.Writing.{FirstOver}
+use Rattle.net_bundle.specs.Writing.{AllFit, FirstOver}
 use Rattle.net_bundle.specs.declared.file.BundleFile.{BundleFile}
 use Rattle.net_run.specs.RunCounts.{most_runs}
 use Rattle.p4_ir.specs.NetTree.{NetData}
@@ -35,3 +35,8 @@ pub record TellsCount (net : NetData) (hosts packets : ℕ) (lines : List ℕ) :
   pub delivered : ℕ
   pub counts : Counts net hosts packets delivered
   pub told : lines ≡ generated_line hosts packets delivered
+
+-- why nothing is told of them: a file is too long, or they are not counted
+abbrev pub NotTold : List MadeFile → NetData → (hosts packets : ℕ) → Refusal → Type 0
+NotTold files net hosts packets r =
+    NotHeld files r ⊎ (AllFit files × NotCounted net hosts packets r)

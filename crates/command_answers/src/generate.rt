@@ -13,7 +13,7 @@ ghost use Rattle.p4_ir.specs.NetFits.{net_fits};
 ghost use Rattle.shared_net.specs.Shared.{shared_of};
 ghost use Rattle.command_answers.specs.Answering.{PlansBy, Asked};
 ghost use Rattle.command_answers.specs.Commands.{generated_name};
-ghost use Rattle.command_answers.specs.Generating.{Counts, NotCounted, NotHeld, TellsCount};
+ghost use Rattle.command_answers.specs.Generating.{Counts, NotCounted, NotHeld, NotTold, TellsCount};
 ghost use Rattle.command_answers.specs.ReportLines.{generated_line};
 ghost use Rattle.command_answers.specs.FolderCalls.{IsQuiet};
 ghost use Rattle.command_answers.specs.Steps.{Inputs};
@@ -139,6 +139,48 @@ fn tell_packets(alloc: Global, asked: &Gen, net: &Net) -> Result<Vec<u8>, Refusa
     Ok(line.into_bytes())
 }
 
+/// What is told of the packets that are sent through a network whose bundle was written in memory and
+/// read back.
+fn tell_written(
+    alloc: Global,
+    asked: &Gen,
+    design: &[u8],
+    net: &SharedNet,
+    certificates: &Option<List<u8>>,
+) -> Result<Vec<u8>, Refusal>
+    requires asked { CanGenerate asked.now.hosts asked.now.packets }
+    requires fits { IsTrue (net_fits (shared_of net.now)) }
+    ensures tells { IfOk result (λ lines.
+        TellsCount (shared_of net.now) asked.now.hosts asked.now.packets lines.items) }
+    ensures fit { IfOk result (λ lines.
+        AllFit (bundle design.now (shared_of net.now) certificates.now)) }
+    ensures refused { IfErr result
+        (NotTold (bundle design.now (shared_of net.now) certificates.now)
+        (shared_of net.now) asked.now.hosts asked.now.packets) }
+{
+    let read = read_back(alloc, design, net, certificates)?;
+    tell_packets(alloc, asked, &read)
+}
+
+/// The same of a network that nobody asks for afterwards.
+fn tell_made(
+    alloc: Global,
+    asked: &Gen,
+    design: &[u8],
+    net: SharedNet,
+    certificates: Option<List<u8>>,
+) -> Result<Vec<u8>, Refusal>
+    requires asked { CanGenerate asked.now.hosts asked.now.packets }
+    requires fits { IsTrue (net_fits (shared_of net)) }
+    ensures tells { IfOk result (λ lines.
+        TellsCount (shared_of net) asked.now.hosts asked.now.packets lines.items) }
+    ensures fit { IfOk result (λ lines. AllFit (bundle design.now (shared_of net) certificates)) }
+    ensures refused { IfErr result (NotTold (bundle design.now (shared_of net) certificates)
+        (shared_of net) asked.now.hosts asked.now.packets) }
+{
+    tell_written(alloc, asked, design, &net, &certificates)
+}
+
 /// Generates a network, compiles it, and tells how many of its packets it delivers. What `compile` answers of it
 /// that is no success is answered as it is.
 pub fn generate<'w>(alloc: Global, asked: &Gen) -> Result<Answer<'w>, Refusal>
@@ -159,12 +201,17 @@ pub fn generate<'w>(alloc: Global, asked: &Gen) -> Result<Answer<'w>, Refusal>
         rounds: USUAL_ROUNDS,
     };
     let compiled = compile(alloc, &usual, &design, &defs)?;
-    match &compiled.writing {
-        Writing::Nothing => Ok(compiled),
-        Writing::Own(_, _) => Ok(compiled),
+    match compiled.writing {
+        Writing::Nothing => Ok(Answer {
+            report: compiled.report,
+            writing: Writing::Nothing,
+        }),
+        Writing::Own(file, bytes) => Ok(Answer {
+            report: compiled.report,
+            writing: Writing::Own(file, bytes),
+        }),
         Writing::Bundle(_, net, certificates) => {
-            let read = read_back(alloc, &design, net, certificates)?;
-            let lines = tell_packets(alloc, asked, &read)?;
+            let lines = tell_made(alloc, asked, &design, net, certificates)?;
             Ok(Answer {
                 report: Report::success(lines),
                 writing: Writing::Nothing,

@@ -1,4 +1,4 @@
--- Cited by the clauses of `lower` and of `one_lowering`, and by those of cocoon_cli. The first of the limits of lowering that a
+-- Cited by the clauses of `lower` and of `one_lowering`, and by those of command_answers. The first of the limits of lowering that a
 -- design exceeds under definitions. It follows the section "Limits" of docs/LANGUAGE.md.
 use Rattle.std.specs.Prelude.{ℕ, Some, None}
 use Rattle.cocoon_num.specs.Tree.{Design, DefsText}

@@ -1,4 +1,4 @@
--- Cited by the clauses of counting in lower_code and lower_switch, and by the law of lowered_size: how many tables and forks the
+-- Cited by the clauses of counting in lower_code and lower_net, and by the law of lowering_fits: how many tables and forks the
 -- code of a body has, and how large it is at least. It follows "Lowering and the P4 text" in docs/FORMATS.md: an application of a
 -- function that is defined at run time is a table, and so is a fork.
 use Rattle.std.specs.Prelude.{ℕ, ◌+◌, ◌*◌, ◌==◌, List, [], ◌∷◌, length, if◌then◌else◌, Some, None}

@@ -1,5 +1,5 @@
 -- What the writing of a bundle does to a folder, and why it may stop. The clauses of `make` and `write_bundle` cite it, and
--- those of cocoon_cli. It follows "Bundle files" in docs/FORMATS.md.
+-- those of command_answers and cocoon_cli. It follows "Bundle files" in docs/FORMATS.md.
 use Rattle.std.specs.Prelude.{◌≡◌, ◌⊎◌, ℕ, ◌+◌, ◌≤◌, ◌<◌, List, [], ◌∷◌, length, take, slice_get, Option, Some, None}
 use Rattle.std.specs.FinMap.{get}
 use Rattle.cocoon_io.specs.Files.{Files}

@@ -1,5 +1,5 @@
 -- The networks of the definitions that those of the code stand for whose switches have one program and the same rows. The clauses of
--- `lower` and of `write_bundle` cite it, and those of cocoon_cli.
+-- `lower` and of `write_bundle` cite it, and those of command_answers.
 use Rattle.std.specs.Prelude.{ℕ, List, map}
 use Rattle.p4_ir.specs.NetOf.{host_port_of, link_of, rows_of}
 use Rattle.p4_ir.specs.NetTree.{NetData, SwitchFiles}
