@@ -15,7 +15,7 @@ use Rattle.cocoon_types.specs.Tables.{Defs, defs_of}
 use Rattle.cocoon_types.specs.Val.{bind}
 use Rattle.bv_terms.specs.TermTrees.{IsTerm, Term, constant}
 use Rattle.bv_terms.specs.TermValues.{Functions, Inputs, term_number, term_value}
-use Rattle.certificates.specs.declared.Instance.{Instance}
+use Rattle.cnf_core.specs.declared.certificates.Instance.{Instance}
 use Rattle.defs_text.specs.Fitting.{AreMasked, FitsDesign, FitsFunction, FitsPlace, FitsRow, IsMasked, all_fit_widths, all_ones, result_width}
 use Rattle.defs_text.specs.Places.{entries_of_places}
 use Rattle.expr_term_laws.specs.Shown.{functions_by}

@@ -9,7 +9,7 @@ use Rattle.cocoon_num.specs.PacketForms.{FieldsFit}
 use Rattle.cocoon_num.specs.Tree.{AssumeDecl, Design}
 use Rattle.cocoon_resolve.specs.Readers.{all_assumptions, assumptions_to}
 use Rattle.cocoon_types.specs.Design.{widths_of}
-use Rattle.certificates.specs.declared.Instance.{Instance}
+use Rattle.cnf_core.specs.declared.certificates.Instance.{Instance}
 use Rattle.query_laws.specs.Queries.{Fits}
 use Rattle.candidate_laws.specs.Rounds.{AreDifferent, tuples_of, tuples_of_widths, tuples_to}
 

@@ -4,7 +4,7 @@ use Rattle.std.specs.List.{AllByRecursion}
 use Rattle.cocoon_num.specs.Tree.{Design}
 use Rattle.cocoon_num.specs.Values.{number}
 use Rattle.bv_terms.specs.TermTrees.{Term}
-use Rattle.certificates.specs.declared.Instance.{Instance}
+use Rattle.cnf_core.specs.declared.certificates.Instance.{Instance}
 use Rattle.literal_tables.proofs.FirstRows.{all-append}
 use Rattle.query_laws.specs.Queries.{Fits, instance_term}
 use Rattle.table_terms.specs.WithRows.{Tables}

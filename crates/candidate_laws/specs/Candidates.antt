@@ -2,7 +2,7 @@
 -- is true, with what was taken of the assumptions.
 use Rattle.std.specs.Prelude.{◌≡◌, ℕ, ◌≤◌, List, ◌∷◌, All, length, Some}
 use Rattle.std.specs.List.{AllByRecursion}
-use Rattle.certificates.specs.declared.Instance.{Instance}
+use Rattle.cnf_core.specs.declared.certificates.Instance.{Instance}
 use Rattle.cocoon_num.specs.Tree.{Design}
 use Rattle.cocoon_num.specs.Values.{number}
 use Rattle.cocoon_num.specs.declared.fun_table.FunRow.{FunRow}

@@ -2,7 +2,7 @@
 -- the applications of a goal have, and the tables of a query that is true.
 use Rattle.std.specs.Prelude.{◌≡◌, ℕ, List, filter, Some}
 use Rattle.std.specs.List.{AllZip}
-use Rattle.certificates.specs.declared.Instance.{Instance}
+use Rattle.cnf_core.specs.declared.certificates.Instance.{Instance}
 use Rattle.cocoon_num.specs.Tree.{Design}
 use Rattle.cocoon_num.specs.Values.{number}
 use Rattle.cocoon_num.specs.declared.fun_table.FunRow.{FunRow}

@@ -2,7 +2,7 @@
 -- round, and what may be asked with them.
 use Rattle.std.specs.Prelude.{◌≡◌, ◌≢◌, ℕ, ◌*◌, ◌^◌, ◌<◌, ◌≤◌, List, [], ◌∷◌, length, map, slice_get, Some, take}
 use Rattle.std.specs.List.{AllByRecursion, sum}
-use Rattle.certificates.specs.declared.Instance.{Instance}
+use Rattle.cnf_core.specs.declared.certificates.Instance.{Instance}
 use Rattle.cocoon_num.specs.Tree.{AssumeDecl, Design}
 use Rattle.cocoon_resolve.specs.Readers.{assumptions_to}
 use Rattle.cocoon_types.specs.Design.{widths_of}

@@ -3,7 +3,7 @@
 ghost use Rattle.std.specs.Prelude.{◌≡◌, ◌≤◌, ℕ, List, [], ◌∷◌, ◌++◌, length};
 ghost use Rattle.bv_terms.specs.TermTrees.{IsTerm, Term};
 ghost use Rattle.bv_terms.specs.TermValues.{Functions, Inputs};
-ghost use Rattle.certificates.specs.declared.Instance.{Instance};
+ghost use Rattle.cnf_core.specs.declared.certificates.Instance.{Instance};
 ghost use Rattle.cocoon_num.specs.Tree.{Design};
 ghost use Rattle.cocoon_types.specs.Rules.{WellFormed};
 ghost use Rattle.fun_instances.specs.Taking.{NumbersFit, OfAssumption};

@@ -13,7 +13,7 @@ use Rattle.bv_terms.specs.TermTrees.{Term}
 use Rattle.bv_terms.specs.TermValues.{Functions, Inputs, term_value}
 use Rattle.bv_terms.specs.declared.eval.Env.{Env}
 use Rattle.bv_terms.specs.declared.node.Node.{Node}
-use Rattle.certificates.specs.declared.Instance.{Instance}
+use Rattle.cnf_core.specs.declared.certificates.Instance.{Instance}
 use Rattle.cnf_core.specs.Satisfying.{Satisfies, makes_true}
 use Rattle.cnf_core.specs.declared.clauses.Assignment.{Assignment}
 use Rattle.cnf_core.specs.declared.clauses.Cnf.{Cnf}

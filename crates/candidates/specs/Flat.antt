@@ -4,7 +4,7 @@ use Rattle.bit_blast.specs.Blasting.{InputRow, IsClauses, MapsInputs}
 use Rattle.bv_terms.specs.Arenas.{term_at}
 use Rattle.bv_terms.specs.TermTrees.{IsTerm, Term}
 use Rattle.bv_terms.specs.declared.node.Node.{Node}
-use Rattle.certificates.specs.declared.Instance.{Instance}
+use Rattle.cnf_core.specs.declared.certificates.Instance.{Instance}
 use Rattle.cnf_core.specs.Satisfying.{Satisfies, makes_true}
 use Rattle.cnf_core.specs.declared.clauses.Assignment.{Assignment}
 use Rattle.cnf_core.specs.declared.clauses.Cnf.{Cnf}

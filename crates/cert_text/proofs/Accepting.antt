@@ -10,7 +10,7 @@ use Rattle.bit_blast.specs.Clauses.{count_of}
 use Rattle.bv_terms.specs.Arenas.{term_at}
 use Rattle.bv_terms.specs.TermTrees.{Term}
 use Rattle.bv_terms.specs.declared.node.Node.{Node}
-use Rattle.certificates.specs.declared.Cert.{Cert}
+use Rattle.cnf_core.specs.declared.certificates.Cert.{Cert}
 use Rattle.obligation_gen.specs.Shown.{ShowsObligation, ShowsObligations}
 use Rattle.obligation_gen.specs.declared.obligation.Obligation.{Obligation}
 use Rattle.obligation_laws.specs.Failing.{NeverFails}

@@ -6,7 +6,7 @@ use Rattle.bv_terms.specs.Arenas.{term_at}
 use Rattle.bv_terms.specs.declared.node.Node.{Node}
 use Rattle.cert_text.specs.Certifying.{CertsShow, Shows}
 use Rattle.cert_text.proofs.SideBySide.{before_it, beside, by_place, through}
-use Rattle.certificates.specs.declared.Cert.{Cert}
+use Rattle.cnf_core.specs.declared.certificates.Cert.{Cert}
 use Rattle.obligation_gen.specs.Shown.{ShowsObligation, ShowsObligations}
 use Rattle.obligation_gen.specs.declared.obligation.Obligation.{Obligation}
 use Rattle.obligation_laws.specs.Failing.{NeverFails}

@@ -8,7 +8,7 @@ use Rattle.json_forms.specs.Forms.{number_form, fitting, list_form, has_keys, me
 use Rattle.json_forms.specs.Reading.{Answered}
 use Rattle.json_forms.specs.Values.{IsJson, number_data, array_data}
 use Rattle.json_forms.proofs.Exact.{Exact, some_same, if_parts, both_parts, fitting_parts, number_exact, list_exact, two_members, ok_parts, ok_same, err_ok}
-use Rattle.certificates.specs.Certificates.{Cert, Instance, Step}
+use Rattle.cnf_core.specs.Certificates.{Cert, Instance, Step}
 use Rattle.cert_text.specs.LogsForm.{instances_form, log_form, instances_fit, log_fits}
 use Rattle.cert_text.specs.LogsJson.{instances_data, log_data}
 use Rattle.cert_text.proofs.LogsExact.{instances_exact, log_exact}

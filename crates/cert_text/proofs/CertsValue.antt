@@ -4,7 +4,7 @@ use Rattle.serde_json.specs.Data.{Data, depth}
 use Rattle.serde_json.specs.Read.{read, max_depth}
 use Rattle.serde_json.specs.Written.{has_float}
 use Rattle.json_forms.proofs.Plain.{no_float, within}
-use Rattle.certificates.specs.Certificates.{Cert}
+use Rattle.cnf_core.specs.Certificates.{Cert}
 use Rattle.cert_text.proofs.LogsValue.{instances_plain, instances_shallow, log_plain, log_shallow}
 use Rattle.cert_text.specs.CertsJson.{cert_data, certs_data}
 

@@ -3,7 +3,7 @@ use Rattle.std.proofs.Common.{◌≡◌, ℕ, List, [], ◌∷◌, pos, negsuc, 
 use Rattle.std.specs.Fmt.{digits}
 use Rattle.serde_json.specs.Written.{compact_text}
 use Rattle.serde_json.proofs.OnLiterals.{serde_json_on_literals}
-use Rattle.certificates.specs.Certificates.{Instance, Step}
+use Rattle.cnf_core.specs.Certificates.{Instance, Step}
 use Rattle.cert_text.specs.BudgetJson.{budget_data}
 use Rattle.cert_text.specs.Spent.{Spent, given, asked, tried, rounds}
 

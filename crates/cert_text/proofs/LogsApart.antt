@@ -2,7 +2,7 @@
 use Rattle.std.proofs.Common.{◌≡◌, ℕ, ℤ, List, [], ◌∷◌, refl, ap₂, pos, negsuc}
 use Rattle.serde_json.specs.Data.{Data}
 use Rattle.json_forms.specs.Values.{number_data, integer_data, array_data}
-use Rattle.certificates.specs.Certificates.{Instance, Step}
+use Rattle.cnf_core.specs.Certificates.{Instance, Step}
 use Rattle.cert_text.specs.LogsJson.{step_data, log_data, instance_data, instances_data}
 use Rattle.cert_text.proofs.LogsExact.{step_made, instance_made}
 

@@ -6,7 +6,7 @@ use Rattle.cocoon_num.specs.Lists.{each}
 use Rattle.json_forms.specs.Forms.{number_form, integer_form, list_form, has_items, item_form, both_of}
 use Rattle.json_forms.specs.Values.{number_data, integer_data, array_data, these}
 use Rattle.json_forms.proofs.Exact.{Exact, if_parts, both_parts, fitting_parts, fitting_from, number_exact, integer_exact, is_long, list_exact, two_items}
-use Rattle.certificates.specs.Certificates.{Instance, Step}
+use Rattle.cnf_core.specs.Certificates.{Instance, Step}
 use Rattle.cert_text.specs.LogsForm.{is_literal, literal_form, step_form, log_form, instance_form, instances_form, step_fits, log_fits, instance_fits, instances_fit}
 use Rattle.cert_text.specs.LogsJson.{step_data, log_data, instance_data, instances_data}
 

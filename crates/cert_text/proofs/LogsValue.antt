@@ -4,7 +4,7 @@ use Rattle.serde_json.specs.Data.{depth}
 use Rattle.serde_json.specs.Written.{has_float}
 use Rattle.json_forms.specs.Values.{number_data, integer_data}
 use Rattle.json_forms.proofs.Plain.{no_float, within, number_plain, number_flat, integer_plain, integer_flat}
-use Rattle.certificates.specs.Certificates.{Instance, Step}
+use Rattle.cnf_core.specs.Certificates.{Instance, Step}
 use Rattle.cert_text.specs.LogsJson.{step_data, log_data, instance_data, instances_data}
 
 step_plain : (s : Step) → has_float (step_data s) ≡ false

@@ -7,10 +7,10 @@ use Rattle.cnf_core.specs.declared.clauses.Clause.{Clause}
 use Rattle.cnf_core.specs.declared.lit.Lit.{Lit}
 use Rattle.cnf_core.specs.declared.log.Log.{Log}
 use Rattle.cnf_core.specs.declared.log.Step.{Step}
-use Rattle.certificates.specs.Certificates as tree
-use Rattle.certificates.specs.CertsOf.{cert_of, instance_of, log_of, step_of}
-use Rattle.certificates.specs.declared.Cert.{Cert}
-use Rattle.certificates.specs.declared.Instance.{Instance}
+use Rattle.cnf_core.specs.Certificates as tree
+use Rattle.cnf_core.specs.CertsOf.{cert_of, instance_of, log_of, step_of}
+use Rattle.cnf_core.specs.declared.certificates.Cert.{Cert}
+use Rattle.cnf_core.specs.declared.certificates.Instance.{Instance}
 
 -- lists of which each item is one
 same_list : {A B : Type 0} (f : A → B) → ((x y : A) → f x ≡ f y → x ≡ y) → (xs ys : List A) → map f xs ≡ map f ys → xs ≡ ys

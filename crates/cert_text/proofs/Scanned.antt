@@ -7,7 +7,7 @@ use Rattle.json_forms.specs.Values.{IsJson}
 use Rattle.json_forms.specs.declared.fault.FormFault.{FormFault}
 use Rattle.json_forms.specs.declared.fault.FormFault.TheVariants.{NotJson, Shape, NoMemory}
 use Rattle.json_scan.specs.Pairs.{array_form, object_form}
-use Rattle.certificates.specs.Certificates.{Cert}
+use Rattle.cnf_core.specs.Certificates.{Cert}
 use Rattle.cert_text.specs.LogsForm.{literal_form, step_form, instance_form, instances_form, log_form}
 use Rattle.cert_text.specs.CertsForm.{cert_keys, cert_form, certs_keys, certs_form, cocoon_of, step_of_two, instance_of_two, cert_of_two, certs_of_two, certs_members}
 

@@ -5,9 +5,9 @@ use Rattle.std.proofs.lemmas.Slice.Zip.{AllZip-long}
 use Rattle.cocoon_num.specs.Tree.{Design}
 use Rattle.json_forms.specs.Reading.{Answered}
 use Rattle.json_forms.specs.Values.{IsJson}
-use Rattle.certificates.specs.CertsOf.{certs_of}
-use Rattle.certificates.specs.declared.Cert.{Cert}
-use Rattle.certificates.specs.declared.Certs.{Certs}
+use Rattle.cnf_core.specs.CertsOf.{certs_of}
+use Rattle.cnf_core.specs.declared.certificates.Cert.{Cert}
+use Rattle.cnf_core.specs.declared.certificates.Certs.{Certs}
 use Rattle.cert_text.specs.CertsForm.{certs_form}
 use Rattle.cert_text.specs.CertsJson.{certs_data}
 use Rattle.obligation_laws.specs.Obligations.{all_obligations}

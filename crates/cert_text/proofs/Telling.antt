@@ -4,7 +4,7 @@ use Rattle.std.specs.Result.{IfErr, IsErrAnd, OnOk}
 use Rattle.std.proofs.lemmas.Slice.Zip.{AllZip-long}
 use Rattle.cocoon_num.specs.Tree.{Design}
 use Rattle.bv_terms.specs.declared.node.Node.{Node}
-use Rattle.certificates.specs.declared.Cert.{Cert}
+use Rattle.cnf_core.specs.declared.certificates.Cert.{Cert}
 use Rattle.cert_text.specs.CertsForm.{certs_form}
 use Rattle.hop_inline.specs.declared.tree.InlineFault.{InlineFault}
 use Rattle.hop_inline.specs.declared.tree.InlineFault.TheVariants as tree

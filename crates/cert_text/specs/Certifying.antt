@@ -3,8 +3,8 @@
 use Rattle.std.specs.Prelude.{ℕ, List, map}
 use Rattle.std.specs.List.{AllZip}
 use Rattle.cocoon_num.specs.Tree.{Design}
-use Rattle.certificates.specs.CertsOf.{cert_of}
-use Rattle.certificates.specs.declared.Cert.{Cert}
+use Rattle.cnf_core.specs.CertsOf.{cert_of}
+use Rattle.cnf_core.specs.declared.certificates.Cert.{Cert}
 use Rattle.cert_text.specs.CertsJson.{certs_data}
 use Rattle.json_forms.specs.Values.{IsJson}
 use Rattle.obligation_laws.specs.Obligations.{Obligation, all_obligations}

@@ -4,7 +4,7 @@ use Rattle.std.specs.Prelude.{ℕ, ℤ, ◌^◌, ◌==◌, ◌&&◌, Bool, List,
 use Rattle.serde_json.specs.Data.{Data}
 use Rattle.cocoon_num.specs.Lists.{each}
 use Rattle.json_forms.specs.Forms.{number_form, fitting, list_form, has_keys, member_form, both_of}
-use Rattle.certificates.specs.Certificates.{Cert, Instance, Step}
+use Rattle.cnf_core.specs.Certificates.{Cert, Instance, Step}
 use Rattle.cert_text.specs.LogsForm.{instances_form, log_form, instances_fit, log_fits}
 
 abbrev pub cert_keys : List (List ℕ)

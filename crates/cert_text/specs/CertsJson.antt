@@ -3,7 +3,7 @@
 use Rattle.std.specs.Prelude.{List, codes}
 use Rattle.serde_json.specs.Data.{Data, object, member, no_members}
 use Rattle.json_forms.specs.Values.{number_data, array_data}
-use Rattle.certificates.specs.Certificates.{Cert}
+use Rattle.cnf_core.specs.Certificates.{Cert}
 use Rattle.cert_text.specs.LogsJson.{instances_data, log_data}
 
 -- {"instances":[INSTANCE],"log":LOG}

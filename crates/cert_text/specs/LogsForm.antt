@@ -4,7 +4,7 @@ use Rattle.std.specs.Prelude.{◌^◌, ◌&&◌, ℤ, unsigned_abs, Bool, nat_le
 use Rattle.serde_json.specs.Data.{Data}
 use Rattle.cocoon_num.specs.Lists.{each}
 use Rattle.json_forms.specs.Forms.{number_form, integer_form, fitting, list_form, has_items, item_form, both_of}
-use Rattle.certificates.specs.Certificates.{Instance, Step}
+use Rattle.cnf_core.specs.Certificates.{Instance, Step}
 
 -- from -2147483647 to 2147483647, and not 0
 abbrev pub is_literal : ℤ → Bool

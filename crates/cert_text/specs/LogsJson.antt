@@ -3,7 +3,7 @@
 use Rattle.std.specs.Prelude.{List, [], ◌∷◌}
 use Rattle.serde_json.specs.Data.{Data}
 use Rattle.json_forms.specs.Values.{number_data, integer_data, array_data, these}
-use Rattle.certificates.specs.Certificates.{Instance, Step}
+use Rattle.cnf_core.specs.Certificates.{Instance, Step}
 
 -- [[LIT],[HINT]]
 abbrev pub step_data : Step → Data

@@ -1,7 +1,7 @@
 -- What a budget is spent on: assumptions and obligations by their numbers, and definitions as their text. Cited by the
 -- definition of the file of a spent budget and by the clauses of what writes it. It follows "Spent budgets" in docs/FORMATS.md.
 use Rattle.std.specs.Prelude.{ℕ, List}
-use Rattle.certificates.specs.Certificates.{Instance, Step}
+use Rattle.cnf_core.specs.Certificates.{Instance, Step}
 
 pub data Spent : Type 0 where
   -- conflicts, on the assumption of this number under the definitions that were given

@@ -1,6 +1,6 @@
 //! The files, one for each thing that a budget is spent on.
 ghost use Rattle.std.specs.Prelude.{IfOk, map};
-ghost use Rattle.certificates.specs.CertsOf.{instance_of, log_of};
+ghost use Rattle.cnf_core.specs.CertsOf.{instance_of, log_of};
 ghost use Rattle.cocoon_syntax.specs.TreeOf.{design_of};
 ghost use Rattle.defs_text.specs.Places.{defs_text};
 ghost use Rattle.runtime_defs.specs.Fitting.{FitsDesign};
@@ -8,8 +8,7 @@ ghost use Rattle.cert_text.specs.BudgetJson.{IsBudgetFile};
 ghost use Rattle.cert_text.specs.Spent as spent;
 
 use crate::members::{assumed, with_instances, with_log, with_obligation, written};
-use certificates::Instance;
-use cnf_core::Log;
+use cnf_core::{Instance, Log};
 use cocoon_num::NoMemory;
 use cocoon_resolve::Checked;
 use runtime_defs::Defs;

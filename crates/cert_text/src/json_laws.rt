@@ -3,7 +3,7 @@ ghost use Rattle.std.specs.Prelude.{◌≡◌, ◌↔◌, ℕ, IsTrue, List, Ok,
 ghost use Rattle.serde_json.specs.Data.{Data};
 ghost use Rattle.json_forms.specs.Reading.{Answered};
 ghost use Rattle.json_forms.specs.Values.{IsJson};
-ghost use Rattle.certificates.specs.Certificates.{Cert, Instance, Step};
+ghost use Rattle.cnf_core.specs.Certificates.{Cert, Instance, Step};
 ghost use Rattle.cert_text.specs.CertsForm.{certs_fit, certs_form};
 ghost use Rattle.cert_text.specs.CertsJson.{certs_data};
 ghost use Rattle.cert_text.specs.LogsForm.{instances_fit, instances_form, log_fits, log_form};

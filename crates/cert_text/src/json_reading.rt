@@ -5,14 +5,13 @@ ghost use Rattle.json_forms.specs.Forms.{fitting, integer_of, list_form, number_
 ghost use Rattle.json_forms.specs.Reading.{Answered, Refused, Shaped};
 ghost use Rattle.json_scan.specs.Numbers.{num_of};
 ghost use Rattle.json_scan.specs.Pairs.{object_form};
-ghost use Rattle.certificates.specs.Certificates as tree;
-ghost use Rattle.certificates.specs.CertsOf.{cert_of, certs_of, instance_of, log_of, step_of};
+ghost use Rattle.cnf_core.specs.Certificates as tree;
+ghost use Rattle.cnf_core.specs.CertsOf.{cert_of, certs_of, instance_of, log_of, step_of};
 ghost use Rattle.cert_text.specs.LogsForm.{instance_form, is_literal, literal_form, log_form, step_form};
 ghost use Rattle.cert_text.specs.CertsForm as spec;
 
 use crate::kind::CertJson;
-use certificates::{Cert, Certs, Instance};
-use cnf_core::{Clause, Lit, Log, Step};
+use cnf_core::{Cert, Certs, Clause, Instance, Lit, Log, Step};
 use cocoon_num::{List, Text};
 use json::Reader;
 use json_forms::FormFault;

@@ -3,12 +3,12 @@ ghost use Rattle.std.specs.Prelude.{◌≡◌, IfOk};
 ghost use Rattle.serde_json.specs.View.{view};
 ghost use Rattle.serde_json.specs.Written.{compact_text};
 ghost use Rattle.json_forms.specs.Values.{IsJson};
-ghost use Rattle.certificates.specs.Certificates as tree;
-ghost use Rattle.certificates.specs.CertsOf.{cert_of, certs_of};
+ghost use Rattle.cnf_core.specs.Certificates as tree;
+ghost use Rattle.cnf_core.specs.CertsOf.{cert_of, certs_of};
 ghost use Rattle.cert_text.specs.CertsJson as spec;
 
 use crate::kind::{CertJson, LogJson};
-use certificates::{Cert, Certs, Instance};
+use cnf_core::{Cert, Certs, Instance};
 use cocoon_num::NoMemory;
 use json_forms::{ToJson, array, with};
 use serde_json::{Map, Value};

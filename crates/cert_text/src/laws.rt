@@ -2,9 +2,9 @@
 ghost use Rattle.std.specs.Prelude.{ℕ, List, Ok};
 ghost use Rattle.cocoon_num.specs.Tree.{Design};
 ghost use Rattle.json_forms.specs.Reading.{Answered};
-ghost use Rattle.certificates.specs.CertsOf.{certs_of};
-ghost use Rattle.certificates.specs.declared.Cert.{Cert};
-ghost use Rattle.certificates.specs.declared.Certs.{Certs};
+ghost use Rattle.cnf_core.specs.CertsOf.{certs_of};
+ghost use Rattle.cnf_core.specs.declared.certificates.Cert.{Cert};
+ghost use Rattle.cnf_core.specs.declared.certificates.Certs.{Certs};
 ghost use Rattle.cert_text.specs.CertsForm.{certs_form};
 ghost use Rattle.cert_text.specs.Certifying.{Certifies, CertsShow};
 ghost use Rattle.cert_text.specs.Rechecking.{Tells};

@@ -18,7 +18,7 @@ mod reading;
 mod rechecking;
 pub mod verdict_laws;
 
-pub use certificates::{Cert, Certs, Instance};
+pub use cnf_core::{Cert, Certs, Instance};
 pub use fault::CertFault;
 pub use files::{candidate_file, given_file, obligation_file, rounds_file};
 pub use json_forms::FormFault;

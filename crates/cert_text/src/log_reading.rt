@@ -1,13 +1,12 @@
 //! Logs and instances that JSON values stand for.
 ghost use Rattle.std.specs.Prelude.{◌≡◌, ◌≢◌, ℤ, pos, List as Items, Some, option_map};
 ghost use Rattle.json_forms.specs.Forms.{fitting};
-ghost use Rattle.certificates.specs.Certificates as tree;
-ghost use Rattle.certificates.specs.CertsOf.{instance_of, log_of, step_of};
+ghost use Rattle.cnf_core.specs.Certificates as tree;
+ghost use Rattle.cnf_core.specs.CertsOf.{instance_of, log_of, step_of};
 ghost use Rattle.cert_text.specs.LogsForm as spec;
 
 use crate::kind::LogJson;
-use certificates::Instance;
-use cnf_core::{Clause, Lit, Log, Step};
+use cnf_core::{Clause, Instance, Lit, Log, Step};
 use cocoon_num::{List, NoMemory};
 use json_forms::{FromJson, has_items, item};
 use serde_json::Value;

@@ -1,13 +1,12 @@
 //! The JSON values of logs and of instances.
 ghost use Rattle.std.specs.Prelude.{ℤ, List};
 ghost use Rattle.json_forms.specs.Values.{integer_data};
-ghost use Rattle.certificates.specs.Certificates as tree;
-ghost use Rattle.certificates.specs.CertsOf.{instance_of, log_of, step_of};
+ghost use Rattle.cnf_core.specs.Certificates as tree;
+ghost use Rattle.cnf_core.specs.CertsOf.{instance_of, log_of, step_of};
 ghost use Rattle.cert_text.specs.LogsJson as spec;
 
 use crate::kind::LogJson;
-use certificates::Instance;
-use cnf_core::{Lit, Log, Step};
+use cnf_core::{Instance, Lit, Log, Step};
 use cocoon_num::NoMemory;
 use json_forms::{ToJson, array};
 use serde_json::Value;

@@ -1,6 +1,6 @@
 //! The members that the files are made of, and the file with members.
 ghost use Rattle.std.specs.Prelude.{◌≡◌, codes, IfOk, IsUtf8, map};
-ghost use Rattle.certificates.specs.CertsOf.{instance_of, log_of};
+ghost use Rattle.cnf_core.specs.CertsOf.{instance_of, log_of};
 ghost use Rattle.cocoon_syntax.specs.TreeOf.{design_of};
 ghost use Rattle.defs_text.specs.Places.{defs_text};
 ghost use Rattle.json_forms.specs.Values.{number_data};
@@ -12,8 +12,7 @@ ghost use Rattle.cert_text.specs.BudgetJson.{IsBudgetFile, budget_members};
 ghost use Rattle.cert_text.specs.Spent.{Spent};
 
 use crate::LogJson;
-use certificates::Instance;
-use cnf_core::Log;
+use cnf_core::{Instance, Log};
 use cocoon_num::NoMemory;
 use cocoon_resolve::Checked;
 use json_forms::{ToJson, array, text, with};

@@ -1,12 +1,12 @@
 //! Certificates as text.
 ghost use Rattle.std.specs.Prelude.{◌≡◌, IfErr, IfOk, Ok};
 ghost use Rattle.json_forms.specs.Reading.{Answered};
-ghost use Rattle.certificates.specs.CertsOf.{certs_of};
+ghost use Rattle.cnf_core.specs.CertsOf.{certs_of};
 ghost use Rattle.cert_text.specs.CertsForm.{certs_form};
 ghost use Rattle.cert_text.specs.Faults.{IsNoFile};
 
 use crate::fault::CertFault;
-use certificates::Certs;
+use cnf_core::Certs;
 use std::alloc::Global;
 
 /// The certificates of these bytes, or why they are no file of certificates.

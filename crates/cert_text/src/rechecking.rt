@@ -12,7 +12,7 @@ ghost use Rattle.cert_text.specs.Rechecking.{AtNumber, Decides, FirstIs, IsAccep
 
 use crate::fault::CertFault;
 use bv_terms::Terms;
-use certificates::{Cert, Certs};
+use cnf_core::{Cert, Certs};
 use cocoon_resolve::Checked;
 use obligation_gen::{Obligation, all_obligations};
 use obligation_laws::laws::blocks_that_never_fail_are_refined;

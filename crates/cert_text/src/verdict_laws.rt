@@ -2,7 +2,7 @@
 ghost use Rattle.std.specs.Prelude.{All, List, ℕ};
 ghost use Rattle.bv_terms.specs.declared.node.Node.{Node};
 ghost use Rattle.cert_text.specs.Certifying.{CertsShow};
-ghost use Rattle.certificates.specs.declared.Cert.{Cert};
+ghost use Rattle.cnf_core.specs.declared.certificates.Cert.{Cert};
 ghost use Rattle.cocoon_num.specs.Tree.{Design};
 ghost use Rattle.obligation_gen.specs.Shown.{ShowsObligations};
 ghost use Rattle.obligation_gen.specs.declared.obligation.Obligation.{Obligation};

@@ -5,3 +5,5 @@ pub mod Deriving
 pub mod Licensing
 pub mod Trails
 pub mod TrailViews
+pub mod Certificates
+pub mod CertsOf

@@ -1,7 +1,10 @@
 //! Clauses, assignments, and logs that derive clauses from clauses. Its `specs/` say what an assignment satisfies, and
 //! what a log derives; a log that derives the empty clause shows that no assignment satisfies.
+//! Certificates: what shows that an obligation of a design holds. The instances say at which values the assumptions were used,
+//! and the log derives the empty clause.
 #![tactic(auto)]
 
+pub mod certificates;
 pub mod clause_status;
 pub mod clauses;
 pub mod laws;
@@ -9,6 +12,7 @@ pub mod lit;
 pub mod log;
 pub mod trail;
 
+pub use certificates::{Cert, Certs, Instance};
 pub use clause_status::ClauseStatus;
 pub use clauses::{Assignment, Clause, Cnf, satisfies};
 pub use lit::Lit;

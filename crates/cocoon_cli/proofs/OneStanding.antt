@@ -17,9 +17,9 @@ use Rattle.cert_text.specs.Certifying.{Shows}
 use Rattle.cert_text.specs.Rechecking.{AreNotAsMany, FirstIs, IsAccepted, IsRefused, reported}
 use Rattle.cert_text.proofs.OneCert.{same_certs}
 use Rattle.cert_text.proofs.SideBySide.{beside}
-use Rattle.certificates.specs.Certificates as tree
-use Rattle.certificates.specs.CertsOf.{cert_of}
-use Rattle.certificates.specs.declared.Cert.{Cert}
+use Rattle.cnf_core.specs.Certificates as tree
+use Rattle.cnf_core.specs.CertsOf.{cert_of}
+use Rattle.cnf_core.specs.declared.certificates.Cert.{Cert}
 use Rattle.json_forms.specs.Reading.{Answered}
 use Rattle.json_forms.specs.Values.{IsJson}
 use Rattle.net_bundle.specs.Bundle.{whole_name}

@@ -2,8 +2,8 @@
 use Rattle.std.proofs.Common.{◌≡◌, ℕ, List, [], ◌∷◌, length, map, Err, refl, sym, ap, ap₂, subst, ◌∙◌}
 use Rattle.cert_text.specs.CertsJson.{certs_data}
 use Rattle.cert_text.specs.Certifying.{Certifies}
-use Rattle.certificates.specs.CertsOf.{cert_of}
-use Rattle.certificates.specs.declared.Cert.{Cert}
+use Rattle.cnf_core.specs.CertsOf.{cert_of}
+use Rattle.cnf_core.specs.declared.certificates.Cert.{Cert}
 use Rattle.cocoon_num.specs.Tree.{Design}
 use Rattle.json_forms.specs.Values.{IsJson}
 use Rattle.obligation_laws.specs.Obligations.{all_obligations}

@@ -7,7 +7,7 @@ use Rattle.std.proofs.lemmas.List.Elements.{All-append, All-cons, All-nil}
 use Rattle.bv_terms.specs.TermTrees.{Term}
 use Rattle.bv_terms.specs.declared.node.Node.{Node}
 use Rattle.cert_text.specs.Certifying.{CertsShow, Shows}
-use Rattle.certificates.specs.declared.Cert.{Cert}
+use Rattle.cnf_core.specs.declared.certificates.Cert.{Cert}
 use Rattle.cocoon_num.specs.Tree.{Design}
 use Rattle.obligation_gen.specs.Counted.{AreFew, all_counts}
 use Rattle.obligation_gen.specs.Shown.{ShowsObligation, ShowsObligations, kind_in}

@@ -18,8 +18,8 @@ use Rattle.cert_text.specs.Faults.{IsNoFile}
 use Rattle.cert_text.specs.Rechecking.{IsAccepted, Tells}
 use Rattle.cert_text.specs.declared.fault.CertFault.{CertFault}
 use Rattle.cert_text.specs.declared.fault.CertFault.TheVariants as fault
-use Rattle.certificates.specs.CertsOf.{cert_of}
-use Rattle.certificates.specs.declared.Cert.{Cert}
+use Rattle.cnf_core.specs.CertsOf.{cert_of}
+use Rattle.cnf_core.specs.declared.certificates.Cert.{Cert}
 use Rattle.json_forms.specs.Reading.{Answered}
 use Rattle.json_forms.specs.Values.{IsJson}
 use Rattle.net_bundle.specs.NetJson.{NetFile, net_data}

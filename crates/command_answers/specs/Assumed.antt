@@ -2,7 +2,7 @@
 -- under the definitions of a text, where all assumptions before it are true at every tuple: that it is false at some
 -- values, or why that is not known. It follows "Statuses" and "Spent budgets" in docs/FORMATS.md.
 use Rattle.std.specs.Prelude.{◌≡◌, ℕ, List, Some, All, slice_get, take}
-use Rattle.certificates.specs.CertsOf.{log_of}
+use Rattle.cnf_core.specs.CertsOf.{log_of}
 use Rattle.cnf_core.specs.declared.log.Log.{Log}
 use Rattle.cocoon_num.specs.Tree.{AssumeDecl, DefsText, Design}
 use Rattle.cocoon_resolve.specs.Readers.{all_assumptions}

@@ -1,7 +1,7 @@
 -- Cited by the clauses of assumptions.rt and compile.rt. What is answered of the assumptions of a design under its
 -- tables: nothing where all are met, the answer of a search that was given up, or why `compile` stops.
 use Rattle.std.specs.Prelude.{◌≡◌, ℕ, Option, Some, None, codes}
-use Rattle.certificates.specs.CertsOf.{log_of}
+use Rattle.cnf_core.specs.CertsOf.{log_of}
 use Rattle.cnf_core.specs.declared.log.Log.{Log}
 use Rattle.cocoon_num.specs.Tree.{Design}
 use Rattle.cocoon_num.specs.declared.limit_name.LimitName.TheVariants.{Clauses}

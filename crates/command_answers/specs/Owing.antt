@@ -3,8 +3,8 @@
 -- in docs/FORMATS.md.
 use Rattle.std.specs.Prelude.{◌≡◌, ℕ, List, Some, All, codes, map, slice_get, take}
 use Rattle.bv_terms.specs.TermTrees.{Term}
-use Rattle.certificates.specs.CertsOf.{instance_of, log_of}
-use Rattle.certificates.specs.declared.Instance.{Instance}
+use Rattle.cnf_core.specs.CertsOf.{instance_of, log_of}
+use Rattle.cnf_core.specs.declared.certificates.Instance.{Instance}
 use Rattle.cnf_core.specs.declared.log.Log.{Log}
 use Rattle.cocoon_num.specs.Tree.{Design}
 use Rattle.defs_text.specs.Places.{defs_text}

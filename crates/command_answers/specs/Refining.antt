@@ -3,9 +3,9 @@
 use Rattle.std.specs.Prelude.{◌≡◌, ◌⊎◌, ℕ, List, Some, length, map}
 use Rattle.bv_terms.specs.declared.node.Node.{Node}
 use Rattle.cert_text.specs.Certifying.{CertsShow}
-use Rattle.certificates.specs.CertsOf.{instance_of}
-use Rattle.certificates.specs.declared.Cert.{Cert as Certificate}
-use Rattle.certificates.specs.declared.Instance.{Instance}
+use Rattle.cnf_core.specs.CertsOf.{instance_of}
+use Rattle.cnf_core.specs.declared.certificates.Cert.{Cert as Certificate}
+use Rattle.cnf_core.specs.declared.certificates.Instance.{Instance}
 use Rattle.cnf_core.specs.declared.log.Log.{Log}
 use Rattle.cocoon_num.specs.Tree.{Design}
 use Rattle.cocoon_num.specs.declared.limit_name.LimitName.TheVariants.{Clauses, Leaves}

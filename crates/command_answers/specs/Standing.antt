@@ -16,8 +16,8 @@ use Rattle.bundle_reader.specs.declared.fault.ReadFault.TheVariants.{Missing, Fo
 use Rattle.cert_text.specs.CertsForm.{certs_form}
 use Rattle.cert_text.specs.Rechecking.{Tells}
 use Rattle.cert_text.specs.declared.fault.CertFault.TheVariants as fault
-use Rattle.certificates.specs.CertsOf.{cert_of}
-use Rattle.certificates.specs.declared.Cert.{Cert}
+use Rattle.cnf_core.specs.CertsOf.{cert_of}
+use Rattle.cnf_core.specs.declared.certificates.Cert.{Cert}
 use Rattle.json_forms.specs.Reading.{Answered, Refused}
 use Rattle.json_forms.specs.declared.fault.FormFault.TheVariants as form
 use Rattle.net_bundle.specs.Bundle.{whole_name}

@@ -6,7 +6,7 @@ use Rattle.std.specs.Prelude.{◌≡◌, ◌≤◌, ◌<◌, ℕ, suc, Bool, tru
 use Rattle.std.specs.List.{AllZip}
 use Rattle.cert_text.specs.Certifying.{Certifies}
 use Rattle.cert_text.specs.Rechecking.{AreNotAsMany, IsAccepted}
-use Rattle.certificates.specs.declared.Cert.{Cert as Certificate}
+use Rattle.cnf_core.specs.declared.certificates.Cert.{Cert as Certificate}
 use Rattle.cocoon_num.specs.Lists.{first_of}
 use Rattle.cocoon_num.specs.Tree as tree
 use Rattle.cocoon_num.specs.declared.limit_name.LimitName.{LimitName}

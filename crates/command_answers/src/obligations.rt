@@ -3,7 +3,7 @@
 ghost use Rattle.std.specs.Prelude.{[], ◌∷◌, ◌≡◌, ◌≤◌, ◌<◌, ◌++◌, ◌^◌, IfErr, IfOk, OnOk, map, string_bytes};
 ghost use Rattle.cert_text.specs.BudgetJson.{IsBudgetFile};
 ghost use Rattle.cert_text.specs.Spent as spent;
-ghost use Rattle.certificates.specs.CertsOf.{instance_of};
+ghost use Rattle.cnf_core.specs.CertsOf.{instance_of};
 ghost use Rattle.cocoon_syntax.specs.TreeOf.{design_of};
 ghost use Rattle.failures.specs.Found.{FailureFits, failure_of};
 ghost use Rattle.obligation_gen.specs.Counted.{AreFew, all_counts};
@@ -19,8 +19,7 @@ use crate::answer::{Answer, budget_line};
 use bv_terms::Terms;
 use cert_text::verdict_laws::shown_obligations_are_certified;
 use cert_text::{candidate_file, obligation_file, rounds_file};
-use certificates::{Cert, Certs, Instance};
-use cnf_core::Log;
+use cnf_core::{Cert, Certs, Instance, Log};
 use cocoon_num::{LimitName, List, NoMemory};
 use cocoon_resolve::Checked;
 use command_reports::Refusal;

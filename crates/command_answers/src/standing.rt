@@ -7,7 +7,7 @@ ghost use Rattle.cert_text.specs.Certifying.{CertsShow};
 ghost use Rattle.cert_text.specs.Faults.{IsNoFile};
 ghost use Rattle.cert_text.specs.Rechecking.{IsAccepted, Tells};
 ghost use Rattle.cert_text.specs.declared.fault.CertFault.{CertFault as Fault};
-ghost use Rattle.certificates.specs.CertsOf.{cert_of};
+ghost use Rattle.cnf_core.specs.CertsOf.{cert_of};
 ghost use Rattle.cocoon_syntax.specs.TreeOf.{design_of};
 ghost use Rattle.json_forms.specs.Reading.{Answered};
 ghost use Rattle.obligation_gen.specs.Counted.{AreFew, all_counts};

@@ -4,7 +4,7 @@ use Rattle.std.specs.Prelude.{codes}
 use Rattle.std.specs.List.{AllByRecursion}
 use Rattle.cert_text.specs.Rechecking.{Tells}
 use Rattle.cert_text.specs.declared.fault.CertFault.TheVariants as fault
-use Rattle.certificates.specs.declared.Cert.{Cert}
+use Rattle.cnf_core.specs.declared.certificates.Cert.{Cert}
 use Rattle.cocoon_io.specs.Calls.{appended, with_file}
 use Rattle.cocoon_io.specs.Files.{Files}
 use Rattle.cocoon_num.specs.Tree.{Design}

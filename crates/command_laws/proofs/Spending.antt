@@ -8,7 +8,7 @@ use Rattle.bit_blast.specs.Clauses.{vars_of}
 use Rattle.bv_terms.specs.TermTrees.{Term}
 use Rattle.bv_terms.specs.declared.node.Node.{Node}
 use Rattle.candidate_laws.specs.Rounds.{Progress, tuples_of, tuples_to}
-use Rattle.certificates.specs.declared.Instance.{Instance}
+use Rattle.cnf_core.specs.declared.certificates.Instance.{Instance}
 use Rattle.cnf_core.specs.Licensing.{Licensed}
 use Rattle.cnf_core.specs.declared.clauses.Cnf.{Cnf}
 use Rattle.cnf_core.specs.declared.log.Log.{Log}

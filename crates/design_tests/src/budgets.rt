@@ -4,8 +4,7 @@ ghost use Rattle.runtime_defs.specs.Fitting.{FitsDesign};
 
 use case_files::{Printer, first_word};
 use cert_text::{LogJson, candidate_file, given_file, obligation_file, rounds_file};
-use certificates::Instance;
-use cnf_core::Log;
+use cnf_core::{Instance, Log};
 use cocoon_num::NoMemory;
 use cocoon_resolve::Checked;
 use json_forms::{FromJson, value_of};

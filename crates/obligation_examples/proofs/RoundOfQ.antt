@@ -12,7 +12,7 @@ use Rattle.cocoon_num.specs.declared.fun_table.FunRow.{FunRow}
 use Rattle.cocoon_num.specs.declared.fun_table.FunTable.{FunTable}
 use Rattle.cocoon_resolve.specs.Readers.{assumptions_to}
 use Rattle.cocoon_types.specs.Design.{functions, widths_of}
-use Rattle.certificates.specs.declared.Instance.{Instance}
+use Rattle.cnf_core.specs.declared.certificates.Instance.{Instance}
 use Rattle.defs_text.specs.Fitting.{FitsFunction, FitsPlace, FitsRow, IsLiteral, all_fit_widths, all_ones, literal_functions, result_width, table_at}
 use Rattle.query_laws.specs.Queries.{Fits, asked}
 use Rattle.candidate_laws.specs.Candidates as laws

@@ -3,7 +3,7 @@
 use Rattle.std.specs.Prelude.{ℕ, [], ◌∷◌}
 use Rattle.bv_terms.specs.declared.node.TermOp.TheVariants.{And, Equal, Less, Or}
 use Rattle.bv_terms.specs.TermTrees.{Term, apply, arg, binary, constant, input, no_args, not_, slice}
-use Rattle.certificates.specs.declared.Instance.{Instance}
+use Rattle.cnf_core.specs.declared.certificates.Instance.{Instance}
 
 -- s and p are the inputs 0 and 1, the tag is the input 2
 

@@ -7,7 +7,7 @@ use crate::texts::checked_design;
 use bv_terms::Terms;
 use case_files::Printer;
 use cert_text::to_json;
-use certificates::Certs;
+use cnf_core::Certs;
 use cocoon_num::{List, NoMemory};
 use cocoon_resolve::Checked;
 use discharge::Budget;

@@ -1,7 +1,6 @@
 //! Instances and logs, as cases write them.
 use case_files::{number, numbers};
-use certificates::{Cert, Instance};
-use cnf_core::{Clause, Lit, Log, Step};
+use cnf_core::{Cert, Clause, Instance, Lit, Log, Step};
 use cocoon_num::List;
 use std::alloc::Global;
 

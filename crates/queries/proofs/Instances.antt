@@ -6,7 +6,7 @@ use Rattle.cocoon_num.specs.Tree.{AssumeDecl, Design, Refine}
 use Rattle.cocoon_resolve.specs.Readers.{all_assumptions, assumptions_to}
 use Rattle.cocoon_types.specs.Design.{widths_of}
 use Rattle.cocoon_types.specs.Limits.{as_assumption}
-use Rattle.certificates.specs.declared.Instance.{Instance}
+use Rattle.cnf_core.specs.declared.certificates.Instance.{Instance}
 use Rattle.std.proofs.lemmas.List.{length-append}
 use Rattle.std.proofs.lemmas.List.Elements.{filter_map-append}
 use Rattle.defs_text.specs.Fitting.{all_fit_widths}

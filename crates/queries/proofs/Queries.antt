@@ -8,7 +8,7 @@ use Rattle.bv_terms.specs.Inputs.{renamed}
 use Rattle.bv_terms.specs.TermTrees.{IsTerm, Term, constant}
 use Rattle.bv_terms.specs.declared.node.Node.{Node}
 use Rattle.bv_terms.specs.declared.node.TermOp.TheVariants.{And}
-use Rattle.certificates.specs.declared.Instance.{Instance}
+use Rattle.cnf_core.specs.declared.certificates.Instance.{Instance}
 use Rattle.expr_terms.specs.Variables.{Keeps, Makes, MakesAll, terms_at}
 use Rattle.expr_terms.proofs.Making.{makes_on}
 use Rattle.flat_goals.specs.Applied.{AreApplied}

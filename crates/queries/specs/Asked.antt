@@ -7,7 +7,7 @@ use Rattle.bit_blast.specs.Goals.{IsGoal}
 use Rattle.bv_terms.specs.Arenas.{term_at}
 use Rattle.bv_terms.specs.TermTrees.{IsTerm, Term}
 use Rattle.bv_terms.specs.declared.node.Node.{Node}
-use Rattle.certificates.specs.declared.Instance.{Instance}
+use Rattle.cnf_core.specs.declared.certificates.Instance.{Instance}
 use Rattle.expr_terms.specs.Variables.{Makes}
 use Rattle.flat_goals.specs.Applied.{AreApplied}
 use Rattle.fun_instances.specs.Taking.{NumbersFit, OfAssumption}

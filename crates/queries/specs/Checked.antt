@@ -2,7 +2,7 @@
 use Rattle.std.specs.Prelude.{ℕ}
 use Rattle.cocoon_num.specs.Tree.{Design}
 use Rattle.bv_terms.specs.TermTrees.{Term}
-use Rattle.certificates.specs.declared.Cert.{Cert}
+use Rattle.cnf_core.specs.declared.certificates.Cert.{Cert}
 use Rattle.query_laws.specs.Certified.{AllFit, HasTooMany}
 use Rattle.query_laws.specs.Queries.{query}
 use Rattle.queries.specs.declared.checking.RecheckFault.{RecheckFault}

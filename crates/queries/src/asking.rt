@@ -9,7 +9,7 @@ ghost use Rattle.queries.specs.Asked.{IsQuery};
 
 use crate::joining::{all_true, put_instances};
 use bv_terms::{InputId, TermId, Terms};
-use certificates::Instance;
+use cnf_core::Instance;
 use cocoon_num::{List, NoMemory};
 use cocoon_resolve::Checked;
 use expr_terms::CallSizes;

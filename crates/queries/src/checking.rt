@@ -16,7 +16,7 @@ use crate::asking::{OwnGoal, query};
 use crate::fitting::all_fit;
 use bit_blast::{BlastFault, blast};
 use bv_terms::{TermId, Terms};
-use certificates::Cert;
+use cnf_core::Cert;
 use cocoon_num::NoMemory;
 use cocoon_resolve::Checked;
 use proof_check::check_log;

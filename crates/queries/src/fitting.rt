@@ -7,7 +7,7 @@ ghost use Rattle.defs_text.specs.Fitting.{all_fit_widths};
 ghost use Rattle.query_laws.specs.Certified.{AllFit};
 ghost use Rattle.query_laws.specs.Queries.{Fits};
 
-use certificates::Instance;
+use cnf_core::Instance;
 use cocoon_resolve::Checked;
 use cocoon_syntax::Param;
 

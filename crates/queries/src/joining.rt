@@ -11,7 +11,7 @@ ghost use Rattle.query_laws.specs.Queries as spec;
 ghost use Rattle.queries.specs.Asked.{AreOfAssumptions, IsOfAssumption};
 
 use bv_terms::{TermId, TermOp, Terms};
-use certificates::Instance;
+use cnf_core::Instance;
 use cocoon_num::NoMemory;
 use cocoon_resolve::Checked;
 use fun_instances::value_instance;

@@ -23,7 +23,7 @@ use Rattle.bv_terms.specs.TermTrees.{IsTerm, Term, binary, constant, width}
 use Rattle.bv_terms.specs.TermValues.{Functions, Inputs, operated, term_value}
 use Rattle.bv_terms.specs.Walks.{is_among, walk}
 use Rattle.bv_terms.proofs.Subterms.{walk-has}
-use Rattle.certificates.specs.declared.Instance.{Instance}
+use Rattle.cnf_core.specs.declared.certificates.Instance.{Instance}
 use Rattle.refinement.specs.Assumptions.{AreDefinitions, Meets}
 use Rattle.expr_term_laws.specs.Shown.{HasWidth, functions_by}
 use Rattle.application_laws.specs.Over.{AllOver, IsOver, fit_input}

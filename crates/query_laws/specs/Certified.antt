@@ -5,8 +5,8 @@ use Rattle.std.specs.List.{AllByRecursion}
 use Rattle.bit_blast.specs.Blasting.{IsClauses, most_clauses}
 use Rattle.bit_blast.specs.Clauses.{count_of}
 use Rattle.bv_terms.specs.TermTrees.{Term}
-use Rattle.certificates.specs.declared.Cert.{Cert}
-use Rattle.certificates.specs.declared.Instance.{Instance}
+use Rattle.cnf_core.specs.declared.certificates.Cert.{Cert}
+use Rattle.cnf_core.specs.declared.certificates.Instance.{Instance}
 use Rattle.cnf_core.specs.Deriving.{Derives}
 use Rattle.cnf_core.specs.Satisfying.{HasAllValues, Satisfies, WellNamed}
 use Rattle.cnf_core.specs.declared.clauses.Assignment.{Assignment}

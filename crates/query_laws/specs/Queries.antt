@@ -5,7 +5,7 @@ use Rattle.cocoon_num.specs.Tree.{Design}
 use Rattle.cocoon_resolve.specs.Readers.{all_assumptions, assumptions_to}
 use Rattle.bv_terms.specs.TermTrees.{Term, constant}
 use Rattle.bv_terms.specs.declared.node.TermOp.TheVariants.{And}
-use Rattle.certificates.specs.declared.Instance.{Instance}
+use Rattle.cnf_core.specs.declared.certificates.Instance.{Instance}
 use Rattle.flat_laws.specs.Flat.{flattened}
 use Rattle.fun_instances.specs.AssumptionTerms.{value_term}
 use Rattle.fun_instances.specs.Taking.{NumbersFit, OfAssumption}

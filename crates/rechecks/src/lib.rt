@@ -12,7 +12,7 @@ ghost use Rattle.query_laws.specs.Queries.{query};
 ghost use Rattle.queries.specs.Checked.{Tells};
 
 use bv_terms::Terms;
-use certificates::Cert;
+use cnf_core::Cert;
 use cocoon_resolve::Checked;
 use formula_functions::laws::{formulas_apply_declared_functions, obligations_have_levels};
 use obligation_gen::Obligation;

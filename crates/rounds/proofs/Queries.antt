@@ -10,8 +10,8 @@ use Rattle.cdcl.specs.Answering.{Answers}
 use Rattle.cdcl.specs.declared.answer.Answer.{Answer}
 use Rattle.cdcl.specs.declared.answer.Answer.TheVariants as answer
 use Rattle.cdcl.specs.declared.answer.Answer.TheVariants.{Unsat}
-use Rattle.certificates.specs.declared.Cert.{Cert}
-use Rattle.certificates.specs.declared.Instance.{Instance}
+use Rattle.cnf_core.specs.declared.certificates.Cert.{Cert}
+use Rattle.cnf_core.specs.declared.certificates.Instance.{Instance}
 use Rattle.cnf_core.specs.Satisfying.{WellNamed}
 use Rattle.cnf_core.specs.declared.clauses.Cnf.{Cnf}
 use Rattle.cocoon_num.specs.Tree.{Design}

@@ -6,7 +6,7 @@ use Rattle.bv_terms.specs.TermTrees.{IsTerm, Term, constant}
 use Rattle.candidate_laws.specs.Broken.{IsBroken as Breaks}
 use Rattle.candidate_laws.specs.Candidates.{IsCandidate, IsFalseBy}
 use Rattle.candidate_laws.specs.Rounds.{IsWithin, of_goal, Progress}
-use Rattle.certificates.specs.declared.Instance.{Instance}
+use Rattle.cnf_core.specs.declared.certificates.Instance.{Instance}
 use Rattle.cnf_core.specs.declared.log.Log.{Log}
 use Rattle.cocoon_num.specs.Tree.{AssumeDecl, Design}
 use Rattle.cocoon_resolve.specs.Readers.{all_assumptions, assumptions_to}

@@ -15,7 +15,7 @@ use Rattle.bv_terms.specs.Walks.{is_among, walk}
 use Rattle.bv_terms.specs.declared.node.TermOp.TheVariants.{And}
 use Rattle.bv_terms.proofs.ArenaFacts.{inputs-few}
 use Rattle.bv_terms.proofs.Subterms.{Each, in-walk, walk-has}
-use Rattle.certificates.specs.declared.Instance.{Instance}
+use Rattle.cnf_core.specs.declared.certificates.Instance.{Instance}
 use Rattle.cnf_core.specs.Satisfying.{makes_true}
 use Rattle.cocoon_num.specs.BitsOf.{value_of}
 use Rattle.cocoon_num.specs.Tree.{Design}

@@ -4,8 +4,8 @@ use Rattle.bv_terms.specs.TermTrees.{Term}
 use Rattle.candidate_laws.specs.Candidates.{IsCandidate, MakeTrue}
 use Rattle.candidate_laws.specs.Rounds.{Asked, of_goal, of_assumption, IsAllowed, IsWithin, Progress}
 use Rattle.cdcl.specs.Answering.{Refutation}
-use Rattle.certificates.specs.declared.Cert.{Cert}
-use Rattle.certificates.specs.declared.Instance.{Instance}
+use Rattle.cnf_core.specs.declared.certificates.Cert.{Cert}
+use Rattle.cnf_core.specs.declared.certificates.Instance.{Instance}
 use Rattle.cnf_core.specs.declared.clauses.Cnf.{Cnf}
 use Rattle.cnf_core.specs.declared.log.Log.{Log}
 use Rattle.cocoon_num.specs.Tree.{Design}

@@ -5,7 +5,7 @@ use Rattle.candidate_laws.specs.Rounds.{Progress}
 use Rattle.candidates.specs.Assigned.{row_value}
 use Rattle.candidates.specs.Flat as flat
 use Rattle.candidates.specs.Flat.{IsCandidateOf, MakesFormulaTrue}
-use Rattle.certificates.specs.declared.Instance.{Instance}
+use Rattle.cnf_core.specs.declared.certificates.Instance.{Instance}
 use Rattle.cnf_core.specs.declared.log.Log.{Log}
 use Rattle.cnf_core.specs.Satisfying.{makes_true}
 use Rattle.cocoon_num.specs.BitsOf.{value_of}

@@ -6,7 +6,7 @@ ghost use Rattle.fun_instances.specs.Taking.{NumbersFit, OfAssumption};
 ghost use Rattle.rounds.specs.Steps.{IsInstance};
 
 use bv_terms::Terms;
-use certificates::Instance;
+use cnf_core::Instance;
 use cocoon_num::{List, NoMemory};
 use cocoon_resolve::Checked;
 use fun_instances::value_instance;

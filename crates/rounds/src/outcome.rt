@@ -1,7 +1,6 @@
 //! What a search in rounds comes to.
 use bv_terms::InputId;
-use certificates::{Cert, Instance};
-use cnf_core::Log;
+use cnf_core::{Cert, Instance, Log};
 use cocoon_num::{Bits, List};
 use runtime_defs::Defs;
 

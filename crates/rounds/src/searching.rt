@@ -19,7 +19,7 @@ use bv_terms::{TermId, Terms};
 use candidate_laws::laws::{
     broken_assumptions_are_false_instances, broken_instances_keep_progress,
 };
-use certificates::{Cert, Instance};
+use cnf_core::{Cert, Instance};
 use cocoon_num::{Bits, List, NoMemory};
 use cocoon_resolve::Checked;
 use discharge::{Budget, Met};

@@ -2,7 +2,7 @@
 use case_files::Printer;
 use cert_text::json_reading::from_json;
 use cert_text::{FormFault, to_json};
-use certificates::Certs;
+use cnf_core::Certs;
 use cocoon_num::Text;
 use std::alloc::Global;
 

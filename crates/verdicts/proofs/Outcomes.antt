@@ -4,7 +4,7 @@ use Rattle.std.specs.Prelude.{slice_get}
 use Rattle.bv_terms.specs.TermTrees.{Term}
 use Rattle.bv_terms.specs.declared.node.Node.{Node}
 use Rattle.candidate_laws.proofs.Broken.{all-masked}
-use Rattle.certificates.specs.declared.Cert.{Cert}
+use Rattle.cnf_core.specs.declared.certificates.Cert.{Cert}
 use Rattle.cocoon_num.specs.Tree.{Design}
 use Rattle.failures.specs.Found.{CanFail}
 use Rattle.obligation_gen.proofs.OwedFormulas.{never_fails}

@@ -11,8 +11,7 @@ ghost use Rattle.verdicts.specs.Deciding.{Decides};
 ghost use Rattle.verdicts.specs.Telling.{IsVerdictOn, SaysItFails};
 
 use bv_terms::Terms;
-use certificates::{Cert, Instance};
-use cnf_core::Log;
+use cnf_core::{Cert, Instance, Log};
 use cocoon_num::{List, NoMemory};
 use cocoon_resolve::Checked;
 use discharge::Budget;

@@ -1,5 +1,5 @@
 use Rattle.std.proofs.Common.{codes, map}
-use Rattle.certificates.specs.CertsOf.{instance_of, log_of}
+use Rattle.cnf_core.specs.CertsOf.{instance_of, log_of}
 use Rattle.cocoon_syntax.specs.TreeOf.{design_of}
 use Rattle.defs_text.specs.Places.{defs_text}
 use Rattle.json_forms.specs.Values.{number_data}

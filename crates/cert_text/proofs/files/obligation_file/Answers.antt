@@ -1,5 +1,5 @@
 use Rattle.std.proofs.Common.{ap, codes, map}
-use Rattle.certificates.specs.CertsOf.{instance_of, log_of}
+use Rattle.cnf_core.specs.CertsOf.{instance_of, log_of}
 use Rattle.cert_text.specs.LogsJson.{instances_data, log_data}
 use Rattle.serde_json.specs.Data.{member, no_members}
 use Rattle.serde_json.specs.View.{members_view}

@@ -3,7 +3,7 @@ use Rattle.serde_json.specs.Data.{object, member, no_members, put}
 use Rattle.serde_json.specs.View.{members_view}
 use Rattle.json_forms.specs.Values.{array_data, number_data}
 use Rattle.json_forms.proofs.JsonObjects.{object_of}
-use Rattle.certificates.specs.CertsOf.{cert_of}
+use Rattle.cnf_core.specs.CertsOf.{cert_of}
 use Rattle.cert_text.specs.CertsJson.{cert_data}
 use Rattle.cert_text.proofs.json_writing.certs_value.Goals as goal
 

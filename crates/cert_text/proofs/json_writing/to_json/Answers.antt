@@ -1,6 +1,6 @@
 use Rattle.std.proofs.Common.{ap, ◌∙◌}
 use Rattle.serde_json.specs.Written.{compact_text, has_float}
-use Rattle.certificates.specs.CertsOf.{certs_of}
+use Rattle.cnf_core.specs.CertsOf.{certs_of}
 use Rattle.cert_text.proofs.CertsValue.{certs_plain, certs_read}
 use Rattle.cert_text.proofs.json_writing.to_json.Goals as goal
 

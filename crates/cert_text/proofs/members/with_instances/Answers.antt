@@ -1,5 +1,5 @@
 use Rattle.std.proofs.Common.{map}
-use Rattle.certificates.specs.CertsOf.{instance_of}
+use Rattle.cnf_core.specs.CertsOf.{instance_of}
 use Rattle.cert_text.specs.LogsJson.{instances_data}
 use Rattle.cert_text.proofs.members.with_instances.Goals as goal
 

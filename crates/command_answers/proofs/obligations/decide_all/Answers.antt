@@ -1,5 +1,5 @@
 use Rattle.std.proofs.Common.{◌≡◌, List, rules, subst, sym}
-use Rattle.certificates.specs.declared.Cert.{Cert}
+use Rattle.cnf_core.specs.declared.certificates.Cert.{Cert}
 use Rattle.cocoon_syntax.specs.TreeOf.{design_of}
 use Rattle.obligation_gen.specs.Shown.{ShowsObligations}
 use Rattle.obligation_laws.specs.Obligations.{all_obligations}

@@ -1,7 +1,7 @@
 use Rattle.std.proofs.Common.{◌≡◌, map, rules, subst}
 use Rattle.cocoon_syntax.specs.TreeOf.{design_of}
 use Rattle.verdicts.specs.Deciding.{Decides, formula_in}
-use Rattle.certificates.specs.CertsOf.{instance_of}
+use Rattle.cnf_core.specs.CertsOf.{instance_of}
 use Rattle.cert_text.specs.Spent as spent
 use Rattle.command_answers.specs.Answering.{TellsSpent}
 use Rattle.command_answers.specs.Refining.{by_rounds}

@@ -1,6 +1,6 @@
 use Rattle.std.proofs.Common.{◌≡◌, refl, sym, ap, subst, ◌∙◌}
 use Rattle.bv_terms.specs.TermTrees.{IsTerm}
-use Rattle.certificates.specs.declared.Instance.{Instance}
+use Rattle.cnf_core.specs.declared.certificates.Instance.{Instance}
 use Rattle.cocoon_resolve.specs.Readers.{all_assumptions}
 use Rattle.cocoon_syntax.specs.TreeOf.{design_of}
 use Rattle.fun_instances.specs.AssumptionTerms.{value_term}

@@ -2,7 +2,7 @@ use Rattle.std.proofs.Common.{ap, ◌∙◌, codes, map}
 use Rattle.serde_json.specs.Data.{object, member, no_members, put}
 use Rattle.serde_json.specs.View.{members_view}
 use Rattle.json_forms.proofs.JsonObjects.{object_of}
-use Rattle.certificates.specs.CertsOf.{instance_of, log_of}
+use Rattle.cnf_core.specs.CertsOf.{instance_of, log_of}
 use Rattle.cert_text.specs.LogsJson.{instances_data, log_data}
 use Rattle.cert_text.proofs.json_writing.CertToJsonCertJson.to_json.Goals as goal
 

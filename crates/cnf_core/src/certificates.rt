@@ -1,8 +1,6 @@
 //! Certificates: what shows that an obligation of a design holds. The instances say at which values the assumptions were used,
 //! and the log derives the empty clause.
-#![tactic(auto)]
-
-use cnf_core::Log;
+use crate::log::Log;
 use cocoon_num::List;
 
 /// An assumption at values of its parameters.

@@ -4,10 +4,10 @@ use Rattle.std.specs.Prelude.{List, map}
 use Rattle.cnf_core.specs.Clauses.{literals}
 use Rattle.cnf_core.specs.declared.log.Log.{Log}
 use Rattle.cnf_core.specs.declared.log.Step.{Step}
-use Rattle.certificates.specs.Certificates as tree
-use Rattle.certificates.specs.declared.Cert.{Cert}
-use Rattle.certificates.specs.declared.Certs.{Certs}
-use Rattle.certificates.specs.declared.Instance.{Instance}
+use Rattle.cnf_core.specs.Certificates as tree
+use Rattle.cnf_core.specs.declared.certificates.Cert.{Cert}
+use Rattle.cnf_core.specs.declared.certificates.Certs.{Certs}
+use Rattle.cnf_core.specs.declared.certificates.Instance.{Instance}
 
 abbrev pub step_of : Step → tree.Step
 step_of s = record { clause = literals s.clause; hints = s.hints }
