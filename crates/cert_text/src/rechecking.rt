@@ -16,7 +16,7 @@ use cnf_core::{Cert, Certs};
 use cocoon_resolve::Checked;
 use obligation_gen::{Obligation, all_obligations};
 use obligation_laws::laws::blocks_that_never_fail_are_refined;
-use rechecks::recheck_one;
+use queries::recheck_one;
 use sound_types::laws::code_literals_fit;
 use std::alloc::Global;
 

@@ -13,8 +13,7 @@ use cocoon_resolve::Checked;
 use discharge::Budget;
 use obligation_gen::Obligation;
 use proof_check::{check_distinct, check_log};
-use queries::RecheckFault;
-use rechecks::recheck_one;
+use queries::{RecheckFault, recheck_one};
 use std::alloc::Global;
 use verdicts::{Query, Verdict, decide};
 

@@ -1,7 +1,7 @@
 use Rattle.cocoon_syntax.specs.TreeOf.{design_of}
 use Rattle.formula_functions.specs.LeafTerms.{Stands}
 use Rattle.obligation_gen.proofs.OwedFormulas.{can_ask, never_fails}
-use Rattle.rechecks.proofs.recheck_one.Goals as goal
+use Rattle.queries.proofs.rechecking.recheck_one.Goals as goal
 
 pub check_cert-requires-clause-level : goal.check_cert-requires-clause-level
 check_cert-requires-clause-level c =

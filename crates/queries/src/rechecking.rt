@@ -1,6 +1,4 @@
 //! Whether certificates show that obligations of a design never fail. Nothing is searched here.
-#![tactic(auto)]
-
 ghost use Rattle.std.specs.Prelude.{◌≡◌, ◌≤◌, ◌↔◌, IfErr, IfOk, IsTrue, Ok, OnOk, true};
 ghost use Rattle.cocoon_syntax.specs.TreeOf.{design_of};
 ghost use Rattle.bit_blast.specs.Blasting.{most_clauses};
@@ -11,14 +9,13 @@ ghost use Rattle.query_laws.specs.Certified.{AllFit, IsCert};
 ghost use Rattle.query_laws.specs.Queries.{query};
 ghost use Rattle.queries.specs.Checked.{Tells};
 
+use crate::checking::{RecheckFault, check_cert};
 use bv_terms::Terms;
 use cnf_core::Cert;
 use cocoon_resolve::Checked;
 use formula_functions::laws::{formulas_apply_declared_functions, obligations_have_levels};
 use obligation_gen::Obligation;
 use obligation_laws::laws::untrue_formulas_never_fail;
-pub use queries::RecheckFault;
-use queries::check_cert;
 use sound_types::laws::code_literals_fit;
 use std::alloc::Global;
 
