@@ -23,7 +23,7 @@ use cocoon_types::limits::{one_first_over, within_is_not_over};
 use lower_p4::laws::one_lowering;
 use net_wiring::laws::one_first_difference;
 use packet_runs::laws::one_report;
-use plain_parser::text_laws::{one_definitions_tree, one_tree};
+use parsing::text_laws::{one_definitions_tree, one_tree};
 use step_cases::laws::one_step;
 use verdicts::laws::failing_obligations_fail;
 

@@ -8,7 +8,7 @@ use Rattle.cocoon_syntax.specs.TreeOf.{block_of, expr_of, name_of, param_of, stm
 use Rattle.cocoon_syntax.specs.declared.decl.Param.{Param as CodeParam}
 use Rattle.cocoon_syntax.specs.declared.expr.Expr.{Expr as CodeExpr}
 use Rattle.cocoon_syntax.specs.declared.stmt.Stmt.{Stmt as CodeStmt}
-use Rattle.plain_parser.specs.PlainParser.{Outcome, good, bad, spent, after, marked, is_mark, is_keyword, param_from, expr_from, many_from, closes, stmt_from, stmts_from, block_from, if_from, fork_from}
+use Rattle.parsing.specs.PlainParser.{Outcome, good, bad, spent, after, marked, is_mark, is_keyword, param_from, expr_from, many_from, closes, stmt_from, stmts_from, block_from, if_from, fork_from}
 use Rattle.cocoon_parse.specs.ExprPhrases.{then_mark}
 use Rattle.cocoon_parse.specs.Phrases.{Guarded, Choosing, tested_from, guarded_from, guarded_of, otherwise_from, choosing_from, choosing_of}
 use Rattle.cocoon_parse.specs.Agrees.{Agrees, AgreesDeep, with_mark}

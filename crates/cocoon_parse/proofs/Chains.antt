@@ -9,7 +9,7 @@ use Rattle.cocoon_num.specs.Reads.{Level, of_expr, of_unary, of_post, of_prim}
 use Rattle.cocoon_syntax.specs.TreeOf.{expr_of, exprs_of}
 use Rattle.cocoon_syntax.specs.declared.expr.Expr.{Expr as CodeExpr}
 use Rattle.cocoon_parse.specs.ExprPhrases.{level_of, name_or_call, part_of, then_mark, Sides, sides_from, sides_of, RangeAt, leaf_from}
-use Rattle.plain_parser.specs.PlainParser.{Outcome, good, bad, spent, after, marked, named, name_at, picked, bracketed, implied, is_mark, is_keyword, op_at, expr_from, rest_from, exprs_from, commas_from, sliced, by_op, prim_of, path_from, reserved}
+use Rattle.parsing.specs.PlainParser.{Outcome, good, bad, spent, after, marked, named, name_at, picked, bracketed, implied, is_mark, is_keyword, op_at, expr_from, rest_from, exprs_from, commas_from, sliced, by_op, prim_of, path_from, reserved}
 use Rattle.cocoon_parse.specs.Agrees.{Agrees, AgreesDeep, is_name_token, with_mark}
 use Rattle.parsing.specs.Joins.{Makes, with_first}
 use Rattle.cocoon_num.specs.Names.{same_name}

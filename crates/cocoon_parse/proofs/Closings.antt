@@ -13,7 +13,7 @@ use Rattle.cocoon_syntax.specs.declared.stmt.Stmt.{Stmt as CodeStmt}
 use Rattle.cocoon_syntax.specs.declared.decl.Decl.{Decl as CodeDecl}
 use Rattle.cocoon_parse.specs.ExprPhrases.{then_mark}
 use Rattle.cocoon_parse.specs.Phrases.{assigned_from, havoc_field_from, havoc_variable_from, paired, PairAt, counted, PortsAt}
-use Rattle.plain_parser.specs.PlainParser.{Outcome, good, bad, after, marked, reserved, numbered, is_mark, expr_from, ended, Path, path_from, param_from, let_from, setting_from, body_from, optional_params_from, assumption_from, host_from, switch_from}
+use Rattle.parsing.specs.PlainParser.{Outcome, good, bad, after, marked, reserved, numbered, is_mark, expr_from, ended, Path, path_from, param_from, let_from, setting_from, body_from, optional_params_from, assumption_from, host_from, switch_from}
 use Rattle.cocoon_parse.specs.Agrees.{Agrees, AgreesDeep, path_of, with_mark}
 use Rattle.parsing.specs.Joins.{Makes}
 use Rattle.parsing.specs.declared.stop.Stop.{Stop}

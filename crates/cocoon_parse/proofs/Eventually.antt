@@ -4,7 +4,7 @@ use Rattle.std.proofs.Common.{sym, ◌∙◌, ap, subst, add-one, arith}
 use Rattle.std.proofs.lemmas.List.{append_assoc, append-nil, map-append}
 use Rattle.std.proofs.lemmas.Option.{slice_get_within}
 use Rattle.cocoon_num.specs.Tokens.{Kind}
-use Rattle.plain_parser.specs.PlainParser.{Outcome, good, bad, spent, after, marked, is_mark, many_from, some_from, commas_from}
+use Rattle.parsing.specs.PlainParser.{Outcome, good, bad, spent, after, marked, is_mark, many_from, some_from, commas_from}
 use Rattle.cocoon_parse.specs.ExprPhrases.{then_mark}
 use Rattle.cocoon_parse.specs.Agrees.{Agrees, AgreesDeep, Moves, Advances, TokenAt, with_mark}
 use Rattle.parsing.specs.Joins.{Makes, with_first}

@@ -10,7 +10,7 @@ use Rattle.cocoon_syntax.specs.declared.decl.ResultKind.{ResultKind as CodeResul
 use Rattle.cocoon_syntax.specs.declared.expr.Expr.{Expr as CodeExpr}
 use Rattle.cocoon_syntax.specs.declared.stmt.Stmt.{Stmt as CodeStmt}
 use Rattle.cocoon_syntax.specs.declared.name.Name.{Name as CodeName}
-use Rattle.plain_parser.specs.PlainParser.{Outcome, good, bad, spent, after, marked, named, taken, name_at, is_mark, params_from, result_from, body_from, role_body_from, expr_from, function_from, role_from}
+use Rattle.parsing.specs.PlainParser.{Outcome, good, bad, spent, after, marked, named, taken, name_at, is_mark, params_from, result_from, body_from, role_body_from, expr_from, function_from, role_from}
 use Rattle.cocoon_num.specs.Reads.{of_expr}
 use Rattle.cocoon_parse.specs.ExprPhrases.{then_mark}
 use Rattle.cocoon_parse.specs.Phrases.{Head, head_from, head_of, Answer, answer_from, answer_of, Duty, duty_from, duty_of}

@@ -9,7 +9,7 @@ use Rattle.cocoon_syntax.specs.declared.decl.HeaderDecl.{HeaderDecl as CodeHeade
 use Rattle.cocoon_syntax.specs.declared.decl.Param.{Param as CodeParam}
 use Rattle.cocoon_syntax.specs.declared.decl.Refine.{Refine as CodeRefine}
 use Rattle.cocoon_syntax.specs.declared.name.Name.{Name as CodeName}
-use Rattle.plain_parser.specs.PlainParser.{Outcome, good, after, marked, reserved, named, name_at, is_mark, is_keyword, closes, commas_from, many_from, some_from, name_from, decl_from, header_field_from, header_from, refine_from}
+use Rattle.parsing.specs.PlainParser.{Outcome, good, after, marked, reserved, named, name_at, is_mark, is_keyword, closes, commas_from, many_from, some_from, name_from, decl_from, header_field_from, header_from, refine_from}
 use Rattle.cocoon_parse.specs.ExprPhrases.{then_mark}
 use Rattle.cocoon_parse.specs.Phrases.{limited, LimitAt, refinement, headed}
 use Rattle.cocoon_parse.specs.Agrees.{AgreesDeep, with_mark}

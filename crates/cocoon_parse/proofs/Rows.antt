@@ -9,7 +9,7 @@ use Rattle.cocoon_syntax.specs.declared.defs.Entry.{Entry as CodeEntry}
 use Rattle.cocoon_syntax.specs.declared.defs.Pattern.{Pattern as CodePattern}
 use Rattle.cocoon_syntax.specs.declared.expr.Expr.{Expr as CodeExpr}
 use Rattle.cocoon_syntax.specs.declared.stmt.Stmt.{Stmt as CodeStmt}
-use Rattle.plain_parser.specs.PlainParser.{Outcome, good, bad, after, marked, named, name_at, is_mark, exprs_from, send_from, commas_from, pattern_from, const_from, row_from}
+use Rattle.parsing.specs.PlainParser.{Outcome, good, bad, after, marked, named, name_at, is_mark, exprs_from, send_from, commas_from, pattern_from, const_from, row_from}
 use Rattle.cocoon_parse.specs.ExprPhrases.{then_mark}
 use Rattle.cocoon_parse.specs.Agrees.{Agrees, AgreesDeep, with_mark}
 use Rattle.parsing.specs.Joins.{Makes}

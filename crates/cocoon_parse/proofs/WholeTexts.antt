@@ -9,8 +9,8 @@ use Rattle.cocoon_num.specs.Reads.{DefsAt, DesignAt, Reads, ReadsDefs}
 use Rattle.cocoon_num.specs.FirstFaults.{BeginsDefs, BeginsDesign, Unexpected, TooDeep}
 use Rattle.cocoon_lex.specs.Kinds.{token_of}
 use Rattle.cocoon_lex.specs.declared.token.Token.{Token}
-use Rattle.plain_parser.specs.PlainParser.{Outcome, good, defs_from, design_from}
-use Rattle.plain_parser.specs.Reading.{Fails, Ended, TokensOf, Reading}
+use Rattle.parsing.specs.PlainParser.{Outcome, good, defs_from, design_from}
+use Rattle.parsing.specs.Reading.{Fails, Ended, TokensOf, Reading}
 use Rattle.parsing.specs.Depth.{FirstDeep, FirstDeepOf, reach}
 use Rattle.parsing.specs.Faults.{fault_of}
 use Rattle.parsing.proofs.Reaches.{reach_map}

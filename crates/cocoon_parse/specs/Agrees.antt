@@ -11,8 +11,8 @@ use Rattle.cocoon_syntax.specs.declared.name.Name.{Name}
 use Rattle.cocoon_syntax.specs.TreeOf.{name_of}
 use Rattle.parsing.specs.declared.stop.Stop.{Stop}
 use Rattle.parsing.specs.declared.stop.Stop.TheVariants.{Unexpected, NoMemory}
-use Rattle.plain_parser.specs.PlainParser as parser
-use Rattle.plain_parser.specs.PlainParser.{Outcome, good, bad, Path, is_mark, name_at, plain_of}
+use Rattle.parsing.specs.PlainParser as parser
+use Rattle.parsing.specs.PlainParser.{Outcome, good, bad, Path, is_mark, name_at, plain_of}
 
 -- the kind of a mark
 abbrev pub mark_kind : Mark → Kind

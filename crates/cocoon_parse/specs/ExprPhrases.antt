@@ -4,7 +4,7 @@ use Rattle.std.specs.Prelude.{◌≡◌, ◌+◌, ℕ, suc, true, false, List, O
 use Rattle.cocoon_num.specs.Tokens.{Kind}
 use Rattle.cocoon_num.specs.Tree.{Name, Expr, Exprs, name, call, lit, true_or_false, field}
 use Rattle.cocoon_num.specs.Reads.{Level, of_or, of_and, of_cmp, of_cat, of_bit, of_sum, of_unary}
-use Rattle.plain_parser.specs.PlainParser.{Outcome, Literal, good, bad, after, is_mark, is_keyword, marked, literal_of, path_from, sliced}
+use Rattle.parsing.specs.PlainParser.{Outcome, Literal, good, bad, after, is_mark, is_keyword, marked, literal_of, path_from, sliced}
 use Rattle.cocoon_syntax.specs.TreeOf.{expr_of}
 use Rattle.cocoon_syntax.specs.declared.expr.Expr.{Expr as CodeExpr}
 use Rattle.parsing.specs.declared.stop.Stop.{Stop}

@@ -5,7 +5,7 @@ use Rattle.std.specs.Global.{Global}
 use Rattle.cocoon_num.specs.Tokens.{Kind}
 use Rattle.cocoon_num.specs.Tree.{Name, Expr, Stmt, Block, no_stmts, Param, ResultKind, havoc_field, havoc_var, Decl, Refine, HeaderDecl}
 use Rattle.cocoon_num.specs.Reads.{of_expr}
-use Rattle.plain_parser.specs.PlainParser.{Outcome, body_from, expr_from, params_from, result_from, role_body_from, good, bad, after, is_keyword, marked, reserved, named, numbered, path_from, param_from, closes, ends_decls}
+use Rattle.parsing.specs.PlainParser.{Outcome, body_from, expr_from, params_from, result_from, role_body_from, good, bad, after, is_keyword, marked, reserved, named, numbered, path_from, param_from, closes, ends_decls}
 use Rattle.cocoon_syntax.specs.TreeOf.{block_of, body_of, expr_of, name_of, param_of, result_of, stmt_of}
 use Rattle.cocoon_syntax.specs.declared.name.Name.{Name as CodeName}
 use Rattle.cocoon_syntax.specs.declared.expr.Expr.{Expr as CodeExpr}

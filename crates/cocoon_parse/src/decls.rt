@@ -4,7 +4,7 @@ ghost use Rattle.cocoon_num.specs.Tree.{a_function, a_role};
 ghost use Rattle.cocoon_lex.specs.Kinds.{mark_text};
 ghost use Rattle.cocoon_syntax.specs.TreeOf.{body_of, decl_of, design_of, expr_of, header_of, name_of, param_of, refine_of, result_of};
 ghost use Rattle.cocoon_parse.specs.Phrases.{LimitAt, PairAt, PortsAt, answer_from, answer_of, duty_from, duty_of, head_from, head_of, headed, refinement, stops_of};
-ghost use Rattle.plain_parser.specs.PlainParser as parser;
+ghost use Rattle.parsing.specs.PlainParser as parser;
 ghost use Rattle.cocoon_parse.specs.Agrees.{Advances, Moves, Agrees, AgreesDeep};
 ghost use Rattle.parsing.specs.Joins.{Makes};
 
@@ -22,7 +22,7 @@ use parsing::{Stop, both};
 use std::alloc::Global;
 
 /// `bool` or `bit<N>`.
-#[tactic(auto, unfolding(plain_parser::specs::PlainParser::result_from, plain_parser::specs::PlainParser::after))]
+#[tactic(auto, unfolding(parsing::specs::PlainParser::result_from, parsing::specs::PlainParser::after))]
 fn result_kind(source: &Source, pos: usize) -> Result<(ResultKind, usize), Stop>
     ensures agrees { Agrees (parser.result_from source.now pos) result_of result }
     ensures moves { Moves pos (length source.now) result }
@@ -214,7 +214,7 @@ fn role_node(
 }
 
 /// `(r, s)`, after the token at this index.
-#[tactic(auto, unfolding(plain_parser::specs::PlainParser::marked, plain_parser::specs::PlainParser::named))]
+#[tactic(auto, unfolding(parsing::specs::PlainParser::marked, parsing::specs::PlainParser::named))]
 fn pair(alloc: Global, source: &Source, pos: usize) -> Result<(Name, Name), Stop>
     requires { pos < 2 ^ 32 }
     ensures is { PairAt source.now pos result }
@@ -262,7 +262,7 @@ fn switch(alloc: Global, source: &Source, pos: usize) -> Result<(Decl, usize), S
 }
 
 /// `ports n;`.
-#[tactic(auto, unfolding(plain_parser::specs::PlainParser::reserved, plain_parser::specs::PlainParser::numbered, plain_parser::specs::PlainParser::marked))]
+#[tactic(auto, unfolding(parsing::specs::PlainParser::reserved, parsing::specs::PlainParser::numbered, parsing::specs::PlainParser::marked))]
 fn ports(source: &Source, pos: usize) -> Result<u32, Stop>
     ensures is { PortsAt source.now pos result }
     ensures within { IfOk
@@ -352,7 +352,7 @@ fn refine(alloc: Global, source: &Source, pos: usize) -> Result<(Refine, usize),
 }
 
 /// `within n {`.
-#[tactic(auto, unfolding(plain_parser::specs::PlainParser::reserved, plain_parser::specs::PlainParser::numbered, plain_parser::specs::PlainParser::marked))]
+#[tactic(auto, unfolding(parsing::specs::PlainParser::reserved, parsing::specs::PlainParser::numbered, parsing::specs::PlainParser::marked))]
 fn limit(source: &Source, pos: usize) -> Result<u32, Stop>
     ensures is { LimitAt source.now pos result }
     ensures within { IfOk

@@ -2,7 +2,7 @@
 ghost use Rattle.std.specs.Prelude.{◌<◌, ◌^◌, length, map};
 ghost use Rattle.cocoon_num.specs.Tree.{a_row};
 ghost use Rattle.cocoon_syntax.specs.TreeOf.{const_of, entry_of, name_of, pattern_of};
-ghost use Rattle.plain_parser.specs.PlainParser as parser;
+ghost use Rattle.parsing.specs.PlainParser as parser;
 ghost use Rattle.cocoon_parse.specs.Agrees.{Moves, Agrees, AgreesDeep};
 ghost use Rattle.parsing.specs.Joins.{Makes};
 
@@ -13,7 +13,7 @@ use cocoon_syntax::{Const, Entry, Name, Pattern};
 use parsing::Stop;
 use std::alloc::Global;
 
-#[tactic(auto, unfolding(plain_parser::specs::PlainParser::const_from))]
+#[tactic(auto, unfolding(parsing::specs::PlainParser::const_from))]
 fn constant(source: &Source, pos: usize) -> Result<(Const, usize), Stop>
     ensures agrees { Agrees (parser.const_from source.now pos) const_of result }
     ensures moves { Moves pos (length source.now) result }
@@ -29,7 +29,7 @@ fn constant(source: &Source, pos: usize) -> Result<(Const, usize), Stop>
 }
 
 /// A literal, a literal with its mask, or `_`.
-#[tactic(auto, unfolding(plain_parser::specs::PlainParser::pattern_from))]
+#[tactic(auto, unfolding(parsing::specs::PlainParser::pattern_from))]
 fn pattern(source: &Source, pos: usize) -> Result<(Pattern, usize), Stop>
     ensures agrees { Agrees (parser.pattern_from source.now pos) pattern_of result }
     ensures moves { Moves pos (length source.now) result }
@@ -46,7 +46,7 @@ fn pattern(source: &Source, pos: usize) -> Result<(Pattern, usize), Stop>
 }
 
 /// `default f = v;`, from its first token on.
-#[tactic(auto, unfolding(plain_parser::specs::PlainParser::default_from, plain_parser::specs::PlainParser::named, plain_parser::specs::PlainParser::marked, plain_parser::specs::PlainParser::after))]
+#[tactic(auto, unfolding(parsing::specs::PlainParser::default_from, parsing::specs::PlainParser::named, parsing::specs::PlainParser::marked, parsing::specs::PlainParser::after))]
 fn default(alloc: Global, source: &Source, pos: usize) -> Result<(Entry, usize), Stop>
     requires { pos < 2 ^ 32 }
     ensures agrees { Agrees (parser.default_from source.now pos) entry_of result }
@@ -107,7 +107,7 @@ fn row_node(
 }
 
 /// A default or a row.
-#[tactic(auto, unfolding(plain_parser::specs::PlainParser::entry_from))]
+#[tactic(auto, unfolding(parsing::specs::PlainParser::entry_from))]
 fn entry(alloc: Global, source: &Source, pos: usize) -> Result<(Entry, usize), Stop>
     ensures agrees { AgreesDeep (λ n. parser.entry_from source.now n pos) entry_of result }
     ensures moves { Moves pos (length source.now) result }

@@ -5,7 +5,7 @@ ghost use Rattle.cocoon_num.specs.Tree as tree;
 ghost use Rattle.cocoon_lex.specs.Kinds.{mark_text};
 ghost use Rattle.cocoon_syntax.specs.TreeOf.{binary_of, expr_of, exprs_of, kind_of, name_of, unary_of};
 ghost use Rattle.cocoon_parse.specs.ExprPhrases.{RangeAt, leaf_from, level_of, name_or_call, part_of, sides_from, sides_of, then_mark};
-ghost use Rattle.plain_parser.specs.PlainParser as parser;
+ghost use Rattle.parsing.specs.PlainParser as parser;
 ghost use Rattle.cocoon_parse.specs.Agrees.{Moves, Agrees, AgreesDeep};
 ghost use Rattle.parsing.specs.Joins.{Makes};
 
@@ -226,7 +226,7 @@ pub fn exprs(alloc: Global, source: &Source, pos: usize) -> Result<(Vec<Expr>, u
 }
 
 /// A literal, a truth value, or a field.
-#[tactic(auto, unfolding(plain_parser::specs::PlainParser::after, plain_parser::specs::PlainParser::path_from, plain_parser::specs::PlainParser::reserved))]
+#[tactic(auto, unfolding(parsing::specs::PlainParser::after, parsing::specs::PlainParser::path_from, parsing::specs::PlainParser::reserved))]
 fn leaf(alloc: Global, source: &Source, pos: usize) -> Result<(Expr, usize), Stop>
     ensures agrees { Agrees (leaf_from source.now pos) expr_of result }
     ensures moves { Moves pos (length source.now) result }
@@ -263,7 +263,7 @@ fn leaf_at(at: u32, kind: ExprKind) -> Expr
 }
 
 /// `[high:low]`, from the open bracket on: the highest bit and the lowest.
-#[tactic(auto, unfolding(plain_parser::specs::PlainParser::numbered, plain_parser::specs::PlainParser::marked))]
+#[tactic(auto, unfolding(parsing::specs::PlainParser::numbered, parsing::specs::PlainParser::marked))]
 fn range(source: &Source, pos: usize) -> Result<(u32, u32), Stop>
     requires { pos < 2 ^ 32 }
     ensures agrees { RangeAt source.now pos result }

@@ -1,7 +1,7 @@
 //! Fields of the packet, types and parameters.
 ghost use Rattle.std.specs.Prelude.{length, map};
 ghost use Rattle.cocoon_syntax.specs.TreeOf.{name_of, param_of};
-ghost use Rattle.plain_parser.specs.PlainParser as parser;
+ghost use Rattle.parsing.specs.PlainParser as parser;
 ghost use Rattle.cocoon_parse.specs.Agrees.{Moves, Agrees, AgreesDeep, path_of};
 
 use crate::source::Source;
@@ -11,7 +11,7 @@ use parsing::Stop;
 use std::alloc::Global;
 
 /// `pkt.h.f`: the header and its field.
-#[tactic(auto, unfolding(plain_parser::specs::PlainParser::path_from, plain_parser::specs::PlainParser::reserved, plain_parser::specs::PlainParser::marked, plain_parser::specs::PlainParser::named))]
+#[tactic(auto, unfolding(parsing::specs::PlainParser::path_from, parsing::specs::PlainParser::reserved, parsing::specs::PlainParser::marked, parsing::specs::PlainParser::named))]
 pub fn path(alloc: Global, source: &Source, pos: usize) -> Result<((Name, Name), usize), Stop>
     ensures agrees { Agrees (parser.path_from source.now pos) path_of result }
     ensures moves { Moves pos (length source.now) result }
@@ -25,7 +25,7 @@ pub fn path(alloc: Global, source: &Source, pos: usize) -> Result<((Name, Name),
 }
 
 /// `bit<N>`: the width, in bits.
-#[tactic(auto, unfolding(plain_parser::specs::PlainParser::bits_from, plain_parser::specs::PlainParser::reserved, plain_parser::specs::PlainParser::marked, plain_parser::specs::PlainParser::numbered))]
+#[tactic(auto, unfolding(parsing::specs::PlainParser::bits_from, parsing::specs::PlainParser::reserved, parsing::specs::PlainParser::marked, parsing::specs::PlainParser::numbered))]
 pub fn bits(source: &Source, pos: usize) -> Result<(u32, usize), Stop>
     ensures agrees { Agrees (parser.bits_from source.now pos) (λ width. width) result }
     ensures moves { Moves pos (length source.now) result }
@@ -38,7 +38,7 @@ pub fn bits(source: &Source, pos: usize) -> Result<(u32, usize), Stop>
 }
 
 /// `x: bit<N>`.
-#[tactic(auto, unfolding(plain_parser::specs::PlainParser::param_from, plain_parser::specs::PlainParser::marked, plain_parser::specs::PlainParser::named, plain_parser::specs::PlainParser::after))]
+#[tactic(auto, unfolding(parsing::specs::PlainParser::param_from, parsing::specs::PlainParser::marked, parsing::specs::PlainParser::named, parsing::specs::PlainParser::after))]
 pub fn param(alloc: Global, source: &Source, pos: usize) -> Result<(Param, usize), Stop>
     ensures agrees { Agrees (parser.param_from source.now pos) param_of result }
     ensures moves { Moves pos (length source.now) result }
@@ -67,7 +67,7 @@ pub fn params(alloc: Global, source: &Source, pos: usize) -> Result<(Vec<Param>,
 }
 
 /// A name, as a phrase.
-#[tactic(auto, unfolding(plain_parser::specs::PlainParser::name_from, plain_parser::specs::PlainParser::named))]
+#[tactic(auto, unfolding(parsing::specs::PlainParser::name_from, parsing::specs::PlainParser::named))]
 pub fn name(alloc: Global, source: &Source, pos: usize) -> Result<(Name, usize), Stop>
     ensures agrees { Agrees (parser.name_from source.now pos) name_of result }
     ensures moves { Moves pos (length source.now) result }

@@ -5,7 +5,7 @@ ghost use Rattle.cocoon_lex.specs.Kinds.{kind_of};
 ghost use Rattle.cocoon_syntax.specs.TreeOf.{binary_of};
 ghost use Rattle.cocoon_parse.specs.Agrees.{mark_kind};
 ghost use Rattle.cocoon_parse.specs.ExprPhrases.{level_of};
-ghost use Rattle.plain_parser.specs.PlainParser.{op_at, op_in, ops_of};
+ghost use Rattle.parsing.specs.PlainParser.{op_at, op_in, ops_of};
 
 use cocoon_lex::{Keyword, Mark, TokenKind};
 use cocoon_syntax::BinaryOp;

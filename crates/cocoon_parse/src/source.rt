@@ -4,7 +4,7 @@ ghost use Rattle.cocoon_lex.specs.Kinds.{keyword_text, kind_of, mark_text};
 ghost use Rattle.cocoon_syntax.specs.TreeOf.{binary_of};
 ghost use Rattle.cocoon_num.specs.Reads.{of_cmp, of_expr};
 ghost use Rattle.cocoon_parse.specs.ExprPhrases.{level_of};
-ghost use Rattle.plain_parser.specs.PlainParser as parser;
+ghost use Rattle.parsing.specs.PlainParser as parser;
 ghost use Rattle.cocoon_parse.specs.Agrees.{LiteralAt, NameAt, NumberAt, TokenAt, kind_at, kinds_at, is_name_token, literal_of, name_bytes};
 
 use crate::operators::{Chain, chained, compared, implied};

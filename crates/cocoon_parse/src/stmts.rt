@@ -4,7 +4,7 @@ ghost use Rattle.cocoon_num.specs.Reads.{of_expr};
 ghost use Rattle.cocoon_num.specs.Tree as tree;
 ghost use Rattle.cocoon_syntax.specs.TreeOf.{block_of, expr_of, exprs_of, name_of, param_of, stmt_of};
 ghost use Rattle.cocoon_parse.specs.Phrases.{assigned_from, choosing_from, choosing_of, guarded_from, guarded_of, havoc_field_from, havoc_variable_from, otherwise_from, tested_from};
-ghost use Rattle.plain_parser.specs.PlainParser as parser;
+ghost use Rattle.parsing.specs.PlainParser as parser;
 ghost use Rattle.cocoon_parse.specs.Agrees.{Advances, Moves, Agrees, AgreesDeep, path_of};
 ghost use Rattle.parsing.specs.Joins.{Makes};
 

@@ -12,8 +12,8 @@ use crate::defs::entries;
 use crate::source::Source;
 use cocoon_lex::Token;
 use cocoon_syntax::{DefsText, Design};
+use parsing::text_laws::{definitions, designs, tokens_end};
 use parsing::{ParseFault, fault_of, first_deep, up_to};
-use plain_parser::text_laws::{definitions, designs, tokens_end};
 use std::alloc::Global;
 
 /// The tree of a text of a design with these tokens, or its first fault, at a token index.

@@ -6,7 +6,7 @@ ghost use Rattle.cocoon_num.specs.FirstFaults.{BeginsDefs, BeginsDesign};
 ghost use Rattle.cocoon_text.specs.TextFaults.{FirstFault};
 
 use crate::fault::TextFault;
-pub use plain_parser::text_laws::{one_definitions_tree, one_tree};
+pub use parsing::text_laws::{one_definitions_tree, one_tree};
 
 /// A text has at most one first fault.
 pub fn one_fault()

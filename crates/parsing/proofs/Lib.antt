@@ -1,2 +1,12 @@
 pub mod Depths
 pub mod Reaches
+pub mod Ends
+pub mod Enough
+pub mod Exact
+pub mod ExactExprs
+pub mod ExactParts
+pub mod ReadsExprs
+pub mod ReadsParts
+pub mod Stays
+pub mod Whole
+pub mod WholeTexts

@@ -1,3 +1,5 @@
 pub mod Depth
 pub mod Faults
 pub mod Joins
+pub mod PlainParser
+pub mod Reading

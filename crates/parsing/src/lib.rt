@@ -1,5 +1,7 @@
 //! What the parsers of texts have in common, of whatever tokens: why a phrase is not read, which token is the first that
 //! is too deep, and which fault of a text is the first; and how what was read is put together.
+//! The parser as a plain program over tokens, which stands in `specs/`, and what its readings say of
+//! texts.
 #![tactic(auto)]
 
 pub mod bytes;
@@ -7,6 +9,7 @@ pub mod deep;
 pub mod fault;
 pub mod joins;
 pub mod stop;
+pub mod text_laws;
 pub mod whole_text;
 
 pub use bytes::bytes_between;

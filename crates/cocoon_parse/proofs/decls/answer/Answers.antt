@@ -1,6 +1,6 @@
 use Rattle.std.proofs.Common.{rules, arith, ◌≡◌, Err, option_map}
 use Rattle.cocoon_syntax.specs.TreeOf.{expr_of, result_of}
-use Rattle.plain_parser.specs.PlainParser.{body_from}
+use Rattle.parsing.specs.PlainParser.{body_from}
 use Rattle.cocoon_parse.specs.Phrases.{answer_of}
 use Rattle.cocoon_parse.proofs.Eventually.{agrees_with_first, at_once, fails_as, first_fails, moves_with_first}
 use Rattle.cocoon_parse.proofs.decls.answer.Goals as goal

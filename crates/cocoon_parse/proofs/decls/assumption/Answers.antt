@@ -1,6 +1,6 @@
 use Rattle.std.proofs.Common.{rules, arith, ◌≡◌, Err, map}
 use Rattle.cocoon_syntax.specs.TreeOf.{decl_of, expr_of, param_of}
-use Rattle.plain_parser.specs.PlainParser.{after, marked, assumption_from}
+use Rattle.parsing.specs.PlainParser.{after, marked, assumption_from}
 use Rattle.cocoon_parse.proofs.Closings.{assumption_reads, assumption_fails}
 use Rattle.cocoon_parse.proofs.Eventually.{eventual_read, agrees_read, fails_as}
 use Rattle.cocoon_parse.proofs.decls.assumption.Goals as goal

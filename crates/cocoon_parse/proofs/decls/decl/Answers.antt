@@ -1,5 +1,5 @@
 use Rattle.std.proofs.Common.{rules}
-use Rattle.plain_parser.specs.PlainParser.{decl_from}
+use Rattle.parsing.specs.PlainParser.{decl_from}
 use Rattle.cocoon_parse.proofs.decls.decl.Goals as goal
 
 pub returns-then-is_keyword-clause-agrees : goal.returns-then-is_keyword-clause-agrees

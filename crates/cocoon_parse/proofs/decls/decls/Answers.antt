@@ -1,7 +1,7 @@
 use Rattle.std.proofs.Common.{rules, arith, ◌≡◌, map, Err}
 use Rattle.cocoon_syntax.specs.TreeOf.{decl_of}
 use Rattle.cocoon_parse.specs.Phrases.{stops_of}
-use Rattle.plain_parser.specs.PlainParser.{decl_from, many_from}
+use Rattle.parsing.specs.PlainParser.{decl_from, many_from}
 use Rattle.cocoon_parse.proofs.Eventually.{fails_as, eventual_read, agrees_read, none_yet_of, many_more, many_broken, many_stop, all_read}
 use Rattle.cocoon_parse.proofs.decls.decls.Goals as goal
 

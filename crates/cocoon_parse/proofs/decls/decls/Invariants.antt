@@ -1,7 +1,7 @@
 use Rattle.std.proofs.Common.{length, map, ◌-◌, ◌≤◌}
 use Rattle.cocoon_syntax.specs.TreeOf.{decl_of}
 use Rattle.cocoon_parse.specs.Phrases.{stops_of}
-use Rattle.plain_parser.specs.PlainParser.{decl_from, many_from}
+use Rattle.parsing.specs.PlainParser.{decl_from, many_from}
 use Rattle.cocoon_parse.proofs.Eventually.{SoFar}
 use Rattle.cocoon_parse.proofs.decls.decls.Given as goal
 

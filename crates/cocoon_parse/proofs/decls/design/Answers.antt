@@ -1,5 +1,5 @@
 use Rattle.std.proofs.Common.{rules, arith, ◌+◌}
-use Rattle.plain_parser.specs.PlainParser.{after, marked, reserved, design_from}
+use Rattle.parsing.specs.PlainParser.{after, marked, reserved, design_from}
 use Rattle.cocoon_parse.proofs.decls.design.Goals as goal
 
 pub returns-in_err-expect_keyword : goal.returns-in_err-expect_keyword

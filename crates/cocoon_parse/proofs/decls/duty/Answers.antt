@@ -1,6 +1,6 @@
 use Rattle.std.proofs.Common.{rules, arith, ◌≡◌, Err, option_map}
 use Rattle.cocoon_syntax.specs.TreeOf.{body_of, expr_of}
-use Rattle.plain_parser.specs.PlainParser.{role_body_from}
+use Rattle.parsing.specs.PlainParser.{role_body_from}
 use Rattle.cocoon_parse.specs.Phrases.{duty_of}
 use Rattle.cocoon_parse.proofs.Eventually.{agrees_with_first, fails_as, first_fails, moves_with_first}
 use Rattle.cocoon_parse.proofs.decls.duty.Goals as goal

@@ -1,6 +1,6 @@
 use Rattle.std.proofs.Common.{rules, ◌≡◌, map, Err}
 use Rattle.cocoon_syntax.specs.TreeOf.{param_of}
-use Rattle.plain_parser.specs.PlainParser.{closes, header_field_from}
+use Rattle.parsing.specs.PlainParser.{closes, header_field_from}
 use Rattle.cocoon_parse.proofs.Eventually.{flat, at_once, fails_as, agrees_read, some_begin, some_fail, many_more, many_broken, many_stop, all_read}
 use Rattle.cocoon_parse.proofs.decls.fields.Goals as goal
 

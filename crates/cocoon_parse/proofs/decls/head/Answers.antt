@@ -1,6 +1,6 @@
 use Rattle.std.proofs.Common.{rules, arith, ◌+◌, map, refl}
 use Rattle.cocoon_syntax.specs.TreeOf.{param_of}
-use Rattle.plain_parser.specs.PlainParser.{after, marked, named, params_from}
+use Rattle.parsing.specs.PlainParser.{after, marked, named, params_from}
 use Rattle.cocoon_parse.specs.ExprPhrases.{then_mark}
 use Rattle.cocoon_parse.specs.Phrases.{head_of}
 use Rattle.cocoon_parse.proofs.Eventually.{agrees_as, agrees_made, agrees_marked, moves_marked, moves_with_first, with_first_makes}

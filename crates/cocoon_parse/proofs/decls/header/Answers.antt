@@ -3,7 +3,7 @@ use Rattle.cocoon_syntax.specs.TreeOf.{header_of, name_of, param_of}
 use Rattle.cocoon_parse.specs.Phrases.{headed}
 use Rattle.cocoon_parse.proofs.Eventually.{moves_made, moves_marked}
 use Rattle.cocoon_parse.proofs.Refinements.{header_agrees}
-use Rattle.plain_parser.specs.PlainParser.{after, marked, named, reserved, header_from}
+use Rattle.parsing.specs.PlainParser.{after, marked, named, reserved, header_from}
 use Rattle.cocoon_parse.proofs.decls.header.Goals as goal
 
 pub returns-in_err-expect_keyword-clause-agrees : goal.returns-in_err-expect_keyword-clause-agrees

@@ -1,6 +1,6 @@
 use Rattle.std.proofs.Common.{arith, codes}
 use Rattle.cocoon_syntax.specs.TreeOf.{param_of}
-use Rattle.plain_parser.specs.PlainParser.{param_from, header_field_from}
+use Rattle.parsing.specs.PlainParser.{param_from, header_field_from}
 use Rattle.cocoon_parse.proofs.Eventually.{agrees_marked, at_once, moves_marked, once}
 use Rattle.cocoon_parse.proofs.decls.header_field.Goals as goal
 

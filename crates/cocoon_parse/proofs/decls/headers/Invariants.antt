@@ -1,6 +1,6 @@
 use Rattle.std.proofs.Common.{◌<◌, length, map, ◌-◌, ◌≤◌}
 use Rattle.cocoon_syntax.specs.TreeOf.{header_of}
-use Rattle.plain_parser.specs.PlainParser.{closes, header_from, many_from, some_from}
+use Rattle.parsing.specs.PlainParser.{closes, header_from, many_from, some_from}
 use Rattle.cocoon_parse.proofs.Eventually.{SoFar}
 use Rattle.cocoon_parse.proofs.decls.headers.Given as goal
 

@@ -1,6 +1,6 @@
 use Rattle.std.proofs.Common.{rules, ◌≡◌, ◌+◌, slice_get, Err, codes}
 use Rattle.cocoon_syntax.specs.TreeOf.{decl_of}
-use Rattle.plain_parser.specs.PlainParser.{is_mark}
+use Rattle.parsing.specs.PlainParser.{is_mark}
 use Rattle.cocoon_parse.proofs.Closings.{host_reads, host_pair_fails, host_end_fails}
 use Rattle.cocoon_parse.proofs.Eventually.{token_stops}
 use Rattle.cocoon_parse.proofs.decls.host.Goals as goal

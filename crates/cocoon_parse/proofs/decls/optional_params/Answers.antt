@@ -1,5 +1,5 @@
 use Rattle.std.proofs.Common.{rules, arith}
-use Rattle.plain_parser.specs.PlainParser.{after, marked, optional_params_from}
+use Rattle.parsing.specs.PlainParser.{after, marked, optional_params_from}
 use Rattle.cocoon_parse.proofs.decls.optional_params.Goals as goal
 
 pub returns-in_err-params-clause-agrees : goal.returns-in_err-params-clause-agrees

@@ -1,6 +1,6 @@
 use Rattle.std.proofs.Common.{rules, arith, ◌≡◌, ◌+◌, length, map, Err, codes}
 use Rattle.cocoon_syntax.specs.TreeOf.{name_of, decl_of, refine_of}
-use Rattle.plain_parser.specs.PlainParser.{after, marked, reserved, numbered, refine_from}
+use Rattle.parsing.specs.PlainParser.{after, marked, reserved, numbered, refine_from}
 use Rattle.cocoon_parse.specs.Phrases.{refinement}
 use Rattle.cocoon_parse.proofs.Eventually.{advances_marked, moves_made}
 use Rattle.cocoon_parse.proofs.Refinements.{limit_fails, refine_agrees}

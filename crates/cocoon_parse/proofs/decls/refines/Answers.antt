@@ -1,6 +1,6 @@
 use Rattle.std.proofs.Common.{rules, arith, ◌≡◌, map, Err}
 use Rattle.cocoon_syntax.specs.TreeOf.{refine_of}
-use Rattle.plain_parser.specs.PlainParser.{finishes, many_from, refine_from}
+use Rattle.parsing.specs.PlainParser.{finishes, many_from, refine_from}
 use Rattle.cocoon_parse.proofs.Eventually.{fails_as, eventual_read, agrees_read, none_yet_of, many_more, many_broken, many_stop, all_read}
 use Rattle.cocoon_parse.proofs.decls.refines.Goals as goal
 

@@ -1,6 +1,6 @@
 use Rattle.std.proofs.Common.{length, map, ◌-◌, ◌≤◌}
 use Rattle.cocoon_syntax.specs.TreeOf.{refine_of}
-use Rattle.plain_parser.specs.PlainParser.{finishes, many_from, refine_from}
+use Rattle.parsing.specs.PlainParser.{finishes, many_from, refine_from}
 use Rattle.cocoon_parse.proofs.Eventually.{SoFar}
 use Rattle.cocoon_parse.proofs.decls.refines.Given as goal
 

@@ -1,6 +1,6 @@
 use Rattle.std.proofs.Common.{rules, ◌≡◌, false, slice_get, option_map, Err, codes}
 use Rattle.cocoon_syntax.specs.TreeOf.{expr_of}
-use Rattle.plain_parser.specs.PlainParser.{body_from, is_mark}
+use Rattle.parsing.specs.PlainParser.{body_from, is_mark}
 use Rattle.cocoon_parse.proofs.Closings.{body_reads, body_fails}
 use Rattle.cocoon_parse.proofs.Eventually.{eventual_read, agrees_read, fails_as}
 use Rattle.cocoon_parse.proofs.decls.value.Goals as goal

@@ -1,6 +1,6 @@
 use Rattle.std.proofs.Common.{rules, ◌≡◌, map, Err}
 use Rattle.cocoon_syntax.specs.TreeOf.{entry_of}
-use Rattle.plain_parser.specs.PlainParser.{many_from, defs_from, entry_from, finishes}
+use Rattle.parsing.specs.PlainParser.{many_from, defs_from, entry_from, finishes}
 use Rattle.cocoon_parse.proofs.Eventually.{fails_as, eventual_read, agrees_read, none_yet_of, many_more, many_broken, many_stop, all_read}
 use Rattle.cocoon_parse.proofs.defs.entries.Goals as goal
 

@@ -1,6 +1,6 @@
 use Rattle.std.proofs.Common.{length, map, ◌-◌, ◌≤◌}
 use Rattle.cocoon_syntax.specs.TreeOf.{entry_of}
-use Rattle.plain_parser.specs.PlainParser.{many_from, entry_from, finishes}
+use Rattle.parsing.specs.PlainParser.{many_from, entry_from, finishes}
 use Rattle.cocoon_parse.proofs.Eventually.{SoFar}
 use Rattle.cocoon_parse.proofs.defs.entries.Given as goal
 

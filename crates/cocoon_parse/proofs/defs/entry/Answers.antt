@@ -1,5 +1,5 @@
 use Rattle.std.proofs.Common.{rules, arith}
-use Rattle.plain_parser.specs.PlainParser.{entry_from}
+use Rattle.parsing.specs.PlainParser.{entry_from}
 use Rattle.cocoon_parse.proofs.defs.entry.Goals as goal
 
 pub returns-then-is_keyword-2-clause-agrees : goal.returns-then-is_keyword-2-clause-agrees

@@ -1,7 +1,7 @@
 use Rattle.std.proofs.Common.{rules, arith, ◌≡◌, ◌+◌, length, map, Ok, Err, codes}
 use Rattle.cocoon_num.specs.Tree.{a_row}
 use Rattle.cocoon_syntax.specs.TreeOf.{const_of, entry_of, name_of, pattern_of}
-use Rattle.plain_parser.specs.PlainParser.{marked, named, row_from}
+use Rattle.parsing.specs.PlainParser.{marked, named, row_from}
 use Rattle.cocoon_parse.specs.Agrees.{Moves}
 use Rattle.cocoon_parse.specs.ExprPhrases.{then_mark}
 use Rattle.cocoon_parse.proofs.Eventually.{agrees_marked, fails_as, moves_made, moves_marked}

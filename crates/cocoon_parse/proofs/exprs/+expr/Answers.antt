@@ -5,7 +5,7 @@ use Rattle.cocoon_lex.specs.Kinds.{mark_text}
 use Rattle.cocoon_num.specs.Reads.{of_expr, of_or, of_cmp, of_cat}
 use Rattle.cocoon_syntax.specs.TreeOf.{binary_of, expr_of, exprs_of, name_of}
 use Rattle.cocoon_parse.specs.ExprPhrases.{leaf_from, part_of, sides_of}
-use Rattle.plain_parser.specs.PlainParser.{after, marked, named, path_from, reserved, expr_from, exprs_from, is_mark}
+use Rattle.parsing.specs.PlainParser.{after, marked, named, path_from, reserved, expr_from, exprs_from, is_mark}
 use Rattle.cocoon_parse.specs.Agrees.{Agrees, AgreesDeep, Moves, is_name_token}
 use Rattle.cocoon_parse.proofs.Eventually.{deeper, agrees_marked, moves_made, moves_marked, moves_with_first, first_fails, agrees_deeper, eventual_read, agrees_read, fails_as, comma_fails, commas_begin, commas_more, commas_broken, commas_stop, all_read}
 use Rattle.cocoon_parse.proofs.Chains.{joined, alone, flipped, negated, called, choice, closed, picked_agrees, sides_agree, chain_begins, chain_fails, chain_goes, chain_stopped, chain_ends, slices_begin, slices_fail, slices_more, slices_stopped, slices_end, leaf_only, as_exprs}

@@ -2,7 +2,7 @@ use Rattle.std.proofs.Common.{length, ℕ, ◌+◌, ◌-◌, ◌*◌, ◌≤◌,
 use Rattle.cocoon_num.specs.Reads.{of_expr, of_post}
 use Rattle.cocoon_syntax.specs.TreeOf.{expr_of}
 use Rattle.cocoon_parse.specs.ExprPhrases.{level_of}
-use Rattle.plain_parser.specs.PlainParser.{expr_from, rest_from, commas_from}
+use Rattle.parsing.specs.PlainParser.{expr_from, rest_from, commas_from}
 use Rattle.cocoon_parse.specs.declared.operators.Chain.{Chain}
 use Rattle.cocoon_parse.specs.declared.operators.Chain.TheVariants.{Or, And, Concat, Bits, Sum}
 use Rattle.cocoon_parse.proofs.Eventually.{SoFar, tail_from}

@@ -1,6 +1,6 @@
 use Rattle.std.proofs.Common.{◌<◌, length, map, ◌-◌, ◌≤◌}
 use Rattle.cocoon_syntax.specs.TreeOf.{name_of}
-use Rattle.plain_parser.specs.PlainParser.{commas_from, name_from}
+use Rattle.parsing.specs.PlainParser.{commas_from, name_from}
 use Rattle.cocoon_parse.proofs.Eventually.{SoFar, tail_from}
 use Rattle.cocoon_parse.proofs.names.names.Given as goal
 

@@ -1,6 +1,6 @@
 use Rattle.std.proofs.Common.{rules, arith, ◌≡◌, ◌+◌, map, Err}
 use Rattle.cocoon_syntax.specs.TreeOf.{param_of}
-use Rattle.plain_parser.specs.PlainParser.{param_from, after}
+use Rattle.parsing.specs.PlainParser.{param_from, after}
 use Rattle.cocoon_parse.proofs.Eventually.{flat, at_once, fails_as, agrees_deeper, commas_begin, commas_more, commas_broken, commas_stop, all_read}
 use Rattle.cocoon_parse.proofs.names.params.Goals as goal
 

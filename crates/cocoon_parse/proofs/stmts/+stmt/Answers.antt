@@ -2,7 +2,7 @@ use Rattle.std.proofs.Common.{rules, arith, ◌≡◌, true, false, map, subst, 
 use Rattle.cocoon_syntax.specs.TreeOf.{expr_of, name_of, stmt_of}
 use Rattle.cocoon_parse.specs.Phrases.{guarded_of, choosing_of}
 use Rattle.cocoon_parse.proofs.Blocks.{as_block, blocks, block_agrees, guarded_agrees, if_agrees, if_fails, fork_agrees, fork_fails}
-use Rattle.plain_parser.specs.PlainParser.{after, marked, many_from, stmt_from, closes, is_keyword, ended, expr_from}
+use Rattle.parsing.specs.PlainParser.{after, marked, many_from, stmt_from, closes, is_keyword, ended, expr_from}
 use Rattle.cocoon_parse.specs.Agrees.{Agrees}
 use Rattle.cocoon_num.specs.Reads.{of_expr}
 use Rattle.cocoon_num.specs.Tree as tree

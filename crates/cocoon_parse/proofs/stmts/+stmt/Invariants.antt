@@ -1,6 +1,6 @@
 use Rattle.std.proofs.Common.{length, ◌+◌, ◌-◌, ◌*◌, ◌≤◌, map}
 use Rattle.cocoon_syntax.specs.TreeOf.{stmt_of}
-use Rattle.plain_parser.specs.PlainParser.{many_from, stmt_from, closes}
+use Rattle.parsing.specs.PlainParser.{many_from, stmt_from, closes}
 use Rattle.cocoon_parse.proofs.Eventually.{SoFar}
 use Rattle.cocoon_parse.proofs.stmts.+stmt.Given as goal
 

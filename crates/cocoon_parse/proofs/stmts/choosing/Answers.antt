@@ -1,6 +1,6 @@
 use Rattle.std.proofs.Common.{rules, arith, ◌≡◌, ◌+◌, length, Err, Ok, codes}
 use Rattle.cocoon_syntax.specs.TreeOf.{param_of}
-use Rattle.plain_parser.specs.PlainParser.{marked, param_from}
+use Rattle.parsing.specs.PlainParser.{marked, param_from}
 use Rattle.cocoon_parse.specs.Agrees.{Moves}
 use Rattle.cocoon_parse.specs.Phrases.{choosing_of}
 use Rattle.cocoon_parse.proofs.Blocks.{choosing_agrees, choosing_fails}

@@ -1,5 +1,5 @@
 use Rattle.std.proofs.Common.{rules, ◌≡◌, suc, true, false, slice_get, codes, subst, add-one}
-use Rattle.plain_parser.specs.PlainParser.{is_keyword, havoc_from}
+use Rattle.parsing.specs.PlainParser.{is_keyword, havoc_from}
 use Rattle.cocoon_parse.proofs.stmts.havoc.Goals as goal
 
 pub returns-then-is_keyword-clause-agrees : goal.returns-then-is_keyword-clause-agrees

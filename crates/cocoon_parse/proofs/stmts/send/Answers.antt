@@ -1,7 +1,7 @@
 use Rattle.std.proofs.Common.{rules, arith, ◌+◌, length, map, codes}
 use Rattle.cocoon_num.specs.Tree.{send}
 use Rattle.cocoon_syntax.specs.TreeOf.{expr_of, exprs_of, name_of, stmt_of}
-use Rattle.plain_parser.specs.PlainParser.{marked, named, send_from}
+use Rattle.parsing.specs.PlainParser.{marked, named, send_from}
 use Rattle.cocoon_parse.proofs.Eventually.{moves_made, moves_marked}
 use Rattle.cocoon_parse.proofs.Rows.{sent}
 use Rattle.cocoon_parse.proofs.stmts.send.Goals as goal

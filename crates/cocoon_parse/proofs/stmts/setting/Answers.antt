@@ -1,7 +1,7 @@
 use Rattle.std.proofs.Common.{rules, arith, length}
 use Rattle.cocoon_num.specs.Tree.{set_field}
 use Rattle.cocoon_syntax.specs.TreeOf.{expr_of, name_of, stmt_of}
-use Rattle.plain_parser.specs.PlainParser.{after, setting_from}
+use Rattle.parsing.specs.PlainParser.{after, setting_from}
 use Rattle.cocoon_parse.proofs.Closings.{setting_agrees}
 use Rattle.cocoon_parse.proofs.Eventually.{moves_made}
 use Rattle.cocoon_parse.proofs.stmts.setting.Goals as goal

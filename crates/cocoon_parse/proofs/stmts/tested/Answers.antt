@@ -1,5 +1,5 @@
 use Rattle.std.proofs.Common.{rules}
-use Rattle.plain_parser.specs.PlainParser.{marked}
+use Rattle.parsing.specs.PlainParser.{marked}
 use Rattle.cocoon_parse.proofs.stmts.tested.Goals as goal
 
 pub returns-in_err-expect-clause-agrees : goal.returns-in_err-expect-clause-agrees

@@ -4,7 +4,7 @@ use Rattle.cocoon_num.specs.FirstFaults.{BeginsDesign}
 use Rattle.cocoon_num.specs.Tokens.{kinds, language_bounds}
 use Rattle.cocoon_lex.specs.Kinds.{token_of}
 use Rattle.cocoon_syntax.specs.TreeOf.{design_of}
-use Rattle.plain_parser.specs.PlainParser.{design_from}
+use Rattle.parsing.specs.PlainParser.{design_from}
 use Rattle.cocoon_parse.specs.Agrees.{kind_at, kinds_at}
 use Rattle.parsing.specs.declared.fault.ParseFault.TheVariants.{Unexpected, TooDeep}
 use Rattle.parsing.proofs.Reaches.{fault_fits, reach_few}

@@ -6,7 +6,7 @@ use Rattle.cocoon_num.specs.Tree.{Name}
 use Rattle.cocoon_num.specs.Names.{same_name}
 use Rattle.cocoon_num.specs.Tokens.{Kind, plain, mark}
 use Rattle.cocoon_num.specs.Reads.{Is, Mark, Reserved, Named, Many, no_more, one_more, Commas, last, then_comma}
-use Rattle.plain_parser.specs.PlainParser.{Outcome, good, after, is_mark, marked, reserved, named, numbered, many_from, some_from, commas_from}
+use Rattle.parsing.specs.PlainParser.{Outcome, good, after, is_mark, marked, reserved, named, numbered, many_from, some_from, commas_from}
 
 pub record Enough {A : Type 0} (F : ℕ → Outcome A) (x : A) (j : ℕ) : Type 0 where
   pub depth : ℕ

@@ -7,12 +7,12 @@ use Rattle.cocoon_num.specs.Tree.{Design, DefsText}
 use Rattle.cocoon_num.specs.Tokens.{Kind, a_name, keyword, plain, literal, mark, finish, is_shallow, language_bounds}
 use Rattle.cocoon_num.specs.Reads.{Is, Many, DesignAt, EntryAt, DefsAt}
 use Rattle.cocoon_num.specs.FirstFaults.{BeginsDesign, BeginsDefs, Unexpected}
-use Rattle.plain_parser.specs.PlainParser.{Outcome, good, bad, spent, after, is_mark, is_keyword, is_finish, marked, reserved, many_from, some_from, closes, finishes, ends_decls, header_from, decl_from, refine_from, entry_from, design_from, defs_from}
-use Rattle.plain_parser.specs.Reading.{Fails}
-use Rattle.plain_parser.proofs.Exact.{Agree, Clean, At, first_at, second_at, GoodRead, BadRead}
-use Rattle.plain_parser.proofs.ExactParts.{design_exact, defs_exact}
-use Rattle.plain_parser.proofs.Stays.{good_read, bad_read}
-use Rattle.plain_parser.proofs.ReadsParts.{design_read, defs_read}
+use Rattle.parsing.specs.PlainParser.{Outcome, good, bad, spent, after, is_mark, is_keyword, is_finish, marked, reserved, many_from, some_from, closes, finishes, ends_decls, header_from, decl_from, refine_from, entry_from, design_from, defs_from}
+use Rattle.parsing.specs.Reading.{Fails}
+use Rattle.parsing.proofs.Exact.{Agree, Clean, At, first_at, second_at, GoodRead, BadRead}
+use Rattle.parsing.proofs.ExactParts.{design_exact, defs_exact}
+use Rattle.parsing.proofs.Stays.{good_read, bad_read}
+use Rattle.parsing.proofs.ReadsParts.{design_read, defs_read}
 
 -- ---- texts that begin alike
 

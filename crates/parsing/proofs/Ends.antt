@@ -4,8 +4,8 @@ use Rattle.std.proofs.Common.{ap, subst, arith}
 use Rattle.std.proofs.lemmas.Bool.{and_parts, le-leb, leb-true}
 use Rattle.cocoon_num.specs.Tokens.{Kind, a_name, keyword, plain, literal, mark, finish, Token, Lexicon, Lexed, Prefix, gap, piece, faulty, prefix, by_prefix, with_token, lex_from, lex, language, language_bounds, none_deep, is_shallow, brackets_after, operators_after, kept_if, literal_of, number_kind, number_prefix, decimal_value, literal_value, before_w, after_w, comment_prefix, block_prefix, digit_prefix, letter_prefix, line_prefix, mark_prefix, leading, is_run_byte, beginning, comment_end, is_blank, is_digit, is_letter, begins}
 use Rattle.cocoon_num.specs.Lists.{is_one_of}
-use Rattle.plain_parser.specs.PlainParser.{is_finish}
-use Rattle.plain_parser.specs.Reading.{Ended, the_end, one_before, TokensOf}
+use Rattle.parsing.specs.PlainParser.{is_finish}
+use Rattle.parsing.specs.Reading.{Ended, the_end, one_before, TokensOf}
 
 pub ended_is : {ks : List Kind} → Ended ks → (before : List Kind) × (ks ≡ before ++ finish ∷ [])
 ended_is the_end = ([], refl)

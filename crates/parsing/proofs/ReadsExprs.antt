@@ -6,8 +6,8 @@ use Rattle.cocoon_num.specs.Values.{BinaryOp, add, sub, bits_and, bits_or, bits_
 use Rattle.cocoon_num.specs.Tree.{Name, Expr, call, Exprs}
 use Rattle.cocoon_num.specs.Tokens.{Kind, mark}
 use Rattle.cocoon_num.specs.Reads.{FieldAt, Level, of_expr, of_or, of_and, of_cmp, of_cat, of_bit, of_sum, of_unary, of_post, of_prim, part, IsChain, IsComparison, operator, ExprAt, RestAt, ExprsAt, no_implication, an_implication, a_chain, no_comparison, a_comparison, a_flip, a_not, no_unary, no_part, a_part, a_slice, a_variable, a_call, a_field, a_literal, a_true, a_false, in_brackets, a_pick, last_expr, more_exprs}
-use Rattle.plain_parser.specs.PlainParser.{good, after, is_mark, is_keyword, op_at, marked, path_from, is_post, part_from, expr_from, rest_from, exprs_from}
-use Rattle.plain_parser.proofs.Enough.{Enough, always, later, ends_at, chain, marks, reserved_words, names, numbers}
+use Rattle.parsing.specs.PlainParser.{good, after, is_mark, is_keyword, op_at, marked, path_from, is_post, part_from, expr_from, rest_from, exprs_from}
+use Rattle.parsing.proofs.Enough.{Enough, always, later, ends_at, chain, marks, reserved_words, names, numbers}
 
 -- ---- where a phrase ends
 

@@ -9,7 +9,7 @@ use Rattle.cocoon_num.specs.Names.{same_name}
 use Rattle.cocoon_num.specs.Tree.{Name}
 use Rattle.cocoon_num.specs.Tokens.{Kind, a_name, keyword, plain, literal, mark, finish}
 use Rattle.cocoon_num.specs.Reads.{Is, Mark, Reserved, Named, Many, no_more, one_more, Commas, last, then_comma}
-use Rattle.plain_parser.specs.PlainParser.{Outcome, good, bad, spent, after, is_mark, is_keyword, is_finish, name_at, plain_of, taken, marked, reserved, named, numbered, many_from, some_from, commas_from}
+use Rattle.parsing.specs.PlainParser.{Outcome, good, bad, spent, after, is_mark, is_keyword, is_finish, name_at, plain_of, taken, marked, reserved, named, numbered, many_from, some_from, commas_from}
 
 -- the same tokens below an index
 abbrev pub Agree : List Kind → List Kind → ℕ → Type 0

@@ -4,7 +4,7 @@ use Rattle.std.specs.Prelude.{◌≡◌, ◌+◌, ◌<◌, ◌≤◌, ℕ, Bool,
 use Rattle.cocoon_num.specs.Tokens.{Kind, Token, finish, is_shallow, kinds, language_bounds}
 use Rattle.cocoon_num.specs.FirstFaults.{TooDeep, Unexpected}
 use Rattle.parsing.specs.Depth.{DeepAt, FirstDeep, reach}
-use Rattle.plain_parser.specs.PlainParser.{Outcome, good, bad, is_finish}
+use Rattle.parsing.specs.PlainParser.{Outcome, good, bad, is_finish}
 
 -- from some depth of calls on a reading stops at this token
 pub record Fails {A : Type 0} (F : ℕ → Outcome A) (i : ℕ) : Type 0 where

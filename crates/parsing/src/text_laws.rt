@@ -4,8 +4,8 @@ ghost use Rattle.cocoon_num.specs.FirstFaults.{BeginsDefs, BeginsDesign};
 ghost use Rattle.cocoon_num.specs.Reads.{DefsAt, DesignAt, Reads, ReadsDefs};
 ghost use Rattle.cocoon_num.specs.Tokens.{Token, language, lex};
 ghost use Rattle.cocoon_num.specs.Tree.{DefsText, Design};
-ghost use Rattle.plain_parser.specs.PlainParser.{defs_from, design_from};
-ghost use Rattle.plain_parser.specs.Reading.{Reading, TokensOf};
+ghost use Rattle.parsing.specs.PlainParser.{defs_from, design_from};
+ghost use Rattle.parsing.specs.Reading.{Reading, TokensOf};
 
 /// A text of a design has at most one tree.
 pub fn one_tree()

@@ -6,8 +6,8 @@ use Rattle.cocoon_num.specs.Values.{flip, not_, BinaryOp, add, sub, bits_and, bi
 use Rattle.cocoon_num.specs.Tree.{Expr, name, field, lit, true_or_false, call, unary, binary, slice, pick, no_exprs, expr, token_index}
 use Rattle.cocoon_num.specs.Tokens.{Kind, a_name, keyword, plain, literal, mark, finish, same_kind}
 use Rattle.cocoon_num.specs.Reads.{Is, Mark, Reserved, FieldAt, Level, of_expr, of_or, of_and, of_cmp, of_cat, of_bit, of_sum, of_unary, of_post, of_prim, part, IsChain, IsComparison, operator, ExprAt, RestAt, ExprsAt, no_implication, an_implication, a_chain, no_comparison, a_comparison, a_flip, a_not, no_unary, no_part, a_part, a_slice, a_variable, a_call, a_field, a_literal, a_true, a_false, in_brackets, a_pick, last_expr, more_exprs}
-use Rattle.plain_parser.specs.PlainParser.{Outcome, good, bad, after, is_mark, is_finish, ops_of, op_in, op_at, path_from, implied, bracketed, prim_of, by_op, sliced, is_post, part_from, expr_from, rest_from, exprs_from}
-use Rattle.plain_parser.proofs.Exact.{Justifies, Ends, Exact, mark_is, text_is, as_well, done, stopped, by_token, takes, either_mark, either_reserved_word, mark_then, reserved_word_then, name_then, number_then, phrase_then, no_depth, some_name, some_number}
+use Rattle.parsing.specs.PlainParser.{Outcome, good, bad, after, is_mark, is_finish, ops_of, op_in, op_at, path_from, implied, bracketed, prim_of, by_op, sliced, is_post, part_from, expr_from, rest_from, exprs_from}
+use Rattle.parsing.proofs.Exact.{Justifies, Ends, Exact, mark_is, text_is, as_well, done, stopped, by_token, takes, either_mark, either_reserved_word, mark_then, reserved_word_then, name_then, number_then, phrase_then, no_depth, some_name, some_number}
 
 -- ---- operators
 

@@ -6,9 +6,9 @@ use Rattle.cocoon_num.specs.Values.{Value}
 use Rattle.cocoon_num.specs.Tree.{Name, Expr, Exprs, Stmt, let_, set_field, if_, havoc_var, havoc_field, fork, send, Block, no_stmts, Param, ResultKind, FunctionDecl, AssumeDecl, Role, HostDecl, SwitchDecl, Decl, a_function, an_assumption, a_role, a_host, a_switch, Refine, HeaderDecl, Design, Pattern, Entry, a_default, a_row, DefsText}
 use Rattle.cocoon_num.specs.Tokens.{Kind, plain, finish, Token, Lexed, kinds}
 use Rattle.cocoon_num.specs.Reads.{Is, Mark, Reserved, Named, Many, no_more, one_more, Commas, last, then_comma, of_expr, ExprAt, FieldAt, BitsAt, ParamAt, ParamsAt, StmtAt, a_let, a_setting, an_if, an_if_else, a_filter, a_havoc, a_field_havoc, an_assume, a_fork, a_send, StmtsAt, no_stmt, one_stmt, BlockAt, a_block, ResultAt, a_width, a_truth, BodyAt, without_body, with_body, RoleBodyAt, no_block, its_block, OptionalParamsAt, no_params, some_params, DeclAt, the_function, the_assumption, the_role, the_host, the_switch, NameAt, RefineAt, the_block, HeaderFieldAt, the_field, HeaderAt, the_header, DesignAt, ConstAt, const_number, const_true, const_false, PatternAt, one_number, under_mask, any_number, EntryAt, the_default, the_row, DefsAt, Reads, ReadsDefs}
-use Rattle.plain_parser.specs.PlainParser.{Outcome, is_mark, is_keyword, bits_from, param_from, params_from, let_from, setting_from, if_from, havoc_from, fork_from, send_from, stmt_from, stmts_from, block_from, result_from, body_from, role_body_from, optional_params_from, function_from, assumption_from, role_from, host_from, switch_from, decl_from, closes, finishes, ends_decls, name_from, refine_from, header_field_from, header_from, design_from, const_from, pattern_from, default_from, row_from, entry_from, defs_from}
-use Rattle.plain_parser.proofs.Enough.{same_tree, Enough, always, later, ends_at, chain, marks, reserved_words, names, numbers, many_read, some_read, commas_read}
-use Rattle.plain_parser.proofs.ReadsExprs.{EndExpr, path_read, expr_read, exprs_read, at_closed, at_square, at_semicolon, at_equals}
+use Rattle.parsing.specs.PlainParser.{Outcome, is_mark, is_keyword, bits_from, param_from, params_from, let_from, setting_from, if_from, havoc_from, fork_from, send_from, stmt_from, stmts_from, block_from, result_from, body_from, role_body_from, optional_params_from, function_from, assumption_from, role_from, host_from, switch_from, decl_from, closes, finishes, ends_decls, name_from, refine_from, header_field_from, header_from, design_from, const_from, pattern_from, default_from, row_from, entry_from, defs_from}
+use Rattle.parsing.proofs.Enough.{same_tree, Enough, always, later, ends_at, chain, marks, reserved_words, names, numbers, many_read, some_read, commas_read}
+use Rattle.parsing.proofs.ReadsExprs.{EndExpr, path_read, expr_read, exprs_read, at_closed, at_square, at_semicolon, at_equals}
 
 -- ---- types, parameters
 

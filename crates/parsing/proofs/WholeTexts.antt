@@ -7,15 +7,15 @@ use Rattle.std.proofs.lemmas.List.{length-take-le, take-take, take_all}
 use Rattle.cocoon_num.specs.Tokens.{Kind, is_shallow, language_bounds, finish}
 use Rattle.cocoon_num.specs.Reads.{DefsAt, DesignAt}
 use Rattle.cocoon_num.specs.FirstFaults.{BeginsDefs, BeginsDesign, Unexpected, TooDeep}
-use Rattle.plain_parser.specs.PlainParser.{Outcome, good, bad, defs_from, design_from}
+use Rattle.parsing.specs.PlainParser.{Outcome, good, bad, defs_from, design_from}
 use Rattle.parsing.proofs.Depths.{is_true, shallow_prefix}
 use Rattle.parsing.specs.Depth.{DeepAt, FirstDeep, reach}
-use Rattle.plain_parser.specs.Reading.{Fails, Ended, is_past, Reading}
-use Rattle.plain_parser.proofs.Ends.{ended_is, ends_last, end_is_shallow}
-use Rattle.plain_parser.proofs.Exact.{Agree}
-use Rattle.plain_parser.proofs.ExactParts.{defs_exact, design_exact}
-use Rattle.plain_parser.proofs.Stays.{fails_stays}
-use Rattle.plain_parser.proofs.Whole.{defs_sound, defs_stops, defs_unexpected, design_sound, design_stops, design_unexpected}
+use Rattle.parsing.specs.Reading.{Fails, Ended, is_past, Reading}
+use Rattle.parsing.proofs.Ends.{ended_is, ends_last, end_is_shallow}
+use Rattle.parsing.proofs.Exact.{Agree}
+use Rattle.parsing.proofs.ExactParts.{defs_exact, design_exact}
+use Rattle.parsing.proofs.Stays.{fails_stays}
+use Rattle.parsing.proofs.Whole.{defs_sound, defs_stops, defs_unexpected, design_sound, design_stops, design_unexpected}
 
 -- ---- prefixes of tokens
 

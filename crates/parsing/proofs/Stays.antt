@@ -3,9 +3,9 @@
 use Rattle.std.specs.Prelude.{◌≡◌, ℕ, suc, ◌≤◌, List, length}
 use Rattle.std.proofs.Common.{subst}
 use Rattle.cocoon_num.specs.Tokens.{Kind}
-use Rattle.plain_parser.specs.PlainParser.{Outcome, good, bad}
-use Rattle.plain_parser.specs.Reading.{Fails}
-use Rattle.plain_parser.proofs.Exact.{Agree, GoodRead, BadRead, Justifies, Exact}
+use Rattle.parsing.specs.PlainParser.{Outcome, good, bad}
+use Rattle.parsing.specs.Reading.{Fails}
+use Rattle.parsing.proofs.Exact.{Agree, GoodRead, BadRead, Justifies, Exact}
 
 pub good_read : {A : Type 0} {P : List Kind → A → ℕ → Type 0} (F : List Kind → Outcome A) {p : ℕ} {w : List Kind} → Exact P F p w → (ts : List Kind) → p ≤ length ts → {x : A} {j : ℕ} → F ts ≡ good x j → GoodRead P F ts p x j
 good_read {P = P} F {p} e ts h q = subst (λ r. Justifies P F ts p r) q (e.justified ts h)

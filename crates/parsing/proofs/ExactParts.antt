@@ -6,9 +6,9 @@ use Rattle.cocoon_num.specs.Values.{number, truth}
 use Rattle.cocoon_num.specs.Tree.{Expr, let_, set_field, if_, filter, havoc_var, havoc_field, assume, fork, send, no_stmts, stmt, of_width, of_truth, Decl, a_function, an_assumption, a_role, a_host, a_switch, Refine, HeaderDecl, literal as pattern_literal, masked, any, a_default, a_row}
 use Rattle.cocoon_num.specs.Tokens.{Kind, a_name, keyword, plain, literal, mark, finish}
 use Rattle.cocoon_num.specs.Reads.{Is, Mark, Reserved, Many, of_expr, ExprAt, BitsAt, ParamAt, ParamsAt, StmtAt, a_let, a_setting, an_if, an_if_else, a_filter, a_havoc, a_field_havoc, an_assume, a_fork, a_send, StmtsAt, no_stmt, one_stmt, BlockAt, a_block, ResultAt, a_width, a_truth, BodyAt, without_body, with_body, RoleBodyAt, no_block, its_block, OptionalParamsAt, no_params, some_params, DeclAt, the_function, the_assumption, the_role, the_host, the_switch, NameAt, RefineAt, the_block, HeaderFieldAt, the_field, HeaderAt, the_header, DesignAt, ConstAt, const_number, const_true, const_false, PatternAt, one_number, under_mask, any_number, EntryAt, the_default, the_row}
-use Rattle.plain_parser.specs.PlainParser.{Outcome, good, bad, taken, is_mark, is_keyword, is_finish, expr_from, exprs_from, bits_from, param_from, params_from, ended, let_from, setting_from, if_from, havoc_from, fork_from, send_from, stmt_from, stmts_from, block_from, result_from, body_from, role_body_from, optional_params_from, function_from, assumption_from, role_from, host_from, switch_from, decl_from, name_from, refine_from, header_field_from, header_from, design_from, const_of, const_from, Literal, literal_of, pattern_from, default_from, row_from, entry_from, defs_from}
-use Rattle.plain_parser.proofs.Exact.{Justifies, Ends, Exact, text_is, as_well, done, stopped, stops, by_token, takes, either, either_mark, either_reserved_word, after_token, mark_then, reserved_word_then, name_then, number_then, phrase_then, no_depth, some_name, some_number, many_exact, some_exact, commas_exact}
-use Rattle.plain_parser.proofs.ExactExprs.{true_token, a_path, path_exact, expr_exact, exprs_exact}
+use Rattle.parsing.specs.PlainParser.{Outcome, good, bad, taken, is_mark, is_keyword, is_finish, expr_from, exprs_from, bits_from, param_from, params_from, ended, let_from, setting_from, if_from, havoc_from, fork_from, send_from, stmt_from, stmts_from, block_from, result_from, body_from, role_body_from, optional_params_from, function_from, assumption_from, role_from, host_from, switch_from, decl_from, name_from, refine_from, header_field_from, header_from, design_from, const_of, const_from, Literal, literal_of, pattern_from, default_from, row_from, entry_from, defs_from}
+use Rattle.parsing.proofs.Exact.{Justifies, Ends, Exact, text_is, as_well, done, stopped, stops, by_token, takes, either, either_mark, either_reserved_word, after_token, mark_then, reserved_word_then, name_then, number_then, phrase_then, no_depth, some_name, some_number, many_exact, some_exact, commas_exact}
+use Rattle.parsing.proofs.ExactExprs.{true_token, a_path, path_exact, expr_exact, exprs_exact}
 
 -- ---- types, parameters
 

@@ -1,5 +1,0 @@
-use Rattle.plain_parser.proofs.ReadsParts.{one_defs}
-use Rattle.plain_parser.proofs.text_laws.one_definitions_tree.Goals as goal
-
-pub returns : goal.returns
-returns c = one_defs

@@ -1,2 +1,0 @@
-pub mod PlainParser
-pub mod Reading
