@@ -7,7 +7,7 @@ use Rattle.cocoon_num.specs.FirstFaults as first_faults
 use Rattle.cocoon_lex.specs.declared.token.Token.{Token}
 use Rattle.cocoon_lex.specs.Kinds.{token_of}
 use Rattle.cocoon_lex.specs.Position.{column_of, line_of}
-use Rattle.cocoon_parse.specs.Faults.{IsFirstFault}
+use Rattle.cocoon_text.specs.ParseFaults.{IsFirstFault}
 use Rattle.parsing.specs.declared.fault.ParseFault.{ParseFault}
 use Rattle.parsing.specs.declared.fault.ParseFault.TheVariants as parse
 use Rattle.cocoon_text.specs.OfToken.{OfToken}

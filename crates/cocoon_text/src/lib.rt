@@ -1,12 +1,29 @@
 //! Whole texts of designs and of definitions: the tree of a text, or its first fault with its line and column; and the
 //! positions of its tokens. This is where bytes become trees.
+//! The trees of texts of designs and of definitions, or the first fault of a text. A text is gone over once, from the left
+//! and with one token ahead; no more of it is read than up to the first token that is too deep. A phrase is read from a
+//! token index on: the answer is its tree with the index after it, or the index of the token that cannot be taken.
+//! [`source`] has tokens by their indices, [`exprs`] the expressions, [`decls`] declarations, refinements and headers, with
+//! the statements in their bodies, and [`defs`] the defaults and rows of definitions.
 #![tactic(auto)]
 
+pub mod decls;
+mod deep;
+pub mod defs;
+pub mod exprs;
 pub mod fault;
+pub mod joins;
 pub mod laws;
+pub mod names;
+pub mod operators;
 pub mod position;
 pub mod read;
+pub mod source;
+mod stmts;
+pub mod whole_text;
 
 pub use fault::{FaultKind, TextFault, Unread};
+pub use parsing::ParseFault;
 pub use position::{Position, position_of};
 pub use read::{read_defs, read_design};
+pub use whole_text::{parse_defs, parse_design};

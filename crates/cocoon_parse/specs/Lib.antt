@@ -1,4 +1,0 @@
-pub mod Phrases
-pub mod Agrees
-pub mod ExprPhrases
-pub mod Faults
