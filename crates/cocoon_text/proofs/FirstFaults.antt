@@ -4,9 +4,9 @@ use Rattle.std.proofs.Common.{sym, ◌∙◌, ap, subst}
 use Rattle.std.proofs.lemmas.Option.{slice_get-map}
 use Rattle.cocoon_num.specs.Tokens.{Kind, kinds, language, language_bounds, lex}
 use Rattle.cocoon_num.specs.FirstFaults as first_faults
-use Rattle.cocoon_lex.specs.declared.token.Token.{Token}
-use Rattle.cocoon_lex.specs.Kinds.{token_of}
-use Rattle.cocoon_lex.specs.Position.{column_of, line_of}
+use Rattle.cocoon_text.specs.declared.token.Token.{Token}
+use Rattle.cocoon_text.specs.Kinds.{token_of}
+use Rattle.cocoon_text.specs.Position.{column_of, line_of}
 use Rattle.cocoon_text.specs.ParseFaults.{IsFirstFault}
 use Rattle.parsing.specs.declared.fault.ParseFault.{ParseFault}
 use Rattle.parsing.specs.declared.fault.ParseFault.TheVariants as parse

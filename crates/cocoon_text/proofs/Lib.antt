@@ -1,3 +1,5 @@
+pub mod Columns
+pub mod NameRuns
 pub mod Blocks
 pub mod Closings
 pub mod Heads

@@ -7,7 +7,7 @@ use Rattle.cocoon_num.specs.Tree.{Design, DefsText}
 use Rattle.cocoon_num.specs.Tokens.{Kind, Token, none_deep, brackets_after, operators_after, language_bounds, is_shallow, kinds, language, lex}
 use Rattle.cocoon_num.specs.Reads.{DefsAt, DesignAt, Reads, ReadsDefs}
 use Rattle.cocoon_num.specs.FirstFaults.{BeginsDefs, BeginsDesign, Unexpected, TooDeep}
-use Rattle.cocoon_lex.specs.Position.{column_of, line_of}
+use Rattle.cocoon_text.specs.Position.{column_of, line_of}
 use Rattle.cocoon_text.specs.TextFaults.{FaultAt, bad_byte, bad_number, open_comment, unexpected, too_deep, FirstFault}
 use Rattle.cocoon_text.specs.declared.fault.FaultKind.{FaultKind}
 use Rattle.cocoon_text.specs.declared.fault.TextFault.{TextFault}

@@ -7,8 +7,8 @@ use Rattle.cocoon_num.specs.Tree.{DefsText, Design}
 use Rattle.cocoon_num.specs.Tokens.{Kind, kinds, lex, language, is_shallow, language_bounds}
 use Rattle.cocoon_num.specs.Reads.{DefsAt, DesignAt, Reads, ReadsDefs}
 use Rattle.cocoon_num.specs.FirstFaults.{BeginsDefs, BeginsDesign, Unexpected, TooDeep}
-use Rattle.cocoon_lex.specs.Kinds.{token_of}
-use Rattle.cocoon_lex.specs.declared.token.Token.{Token}
+use Rattle.cocoon_text.specs.Kinds.{token_of}
+use Rattle.cocoon_text.specs.declared.token.Token.{Token}
 use Rattle.parsing.specs.PlainParser.{Outcome, good, defs_from, design_from}
 use Rattle.parsing.specs.Reading.{Fails, Ended, TokensOf, Reading}
 use Rattle.parsing.specs.Depth.{FirstDeep, FirstDeepOf, reach}

@@ -3,10 +3,10 @@
 use Rattle.std.specs.Prelude.{◌≡◌, ◌+◌, ◌<◌, ◌≤◌, ℕ, List, map, slice_get, slice_range, Bool, true, false, if◌then◌else◌, ⊤, Option, Some, None, Result, Ok, Err}
 use Rattle.cocoon_num.specs.Tokens.{Kind, a_name, keyword, mark}
 use Rattle.cocoon_num.specs.declared.bits.Bits.{Bits}
-use Rattle.cocoon_lex.specs.Kinds.{keyword_text, kind_of, mark_text}
-use Rattle.cocoon_lex.specs.declared.token.Keyword.{Keyword}
-use Rattle.cocoon_lex.specs.declared.token.Mark.{Mark}
-use Rattle.cocoon_lex.specs.declared.token.Token.{Token}
+use Rattle.cocoon_text.specs.Kinds.{keyword_text, kind_of, mark_text}
+use Rattle.cocoon_text.specs.declared.token.Keyword.{Keyword}
+use Rattle.cocoon_text.specs.declared.token.Mark.{Mark}
+use Rattle.cocoon_text.specs.declared.token.Token.{Token}
 use Rattle.cocoon_syntax.specs.declared.name.Name.{Name}
 use Rattle.cocoon_syntax.specs.TreeOf.{name_of}
 use Rattle.parsing.specs.declared.stop.Stop.{Stop}

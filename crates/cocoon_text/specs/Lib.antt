@@ -1,3 +1,6 @@
+pub mod LexFaults
+pub mod Kinds
+pub mod Position
 pub mod Phrases
 pub mod Agrees
 pub mod ExprPhrases

@@ -2,7 +2,7 @@
 -- in a text.
 use Rattle.std.specs.Prelude.{ℕ, List, length, slice_get, Option, Some, None, Ok, Err}
 use Rattle.cocoon_num.specs.Tokens.{Token, Lexed, language, lex}
-use Rattle.cocoon_lex.specs.Position.{column_of, line_of}
+use Rattle.cocoon_text.specs.Position.{column_of, line_of}
 use Rattle.cocoon_text.specs.declared.position.Position.{Position}
 
 -- where a token begins; without one, at the text's end

@@ -4,7 +4,7 @@ use Rattle.std.specs.Prelude.{◌≡◌, ℕ, List, slice_get, Some, Ok, Err, co
 use Rattle.cocoon_num.specs.Tokens.{Kind, Token, kinds, language, language_bounds, lex}
 use Rattle.cocoon_num.specs.Tokens as lexing
 use Rattle.cocoon_num.specs.FirstFaults as first_faults
-use Rattle.cocoon_lex.specs.Position.{column_of, line_of}
+use Rattle.cocoon_text.specs.Position.{column_of, line_of}
 use Rattle.cocoon_text.specs.declared.fault.FaultKind.{FaultKind}
 use Rattle.cocoon_text.specs.declared.fault.FaultKind.TheVariants as kind
 use Rattle.cocoon_text.specs.declared.fault.TextFault.{TextFault}

@@ -1,7 +1,7 @@
 //! Declarations, refinements, headers and designs.
 ghost use Rattle.std.specs.Prelude.{◌≡◌, ◌+◌, ◌<◌, ◌≤◌, ◌^◌, IfOk, length, map, option_map, slice_get, true};
 ghost use Rattle.cocoon_num.specs.Tree.{a_function, a_role};
-ghost use Rattle.cocoon_lex.specs.Kinds.{mark_text};
+ghost use Rattle.cocoon_text.specs.Kinds.{mark_text};
 ghost use Rattle.cocoon_syntax.specs.TreeOf.{body_of, decl_of, design_of, expr_of, header_of, name_of, param_of, refine_of, result_of};
 ghost use Rattle.cocoon_text.specs.Phrases.{LimitAt, PairAt, PortsAt, answer_from, answer_of, duty_from, duty_of, head_from, head_of, headed, refinement, stops_of};
 ghost use Rattle.parsing.specs.PlainParser as parser;
@@ -13,7 +13,7 @@ use crate::joins::then;
 use crate::names::{bits, names, param, params};
 use crate::source::Source;
 use crate::stmts::{assigned, block};
-use cocoon_lex::{Keyword, Mark};
+use crate::token::{Keyword, Mark};
 use cocoon_syntax::{
     AssumeDecl, Decl, Design, Expr, FunctionDecl, HeaderDecl, HostDecl, Name, Param, Refine,
     ResultKind, Role, Stmt, SwitchDecl,

@@ -4,7 +4,7 @@ ghost use Rattle.cocoon_num.specs.Tokens.{is_kind_of, language_bounds};
 ghost use Rattle.cocoon_text.specs.Agrees.{keyword_kind, mark_kind};
 ghost use Rattle.parsing.specs.Depth.{closing, opening, restarting};
 
-use cocoon_lex::{Keyword, Mark, Token, TokenKind};
+use crate::token::{Keyword, Mark, Token, TokenKind};
 use parsing::Depth;
 
 /// Designs and definitions.

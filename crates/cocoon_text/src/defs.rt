@@ -8,7 +8,7 @@ ghost use Rattle.parsing.specs.Joins.{Makes};
 
 use crate::joins::then;
 use crate::source::Source;
-use cocoon_lex::{Keyword, Mark};
+use crate::token::{Keyword, Mark};
 use cocoon_syntax::{Const, Entry, Name, Pattern};
 use parsing::Stop;
 use std::alloc::Global;

@@ -2,7 +2,7 @@
 ghost use Rattle.std.specs.Prelude.{◌≡◌, ◌+◌, ◌<◌, ◌≤◌, ◌^◌, IfOk, length, map};
 ghost use Rattle.cocoon_num.specs.Reads.{of_expr, of_unary, of_post, of_prim, of_cmp};
 ghost use Rattle.cocoon_num.specs.Tree as tree;
-ghost use Rattle.cocoon_lex.specs.Kinds.{mark_text};
+ghost use Rattle.cocoon_text.specs.Kinds.{mark_text};
 ghost use Rattle.cocoon_syntax.specs.TreeOf.{binary_of, expr_of, exprs_of, kind_of, name_of, unary_of};
 ghost use Rattle.cocoon_text.specs.ExprPhrases.{RangeAt, leaf_from, level_of, name_or_call, part_of, sides_from, sides_of, then_mark};
 ghost use Rattle.parsing.specs.PlainParser as parser;
@@ -13,7 +13,7 @@ use crate::joins::then;
 use crate::names::path;
 use crate::operators::Chain;
 use crate::source::Source;
-use cocoon_lex::{Keyword, Mark};
+use crate::token::{Keyword, Mark};
 use cocoon_num::{NoMemory, Text};
 use cocoon_syntax::{BinaryOp, Expr, ExprKind, Name, UnaryOp};
 use parsing::{Stop, both};

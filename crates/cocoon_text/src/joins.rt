@@ -1,11 +1,11 @@
 //! What was read, with what stands beside it: each is made by a function of its own, since a check is
 //! much faster on a phrase with few early returns.
 ghost use Rattle.std.specs.Prelude.{◌≡◌};
-ghost use Rattle.cocoon_lex.specs.Kinds.{mark_text};
+ghost use Rattle.cocoon_text.specs.Kinds.{mark_text};
 ghost use Rattle.cocoon_text.specs.Agrees.{with_mark};
 
 use crate::source::Source;
-use cocoon_lex::Mark;
+use crate::token::Mark;
 use parsing::Stop;
 
 /// What was read, where this mark comes after it.

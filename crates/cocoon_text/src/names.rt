@@ -5,7 +5,7 @@ ghost use Rattle.parsing.specs.PlainParser as parser;
 ghost use Rattle.cocoon_text.specs.Agrees.{Moves, Agrees, AgreesDeep, path_of};
 
 use crate::source::Source;
-use cocoon_lex::{Keyword, Mark};
+use crate::token::{Keyword, Mark};
 use cocoon_syntax::{Name, Param};
 use parsing::Stop;
 use std::alloc::Global;

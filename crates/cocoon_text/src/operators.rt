@@ -1,13 +1,13 @@
 //! The operators that stand between two expressions.
 ghost use Rattle.std.specs.Prelude.{◌≡◌, Some, List, ℕ, option_map};
 ghost use Rattle.cocoon_num.specs.Reads.{of_cmp, of_expr, of_or, of_and, of_cat, of_bit, of_sum};
-ghost use Rattle.cocoon_lex.specs.Kinds.{kind_of};
+ghost use Rattle.cocoon_text.specs.Kinds.{kind_of};
 ghost use Rattle.cocoon_syntax.specs.TreeOf.{binary_of};
 ghost use Rattle.cocoon_text.specs.Agrees.{mark_kind};
 ghost use Rattle.cocoon_text.specs.ExprPhrases.{level_of};
 ghost use Rattle.parsing.specs.PlainParser.{op_at, op_in, ops_of};
 
-use cocoon_lex::{Keyword, Mark, TokenKind};
+use crate::token::{Keyword, Mark, TokenKind};
 use cocoon_syntax::BinaryOp;
 
 /// A level of operators that group to the left, from the loosest on.

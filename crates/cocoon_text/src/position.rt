@@ -1,9 +1,11 @@
 //! The positions of the tokens of a text.
 ghost use Rattle.std.specs.Prelude.{All, ◌≡◌, ◌<◌, ◌≤◌, ◌^◌, IfOk, length, map, slice_get};
-ghost use Rattle.cocoon_lex.specs.Kinds.{StandsIn, token_of};
+ghost use Rattle.cocoon_text.specs.Kinds.{StandsIn, token_of};
 ghost use Rattle.cocoon_text.specs.Positions.{offset_of, position_at, start_or, token_position};
 
-use cocoon_lex::{LexFault, Token, lex, position_at};
+use crate::byte_position::position_at;
+use crate::lexer::{LexFault, lex};
+use crate::token::Token;
 use cocoon_num::NoMemory;
 use std::alloc::Global;
 

@@ -3,16 +3,18 @@ ghost use Rattle.std.specs.Prelude.{All, ◌≡◌, ◌<◌, ◌≤◌, ◌^◌,
 ghost use Rattle.cocoon_num.specs.Reads.{Reads, ReadsDefs};
 ghost use Rattle.cocoon_num.specs.FirstFaults.{BeginsDefs, BeginsDesign};
 ghost use Rattle.cocoon_num.specs.Tokens.{kinds, language, lex as tokens_of};
-ghost use Rattle.cocoon_lex.specs.Kinds.{HasFault, StandsIn, token_of};
-ghost use Rattle.cocoon_lex.specs.Position.{column_of, line_of};
+ghost use Rattle.cocoon_text.specs.Kinds.{HasFault, StandsIn, token_of};
+ghost use Rattle.cocoon_text.specs.Position.{column_of, line_of};
 ghost use Rattle.cocoon_text.specs.ParseFaults.{IsFirstFault};
 ghost use Rattle.cocoon_syntax.specs.TreeOf.{design_of, entries_of};
 ghost use Rattle.cocoon_text.specs.TextFaults.{IsUnread};
 ghost use Rattle.cocoon_text.specs.OfToken.{OfToken};
 
+use crate::byte_position::position_at;
 use crate::fault::{FaultKind, TextFault, Unread};
+use crate::lexer::{LexFault, lex};
+use crate::token::Token;
 use crate::whole_text::{parse_defs, parse_design};
-use cocoon_lex::{LexFault, Token, lex, position_at};
 use cocoon_syntax::{DefsText, Design};
 use parsing::ParseFault;
 use std::alloc::Global;

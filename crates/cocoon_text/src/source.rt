@@ -1,6 +1,6 @@
 //! Tokens of a text, by their indices.
 ghost use Rattle.std.specs.Prelude.{◌≡◌, ◌<◌, ◌≤◌, ◌^◌, ℕ, List, IfOk, IsSome, Some, option_map, length, slice_get, true};
-ghost use Rattle.cocoon_lex.specs.Kinds.{keyword_text, kind_of, mark_text};
+ghost use Rattle.cocoon_text.specs.Kinds.{keyword_text, kind_of, mark_text};
 ghost use Rattle.cocoon_syntax.specs.TreeOf.{binary_of};
 ghost use Rattle.cocoon_num.specs.Reads.{of_cmp, of_expr};
 ghost use Rattle.cocoon_text.specs.ExprPhrases.{level_of};
@@ -8,7 +8,7 @@ ghost use Rattle.parsing.specs.PlainParser as parser;
 ghost use Rattle.cocoon_text.specs.Agrees.{LiteralAt, NameAt, NumberAt, TokenAt, kind_at, kinds_at, is_name_token, literal_of, name_bytes};
 
 use crate::operators::{Chain, chained, compared, implied};
-use cocoon_lex::{Keyword, Mark, Token, TokenKind};
+use crate::token::{Keyword, Mark, Token, TokenKind};
 use cocoon_num::{Bits, NoMemory, Text};
 use cocoon_syntax::{BinaryOp, Name};
 use parsing::{Stop, bytes_between};

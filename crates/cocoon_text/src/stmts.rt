@@ -12,7 +12,7 @@ use crate::exprs::{expr, expr_then, exprs};
 use crate::joins::then;
 use crate::names::{param, path};
 use crate::source::Source;
-use cocoon_lex::{Keyword, Mark};
+use crate::token::{Keyword, Mark};
 use cocoon_syntax::{Expr, Name, Param, Stmt, StmtKind};
 use parsing::{Stop, both};
 use std::alloc::Global;

@@ -3,14 +3,14 @@ ghost use Rattle.std.specs.Prelude.{◌≡◌, ◌<◌, ◌^◌, ℕ, Err, IfOk,
 ghost use Rattle.cocoon_num.specs.Reads.{Reads, ReadsDefs};
 ghost use Rattle.cocoon_num.specs.FirstFaults.{BeginsDefs, BeginsDesign, TooDeep, Unexpected};
 ghost use Rattle.cocoon_num.specs.Tokens.{kinds, language, lex, language_bounds};
-ghost use Rattle.cocoon_lex.specs.Kinds.{token_of};
+ghost use Rattle.cocoon_text.specs.Kinds.{token_of};
 ghost use Rattle.cocoon_syntax.specs.TreeOf.{design_of, entries_of};
 
 use crate::decls::design;
 use crate::deep::Language;
 use crate::defs::entries;
 use crate::source::Source;
-use cocoon_lex::Token;
+use crate::token::Token;
 use cocoon_syntax::{DefsText, Design};
 use parsing::text_laws::{definitions, designs, tokens_end};
 use parsing::{ParseFault, fault_of, first_deep, up_to};

@@ -2,8 +2,7 @@
 ghost use Rattle.std.specs.Prelude.{◌<◌, ◌^◌, length};
 
 use case_files::Printer;
-use cocoon_lex::{Token, lex};
-use cocoon_text::{FaultKind, TextFault, Unread, read_design};
+use cocoon_text::{FaultKind, TextFault, Token, Unread, lex, read_design};
 use std::alloc::Global;
 
 /// Puts a sign for each token: how the prefix reads that ends with it.

@@ -1,10 +1,10 @@
 //! The tokens of a text as they are written in cases.
 ghost use Rattle.std.specs.Prelude.{All, ◌<◌, ◌^◌, length};
-ghost use Rattle.cocoon_lex.specs.Kinds.{StandsIn};
+ghost use Rattle.cocoon_text.specs.Kinds.{StandsIn};
 
 use crate::pieces::{put_number, put_position};
 use case_files::Printer;
-use cocoon_lex::{LexFault, Token, lex, position_at};
+use cocoon_text::{LexFault, Token, lex, position_at};
 use std::alloc::Global;
 
 /// Puts the tokens of a text, or its first fault with the offset of its first byte, as `BadByte(2)`.

@@ -4,7 +4,7 @@ use Rattle.parsing.specs.PlainParser.{after, marked, named, params_from}
 use Rattle.cocoon_text.specs.ExprPhrases.{then_mark}
 use Rattle.cocoon_text.specs.Phrases.{head_of}
 use Rattle.cocoon_text.proofs.Eventually.{agrees_as, agrees_made, agrees_marked, moves_marked, moves_with_first, with_first_makes}
-use Rattle.cocoon_lex.specs.Kinds.{mark_text}
+use Rattle.cocoon_text.specs.Kinds.{mark_text}
 use Rattle.cocoon_syntax.specs.TreeOf.{name_of}
 use Rattle.cocoon_text.proofs.decls.head.Goals as goal
 

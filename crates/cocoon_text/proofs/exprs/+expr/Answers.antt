@@ -1,7 +1,7 @@
 use Rattle.std.proofs.Common.{rules, arith, ◌≡◌, ◌+◌, length, map, sym, subst, Ok, Err, slice_get, codes, refl, false}
 use Rattle.cocoon_num.specs.Tree.{binary, call, pick, token_index, unary}
 use Rattle.cocoon_num.specs.Values.{flip, not_}
-use Rattle.cocoon_lex.specs.Kinds.{mark_text}
+use Rattle.cocoon_text.specs.Kinds.{mark_text}
 use Rattle.cocoon_num.specs.Reads.{of_expr, of_or, of_cmp, of_cat}
 use Rattle.cocoon_syntax.specs.TreeOf.{binary_of, expr_of, exprs_of, name_of}
 use Rattle.cocoon_text.specs.ExprPhrases.{leaf_from, part_of, sides_of}

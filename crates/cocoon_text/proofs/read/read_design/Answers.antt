@@ -1,7 +1,7 @@
 use Rattle.std.proofs.Common.{◌∙◌, ap, map, refl, sym}
 use Rattle.cocoon_num.specs.FirstFaults.{BeginsDesign}
 use Rattle.cocoon_num.specs.Tokens.{kinds}
-use Rattle.cocoon_lex.specs.Kinds.{token_of}
+use Rattle.cocoon_text.specs.Kinds.{token_of}
 use Rattle.cocoon_text.proofs.FirstFaults.{parse_fault}
 use Rattle.cocoon_text.proofs.read.read_design.Goals as goal
 

@@ -1,7 +1,7 @@
 use Rattle.std.proofs.Common.{◌≡◌, Err, subst}
 use Rattle.cocoon_num.specs.Tokens.{bad_byte, bad_number, open_comment, language, lex}
 use Rattle.cocoon_num.specs.FirstFaults.{BeginsDefs, BeginsDesign}
-use Rattle.cocoon_lex.specs.Kinds.{HasFault}
+use Rattle.cocoon_text.specs.Kinds.{HasFault}
 use Rattle.cocoon_text.specs.TextFaults as faults
 use Rattle.cocoon_text.specs.declared.fault.FaultKind.TheVariants.{BadByte, BadNumber, OpenComment}
 use Rattle.cocoon_text.proofs.FirstFaults.{first_fault}

@@ -1,7 +1,7 @@
 use Rattle.std.proofs.Common.{map, subst}
 use Rattle.cocoon_num.specs.FirstFaults.{BeginsDefs, BeginsDesign}
 use Rattle.cocoon_num.specs.Tokens.{kinds}
-use Rattle.cocoon_lex.specs.Kinds.{token_of}
+use Rattle.cocoon_text.specs.Kinds.{token_of}
 use Rattle.cocoon_text.specs.ParseFaults.{IsFirstFault}
 use Rattle.cocoon_text.proofs.FirstFaults.{is_too_deep, is_unexpected}
 use Rattle.cocoon_text.proofs.read.unparsed.Goals as goal

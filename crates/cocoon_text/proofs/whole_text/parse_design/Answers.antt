@@ -2,7 +2,7 @@ use Rattle.std.proofs.Common.{arith, ◌≡◌, ◌≤◌, ◌^◌, length, map,
 use Rattle.std.proofs.lemmas.List.{length-map}
 use Rattle.cocoon_num.specs.FirstFaults.{BeginsDesign}
 use Rattle.cocoon_num.specs.Tokens.{kinds, language_bounds}
-use Rattle.cocoon_lex.specs.Kinds.{token_of}
+use Rattle.cocoon_text.specs.Kinds.{token_of}
 use Rattle.cocoon_syntax.specs.TreeOf.{design_of}
 use Rattle.parsing.specs.PlainParser.{design_from}
 use Rattle.cocoon_text.specs.Agrees.{kind_at, kinds_at}

@@ -1,7 +1,7 @@
 //! The reserved words and the marks, and which of them stands in a text.
 ghost use Rattle.std.specs.Prelude.{◌≡◌, option_map};
 ghost use Rattle.cocoon_num.specs.Tokens as tokens;
-ghost use Rattle.cocoon_lex.specs.Kinds.{kind_of, mark_text};
+ghost use Rattle.cocoon_text.specs.Kinds.{kind_of, mark_text};
 ghost use Rattle.lexing.specs.Prefixes.{BeginsWithLetter};
 
 use crate::token::{Keyword, Mark, TokenKind};
@@ -71,7 +71,7 @@ const MARKS: [Mark; 28] = [
 ];
 
 impl Spelled for Keyword {
-    ghost use Rattle.cocoon_lex.specs.Kinds.{keyword_text};
+    ghost use Rattle.cocoon_text.specs.Kinds.{keyword_text};
 
     ghost text_of = { keyword_text };
 
@@ -81,7 +81,7 @@ impl Spelled for Keyword {
 }
 
 impl Spelled for Mark {
-    ghost use Rattle.cocoon_lex.specs.Kinds.{mark_text};
+    ghost use Rattle.cocoon_text.specs.Kinds.{mark_text};
 
     ghost text_of = { mark_text };
 

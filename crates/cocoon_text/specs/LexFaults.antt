@@ -1,8 +1,8 @@
 -- The fault of this crate that is a first fault of the lexer's. Cited where the one is made of the other.
 use Rattle.lexing.specs.declared.lexer.FirstFault.{FirstFault}
 use Rattle.lexing.specs.declared.lexer.FirstFault.TheVariants as first
-use Rattle.cocoon_lex.specs.declared.lexer.LexFault.{LexFault}
-use Rattle.cocoon_lex.specs.declared.lexer.LexFault.TheVariants.{BadByte, BadNumber, OpenComment, NoMemory}
+use Rattle.cocoon_text.specs.declared.lexer.LexFault.{LexFault}
+use Rattle.cocoon_text.specs.declared.lexer.LexFault.TheVariants.{BadByte, BadNumber, OpenComment, NoMemory}
 
 abbrev pub fault_of : FirstFault → LexFault
 fault_of (first.BadByte at) = BadByte at

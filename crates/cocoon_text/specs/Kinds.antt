@@ -2,15 +2,15 @@
 -- tokens of the definitions that the tokens of the code stand for.
 use Rattle.std.specs.Prelude.{◌≡◌, ◌≤◌, ℕ, List, length, slice_range, Err, IsTrue, codes}
 use Rattle.cocoon_num.specs.Tokens as tokens
-use Rattle.cocoon_lex.specs.declared.token.Keyword.{Keyword}
-use Rattle.cocoon_lex.specs.declared.token.Keyword.TheVariants as keyword
-use Rattle.cocoon_lex.specs.declared.token.Mark.{Mark}
-use Rattle.cocoon_lex.specs.declared.token.Mark.TheVariants as mark
-use Rattle.cocoon_lex.specs.declared.token.TokenKind.{TokenKind}
-use Rattle.cocoon_lex.specs.declared.token.TokenKind.TheVariants as kind
-use Rattle.cocoon_lex.specs.declared.token.Token.{Token}
-use Rattle.cocoon_lex.specs.declared.lexer.LexFault.{LexFault}
-use Rattle.cocoon_lex.specs.declared.lexer.LexFault.TheVariants.{BadByte, BadNumber, OpenComment, NoMemory}
+use Rattle.cocoon_text.specs.declared.token.Keyword.{Keyword}
+use Rattle.cocoon_text.specs.declared.token.Keyword.TheVariants as keyword
+use Rattle.cocoon_text.specs.declared.token.Mark.{Mark}
+use Rattle.cocoon_text.specs.declared.token.Mark.TheVariants as mark
+use Rattle.cocoon_text.specs.declared.token.TokenKind.{TokenKind}
+use Rattle.cocoon_text.specs.declared.token.TokenKind.TheVariants as kind
+use Rattle.cocoon_text.specs.declared.token.Token.{Token}
+use Rattle.cocoon_text.specs.declared.lexer.LexFault.{LexFault}
+use Rattle.cocoon_text.specs.declared.lexer.LexFault.TheVariants.{BadByte, BadNumber, OpenComment, NoMemory}
 
 abbrev pub keyword_text : Keyword → List ℕ
 keyword_text keyword.Packet = codes "packet"

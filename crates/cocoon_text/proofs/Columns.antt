@@ -3,7 +3,7 @@ use Rattle.std.specs.Prelude.{◌≡◌, ℕ, ◌+◌, ◌<◌, ◌==◌, not, B
 use Rattle.std.proofs.Common.{ap, ◌∙◌, arith}
 use Rattle.std.proofs.lemmas.List.{take_more, reverse-append}
 use Rattle.cocoon_num.specs.Tokens.{leading}
-use Rattle.cocoon_lex.specs.Position.{column_of}
+use Rattle.cocoon_text.specs.Position.{column_of}
 
 -- the bytes of a line, back from its end
 abbrev back_to_feed : List ℕ → List ℕ

@@ -1,6 +1,6 @@
 //! Tokens. Their kinds follow "Tokens" in docs/LANGUAGE.md.
 ghost use Rattle.std.specs.Prelude.{◌≡◌};
-ghost use Rattle.cocoon_lex.specs.Kinds.{keyword_text, mark_text};
+ghost use Rattle.cocoon_text.specs.Kinds.{keyword_text, mark_text};
 
 use cocoon_num::Bits;
 

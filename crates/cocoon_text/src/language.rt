@@ -9,7 +9,7 @@ pub struct Language;
 impl Lexicon for Language {
     ghost use Rattle.std.specs.Prelude.{refl};
     ghost use Rattle.cocoon_num.specs.Tokens.{language};
-    ghost use Rattle.cocoon_lex.specs.Kinds.{kind_of as kind_in, token_of as token_in};
+    ghost use Rattle.cocoon_text.specs.Kinds.{kind_of as kind_in, token_of as token_in};
 
     type Kind = TokenKind;
 

@@ -1,6 +1,6 @@
 //! Positions: lines and columns, by which a report names a byte of a text.
 ghost use Rattle.std.specs.Prelude.{◌≡◌, ◌<◌, ◌≤◌, ◌^◌, length};
-ghost use Rattle.cocoon_lex.specs.Position.{column_of, line_of};
+ghost use Rattle.cocoon_text.specs.Position.{column_of, line_of};
 
 /// The line and the column of an offset, both from 1. A column counts bytes.
 #[tactic(auto, using(crate::proofs::Columns::next_column))]

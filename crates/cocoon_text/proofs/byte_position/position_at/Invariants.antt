@@ -1,6 +1,6 @@
 use Rattle.std.proofs.Common.{◌≡◌, ◌+◌, ◌≤◌}
-use Rattle.cocoon_lex.specs.Position.{column_of, line_of}
-use Rattle.cocoon_lex.proofs.position.position_at.Given as goal
+use Rattle.cocoon_text.specs.Position.{column_of, line_of}
+use Rattle.cocoon_text.proofs.byte_position.position_at.Given as goal
 
 abbrev pub invariant-loop-byte : goal.invariant-loop-byte
 invariant-loop-byte l = record {

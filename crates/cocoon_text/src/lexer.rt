@@ -1,7 +1,7 @@
 //! The tokens of a text, or its first fault.
 ghost use Rattle.std.specs.Prelude.{All, ◌≡◌, ◌<◌, ◌^◌, IfErr, IfOk, Ok, length, map};
 ghost use Rattle.cocoon_num.specs.Tokens.{language, lex as tokens_of};
-ghost use Rattle.cocoon_lex.specs.Kinds.{HasFault, IsSpelled, StandsIn, token_of};
+ghost use Rattle.cocoon_text.specs.Kinds.{HasFault, IsSpelled, StandsIn, token_of};
 
 use crate::language::Language;
 use crate::token::Token;
@@ -22,7 +22,7 @@ pub enum LexFault {
 
 impl From<FirstFault> for LexFault {
     ghost use Rattle.std.specs.Prelude.{◌≡◌};
-    ghost use Rattle.cocoon_lex.specs.Faults.{fault_of};
+    ghost use Rattle.cocoon_text.specs.LexFaults.{fault_of};
 
     ghost from_gives = { λ first fault. fault ≡ fault_of first };
 
