@@ -9,9 +9,9 @@ use Rattle.p4_ir.specs.P4Reads.{P4Reads}
 use Rattle.p4_ir.specs.P4Text.{p4_bounds, program_tokens}
 use Rattle.p4_ir.specs.P4Tree.{Program}
 use Rattle.p4_ir.specs.WellKinded.{WellKinded}
-use Rattle.p4_names.specs.KindFaults.{kind_faults}
-use Rattle.p4_names.specs.Meant.{program_of_text}
-use Rattle.p4_names.specs.TextOf.{header_written, line_written, member_written, text_of_program}
+use Rattle.p4_texts.specs.KindFaults.{kind_faults}
+use Rattle.p4_texts.specs.Meant.{program_of_text}
+use Rattle.p4_texts.specs.TextOf.{header_written, line_written, member_written, text_of_program}
 use Rattle.p4_read.specs.Answers.{Answer, Answers, a_program}
 use Rattle.p4_texts.specs.Written.{Lines, P4TextAt, ProgramText, text_tokens}
 

@@ -6,8 +6,8 @@ ghost use Rattle.p4_ir.specs.P4Tree.{Program};
 ghost use Rattle.p4_ir.specs.WellKinded.{WellKinded};
 ghost use Rattle.p4_read.specs.Answers.{Answer, Answers, a_program};
 
-use p4_names::program_laws::{no_fault_tokens, program_has_no_fault, program_stands};
 use p4_read::laws::{one_answer, one_text};
+use p4_texts::program_laws::{no_fault_tokens, program_has_no_fault, program_stands};
 
 /// Well-kinded programs with the same tokens are the same.
 pub fn one_program_of_tokens()

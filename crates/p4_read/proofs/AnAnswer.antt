@@ -9,9 +9,9 @@ use Rattle.p4_ir.specs.P4Reads.{P4Reads}
 use Rattle.p4_ir.specs.P4Text.{p4_bounds, p4_lexicon}
 use Rattle.p4_ir.specs.P4Tree.{Program}
 use Rattle.p4_parse.specs.Kinds.{fault_offset}
-use Rattle.p4_names.specs.KindFaults.{kind_faults}
-use Rattle.p4_names.specs.Meant.{program_of_text}
-use Rattle.p4_names.specs.ReadText.{StandsFor}
+use Rattle.p4_texts.specs.KindFaults.{kind_faults}
+use Rattle.p4_texts.specs.Meant.{program_of_text}
+use Rattle.p4_texts.specs.ReadText.{StandsFor}
 use Rattle.p4_read.specs.declared.fault.P4Fault.TheVariants.{Lex, Unexpected, TooDeep, Kind}
 use Rattle.p4_resolve.specs.FirstKind.{first_of}
 use Rattle.p4_texts.specs.Machine.{stuck, whole_text}

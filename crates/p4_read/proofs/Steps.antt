@@ -9,9 +9,9 @@ use Rattle.p4_parse.specs.Kinds.{HasFault, token_of}
 use Rattle.p4_parse.specs.declared.lexer.LexFault.{LexFault}
 use Rattle.p4_parse.specs.declared.lexer.LexFault.TheVariants as lexed
 use Rattle.p4_parse.specs.declared.token.Token.{Token}
-use Rattle.p4_names.specs.KindFaults.{kind_faults}
-use Rattle.p4_names.specs.Meant.{program_of_text}
-use Rattle.p4_names.specs.ReadText.{StandsFor}
+use Rattle.p4_texts.specs.KindFaults.{kind_faults}
+use Rattle.p4_texts.specs.Meant.{program_of_text}
+use Rattle.p4_texts.specs.ReadText.{StandsFor}
 use Rattle.p4_parse.specs.Faults as parsing
 use Rattle.p4_parse.specs.Phrases.{kind_at, kinds_at}
 use Rattle.parsing.specs.declared.fault.ParseFault.{ParseFault}

@@ -9,7 +9,7 @@ use Rattle.p4_ir.specs.P4Text.{p4_bounds, p4_lexicon}
 use Rattle.p4_parse.specs.Kinds.{FaultAt}
 use Rattle.p4_parse.specs.declared.lexer.LexFault.{LexFault}
 use Rattle.p4_parse.specs.declared.lexer.LexFault.TheVariants as lexed
-use Rattle.p4_names.specs.KindFaults.{kind_faults}
+use Rattle.p4_texts.specs.KindFaults.{kind_faults}
 use Rattle.parsing.specs.declared.fault.ParseFault.{ParseFault}
 use Rattle.parsing.specs.declared.fault.ParseFault.TheVariants as parsed
 use Rattle.p4_resolve.specs.FirstKind.{first_of}

@@ -4,7 +4,7 @@ ghost use Rattle.cocoon_num.specs.Tokens.{Kind};
 ghost use Rattle.p4_texts.specs.Written.{P4TextAt, ProgramText};
 ghost use Rattle.p4_read.specs.Answers.{Answer, Answers};
 
-use p4_names::program_laws::{reads_where_it_stands, stands_where_it_reads};
+use p4_texts::program_laws::{reads_where_it_stands, stands_where_it_reads};
 
 /// The tokens of a text have one tree.
 pub fn one_text()

@@ -6,9 +6,9 @@ ghost use Rattle.p4_read.specs.FirstFault.{IsFirstFault};
 
 use crate::fault::P4Fault;
 use p4_ir::Program;
-use p4_names::program_laws::reads_where_it_stands;
 use p4_parse::{lex, parse};
 use p4_resolve::resolve;
+use p4_texts::program_laws::reads_where_it_stands;
 use p4_texts::reader_laws::tokens_end;
 use std::alloc::Global;
 

@@ -2,7 +2,7 @@
 use Rattle.std.proofs.Common.{◌≡◌, ℕ, ◌+◌, Bool, List, [], ◌∷◌, ◌++◌, length, codes, refl, ap, ◌∙◌, arith}
 use Rattle.cocoon_num.specs.Tokens.{a_name, mark}
 use Rattle.p4_ir.specs.P4Text.{said}
-use Rattle.p4_names.specs.KindFaults.{Piece, block_pieces, control_pieces, fixed, stands_in, table_pieces}
+use Rattle.p4_texts.specs.KindFaults.{Piece, block_pieces, control_pieces, fixed, stands_in, table_pieces}
 use Rattle.p4_texts.specs.Written.{ControlText, ProgramText, TableText}
 use Rattle.p4_resolve.specs.Controls.{action_names, table_numbers}
 use Rattle.p4_resolve.specs.Judged.{Passes, Rest, StopsBy, index}

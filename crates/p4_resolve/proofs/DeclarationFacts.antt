@@ -1,7 +1,7 @@
 -- Declarations, one after the other, each after those with the names before it.
 use Rattle.std.proofs.Common.{◌≡◌, ℕ, ◌+◌, ◌<◌, ◌≤◌, List, [], ◌∷◌, ◌++◌, length, map, drop, get_or, Vec, Global, refl, sym, ap, subst, ◌∙◌, append_assoc}
 use Rattle.std.proofs.lemmas.List.{at_drop_more, at_drop_all, append-nil, map-append}
-use Rattle.p4_names.specs.KindFaults.{Piece}
+use Rattle.p4_texts.specs.KindFaults.{Piece}
 use Rattle.p4_resolve.specs.Judged.{Rest, Passes, StopsBy, Sees}
 use Rattle.p4_resolve.specs.declared.fault.KindFault.{KindFault}
 use Rattle.p4_resolve.proofs.NameFacts.{none_seen}

@@ -4,8 +4,8 @@ use Rattle.cocoon_num.specs.Lists.{is_one_of}
 use Rattle.cocoon_num.specs.Packets.{total}
 use Rattle.cocoon_num.specs.Tokens.{a_name, is_run, mark}
 use Rattle.p4_ir.specs.P4Tree.{P4Field, P4Header, field_widths}
-use Rattle.p4_names.specs.KindFaults.{Piece, field_pieces, fixed, header_keeps, header_pieces, meta_pieces}
-use Rattle.p4_names.specs.Meant.{field_meant, header_meant, meta_meant}
+use Rattle.p4_texts.specs.KindFaults.{Piece, field_pieces, fixed, header_keeps, header_pieces, meta_pieces}
+use Rattle.p4_texts.specs.Meant.{field_meant, header_meant, meta_meant}
 use Rattle.p4_texts.specs.Written.{FieldText, HeaderText}
 use Rattle.p4_texts.specs.TreeOf.{field_of, header_of}
 use Rattle.p4_texts.specs.declared.written.WrittenField.{WrittenField}

@@ -1,7 +1,7 @@
 -- From what is known of a declaration to what is known of its piece.
 use Rattle.std.proofs.Common.{◌≡◌, ℕ, ◌+◌, Bool, List, [], ◌∷◌, ◌++◌, length, Vec, Global, sym, ap, subst, ◌∙◌}
 use Rattle.p4_ir.specs.P4Tree.{P4Field}
-use Rattle.p4_names.specs.KindFaults.{Piece}
+use Rattle.p4_texts.specs.KindFaults.{Piece}
 use Rattle.p4_resolve.specs.FieldForms.{Declares, Keeps, field_fits}
 use Rattle.p4_resolve.specs.Judged.{Breaks, Sees, StopsBy, index}
 use Rattle.p4_resolve.specs.declared.fault.KindFault.{KindFault}

@@ -9,7 +9,7 @@ use Rattle.std.proofs.lemmas.Bool.Decides.{nat_tests}
 use Rattle.cocoon_num.specs.Names.{same_name}
 use Rattle.cocoon_num.specs.Tokens as tokens
 use Rattle.p4_ir.specs.P4Tree.{P4Header}
-use Rattle.p4_names.specs.KindFaults.{Piece, line_pieces, member_pieces}
+use Rattle.p4_texts.specs.KindFaults.{Piece, line_pieces, member_pieces}
 use Rattle.p4_texts.specs.Written.{MemberText, member_then}
 use Rattle.p4_resolve.specs.Lines.{line_fits, member_fits}
 use Rattle.p4_resolve.proofs.NameFacts as names

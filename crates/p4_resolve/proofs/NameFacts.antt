@@ -1,6 +1,6 @@
 -- What a name begins with, and the names that a set has.
 use Rattle.std.proofs.Common.{◌≡◌, ℕ, ◌==◌, ◌&&◌, ◌||◌, Bool, true, false, not, List, [], ◌∷◌, ◌++◌, length, drop, take, ◌-◌, length-drop, nat_eq, Vec, Global, if◌then◌else◌, refl, sym, ap, ◌∙◌, arith}
-use Rattle.p4_names.specs.Meant.{rest_after}
+use Rattle.p4_texts.specs.Meant.{rest_after}
 use Rattle.std.proofs.lemmas.List.{take_all}
 use Rattle.std.specs.List.{starts_with}
 use Rattle.cocoon_num.specs.Lists.{is_one_of}

@@ -10,7 +10,7 @@ use Rattle.std.proofs.Math.Nat.{mul-le-mul_right, mul_assoc, one-le-pow, pow-le-
 use Rattle.cocoon_num.specs.Lists.{each}
 use Rattle.cocoon_num.specs.Names.{same_name}
 use Rattle.cocoon_num.specs.Tokens.{dec_digit, digits_after, is_digit, kept_if}
-use Rattle.p4_names.specs.Meant.{number_in}
+use Rattle.p4_texts.specs.Meant.{number_in}
 use Rattle.p4_resolve.specs.Numbered.{begins_with, is_canonical, is_small, small}
 use Rattle.numbering.proofs.NameFacts.{same-refl, same-true}
 

@@ -7,8 +7,8 @@ use Rattle.std.proofs.lemmas.List.{append-nil}
 use Rattle.cocoon_num.specs.Lists.{each}
 use Rattle.cocoon_num.specs.Tokens.{finish, mark}
 use Rattle.p4_ir.specs.P4Text.{architecture, said}
-use Rattle.p4_names.specs.KindFaults.{control_pieces, fixed, header_pieces, kind_faults, line_pieces, member_pieces, meta_pieces, pieces}
-use Rattle.p4_names.specs.Meant.{program_of_text}
+use Rattle.p4_texts.specs.KindFaults.{control_pieces, fixed, header_pieces, kind_faults, line_pieces, member_pieces, meta_pieces, pieces}
+use Rattle.p4_texts.specs.Meant.{program_of_text}
 use Rattle.p4_texts.specs.Written.{ProgramText, deparser_head, egress_begins, egress_head, emit_then, extract_then, ingress_begins, ingress_head, parser_head, text_end, text_tokens}
 use Rattle.p4_resolve.specs.FirstKind.{IsFirstKind, first_of}
 use Rattle.p4_resolve.specs.Judged.{Passes, Rest, StopsBy, index, indices}

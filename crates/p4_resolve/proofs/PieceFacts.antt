@@ -1,7 +1,7 @@
 -- Pieces that are judged one after the other.
 use Rattle.std.proofs.Common.{◌≡◌, ℕ, ◌+◌, ◌^◌, Bool, true, false, List, [], ◌∷◌, ◌++◌, length, map, Result, Err, IfErr, if◌then◌else◌, refl, sym, ap, ap₂, subst, ◌∙◌, append_assoc}
 use Rattle.std.proofs.Math.Nat.{mod-add-mod, mod-mod}
-use Rattle.p4_names.specs.KindFaults.{Piece, faults_from}
+use Rattle.p4_texts.specs.KindFaults.{Piece, faults_from}
 use Rattle.p4_resolve.specs.FirstKind.{first_of}
 use Rattle.p4_resolve.specs.Judged.{Rest, Passes, Stops, StopsBy, Breaks, index, indices}
 use Rattle.p4_resolve.specs.declared.fault.KindFault.{KindFault}

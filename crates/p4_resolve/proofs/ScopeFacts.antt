@@ -6,7 +6,7 @@ use Rattle.cocoon_num.specs.Names.{same_name}
 use Rattle.numbering.specs.declared.name_table.NameTable.{NameTable}
 use Rattle.numbering.specs.NameNumbers.{index_of, Numbers}
 use Rattle.numbering.proofs.NameFacts.{same-symm}
-use Rattle.p4_names.specs.Meant.{field_at, names_of, place_in}
+use Rattle.p4_texts.specs.Meant.{field_at, names_of, place_in}
 use Rattle.p4_texts.specs.Written.{HeaderText, ProgramText}
 use Rattle.p4_texts.specs.TreeOf.{header_of}
 use Rattle.p4_texts.specs.declared.written.WrittenHeader.{WrittenHeader}

@@ -14,8 +14,8 @@ use Rattle.p4_ir.specs.P4Text.{binary_mark}
 use Rattle.p4_ir.specs.P4Tree.{P4Block, P4Expr, P4Stmt, p_done, p_then}
 use Rattle.p4_ir.specs.Program as ir
 use Rattle.p4_ir.specs.Program.{binary_of}
-use Rattle.p4_names.specs.KindFaults.{Piece, block_pieces, fixed, stmt_keeps, stmt_pieces}
-use Rattle.p4_names.specs.Meant.{block_meant, expr_meant, field_at, header_at, meta_at, number_in, stmt_meant}
+use Rattle.p4_texts.specs.KindFaults.{Piece, block_pieces, fixed, stmt_keeps, stmt_pieces}
+use Rattle.p4_texts.specs.Meant.{block_meant, expr_meant, field_at, header_at, meta_at, number_in, stmt_meant}
 use Rattle.p4_texts.specs.Written.{BlockText, ExprText, ProgramText, w_lit, w_truth, w_meta, w_field, w_port, w_rid, w_unary, w_binary, w_slice, w_pick, w_apply, w_set_meta, w_set_field, w_egress_port, w_group, w_if, w_if_else, condition_then, expr_then, stmt_then}
 use Rattle.p4_texts.specs.TreeOf.{body_of, stmt_of}
 use Rattle.p4_texts.specs.declared.written.WrittenStmt.{WrittenStmt}

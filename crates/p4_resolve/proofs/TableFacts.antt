@@ -11,8 +11,8 @@ use Rattle.p4_ir.specs.P4Kinds.{numbers_of, table_fits}
 use Rattle.p4_ir.specs.P4Tree.{P4Table}
 use Rattle.p4_ir.specs.Program as ir
 use Rattle.p4_ir.specs.declared.program.Table.{Table}
-use Rattle.p4_names.specs.KindFaults.{Piece, action_keeps, action_tokens, least_after, own_table_tokens, table_keeps, table_pieces}
-use Rattle.p4_names.specs.Meant.{number_in, program_of_text, table_meant}
+use Rattle.p4_texts.specs.KindFaults.{Piece, action_keeps, action_tokens, least_after, own_table_tokens, table_keeps, table_pieces}
+use Rattle.p4_texts.specs.Meant.{number_in, program_of_text, table_meant}
 use Rattle.p4_texts.specs.Written.{ProgramText, TableText, each_then, key_then, keys_then}
 use Rattle.p4_texts.specs.TreeOf.{keys_of, table_of}
 use Rattle.p4_texts.specs.declared.written.WrittenTable.{WrittenTable}

@@ -4,8 +4,8 @@ use Rattle.cocoon_num.specs.Lists.{each}
 use Rattle.p4_ir.specs.P4Kinds.{numbers_of}
 use Rattle.p4_ir.specs.P4Tree.{Control, P4Table}
 use Rattle.p4_ir.specs.Program.{field_of, header_of}
-use Rattle.p4_names.specs.KindFaults.{control_pieces, least_after, table_pieces}
-use Rattle.p4_names.specs.Meant.{control_meant, header_meant, meta_meant, names_of, table_meant}
+use Rattle.p4_texts.specs.KindFaults.{control_pieces, least_after, table_pieces}
+use Rattle.p4_texts.specs.Meant.{control_meant, header_meant, meta_meant, names_of, table_meant}
 use Rattle.p4_texts.specs.Written.{ControlText, ProgramText, TableText}
 use Rattle.p4_resolve.specs.Judged.{Passes, Sees}
 use Rattle.p4_resolve.specs.Numbered.{is_small}

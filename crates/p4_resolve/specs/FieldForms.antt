@@ -5,8 +5,8 @@ use Rattle.cocoon_num.specs.Lists.{is_one_of}
 use Rattle.cocoon_num.specs.Sorts.{is_declared_width}
 use Rattle.cocoon_num.specs.Tokens.{a_name, mark}
 use Rattle.p4_ir.specs.P4Tree.{P4Field}
-use Rattle.p4_names.specs.KindFaults.{Piece, field_keeps, field_pieces, fixed, header_keeps, meta_keeps}
-use Rattle.p4_names.specs.Meant.{field_meant, header_meant, meta_meant}
+use Rattle.p4_texts.specs.KindFaults.{Piece, field_keeps, field_pieces, fixed, header_keeps, meta_keeps}
+use Rattle.p4_texts.specs.Meant.{field_meant, header_meant, meta_meant}
 use Rattle.p4_resolve.specs.Judged.{Passes, Sees, index}
 use Rattle.p4_texts.specs.Written.{FieldText, HeaderText, field_then}
 

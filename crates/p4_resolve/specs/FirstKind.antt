@@ -1,6 +1,6 @@
 -- The first fault of kind of a text. The clauses of `resolve` and of `read` cite it.
 use Rattle.std.specs.Prelude.{◌≡◌, ℕ, List, [], ◌∷◌, Option, Some, None}
-use Rattle.p4_names.specs.KindFaults.{kind_faults}
+use Rattle.p4_texts.specs.KindFaults.{kind_faults}
 use Rattle.p4_texts.specs.Written.{ProgramText}
 use Rattle.p4_resolve.specs.declared.fault.KindFault.{KindFault}
 use Rattle.p4_resolve.specs.declared.fault.KindFault.TheVariants.{Kind, NoMemory}

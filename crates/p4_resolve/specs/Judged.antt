@@ -3,7 +3,7 @@ use Rattle.std.specs.Prelude.{◌≡◌, ℕ, ◌%◌, ◌^◌, Bool, false, Lis
 use Rattle.std.specs.declared.alloc.Global.{Global}
 use Rattle.cocoon_num.specs.Lists.{is_one_of}
 use Rattle.p4_kinds.specs.Seen.{has_key}
-use Rattle.p4_names.specs.KindFaults.{Piece, faults_from}
+use Rattle.p4_texts.specs.KindFaults.{Piece, faults_from}
 use Rattle.p4_resolve.specs.FirstKind.{first_of}
 use Rattle.p4_resolve.specs.declared.fault.KindFault.{KindFault}
 use Rattle.p4_resolve.specs.declared.fault.KindFault.TheVariants.{Kind, NoMemory}

@@ -2,7 +2,7 @@
 use Rattle.std.specs.Prelude.{ℕ, ◌++◌, Bool, false, List, Option, Some, None, codes}
 use Rattle.cocoon_num.specs.Names.{same_name}
 use Rattle.p4_ir.specs.P4Tree.{P4Header}
-use Rattle.p4_names.specs.KindFaults.{member_keeps}
+use Rattle.p4_texts.specs.KindFaults.{member_keeps}
 use Rattle.p4_texts.specs.Written.{MemberText}
 
 abbrev pub member_fits : Option P4Header → MemberText → Bool

@@ -3,8 +3,8 @@ use Rattle.std.specs.Prelude.{◌≡◌, ℕ, true, false, List, [], ◌∷◌, 
 use Rattle.cocoon_num.specs.Tokens.{finish, mark}
 use Rattle.p4_ir.specs.P4Text.{said}
 use Rattle.p4_ir.specs.P4Tree.{Control}
-use Rattle.p4_names.specs.KindFaults.{Piece, control_pieces, fixed, line_pieces, member_pieces, meta_pieces, pieces}
-use Rattle.p4_names.specs.Meant.{control_meant, program_of_text}
+use Rattle.p4_texts.specs.KindFaults.{Piece, control_pieces, fixed, line_pieces, member_pieces, meta_pieces, pieces}
+use Rattle.p4_texts.specs.Meant.{control_meant, program_of_text}
 use Rattle.p4_texts.specs.Written.{ProgramText, deparser_head, egress_begins, egress_head, emit_then, extract_then, ingress_begins, ingress_head, parser_head, text_end}
 use Rattle.p4_resolve.specs.Controls.{KnowsText}
 use Rattle.p4_resolve.specs.Judged.{Rest}

@@ -4,7 +4,7 @@ use Rattle.cocoon_num.specs.Lists.{each}
 use Rattle.p4_ir.specs.P4Kinds.{Within}
 use Rattle.p4_ir.specs.Program.{field_of, header_of}
 use Rattle.p4_kinds.specs.Seen.{HasNumbers}
-use Rattle.p4_names.specs.Meant.{names_of}
+use Rattle.p4_texts.specs.Meant.{names_of}
 use Rattle.p4_texts.specs.Written.{HeaderText, MemberText, ProgramText}
 use Rattle.numbering.specs.NameNumbers.{Numbers}
 use Rattle.p4_resolve.specs.Numbered.{is_small}

@@ -3,8 +3,8 @@ use Rattle.std.specs.Prelude.{◌≡◌, ℕ, ◌+◌, ◌&&◌, Bool, true, [],
 use Rattle.cocoon_num.specs.Sorts.{Sort, are_same, truth_sort}
 use Rattle.p4_ir.specs.P4Kinds.{Within, p4_sort}
 use Rattle.p4_ir.specs.P4Tree.{P4Block, P4Expr, P4Stmt}
-use Rattle.p4_names.specs.KindFaults.{Piece, block_pieces, stmt_pieces}
-use Rattle.p4_names.specs.Meant.{block_meant, expr_meant, stmt_meant}
+use Rattle.p4_texts.specs.KindFaults.{Piece, block_pieces, stmt_pieces}
+use Rattle.p4_texts.specs.Meant.{block_meant, expr_meant, stmt_meant}
 use Rattle.p4_texts.specs.Written.{BlockText, ExprText, ProgramText, StmtText, condition_then}
 use Rattle.p4_resolve.specs.Judged.{Passes, index}
 use Rattle.p4_resolve.specs.Typed.{expr_count}

@@ -3,7 +3,7 @@ use Rattle.std.specs.Prelude.{ℕ, ◌==◌, ◌&&◌, Bool, false, nat_le, ◌�
 use Rattle.cocoon_num.specs.Names.{same_name}
 use Rattle.p4_ir.specs.P4Kinds.{table_fits}
 use Rattle.p4_ir.specs.P4Tree.{P4Field}
-use Rattle.p4_names.specs.Meant.{number_in, program_of_text, table_meant}
+use Rattle.p4_texts.specs.Meant.{number_in, program_of_text, table_meant}
 use Rattle.p4_texts.specs.Written.{ProgramText, TableText}
 
 -- there is a field, of this width

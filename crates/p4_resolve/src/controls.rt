@@ -1,7 +1,7 @@
 //! Controls: their tables, each after those before it, and their statements.
 ghost use Rattle.std.specs.Prelude.{◌≡◌, ◌+◌, ◌∷◌, [], IfErr, IfOk, List as Items, OnOk, length, map, ℕ};
 ghost use Rattle.p4_ir.specs.Program as ir;
-ghost use Rattle.p4_names.specs.KindFaults.{control_pieces, table_pieces};
+ghost use Rattle.p4_texts.specs.KindFaults.{control_pieces, table_pieces};
 ghost use Rattle.p4_ir.specs.P4Text.{said};
 ghost use Rattle.p4_resolve.specs.Controls.{ControlKeeps, IsBefore, KnowsText, TablesKeep, action_names, table_numbers};
 ghost use Rattle.p4_resolve.specs.Judged.{StopsBy};

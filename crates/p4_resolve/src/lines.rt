@@ -3,7 +3,7 @@ ghost use Rattle.std.specs.Prelude.{◌≡◌, ◌++◌, ◌≤◌, [], drop, If
 ghost use Rattle.cocoon_num.specs.Names.{same_name};
 ghost use Rattle.cocoon_num.specs.Tokens.{Kind as Token};
 ghost use Rattle.p4_ir.specs.Program as ir;
-ghost use Rattle.p4_names.specs.KindFaults.{line_pieces, member_pieces};
+ghost use Rattle.p4_texts.specs.KindFaults.{line_pieces, member_pieces};
 ghost use Rattle.p4_resolve.specs.Judged.{Passes, StopsBy};
 ghost use Rattle.p4_resolve.specs.Lines.{line_fits, member_fits};
 ghost use Rattle.p4_texts.specs.TreeOf.{member_of};

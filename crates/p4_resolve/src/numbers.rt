@@ -3,7 +3,7 @@ ghost use Rattle.std.specs.Prelude.{◌≡◌, ◌+◌, ◌*◌, ◌<◌, ◌^�
 ghost use Rattle.cocoon_num.specs.Lists.{each};
 ghost use Rattle.cocoon_num.specs.Names.{same_name};
 ghost use Rattle.cocoon_num.specs.Tokens as tokens;
-ghost use Rattle.p4_names.specs.Meant.{number_in};
+ghost use Rattle.p4_texts.specs.Meant.{number_in};
 ghost use Rattle.p4_resolve.specs.Numbered as spec;
 
 use p4_kinds::bytes::{is_digit, is_same};

@@ -4,7 +4,7 @@ ghost use Rattle.p4_ir.specs.P4Kinds as rules;
 ghost use Rattle.p4_ir.specs.Program as ir;
 ghost use Rattle.p4_ir.specs.P4Kinds.{Within};
 ghost use Rattle.p4_kinds.specs.Typed.{sort_of};
-ghost use Rattle.p4_names.specs.Meant as meant;
+ghost use Rattle.p4_texts.specs.Meant as meant;
 ghost use Rattle.p4_resolve.specs.Controls.{KnowsText};
 ghost use Rattle.numbering.specs.NameNumbers.{Numbers};
 ghost use Rattle.p4_resolve.specs.Scopes.{EachFew, EachNumbers, Knows, member_names};

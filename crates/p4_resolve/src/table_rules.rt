@@ -2,9 +2,9 @@
 ghost use Rattle.std.specs.Prelude.{◌≡◌, ◌+◌, ◌*◌, ◌++◌, ◌∷◌, [], IfOk, List as Items, MatchOption, OnOk, decimal, length, map, slice_get, true, false, ℕ};
 ghost use Rattle.cocoon_num.specs.Names.{same_name};
 ghost use Rattle.p4_ir.specs.Program as ir;
-ghost use Rattle.p4_names.specs.KindFaults.{action_keeps};
-ghost use Rattle.p4_names.specs.Meant as meant;
-ghost use Rattle.p4_names.specs.Meant.{number_in};
+ghost use Rattle.p4_texts.specs.KindFaults.{action_keeps};
+ghost use Rattle.p4_texts.specs.Meant as meant;
+ghost use Rattle.p4_texts.specs.Meant.{number_in};
 ghost use Rattle.p4_resolve.specs.Controls.{KnowsText};
 ghost use Rattle.p4_resolve.specs.Judged.{Sees, index};
 ghost use Rattle.p4_resolve.specs.TableForms as spec;

@@ -4,8 +4,8 @@ use Rattle.p4_ir.specs.P4Kinds.{numbers_of}
 use Rattle.p4_ir.specs.P4Tree as tree
 use Rattle.p4_ir.specs.Program as ir
 use Rattle.p4_kinds.specs.Seen.{HasNumbers}
-use Rattle.p4_names.specs.KindFaults.{block_pieces, control_pieces, stands_in, table_pieces}
-use Rattle.p4_names.specs.Meant.{block_meant, table_meant}
+use Rattle.p4_texts.specs.KindFaults.{block_pieces, control_pieces, stands_in, table_pieces}
+use Rattle.p4_texts.specs.Meant.{block_meant, table_meant}
 use Rattle.p4_texts.specs.TreeOf.{body_of, control_of, table_of}
 use Rattle.p4_resolve.specs.Controls.{action_names, table_numbers}
 use Rattle.p4_resolve.specs.Numbered.{is_small}

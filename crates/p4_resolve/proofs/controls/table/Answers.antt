@@ -1,6 +1,6 @@
 use Rattle.std.proofs.Common.{◌≡◌, ◌+◌, ◌*◌, ◌∙◌, sym, ap, subst, length, true}
 use Rattle.p4_ir.specs.Program as ir
-use Rattle.p4_names.specs.KindFaults.{action_keeps}
+use Rattle.p4_texts.specs.KindFaults.{action_keeps}
 use Rattle.p4_ir.specs.P4Tree.{P4Table}
 use Rattle.p4_resolve.specs.Controls.{action_names}
 use Rattle.p4_resolve.specs.Judged.{index}

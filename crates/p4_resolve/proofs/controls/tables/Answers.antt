@@ -1,7 +1,7 @@
 use Rattle.std.proofs.Common.{◌≡◌, ◌∷◌, [], ◌∙◌, ap, map, rules, Err}
 use Rattle.std.proofs.lemmas.List.{map-append}
 use Rattle.p4_ir.specs.Program as ir
-use Rattle.p4_names.specs.KindFaults.{table_pieces}
+use Rattle.p4_texts.specs.KindFaults.{table_pieces}
 use Rattle.p4_texts.specs.TreeOf.{table_of}
 use Rattle.p4_resolve.specs.Controls.{action_names, table_numbers}
 use Rattle.p4_resolve.specs.Judged.{StopsBy}

@@ -1,5 +1,5 @@
 use Rattle.std.proofs.Common.{◌∙◌, ap, sym, subst, IfOk}
-use Rattle.p4_names.specs.Meant.{expr_meant}
+use Rattle.p4_texts.specs.Meant.{expr_meant}
 use Rattle.p4_texts.specs.TreeOf.{expr_of}
 use Rattle.p4_resolve.specs.Typed.{Means}
 use Rattle.p4_resolve.proofs.TreeFacts.{binary_is, lit_is, pick_is, port_is, rid_is, slice_is, truth_is, unary_is}

@@ -2,7 +2,7 @@ use Rattle.std.proofs.Common.{◌∙◌, ap, ap₂}
 use Rattle.p4_ir.specs.P4Kinds as rules
 use Rattle.p4_ir.specs.P4Tree as tree
 use Rattle.p4_resolve.proofs.TreeFacts.{field_expr}
-use Rattle.p4_names.specs.Meant as meant
+use Rattle.p4_texts.specs.Meant as meant
 use Rattle.p4_resolve.proofs.exprs.field.Goals as goal
 
 pub returns : goal.returns

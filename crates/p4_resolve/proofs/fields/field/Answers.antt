@@ -3,7 +3,7 @@ use Rattle.std.proofs.lemmas.Result.{IfOk-weaker, IfErr-weaker}
 use Rattle.p4_ir.specs.P4Tree.{P4Field}
 use Rattle.p4_ir.specs.Program as ir
 use Rattle.cocoon_num.specs.Tokens.{is_run}
-use Rattle.p4_names.specs.Meant.{field_meant, rest_after}
+use Rattle.p4_texts.specs.Meant.{field_meant, rest_after}
 use Rattle.p4_texts.specs.TreeOf.{field_of}
 use Rattle.p4_resolve.specs.FieldForms.{field_fits, field_piece}
 use Rattle.p4_resolve.proofs.KeepFacts.{keeps_one, stops_one}

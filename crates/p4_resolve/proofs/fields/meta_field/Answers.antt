@@ -3,7 +3,7 @@ use Rattle.std.proofs.lemmas.Result.{IfOk-weaker, IfErr-weaker}
 use Rattle.p4_ir.specs.P4Kinds.{is_meta_name}
 use Rattle.p4_ir.specs.P4Tree.{P4Field}
 use Rattle.p4_ir.specs.Program as ir
-use Rattle.p4_names.specs.Meant.{meta_meant}
+use Rattle.p4_texts.specs.Meant.{meta_meant}
 use Rattle.p4_texts.specs.TreeOf.{field_of}
 use Rattle.p4_resolve.specs.FieldForms.{field_fits, meta_piece}
 use Rattle.p4_resolve.proofs.KeepFacts.{keeps_one, stops_one}

@@ -2,8 +2,8 @@ use Rattle.std.proofs.Common.{◌≡◌, ◌∷◌, [], ◌++◌, codes, map, Er
 use Rattle.cocoon_num.specs.Tokens.{mark}
 use Rattle.p4_ir.specs.P4Tree.{P4Header}
 use Rattle.p4_ir.specs.Program as ir
-use Rattle.p4_names.specs.KindFaults.{field_pieces, fixed}
-use Rattle.p4_names.specs.Meant.{field_meant, header_meant, rest_after}
+use Rattle.p4_texts.specs.KindFaults.{field_pieces, fixed}
+use Rattle.p4_texts.specs.Meant.{field_meant, header_meant, rest_after}
 use Rattle.p4_texts.specs.TreeOf.{field_of, header_of}
 use Rattle.p4_resolve.specs.FieldForms.{header_own}
 use Rattle.p4_resolve.specs.Judged.{Breaks, Passes, Sees, StopsBy}

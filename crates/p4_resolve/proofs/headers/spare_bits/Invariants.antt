@@ -1,7 +1,7 @@
 use Rattle.std.proofs.Common.{◌≡◌, ◌+◌, ◌%◌, ◌<◌, map, drop}
 use Rattle.cocoon_num.specs.Packets.{total}
 use Rattle.p4_ir.specs.P4Tree.{field_widths}
-use Rattle.p4_names.specs.Meant.{field_meant}
+use Rattle.p4_texts.specs.Meant.{field_meant}
 use Rattle.p4_texts.specs.TreeOf.{field_of}
 use Rattle.p4_resolve.proofs.headers.spare_bits.Given as goal
 

@@ -1,6 +1,6 @@
 use Rattle.std.proofs.Common.{◌≡◌, ◌+◌, map, drop, slice_get, Err, rules, ap, sym, subst, ◌∙◌}
 use Rattle.p4_ir.specs.Program as ir
-use Rattle.p4_names.specs.KindFaults.{line_pieces}
+use Rattle.p4_texts.specs.KindFaults.{line_pieces}
 use Rattle.p4_resolve.specs.Judged.{Breaks, index}
 use Rattle.p4_resolve.specs.Lines.{line_fits}
 use Rattle.p4_resolve.proofs.LineFacts.{lines_left, line_piece}

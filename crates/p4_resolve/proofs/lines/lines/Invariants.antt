@@ -1,7 +1,7 @@
 use Rattle.std.proofs.Common.{◌≡◌, ℕ, List, [], length, map, drop}
 use Rattle.cocoon_num.specs.Tokens.{Kind}
 use Rattle.p4_ir.specs.Program as ir
-use Rattle.p4_names.specs.KindFaults.{line_pieces}
+use Rattle.p4_texts.specs.KindFaults.{line_pieces}
 use Rattle.p4_resolve.specs.Judged.{Rest}
 use Rattle.p4_resolve.proofs.lines.lines.Given as goal
 

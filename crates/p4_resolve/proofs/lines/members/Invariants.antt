@@ -1,6 +1,6 @@
 use Rattle.std.proofs.Common.{map, drop}
 use Rattle.p4_ir.specs.Program as ir
-use Rattle.p4_names.specs.KindFaults.{member_pieces}
+use Rattle.p4_texts.specs.KindFaults.{member_pieces}
 use Rattle.p4_texts.specs.TreeOf.{member_of}
 use Rattle.p4_resolve.specs.Judged.{Rest}
 use Rattle.p4_resolve.proofs.lines.members.Given as goal

@@ -1,6 +1,6 @@
 use Rattle.std.proofs.Common.{◌≡◌, Some, subst, sym}
 use Rattle.cocoon_num.specs.Tokens.{dec_digit, digits_after}
-use Rattle.p4_names.specs.Meant.{number_in}
+use Rattle.p4_texts.specs.Meant.{number_in}
 use Rattle.p4_resolve.proofs.NumberFacts.{digits_of}
 use Rattle.p4_resolve.proofs.numbers.table_number.Goals as goal
 

@@ -1,5 +1,5 @@
 use Rattle.std.proofs.Common.{length, map, take}
-use Rattle.p4_names.specs.Meant.{names_of}
+use Rattle.p4_texts.specs.Meant.{names_of}
 use Rattle.p4_texts.specs.Written.{FieldText}
 use Rattle.p4_texts.specs.TreeOf.{field_of}
 use Rattle.p4_resolve.proofs.CountFacts.{room, taken_twice}

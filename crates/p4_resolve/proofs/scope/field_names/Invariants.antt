@@ -1,5 +1,5 @@
 use Rattle.std.proofs.Common.{map, take}
-use Rattle.p4_names.specs.Meant.{names_of}
+use Rattle.p4_texts.specs.Meant.{names_of}
 use Rattle.p4_texts.specs.TreeOf.{field_of}
 use Rattle.numbering.specs.NameNumbers.{Numbers}
 use Rattle.p4_resolve.proofs.scope.field_names.Given as goal

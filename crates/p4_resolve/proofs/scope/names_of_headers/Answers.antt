@@ -1,6 +1,6 @@
 use Rattle.std.proofs.Common.{◌<◌, ◌^◌, length, map, subst, sym, arith}
 use Rattle.std.proofs.lemmas.List.{length-map}
-use Rattle.p4_names.specs.Meant.{names_of}
+use Rattle.p4_texts.specs.Meant.{names_of}
 use Rattle.p4_texts.specs.TreeOf.{field_of}
 use Rattle.numbering.specs.NameNumbers.{Numbers}
 use Rattle.p4_resolve.proofs.CountFacts.{few_at}

@@ -3,8 +3,8 @@ use Rattle.std.proofs.lemmas.List.{map-append}
 use Rattle.p4_ir.specs.P4Tree as tree
 use Rattle.p4_ir.specs.Program as ir
 use Rattle.p4_ir.specs.declared.program.P4Stmt.TheVariants as code_stmts
-use Rattle.p4_names.specs.KindFaults.{Piece, block_pieces, stmt_pieces}
-use Rattle.p4_names.specs.Meant.{block_meant, expr_meant}
+use Rattle.p4_texts.specs.KindFaults.{Piece, block_pieces, stmt_pieces}
+use Rattle.p4_texts.specs.Meant.{block_meant, expr_meant}
 use Rattle.p4_texts.specs.Written as text
 use Rattle.p4_texts.specs.TreeOf.{body_of, expr_of, stmt_of}
 use Rattle.p4_resolve.specs.Judged.{Passes, StopsBy}

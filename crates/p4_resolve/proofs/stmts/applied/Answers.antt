@@ -1,6 +1,6 @@
 use Rattle.std.proofs.Common.{◌≡◌, None, MatchOption, subst, sym, rules, false, true}
-use Rattle.p4_names.specs.KindFaults.{stmt_keeps}
-use Rattle.p4_names.specs.Meant.{number_in}
+use Rattle.p4_texts.specs.KindFaults.{stmt_keeps}
+use Rattle.p4_texts.specs.Meant.{number_in}
 use Rattle.p4_texts.specs.Written.{w_apply}
 use Rattle.p4_resolve.specs.Numbered.{small}
 use Rattle.p4_resolve.proofs.NumberFacts.{not_small}

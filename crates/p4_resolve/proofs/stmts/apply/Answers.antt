@@ -1,6 +1,6 @@
 use Rattle.std.proofs.Common.{[], ap, ◌∙◌}
 use Rattle.p4_ir.specs.P4Tree as tree
-use Rattle.p4_names.specs.KindFaults.{Piece, stmt_keeps}
+use Rattle.p4_texts.specs.KindFaults.{Piece, stmt_keeps}
 use Rattle.p4_texts.specs.Written as text
 use Rattle.p4_resolve.proofs.StmtFacts as facts
 use Rattle.p4_resolve.proofs.TreeFacts as forms

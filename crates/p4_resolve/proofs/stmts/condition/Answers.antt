@@ -1,7 +1,7 @@
 use Rattle.std.proofs.Common.{◌≡◌, ◌∷◌, [], refl, rules, Err, Some}
 use Rattle.cocoon_num.specs.Sorts.{truth_sort}
 use Rattle.p4_ir.specs.Program as ir
-use Rattle.p4_names.specs.Meant.{expr_meant}
+use Rattle.p4_texts.specs.Meant.{expr_meant}
 use Rattle.p4_texts.specs.TreeOf.{expr_of}
 use Rattle.p4_resolve.specs.Judged.{StopsBy}
 use Rattle.p4_resolve.specs.StmtForms.{condition_piece, value_fits}

@@ -3,8 +3,8 @@ use Rattle.p4_ir.specs.P4Kinds as rules
 use Rattle.p4_ir.specs.P4Tree as tree
 use Rattle.p4_ir.specs.Program as ir
 use Rattle.p4_kinds.specs.Typed.{sort_of}
-use Rattle.p4_names.specs.KindFaults.{Piece, stmt_keeps, stmt_pieces}
-use Rattle.p4_names.specs.Meant.{expr_meant}
+use Rattle.p4_texts.specs.KindFaults.{Piece, stmt_keeps, stmt_pieces}
+use Rattle.p4_texts.specs.Meant.{expr_meant}
 use Rattle.p4_texts.specs.Written as text
 use Rattle.p4_texts.specs.TreeOf.{expr_of}
 use Rattle.p4_resolve.specs.Judged.{StopsBy}

@@ -1,4 +1,4 @@
-use Rattle.p4_names.specs.Meant.{expr_meant}
+use Rattle.p4_texts.specs.Meant.{expr_meant}
 use Rattle.p4_texts.specs.TreeOf.{expr_of}
 use Rattle.p4_resolve.proofs.stmts.value.Goals as goal
 

@@ -1,5 +1,5 @@
 use Rattle.std.proofs.Common.{◌≡◌, [], ◌∙◌, sym, ap, true, ◌==◌, ◌&&◌, ◌||◌, nat_le}
-use Rattle.p4_names.specs.KindFaults.{Piece, stmt_keeps}
+use Rattle.p4_texts.specs.KindFaults.{Piece, stmt_keeps}
 use Rattle.p4_texts.specs.Written as text
 use Rattle.p4_resolve.proofs.StmtFacts as facts
 use Rattle.p4_resolve.proofs.TreeFacts as forms

@@ -1,5 +1,5 @@
 use Rattle.std.proofs.Common.{◌≡◌, map, take}
-use Rattle.p4_names.specs.Meant.{meta_at}
+use Rattle.p4_texts.specs.Meant.{meta_at}
 use Rattle.p4_texts.specs.Written.{ProgramText}
 use Rattle.p4_resolve.specs.Controls.{KnowsText}
 use Rattle.p4_resolve.proofs.table_rules.key_indices.Given as goal

@@ -1,6 +1,6 @@
 use Rattle.std.proofs.Common.{◌≡◌, [], ◌∷◌, subst, refl, rules, true, false, Err}
 use Rattle.p4_ir.specs.P4Text.{said}
-use Rattle.p4_names.specs.KindFaults.{control_pieces, fixed, pieces}
+use Rattle.p4_texts.specs.KindFaults.{control_pieces, fixed, pieces}
 use Rattle.p4_texts.specs.Written.{deparser_head, egress_begins, egress_head, ingress_begins}
 use Rattle.p4_texts.specs.TreeOf.{text_of}
 use Rattle.p4_resolve.specs.Judged.{Passes, StopsBy}

@@ -1,8 +1,8 @@
 use Rattle.std.proofs.Common.{◌≡◌, [], ◌∙◌, ap, subst, rules, map, Err}
 use Rattle.p4_ir.specs.P4Text.{said}
 use Rattle.p4_ir.specs.Program as ir
-use Rattle.p4_names.specs.KindFaults.{header_pieces, line_pieces, member_pieces, meta_pieces, pieces}
-use Rattle.p4_names.specs.Meant.{header_meant, meta_meant, program_of_text}
+use Rattle.p4_texts.specs.KindFaults.{header_pieces, line_pieces, member_pieces, meta_pieces, pieces}
+use Rattle.p4_texts.specs.Meant.{header_meant, meta_meant, program_of_text}
 use Rattle.p4_texts.specs.Written.{extract_then}
 use Rattle.p4_texts.specs.TreeOf.{field_of, header_of, member_of, text_of}
 use Rattle.p4_resolve.specs.Judged.{Passes, StopsBy}
@@ -11,7 +11,7 @@ use Rattle.p4_resolve.proofs.PartFacts as parts
 use Rattle.p4_resolve.proofs.PieceFacts.{handed_on, one_stopped}
 use Rattle.std.proofs.Common.{◌∷◌, codes}
 use Rattle.cocoon_num.specs.Tokens.{mark}
-use Rattle.p4_names.specs.KindFaults.{fixed}
+use Rattle.p4_texts.specs.KindFaults.{fixed}
 use Rattle.p4_texts.specs.Written.{ingress_head, parser_head}
 use Rattle.p4_resolve.proofs.whole_text.declarations.Goals as goal
 

@@ -1,8 +1,8 @@
 use Rattle.std.proofs.Common.{◌≡◌, [], ◌∷◌, ◌∙◌, ap, subst, rules, map, Err}
 use Rattle.p4_ir.specs.P4Text.{said}
 use Rattle.p4_ir.specs.Program as ir
-use Rattle.p4_names.specs.KindFaults.{fixed, line_pieces, pieces}
-use Rattle.p4_names.specs.Meant.{program_of_text}
+use Rattle.p4_texts.specs.KindFaults.{fixed, line_pieces, pieces}
+use Rattle.p4_texts.specs.Meant.{program_of_text}
 use Rattle.p4_texts.specs.Written.{emit_then}
 use Rattle.p4_texts.specs.TreeOf.{text_of}
 use Rattle.p4_resolve.specs.FirstKind.{IsFirstKind}

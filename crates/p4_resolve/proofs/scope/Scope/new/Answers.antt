@@ -1,7 +1,7 @@
 use Rattle.std.proofs.Common.{◌∙◌, ◌<◌, ◌^◌, ap, length, map, subst, sym, arith}
 use Rattle.std.proofs.lemmas.List.{length-map}
 use Rattle.p4_ir.specs.Program as ir
-use Rattle.p4_names.specs.Meant.{names_of}
+use Rattle.p4_texts.specs.Meant.{names_of}
 use Rattle.p4_texts.specs.TreeOf.{field_of, header_of, member_of, text_of}
 use Rattle.numbering.specs.NameNumbers.{Numbers}
 use Rattle.p4_resolve.specs.Scopes.{EachFew, EachNumbers, member_names}

@@ -1,5 +1,0 @@
-use Rattle.p4_names.proofs.Fits.{rules_kept, text_kept}
-use Rattle.p4_names.proofs.program_laws.no_fault_fits.Goals as goal
-
-pub returns : goal.returns
-returns c = λ t e. rules_kept t (text_kept t e)

@@ -1,5 +1,0 @@
-use Rattle.p4_names.proofs.BackWhole.{no_fault_back}
-use Rattle.p4_names.proofs.program_laws.program_has_no_fault.Goals as goal
-
-pub returns : goal.returns
-returns c = no_fault_back

@@ -1,4 +1,0 @@
-pub mod Meant
-pub mod KindFaults
-pub mod TextOf
-pub mod ReadText
