@@ -14,7 +14,7 @@ use Rattle.p4_ir.specs.P4Tree as tree
 use Rattle.p4_ir.specs.declared.network.SwitchFiles as code
 use Rattle.p4_run.specs.Faults.{load_fault}
 use Rattle.p4_run.specs.declared.loaded.Loaded.{Loaded}
-use Rattle.loaded_net.specs.Runs.{runs_in, runs_of}
+use Rattle.net_run.specs.Runs.{runs_in, runs_of}
 use Rattle.net_bundle.specs.BundleNames.{digest_of, program_name, rows_name}
 use Rattle.net_bundle.specs.NetFileOf.{kept_of}
 use Rattle.net_bundle.specs.NetJson.{KeptDigest, NetFile, rows_data}

@@ -15,9 +15,9 @@ use Rattle.p4_run.specs.FaultOf.{fault_of}
 use Rattle.p4_run.specs.Faults.{Fault, load_fault}
 use Rattle.p4_run.specs.declared.faults.LoadFault.{LoadFault}
 use Rattle.p4_run.specs.declared.faults.LoadFault.TheVariants as rows-fault
-use Rattle.loaded_net.specs.LoadFaults.{TellsFirst, told_at}
-use Rattle.loaded_net.specs.declared.loading.NetFault.{NetFault}
-use Rattle.loaded_net.specs.declared.loading.NetFault.TheVariants as net
+use Rattle.net_run.specs.LoadFaults.{TellsFirst, told_at}
+use Rattle.net_run.specs.declared.loading.NetFault.{NetFault}
+use Rattle.net_run.specs.declared.loading.NetFault.TheVariants as net
 use Rattle.net_bundle.specs.Bundle.{whole_name}
 use Rattle.net_bundle.specs.BundleNames.{digest_of}
 use Rattle.net_bundle.specs.Writing.{most_of}

@@ -9,8 +9,8 @@ use Rattle.json_forms.specs.declared.fault.FormFault.{FormFault}
 use Rattle.json_forms.specs.declared.fault.FormFault.TheVariants as form
 use Rattle.p4_read.specs.declared.fault.P4Fault.{P4Fault}
 use Rattle.p4_read.specs.declared.fault.P4Fault.TheVariants.{NoMemory as Wanting-P4}
-use Rattle.loaded_net.specs.declared.loading.NetFault.{NetFault}
-use Rattle.loaded_net.specs.declared.loading.NetFault.TheVariants as net
+use Rattle.net_run.specs.declared.loading.NetFault.{NetFault}
+use Rattle.net_run.specs.declared.loading.NetFault.TheVariants as net
 use Rattle.json_forms.specs.Reading.{Answered}
 use Rattle.net_bundle.specs.BundleNames.{digest_of}
 use Rattle.net_bundle.specs.NetJson.{NetFile}

@@ -12,7 +12,7 @@ mod switches;
 
 pub use certificates::read_certificates;
 pub use fault::ReadFault;
-pub use loaded_net::Net;
+pub use net_run::Net;
 pub use p4_read::P4Fault;
 pub use p4_run::LoadFault;
 pub use reading::{read_bundle, read_wiring};

@@ -1,7 +1,7 @@
 //! The files of the switches of a bundle.
 ghost use Rattle.std.specs.Prelude.{◌≡◌, ◌∷◌, ◌≤◌, IfErr, IfOk, IsTrue, Some, length, map};
 ghost use Rattle.net_bundle.specs.NetForm.{file_fits};
-ghost use Rattle.loaded_net.specs.Runs.{runs_in, runs_of};
+ghost use Rattle.net_run.specs.Runs.{runs_in, runs_of};
 ghost use Rattle.net_bundle.specs.NetFileOf.{net_file_of};
 ghost use Rattle.p4_ir.specs.NetFits.{switch_numbers};
 ghost use Rattle.p4_ir.specs.NetOf.{rows_of, switch_of};
@@ -16,10 +16,10 @@ use crate::fault::ReadFault;
 use crate::files::{program_fault, read_file, read_kept};
 use crate::last_rows::{LastRows, rows_of_bytes};
 use cocoon_io::Folder;
-use loaded_net::{NetFault, load};
 use net_bundle::BundleFile;
 use net_bundle::form_laws::rows_form_is_exact;
 use net_bundle::net_json::{KeptDigest, NetFile};
+use net_run::{NetFault, load};
 use p4_ir::{Program, RowsFile, SwitchFiles};
 use p4_run::Loaded;
 use p4_run::laws::rows_without_fault_load;

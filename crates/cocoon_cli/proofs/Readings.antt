@@ -7,8 +7,8 @@ use Rattle.bundle_reader.specs.FolderCounts as counts
 use Rattle.bundle_reader.specs.Readings.{ContentFault, ContentReads}
 use Rattle.bundle_reader.specs.declared.fault.ReadFault.{ReadFault}
 use Rattle.bundle_reader.specs.declared.fault.ReadFault.TheVariants as read
-use Rattle.loaded_net.specs.Nets.{net_in}
-use Rattle.loaded_net.specs.declared.net.Net.{Net}
+use Rattle.net_run.specs.Nets.{net_in}
+use Rattle.net_run.specs.declared.net.Net.{Net}
 use Rattle.net_bundle.specs.declared.file.BundleFile.{BundleFile}
 use Rattle.command_reports.specs.FileNames.{FileNames, bundle_in, name_of, wanted, with_most}
 use Rattle.command_reports.specs.Refusals.{IsOfFiles, unread_as}

@@ -11,8 +11,8 @@ use Rattle.command_reports.specs.declared.refusal.Refusal.TheVariants.{ReadFault
 use Rattle.net_bundle.specs.Bundle.{whole_name}
 use Rattle.net_bundle.specs.declared.file.BundleFile.{BundleFile}
 use Rattle.bundle_reader.specs.Readings.{ContentFault, ContentReads}
-use Rattle.loaded_net.specs.Nets.{net_in}
-use Rattle.loaded_net.specs.declared.net.Net.{Net}
+use Rattle.net_run.specs.Nets.{net_in}
+use Rattle.net_run.specs.declared.net.Net.{Net}
 use Rattle.bundle_reader.specs.declared.fault.ReadFault.{ReadFault as ReadFaultOf}
 use Rattle.command_reports.specs.Refusals.{unread_as}
 

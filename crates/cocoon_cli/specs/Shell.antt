@@ -4,8 +4,8 @@
 use Rattle.std.specs.Prelude.{◌≡◌, ◌⊎◌, ◌≤◌, ◌<◌, ◌^◌, ℕ, List, length, Option, Some, None, Result, Err, IsTrue}
 use Rattle.cocoon_io.specs.Files.{Files}
 use Rattle.cocoon_io.specs.Calls.{with_file}
-use Rattle.loaded_net.specs.Nets.{net_in}
-use Rattle.loaded_net.specs.declared.net.Net.{Net}
+use Rattle.net_run.specs.Nets.{net_in}
+use Rattle.net_run.specs.declared.net.Net.{Net}
 use Rattle.net_bundle.specs.Bundle as bundle_of
 use Rattle.net_bundle.specs.Writing.{AllFit, ContentHolds, NotWritten}
 use Rattle.p4_ir.specs.NetFits.{net_fits}

@@ -2,7 +2,7 @@
 ghost use Rattle.std.specs.Prelude.{◌≡◌, IfErr, IfOk, map, Ok, Some};
 ghost use Rattle.bundle_reader.specs.Readings.{ContentReads};
 ghost use Rattle.command_line.specs.Command as spec;
-ghost use Rattle.loaded_net.specs.Nets.{net_in};
+ghost use Rattle.net_run.specs.Nets.{net_in};
 ghost use Rattle.p4_ir.specs.Wiring.{host_numbers};
 ghost use Rattle.packet_runs.specs.Judging.{packet_in};
 ghost use Rattle.packet_runs.specs.Packets.{AllKnown, packets_in};

@@ -6,7 +6,7 @@ ghost use Rattle.bundle_reader.specs.Readings.{IsFirstFault, ReadsAs};
 ghost use Rattle.bundle_reader.specs.declared.fault.ReadFault.{ReadFault};
 ghost use Rattle.command_line.specs.Command as spec;
 ghost use Rattle.command_line.specs.Subcommands.{CanGenerate};
-ghost use Rattle.loaded_net.specs.Nets.{net_in};
+ghost use Rattle.net_run.specs.Nets.{net_in};
 ghost use Rattle.net_bundle.specs.Bundle.{bundle};
 ghost use Rattle.net_bundle.specs.Writing.{AllFit};
 ghost use Rattle.p4_ir.specs.NetFits.{net_fits};

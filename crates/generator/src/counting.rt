@@ -1,14 +1,13 @@
 //! Packets, run one after another and counted.
 ghost use Rattle.std.specs.Prelude.{◌≤◌, ◌↔◌, IfErr, IfOk, IsTrue};
-ghost use Rattle.loaded_net.specs.Nets.{net_in};
+ghost use Rattle.net_run.specs.Nets.{net_in};
 ghost use Rattle.net_run.specs.RunCounts.{most_runs};
 ghost use Rattle.generator.specs.Arriving.{Arrives};
 ghost use Rattle.generator.specs.Counting.{IsCount};
 ghost use Rattle.generator.specs.Stopping.{AllWithin, Stops, StopsAt, runs_of};
 
 use crate::packet;
-use loaded_net::Net;
-use net_run::{RunFault, deliver};
+use net_run::{Net, RunFault, deliver};
 use packet_runs::PacketsFault;
 use std::alloc::Global;
 

@@ -2,8 +2,8 @@
 use Rattle.std.proofs.Common.{◌≡◌, ℕ, suc, ◌+◌, ◌-◌, ◌*◌, ◌<◌, ◌≤◌, List, [], ◌∷◌, ◌++◌, length, map, Vec, Global, Result, Ok, Err, IfErr, IsErrAnd, Some, sym, subst, ◌∙◌, ap, arith}
 use Rattle.std.proofs.lemmas.List.{length-append}
 use Rattle.std.specs.List.{flat_map}
-use Rattle.loaded_net.specs.Nets.{net_in}
-use Rattle.loaded_net.specs.declared.net.Net.{Net}
+use Rattle.net_run.specs.Nets.{net_in}
+use Rattle.net_run.specs.declared.net.Net.{Net}
 use Rattle.p4_ir.specs.NetOf.{end_of}
 use Rattle.p4_ir.specs.NetRuns.{attach_at, switch_at}
 use Rattle.p4_ir.specs.NetTree.{NetData}

@@ -1,3 +1,6 @@
+mod LoadingSteps
+mod Searching
+mod Wired
 mod Among
 mod Departing
 mod Leading

@@ -2,9 +2,9 @@
 use Rattle.std.proofs.Common.{◌≡◌, ℕ, suc, ◌≤◌, IfOk, Result, Ok, Err, List, [], ◌∷◌, length, map, Option, Some, None, option_map, refl, ◌∙◌, ap, arith}
 use Rattle.std.proofs.Math.Logic.{∥∥₁_elim}
 use Rattle.std.specs.Coded.{Coded, Coded-set, code_by, coded×, coded_list, coded_ℕ}
-use Rattle.loaded_net.specs.Nets.{net_in}
-use Rattle.loaded_net.specs.Runs.{runs_of}
-use Rattle.loaded_net.specs.declared.net.Net.{Net}
+use Rattle.net_run.specs.Nets.{net_in}
+use Rattle.net_run.specs.Runs.{runs_of}
+use Rattle.net_run.specs.declared.net.Net.{Net}
 use Rattle.p4_ir.specs.NetRuns.{switch_at}
 use Rattle.p4_ir.specs.NetTree.{SwitchFiles}
 use Rattle.p4_ir.specs.P4Tree.{Program, RowsFile}

@@ -5,9 +5,9 @@ use Rattle.std.proofs.Math.Logic.{∥∥₁_elim}
 use Rattle.std.proofs.lemmas.Bool.{and_from}
 use Rattle.std.proofs.lemmas.List.{append-nil}
 use Rattle.cocoon_num.specs.Lists.{each}
-use Rattle.loaded_net.specs.Nets.{net_in}
-use Rattle.loaded_net.specs.Runs.{runs_in, runs_of}
-use Rattle.loaded_net.specs.declared.net.Net.{Net}
+use Rattle.net_run.specs.Nets.{net_in}
+use Rattle.net_run.specs.Runs.{runs_in, runs_of}
+use Rattle.net_run.specs.declared.net.Net.{Net}
 use Rattle.p4_ir.specs.Loading.{rows_load}
 use Rattle.p4_ir.specs.NetTree.{LinkEnd, to_switch, to_host, NetData, SwitchFiles}
 use Rattle.p4_ir.specs.P4Tree.{Program, RowsFile}

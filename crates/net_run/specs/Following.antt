@@ -1,7 +1,7 @@
 -- Cited by the private clauses of `following`: what stays the same as a packet's copies are followed.
 use Rattle.std.specs.Prelude.{◌≡◌, ℕ, suc, ◌+◌, ◌-◌, ◌*◌, ◌≤◌, ◌<◌, List, ◌++◌, length, map}
-use Rattle.loaded_net.specs.Nets.{net_in}
-use Rattle.loaded_net.specs.declared.net.Net.{Net}
+use Rattle.net_run.specs.Nets.{net_in}
+use Rattle.net_run.specs.declared.net.Net.{Net}
 use Rattle.net_run.specs.Deliveries.{delivered, deliveries, standing, travelling}
 use Rattle.net_run.specs.Delivering.{delivery_of}
 use Rattle.net_run.specs.DepartedOf.{VisitStops}

@@ -1,3 +1,7 @@
+pub mod Locations
+pub mod Runs
+pub mod LoadFaults
+pub mod Nets
 pub mod Departures
 pub mod Ends
 pub mod Ascending

@@ -1,9 +1,9 @@
 -- Cited by the private clauses of `stations`: the switch of the network that a station stands for, with its frame.
 use Rattle.std.specs.Prelude.{◌≡◌, ℕ, ◌<◌, List, length, Option, Some, None, option_map}
 use Rattle.std.specs.List.{All, HoldsAt}
-use Rattle.loaded_net.specs.Nets.{net_in}
-use Rattle.loaded_net.specs.Runs.{runs_in, runs_of}
-use Rattle.loaded_net.specs.declared.net.Net.{Net}
+use Rattle.net_run.specs.Nets.{net_in}
+use Rattle.net_run.specs.Runs.{runs_in, runs_of}
+use Rattle.net_run.specs.declared.net.Net.{Net}
 use Rattle.p4_ir.specs.NetRuns.{switch_at}
 use Rattle.p4_run.specs.Frames.{Fits}
 use Rattle.p4_run.specs.Running.{program_in}

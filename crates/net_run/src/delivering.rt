@@ -1,7 +1,7 @@
 //! All copies of a packet, followed to their ends.
 ghost use Rattle.std.specs.Prelude.{◌≡◌, ◌≤◌, IfErr, IfOk, map, true};
 ghost use Rattle.cocoon_num.specs.Lists.{has_number};
-ghost use Rattle.loaded_net.specs.Nets.{net_in};
+ghost use Rattle.net_run.specs.Nets.{net_in};
 ghost use Rattle.net_run.specs.Delivering.{delivery_of, RunStops};
 ghost use Rattle.net_run.specs.Outcomes.{AreDelivered, AreTravelling};
 ghost use Rattle.net_run.specs.RunCounts.{most_runs, runs};
@@ -10,9 +10,9 @@ ghost use Rattle.p4_ir.specs.Wiring.{host_numbers};
 
 use crate::fault::RunFault;
 use crate::following::Walk;
+use crate::net::Net;
 use crate::stations::Stations;
 use cocoon_num::{List, Text};
-use loaded_net::Net;
 use std::alloc::Global;
 
 /// What is delivered at a host: the members of groups for which copies were made on the way, in order, and the bytes.

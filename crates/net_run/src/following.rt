@@ -1,6 +1,6 @@
 //! A packet's copies, followed depth first.
 ghost use Rattle.std.specs.Prelude.{◌≡◌, ◌<◌, ◌≤◌, IfErr, IfOk, length, OnOk};
-ghost use Rattle.loaded_net.specs.Nets.{net_in};
+ghost use Rattle.net_run.specs.Nets.{net_in};
 ghost use Rattle.net_run.specs.Following.{CanFollow, FollowStops, IsFollowed, IsUnderWay};
 ghost use Rattle.net_run.specs.Delivering.{delivery_of};
 ghost use Rattle.net_run.specs.Ends.{ends};
@@ -10,11 +10,11 @@ ghost use Rattle.net_run.specs.UnderWay.{stack_ends, stack_runs};
 
 use crate::delivering::Delivery;
 use crate::fault::{MOST_RUNS, RunFault};
+use crate::net::Net;
 use crate::room::Room;
 use crate::standing::Standing;
 use crate::stations::Stations;
 use cocoon_num::{List, NoMemory, Text};
-use loaded_net::Net;
 use p4_ir::LinkEnd;
 use std::alloc::Global;
 

@@ -1,6 +1,6 @@
 //! Copies of a packet under way, on a stack.
 ghost use Rattle.std.specs.Prelude.{◌≡◌, ◌+◌, ◌-◌, ◌<◌, ◌≤◌, [], ◌∷◌, ◌++◌, IfOk, length, map, OnOk};
-ghost use Rattle.loaded_net.specs.Nets.{net_in};
+ghost use Rattle.net_run.specs.Nets.{net_in};
 ghost use Rattle.net_run.specs.DepartedOf.{departed_of, way_of};
 ghost use Rattle.net_run.specs.Ends.{behind, ends_from, followed};
 ghost use Rattle.net_run.specs.RunCounts.{runs_from, runs_of_all};
@@ -8,8 +8,8 @@ ghost use Rattle.net_run.specs.UnderWay.{stack_ends, stack_runs};
 ghost use Rattle.std.specs.List.{flat_map};
 
 use crate::departed::Departed;
+use crate::net::Net;
 use cocoon_num::NoMemory;
-use loaded_net::Net;
 use p4_ir::LinkEnd;
 use std::alloc::Global;
 

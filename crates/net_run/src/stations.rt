@@ -1,8 +1,8 @@
 //! Switches that copies have visited, each with a frame for its runs.
 ghost use Rattle.std.specs.Prelude.{◌≡◌, ◌≤◌, ◌<◌, IfErr, IfOk, length, map, OnOk};
 ghost use Rattle.std.specs.List.{All};
-ghost use Rattle.loaded_net.specs.Nets.{net_in};
-ghost use Rattle.loaded_net.specs.declared.net.Net.{Net as NetOf};
+ghost use Rattle.net_run.specs.Nets.{net_in};
+ghost use Rattle.net_run.specs.declared.net.Net.{Net as NetOf};
 ghost use Rattle.net_run.specs.Departures.{departures_at};
 ghost use Rattle.net_run.specs.DepartedOf.{departed_of, VisitStops};
 ghost use Rattle.net_run.specs.RunCounts.{visit_runs};
@@ -11,10 +11,10 @@ ghost use Rattle.p4_ir.specs.NetRuns.{switch_at};
 
 use crate::departed::Visited;
 use crate::fault::RunFault;
+use crate::net::Net;
 use crate::room::Room;
 use crate::visiting::visit;
 use cocoon_num::NoMemory;
-use loaded_net::Net;
 use p4_run::{Frame, Loaded};
 use std::alloc::Global;
 

@@ -1,6 +1,6 @@
 //! The lines of a file of packets.
 ghost use Rattle.std.specs.Prelude.{◌≡◌, ◌⊎◌, IfErr, IfOk, map, option_map, Result, Ok, Err};
-ghost use Rattle.loaded_net.specs.Nets.{net_in};
+ghost use Rattle.net_run.specs.Nets.{net_in};
 ghost use Rattle.p4_ir.specs.Wiring.{host_numbers};
 ghost use Rattle.packet_runs.specs.Judging.{AnswersAs, packet_in};
 ghost use Rattle.packet_runs.specs.Packets as spec;
@@ -10,7 +10,7 @@ ghost use Rattle.text_lines.specs.LineOf.{line_of};
 use crate::bytes::read_bytes;
 use crate::packet::{Packet, PacketFault};
 use cocoon_num::NoMemory;
-use loaded_net::Net;
+use net_run::Net;
 use std::alloc::Global;
 use text_lines::{Line, read_number, split_lines, split_parts};
 

@@ -1,7 +1,7 @@
 //! The packets of a file, run one after another.
 ghost use Rattle.std.specs.Prelude.{◌≡◌, ◌≤◌, IfErr, IfOk, map, OnOk, true};
 ghost use Rattle.cocoon_num.specs.Lists.{has_number};
-ghost use Rattle.loaded_net.specs.Nets.{net_in};
+ghost use Rattle.net_run.specs.Nets.{net_in};
 ghost use Rattle.net_run.specs.RunCounts.{most_runs, runs};
 ghost use Rattle.net_run.specs.Stations.{StationsFit};
 ghost use Rattle.p4_ir.specs.Wiring.{host_numbers};
@@ -14,8 +14,7 @@ ghost use Rattle.packet_runs.specs.Stopping.{AllWithin, Stops, StopsAt};
 use crate::Packet;
 use crate::lines::{LineRoom, push_outcome};
 use cocoon_num::NoMemory;
-use loaded_net::Net;
-use net_run::{Delivered, RunFault, Stations, deliver_in};
+use net_run::{Delivered, Net, RunFault, Stations, deliver_in};
 use std::alloc::Global;
 
 /// Why packets are not all run.

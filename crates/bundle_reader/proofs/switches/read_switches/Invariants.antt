@@ -2,7 +2,7 @@ use Rattle.std.proofs.Common.{◌≡◌, true, map, take, drop, Some}
 use Rattle.cocoon_io.specs.Files.{Files}
 use Rattle.p4_ir.specs.NetFits.{switch_numbers}
 use Rattle.p4_ir.specs.NetOf.{switch_of}
-use Rattle.loaded_net.specs.Runs.{runs_in, runs_of}
+use Rattle.net_run.specs.Runs.{runs_in, runs_of}
 use Rattle.net_bundle.specs.NetFileOf.{kept_of, net_file_of}
 use Rattle.net_bundle.specs.NetForm.{are_names, file_names}
 use Rattle.bundle_reader.specs.Parts.{LastIsRead}

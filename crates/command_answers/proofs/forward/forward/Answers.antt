@@ -1,5 +1,5 @@
 use Rattle.std.proofs.Common.{inl}
-use Rattle.loaded_net.specs.Nets.{net_in}
+use Rattle.net_run.specs.Nets.{net_in}
 use Rattle.command_line.specs.Command.{forward as command}
 use Rattle.command_answers.specs.Answering.{Asked}
 use Rattle.command_answers.proofs.Counted.{passed}

@@ -1,5 +1,5 @@
 use Rattle.std.proofs.Common.{map, subst}
-use Rattle.loaded_net.specs.Nets.{net_in}
+use Rattle.net_run.specs.Nets.{net_in}
 use Rattle.packet_runs.specs.Judging.{packet_in}
 use Rattle.packet_runs.specs.Reports.{IsReport}
 use Rattle.packet_runs.specs.Stopping.{AllWithin}

@@ -2,7 +2,7 @@ use Rattle.std.proofs.Common.{◌≡◌, ◌≤◌, ◌∙◌, ℕ, List, false,
 use Rattle.std.specs.Prelude.{◌==◌}
 use Rattle.cocoon_num.specs.Lists.{has_number}
 use Rattle.generator.specs.Packets.{bytes, source}
-use Rattle.loaded_net.specs.Nets.{net_in}
+use Rattle.net_run.specs.Nets.{net_in}
 use Rattle.net_run.specs.Delivering.{RunStops}
 use Rattle.net_run.specs.declared.fault.RunFault.{RunFault}
 use Rattle.net_run.specs.RunCounts.{most_runs, runs}

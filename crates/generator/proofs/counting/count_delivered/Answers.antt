@@ -1,6 +1,6 @@
 use Rattle.std.proofs.Common.{◌≡◌, ◌≤◌, ◌<◌, ◌+◌, ◌↔◌, Bool, true, false, ℕ, suc, subst, sym, arith}
 use Rattle.std.specs.Prelude.{IsTrue}
-use Rattle.loaded_net.specs.Nets.{net_in}
+use Rattle.net_run.specs.Nets.{net_in}
 use Rattle.net_run.specs.RunCounts.{most_runs}
 use Rattle.generator.specs.Arriving.{Arrives}
 use Rattle.generator.specs.Counting.{IsCount}

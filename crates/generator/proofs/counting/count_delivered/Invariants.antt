@@ -1,5 +1,5 @@
 use Rattle.std.proofs.Common.{◌≤◌}
-use Rattle.loaded_net.specs.Nets.{net_in}
+use Rattle.net_run.specs.Nets.{net_in}
 use Rattle.generator.specs.Arriving.{Arrives}
 use Rattle.generator.specs.Counting.{IsCount}
 use Rattle.generator.specs.Stopping.{AllWithin}

@@ -1,5 +1,5 @@
 use Rattle.std.proofs.Common.{map, rules, subst, sym}
-use Rattle.loaded_net.specs.Nets.{net_in}
+use Rattle.net_run.specs.Nets.{net_in}
 use Rattle.net_run.specs.Delivering.{delivery_of, RunStops}
 use Rattle.net_run.specs.Outcomes.{AreDelivered}
 use Rattle.net_run.proofs.CopySteps.{follow_stops, next_under_way, told_on}

@@ -1,5 +1,5 @@
 use Rattle.std.proofs.Common.{ap, refl, rules, sym, ◌∙◌, ◌++◌, [], ◌∷◌}
-use Rattle.loaded_net.specs.Nets.{net_in}
+use Rattle.net_run.specs.Nets.{net_in}
 use Rattle.p4_ir.specs.declared.network.LinkEnd.TheVariants.{Switch}
 use Rattle.net_run.specs.UnderWay.{stack_ends}
 use Rattle.net_run.specs.declared.standing.Standing.{Standing}

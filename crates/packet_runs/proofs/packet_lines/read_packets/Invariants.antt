@@ -1,5 +1,5 @@
 use Rattle.std.proofs.Common.{◌≡◌, drop, map}
-use Rattle.loaded_net.specs.Nets.{net_in}
+use Rattle.net_run.specs.Nets.{net_in}
 use Rattle.p4_ir.specs.Wiring.{host_numbers}
 use Rattle.packet_runs.specs.Judging.{joined, packet_in}
 use Rattle.packet_runs.specs.Packets.{all_judged}

@@ -1,5 +1,5 @@
 use Rattle.std.proofs.Common.{rules, ◌≡◌, ◌<◌, ◌+◌, [], ◌∷◌, ap, drop, length, map, refl}
-use Rattle.loaded_net.specs.Nets.{net_in}
+use Rattle.net_run.specs.Nets.{net_in}
 use Rattle.p4_ir.specs.Wiring.{host_numbers}
 use Rattle.packet_runs.specs.Judging.{packet_in}
 use Rattle.packet_runs.proofs.Reporting.{known_more, opened, over_more, report_more, within_more}

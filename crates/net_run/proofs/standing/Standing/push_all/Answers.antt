@@ -1,5 +1,5 @@
 use Rattle.std.proofs.Common.{◌-◌, arith, ◌∙◌}
-use Rattle.loaded_net.specs.Nets.{net_in}
+use Rattle.net_run.specs.Nets.{net_in}
 use Rattle.net_run.specs.Ends.{ends_from, followed}
 use Rattle.net_run.specs.RunCounts.{runs_from}
 use Rattle.net_run.specs.UnderWay.{stack_ends, stack_runs}

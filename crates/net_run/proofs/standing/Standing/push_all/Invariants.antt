@@ -1,6 +1,6 @@
 use Rattle.std.proofs.Common.{◌≡◌, ◌+◌, ◌-◌, ◌≤◌, ◌++◌, length, map, vec_len}
 use Rattle.std.specs.List.{flat_map}
-use Rattle.loaded_net.specs.Nets.{net_in}
+use Rattle.net_run.specs.Nets.{net_in}
 use Rattle.net_run.specs.DepartedOf.{departed_of}
 use Rattle.net_run.specs.Ends.{behind, ends_from, followed}
 use Rattle.net_run.specs.RunCounts.{runs_from, runs_of_all}

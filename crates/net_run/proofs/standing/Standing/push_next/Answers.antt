@@ -1,5 +1,5 @@
 use Rattle.std.proofs.Common.{refl, ap, ◌∙◌, ◌++◌}
-use Rattle.loaded_net.specs.Nets.{net_in}
+use Rattle.net_run.specs.Nets.{net_in}
 use Rattle.net_run.specs.DepartedOf.{departed_of, way_of}
 use Rattle.net_run.proofs.UnderWay.{next_ends, next_runs}
 use Rattle.net_run.proofs.standing.Standing.push_next.Goals as goal

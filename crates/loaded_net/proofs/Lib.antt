@@ -1,3 +1,0 @@
-mod LoadingSteps
-mod Searching
-mod Wired

@@ -1,4 +1,0 @@
-pub mod Locations
-pub mod Runs
-pub mod LoadFaults
-pub mod Nets
