@@ -15,9 +15,9 @@ use Rattle.p4_ir.specs.declared.program.P4Field.{P4Field as CodeField}
 use Rattle.p4_ir.specs.declared.program.Table.{Table as CodeTable}
 use Rattle.p4_ir.specs.declared.rows.TableRows.{TableRows as CodeRows}
 use Rattle.p4_code.specs.Running.{control_in}
-use Rattle.p4_steps.specs.Doing.{AreTables}
-use Rattle.p4_steps.specs.Effects.{applied_to}
-use Rattle.p4_steps.specs.declared.codes.Application.{Application}
+use Rattle.p4_run.specs.Doing.{AreTables}
+use Rattle.p4_run.specs.Effects.{applied_to}
+use Rattle.p4_run.specs.declared.stmt_codes.Application.{Application}
 use Rattle.p4_run.specs.Runs.{AreApplied, IsApplied}
 use Rattle.p4_run.proofs.TableFacts.{all_below, counted, each_found, found_at, found_passes, in_both, keys_parts, kinds_of, loads_of, result_fits, rows_counted, rows_found, table_at, table_found, TableFits}
 

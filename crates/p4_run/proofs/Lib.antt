@@ -1,3 +1,6 @@
+pub mod DoingFacts
+pub mod StmtSizes
+pub mod SetFacts
 pub mod AppliedTables
 pub mod FaultSteps
 pub mod FitFacts

@@ -9,11 +9,11 @@ use Rattle.p4_code.specs.Held.{Held, held}
 use Rattle.p4_code.specs.Running.{control_in, running_in}
 use Rattle.p4_code.specs.States.{Fit, state_at, state_in, Suits}
 use Rattle.p4_code.specs.declared.registers.Registers.{Registers}
-use Rattle.p4_steps.specs.Doing.{DoesAll, outcome_at}
-use Rattle.p4_steps.specs.Effects.{ended, goes_on, left, ran, Ran, Effect}
-use Rattle.p4_steps.specs.declared.running.Way.{Way}
-use Rattle.p4_steps.specs.declared.running.Way.TheVariants.{Proceeds, Returned}
-use Rattle.p4_steps.specs.declared.codes.Application.{Application}
+use Rattle.p4_run.specs.Doing.{DoesAll, outcome_at}
+use Rattle.p4_run.specs.Effects.{ended, goes_on, left, ran, Ran, Effect}
+use Rattle.p4_run.specs.declared.running.Way.{Way}
+use Rattle.p4_run.specs.declared.running.Way.TheVariants.{Proceeds, Returned}
+use Rattle.p4_run.specs.declared.stmt_codes.Application.{Application}
 use Rattle.p4_run.specs.Runs.{held_fits, listed, Runs}
 use Rattle.p4_run.specs.States.{fields_fit}
 use Rattle.p4_run.proofs.FitFacts.{fit_true, true_fit}

@@ -1,3 +1,5 @@
+pub mod Doing
+pub mod Effects
 pub mod FaultOf
 pub mod Faults
 pub mod Frames

@@ -12,8 +12,8 @@ use Rattle.p4_ir.specs.Switch.{p4_run_all, State, state_of, table_numbered, tabl
 use Rattle.p4_code.specs.Held.{Held}
 use Rattle.p4_code.specs.Running.{control_in, running_in}
 use Rattle.p4_code.specs.States.{state_at, Suits}
-use Rattle.p4_steps.specs.Effects.{applied_to, left, Effect}
-use Rattle.p4_steps.specs.declared.codes.Application.{Application}
+use Rattle.p4_run.specs.Effects.{applied_to, left, Effect}
+use Rattle.p4_run.specs.declared.stmt_codes.Application.{Application}
 use Rattle.p4_run.specs.States.{fields_fit}
 use Rattle.p4_run.specs.declared.places.TablePlaces.{TablePlaces}
 

@@ -6,14 +6,14 @@ ghost use Rattle.p4_ir.specs.NetOf.{group_of, rows_of};
 ghost use Rattle.p4_ir.specs.P4Kinds.{kinds_fit};
 ghost use Rattle.p4_ir.specs.P4Tree.{field_widths, program_layout};
 ghost use Rattle.p4_ir.specs.Program.{program_of};
-ghost use Rattle.p4_steps.specs.Effects.{stmt_by, stmts_by};
+ghost use Rattle.p4_run.specs.Effects.{stmt_by, stmts_by};
 ghost use Rattle.std.proofs.Props.{props};
 ghost use Rattle.p4_run.specs.Runs.{ArePlaced, Runs};
 
 use crate::origin::Origin;
+use crate::stmt_codes::{Application, StmtCode};
 use numbering::number_table::NumberTable;
 use p4_ir::Group;
-use p4_steps::{Application, StmtCode};
 
 /// A program with its rows, in which nothing but rows is left to be looked up. The program itself is not kept.
 #[derive(Drop)]

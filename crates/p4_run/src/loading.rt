@@ -8,24 +8,26 @@ ghost use Rattle.p4_ir.specs.P4Tree.{program_layout};
 ghost use Rattle.p4_ir.specs.Program.{program_of};
 ghost use Rattle.p4_ir.specs.WellKinded.{WellKinded};
 ghost use Rattle.p4_code.specs.Places.{starts_from};
-ghost use Rattle.p4_steps.specs.Effects.{stmt_by, stmts_by};
+ghost use Rattle.p4_run.specs.Effects.{stmt_by, stmts_by};
 ghost use Rattle.p4_run.specs.FaultOf.{IsFault};
 ghost use Rattle.p4_run.specs.Faults as faults;
 ghost use Rattle.p4_run.specs.Running.{program_in, rows_in};
 ghost use Rattle.p4_run.specs.Runs.{AreApplied, PlacesTables, Runs};
 
+use crate::constants::Constants;
 use crate::faults::{LoadFault, load_fault};
 use crate::loaded::Loaded;
 use crate::origin::Origin;
 use crate::places::{
     FieldWidths, TablePlaces, copied_groups, field_widths, group_places, meta_widths, table_places,
 };
+use crate::stmt_codes::{Application, StmtCode};
+use crate::stmt_resolving::resolved_stmts;
 use crate::tables::tables_with;
 use cocoon_num::NoMemory;
 use numbering::number_table::NumberTable;
 use p4_code::Names;
 use p4_ir::{Program, RowsFile};
-use p4_steps::{Application, Constants, StmtCode, resolved_stmts};
 use packed_fields::byte_count;
 use std::alloc::Global;
 

@@ -8,11 +8,12 @@ ghost use Rattle.p4_ir.specs.P4Kinds.{kinds_fit, numbers_of};
 ghost use Rattle.p4_ir.specs.Program.{program_of};
 ghost use Rattle.p4_run.specs.Runs.{AreApplied, IsApplied, own_rows_fit};
 
+use crate::constants::Constants;
 use crate::places::table_of_either;
+use crate::stmt_codes::Application;
 use cocoon_num::NoMemory;
 use numbering::number_table::NumberTable;
 use p4_ir::{Program, TableRows};
-use p4_steps::{Application, Constants};
 use std::alloc::Global;
 
 /// The table that some rows are of.

@@ -15,8 +15,8 @@ ghost use Rattle.p4_run.specs.Visits.{after_egress, after_ingress, AreHeaders, i
 use crate::frame::Frame;
 use crate::loaded::Loaded;
 use crate::registers::{copy_from, fill};
+use crate::running::run_all;
 use p4_code::Registers;
-use p4_steps::run_all;
 use packed_fields::join_into;
 
 /// What follows a run.

@@ -1,7 +1,7 @@
 use Rattle.std.proofs.Common.{◌<◌, ◌^◌, false, map, ap}
 use Rattle.p4_code.specs.Held.{held}
 use Rattle.p4_code.specs.States.{Suits}
-use Rattle.p4_steps.specs.Effects.{stmt_by, stmts_by}
+use Rattle.p4_run.specs.Effects.{stmt_by, stmts_by}
 use Rattle.p4_run.specs.Running.{program_in, rows_in}
 use Rattle.p4_run.proofs.RunFacts.{Ends, ends}
 use Rattle.p4_run.proofs.visits.run_egress.Goals as goal

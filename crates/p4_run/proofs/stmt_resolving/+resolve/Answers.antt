@@ -11,12 +11,12 @@ use Rattle.p4_ir.specs.declared.program.P4Stmt as stmts
 use Rattle.p4_code.specs.Resolving.{GivesTruths, program_at}
 use Rattle.p4_code.specs.Meaning.{truth_by}
 use Rattle.p4_code.specs.Running.{within_in}
-use Rattle.p4_steps.specs.Doing.{Does, DoesAll, EachDoes}
-use Rattle.p4_steps.specs.Effects.{stmt_by, stmts_by}
-use Rattle.p4_steps.specs.declared.codes.StmtCode.TheVariants.{SetMeta, SetField, Apply, IfElse, EgressPort, Group}
-use Rattle.p4_steps.proofs.DoingFacts.{Alike, all_do, does_apply, does_egress_port, does_group, does_if_else, does_set_field, does_set_meta, field_alike, first_fits, has_sort_some, meta_alike, pushed}
-use Rattle.p4_steps.proofs.Sizes.{block_size, one_of, stmt_size}
-use Rattle.p4_steps.proofs.resolving.+resolve.Goals as goal
+use Rattle.p4_run.specs.Doing.{Does, DoesAll, EachDoes}
+use Rattle.p4_run.specs.Effects.{stmt_by, stmts_by}
+use Rattle.p4_run.specs.declared.stmt_codes.StmtCode.TheVariants.{SetMeta, SetField, Apply, IfElse, EgressPort, Group}
+use Rattle.p4_run.proofs.DoingFacts.{Alike, all_do, does_apply, does_egress_port, does_group, does_if_else, does_set_field, does_set_meta, field_alike, first_fits, has_sort_some, meta_alike, pushed}
+use Rattle.p4_run.proofs.StmtSizes.{block_size, one_of, stmt_size}
+use Rattle.p4_run.proofs.stmt_resolving.+resolve.Goals as goal
 
 pub resolved_stmts-resolved_stmt-requires : goal.resolved_stmts-resolved_stmt-requires
 resolved_stmts-resolved_stmt-requires t c =

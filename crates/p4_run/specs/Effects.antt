@@ -4,11 +4,11 @@ use Rattle.row_search.specs.GroupsLaid.{looked_up}
 use Rattle.row_search.specs.Keyed.{keyed}
 use Rattle.p4_code.specs.Held.{Held}
 use Rattle.p4_code.specs.Meaning.{number_by, truth_by}
-use Rattle.p4_steps.specs.declared.running.Way.{Way}
-use Rattle.p4_steps.specs.declared.running.Way.TheVariants.{Proceeds, Returned}
-use Rattle.p4_steps.specs.declared.codes.Application.{Application}
-use Rattle.p4_steps.specs.declared.codes.StmtCode.{StmtCode, fold-StmtCode}
-use Rattle.p4_steps.specs.declared.codes.StmtCode.TheOpen.{StmtCode-F}
+use Rattle.p4_run.specs.declared.running.Way.{Way}
+use Rattle.p4_run.specs.declared.running.Way.TheVariants.{Proceeds, Returned}
+use Rattle.p4_run.specs.declared.stmt_codes.Application.{Application}
+use Rattle.p4_run.specs.declared.stmt_codes.StmtCode.{StmtCode, fold-StmtCode}
+use Rattle.p4_run.specs.declared.stmt_codes.StmtCode.TheOpen.{StmtCode-F}
 
 -- a run goes on, or has ended, with what is held then
 pub data Ran : Type 0 where

@@ -3,10 +3,10 @@ ghost use Rattle.std.specs.Prelude.{All, ◌≡◌, ◌<◌, IfOk, length, List,
 ghost use Rattle.row_search.specs.Keyed.{HasKeys, keyed};
 ghost use Rattle.p4_ir.specs.NetOf.{key_row_of};
 ghost use Rattle.p4_ir.specs.Switch.{table_result};
-ghost use Rattle.p4_steps.specs.Effects.{applied_to};
+ghost use Rattle.p4_run.specs.Effects.{applied_to};
 
-use crate::codes::Application;
 use crate::constants::Constants;
+use crate::stmt_codes::Application;
 use cocoon_num::NoMemory;
 use p4_ir::{Table, TableRows};
 use row_search::{Hint, LaidRows};

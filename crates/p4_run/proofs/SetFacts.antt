@@ -6,8 +6,8 @@ use Rattle.row_search.specs.GroupsLaid.{Holds, looked_up}
 use Rattle.row_search.specs.Keyed.{keyed}
 use Rattle.p4_ir.specs.P4Tree.{TableRows}
 use Rattle.p4_ir.specs.Switch.{table_result}
-use Rattle.p4_steps.specs.Effects.{applied_to}
-use Rattle.p4_steps.specs.declared.codes.Application.{Application}
+use Rattle.p4_run.specs.Effects.{applied_to}
+use Rattle.p4_run.specs.declared.stmt_codes.Application.{Application}
 
 -- nothing is set behind the end
 pub set_nothing : (ns : List ℕ) (i n : ℕ) → length ns ≤ i → slice_set ns i n ≡ ns

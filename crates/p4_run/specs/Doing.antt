@@ -11,8 +11,8 @@ use Rattle.p4_ir.specs.Switch.{Outcome, p4_run, p4_run_all, proceeds, returned, 
 use Rattle.p4_code.specs.Held.{Held}
 use Rattle.p4_code.specs.Running.{control_in, running_in}
 use Rattle.p4_code.specs.States.{state_at, Suits}
-use Rattle.p4_steps.specs.Effects.{applied_at, Effect, ended, goes_on, left, Ran}
-use Rattle.p4_steps.specs.declared.codes.Application.{Application}
+use Rattle.p4_run.specs.Effects.{applied_at, Effect, ended, goes_on, left, Ran}
+use Rattle.p4_run.specs.declared.stmt_codes.Application.{Application}
 
 -- ---- tables
 

@@ -1,7 +1,7 @@
 use Rattle.std.proofs.Common.{◌≡◌, drop, map}
 use Rattle.p4_code.specs.Held.{held}
-use Rattle.p4_steps.specs.Effects.{stmt_by, stmts_by}
-use Rattle.p4_steps.proofs.running.+run.Given as goal
+use Rattle.p4_run.specs.Effects.{stmt_by, stmts_by}
+use Rattle.p4_run.proofs.running.+run.Given as goal
 
 -- from what is held now the statements that are left end as all do
 abbrev pub invariant-run_all-loop-stmt : goal.invariant-run_all-loop-stmt

@@ -1,3 +1,0 @@
-pub mod DoingFacts
-pub mod Sizes
-pub mod SetFacts
