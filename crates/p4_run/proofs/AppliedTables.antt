@@ -14,7 +14,7 @@ use Rattle.p4_ir.specs.Program.{field_of, table_of}
 use Rattle.p4_ir.specs.declared.program.P4Field.{P4Field as CodeField}
 use Rattle.p4_ir.specs.declared.program.Table.{Table as CodeTable}
 use Rattle.p4_ir.specs.declared.rows.TableRows.{TableRows as CodeRows}
-use Rattle.p4_code.specs.Running.{control_in}
+use Rattle.p4_run.specs.Controls.{control_in}
 use Rattle.p4_run.specs.Doing.{AreTables}
 use Rattle.p4_run.specs.Effects.{applied_to}
 use Rattle.p4_run.specs.declared.stmt_codes.Application.{Application}

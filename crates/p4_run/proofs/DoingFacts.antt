@@ -22,22 +22,22 @@ use Rattle.p4_ir.specs.Program.{block_of, stmt_of}
 use Rattle.p4_ir.specs.Switch.{all_there, choose, Outcome, p4_run_all, proceeds, set_in_header, setting, State, table_result, then_run}
 use Rattle.p4_ir.specs.declared.program.P4Stmt.{P4Stmt as ProgramStmt}
 use Rattle.p4_run.specs.Doing.{Does, DoesAll, EachDoes, IsTable, Keeps, outcome_at}
-use Rattle.p4_code.specs.Held.{Held}
-use Rattle.p4_code.specs.Meaning.{number_by, truth_by}
-use Rattle.p4_code.specs.Places.{starts_from}
-use Rattle.p4_code.specs.Resolving.{GivesNumbers, GivesTruths}
-use Rattle.p4_code.specs.Running.{running_in, within_in}
-use Rattle.p4_code.specs.States.{state_at, Suits}
+use Rattle.p4_run.specs.Held.{Held}
+use Rattle.p4_run.specs.Meaning.{number_by, truth_by}
+use Rattle.p4_run.specs.Places.{starts_from}
+use Rattle.p4_run.specs.Resolving.{GivesNumbers, GivesTruths}
+use Rattle.p4_run.specs.Controls.{running_in, within_in}
+use Rattle.p4_run.specs.RegisterStates.{state_at, Suits}
 use Rattle.p4_run.specs.Effects.{applied_at, Effect, ended, goes_on, left, Ran, stmt_by, stmts_by, then_on}
-use Rattle.p4_code.specs.declared.codes.NumberCode.{NumberCode}
-use Rattle.p4_code.specs.declared.codes.TruthCode.{TruthCode}
+use Rattle.p4_run.specs.declared.expr_codes.NumberCode.{NumberCode}
+use Rattle.p4_run.specs.declared.expr_codes.TruthCode.{TruthCode}
 use Rattle.p4_run.specs.declared.stmt_codes.Application.{Application}
 use Rattle.p4_run.specs.declared.stmt_codes.StmtCode as codes
 use Rattle.p4_run.specs.declared.stmt_codes.StmtCode.{StmtCode}
 use Rattle.p4_run.specs.declared.stmt_codes.StmtCode.TheVariants.{SetMeta, SetField, Apply, If, IfElse, Verdict, EgressPort, Group, Return}
-use Rattle.p4_code.proofs.FieldFacts.{field_is, FieldIs}
-use Rattle.p4_code.proofs.HeaderParts.{fit_set}
-use Rattle.p4_code.proofs.WidthFacts.{field_sorted_at, meta_counted, meta_sorted_at, meta_width_is, widths_of}
+use Rattle.p4_run.proofs.FieldFacts.{field_is, FieldIs}
+use Rattle.p4_run.proofs.HeaderParts.{fit_set}
+use Rattle.p4_run.proofs.WidthFacts.{field_sorted_at, meta_counted, meta_sorted_at, meta_width_is, widths_of}
 
 -- ---- what the nodes do
 

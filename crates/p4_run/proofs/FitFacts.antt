@@ -4,7 +4,7 @@ use Rattle.std.proofs.lemmas.Bool.{and_from, and_parts, and_right, lt-ltb, ltb-t
 use Rattle.cocoon_num.specs.PacketForms.{FieldsFit}
 use Rattle.p4_ir.specs.P4Kinds.{kinds_fit}
 use Rattle.p4_ir.specs.P4Tree.{Program}
-use Rattle.p4_code.proofs.WidthFacts.{Widths, widths_of}
+use Rattle.p4_run.proofs.WidthFacts.{Widths, widths_of}
 use Rattle.p4_run.specs.States.{fields_fit}
 use Rattle.p4_run.proofs.TableFacts.{kinds_of}
 

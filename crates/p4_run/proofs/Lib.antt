@@ -1,3 +1,11 @@
+pub mod CodeFacts
+pub mod FieldFacts
+pub mod HeaderParts
+pub mod OperatorFacts
+pub mod ResolvingFacts
+pub mod ExprSizes
+pub mod WidthFacts
+pub mod Widths
 pub mod DoingFacts
 pub mod StmtSizes
 pub mod SetFacts

@@ -5,10 +5,10 @@ use Rattle.cocoon_num.specs.Packets.{Layout}
 use Rattle.packed_fields.specs.AtOnce.{widths_in}
 use Rattle.p4_ir.specs.P4Tree.{field_widths, Program, program_layout, TableRows}
 use Rattle.p4_ir.specs.Switch.{Outcome, p4_run_all, State, state_of}
-use Rattle.p4_code.specs.Held.{Held, held}
-use Rattle.p4_code.specs.Running.{control_in, running_in}
-use Rattle.p4_code.specs.States.{Fit, state_at, state_in, Suits}
-use Rattle.p4_code.specs.declared.registers.Registers.{Registers}
+use Rattle.p4_run.specs.Held.{Held, held}
+use Rattle.p4_run.specs.Controls.{control_in, running_in}
+use Rattle.p4_run.specs.RegisterStates.{Fit, state_at, state_in, Suits}
+use Rattle.p4_run.specs.declared.registers.Registers.{Registers}
 use Rattle.p4_run.specs.Doing.{DoesAll, outcome_at}
 use Rattle.p4_run.specs.Effects.{ended, goes_on, left, ran, Ran, Effect}
 use Rattle.p4_run.specs.declared.running.Way.{Way}

@@ -12,7 +12,7 @@ use Rattle.p4_ir.specs.P4Kinds.{block_fits, kinds_fit, names_fit, numbers_of, ta
 use Rattle.p4_ir.specs.P4Tree.{Group, KeyRow, meta_width, P4Table, Program, RowsFile, TableRows}
 use Rattle.p4_ir.specs.Switch.{rows_numbered, table_numbered, table_result}
 use Rattle.p4_ir.specs.declared.rows.KeyRow.{KeyRow as CodeRow}
-use Rattle.p4_code.specs.Running.{control_in, within_in}
+use Rattle.p4_run.specs.Controls.{control_in, within_in}
 use Rattle.p4_run.proofs.TestSteps.{is_symmetric}
 
 some_is : {A : Type 0} (x y : A) → ◌≡◌ {A = Option A} (Some x) (Some y) → x ≡ y

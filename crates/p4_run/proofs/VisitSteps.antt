@@ -8,9 +8,9 @@ use Rattle.packed_fields.specs.AtOnce.{bytes_in, grouped, widths_in}
 use Rattle.packed_fields.proofs.Headers.{enter_flat, leave_flat}
 use Rattle.p4_ir.specs.P4Tree.{Program, program_layout, RowsFile}
 use Rattle.p4_ir.specs.Switch.{ingress_of, p4_run_all, state_of}
-use Rattle.p4_code.specs.Running.{running_in}
-use Rattle.p4_code.specs.States.{state_in}
-use Rattle.p4_code.specs.declared.registers.Registers.{Registers}
+use Rattle.p4_run.specs.Controls.{running_in}
+use Rattle.p4_run.specs.RegisterStates.{state_in}
+use Rattle.p4_run.specs.declared.registers.Registers.{Registers}
 use Rattle.p4_run.specs.Visits.{ingress_left}
 
 pub are_bytes : (bs : List ℕ) → ((k : ℕ) → get_or bs k 0 < 256) → AreBytes bs

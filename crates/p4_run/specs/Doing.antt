@@ -8,9 +8,9 @@ use Rattle.p4_ir.specs.Loading.{table_numbers}
 use Rattle.p4_ir.specs.P4Kinds.{numbers_of}
 use Rattle.p4_ir.specs.P4Tree.{meta_width, P4Block, P4Stmt, P4Table, Program, program_layout, TableRows}
 use Rattle.p4_ir.specs.Switch.{Outcome, p4_run, p4_run_all, proceeds, returned, rows_numbered, table_numbered, table_result}
-use Rattle.p4_code.specs.Held.{Held}
-use Rattle.p4_code.specs.Running.{control_in, running_in}
-use Rattle.p4_code.specs.States.{state_at, Suits}
+use Rattle.p4_run.specs.Held.{Held}
+use Rattle.p4_run.specs.Controls.{control_in, running_in}
+use Rattle.p4_run.specs.RegisterStates.{state_at, Suits}
 use Rattle.p4_run.specs.Effects.{applied_at, Effect, ended, goes_on, left, Ran}
 use Rattle.p4_run.specs.declared.stmt_codes.Application.{Application}
 

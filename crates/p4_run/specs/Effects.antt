@@ -2,8 +2,8 @@
 use Rattle.std.specs.Prelude.{ℕ, ◌%◌, ◌^◌, nat_le, List, [], ◌∷◌, length, if◌then◌else◌, slice_get, slice_set, Some, None}
 use Rattle.row_search.specs.GroupsLaid.{looked_up}
 use Rattle.row_search.specs.Keyed.{keyed}
-use Rattle.p4_code.specs.Held.{Held}
-use Rattle.p4_code.specs.Meaning.{number_by, truth_by}
+use Rattle.p4_run.specs.Held.{Held}
+use Rattle.p4_run.specs.Meaning.{number_by, truth_by}
 use Rattle.p4_run.specs.declared.running.Way.{Way}
 use Rattle.p4_run.specs.declared.running.Way.TheVariants.{Proceeds, Returned}
 use Rattle.p4_run.specs.declared.stmt_codes.Application.{Application}

@@ -4,7 +4,7 @@ use Rattle.packed_fields.specs.AtOnce.{bytes_in}
 use Rattle.p4_ir.specs.P4Tree.{Program, program_layout}
 use Rattle.p4_ir.specs.Switch.{State}
 use Rattle.p4_run.specs.Running.{layout_in}
-use Rattle.p4_code.specs.States.{Fit, state_in}
+use Rattle.p4_run.specs.RegisterStates.{Fit, state_in}
 use Rattle.p4_run.specs.States.{registers_fit}
 use Rattle.p4_run.specs.declared.frame.Frame.{Frame}
 use Rattle.p4_run.specs.declared.loaded.Loaded.{Loaded}

@@ -1,3 +1,10 @@
+pub mod Held
+pub mod Meaning
+pub mod Operating
+pub mod Places
+pub mod Resolving
+pub mod Controls
+pub mod RegisterStates
 pub mod Doing
 pub mod Effects
 pub mod FaultOf

@@ -9,9 +9,9 @@ use Rattle.p4_ir.specs.Loading.{all_tables, table_numbers, table_rows_fit}
 use Rattle.p4_ir.specs.P4Kinds.{numbers_of}
 use Rattle.p4_ir.specs.P4Tree.{field_widths, Group, P4Table, Program, program_layout, TableRows}
 use Rattle.p4_ir.specs.Switch.{p4_run_all, State, state_of, table_numbered, table_result}
-use Rattle.p4_code.specs.Held.{Held}
-use Rattle.p4_code.specs.Running.{control_in, running_in}
-use Rattle.p4_code.specs.States.{state_at, Suits}
+use Rattle.p4_run.specs.Held.{Held}
+use Rattle.p4_run.specs.Controls.{control_in, running_in}
+use Rattle.p4_run.specs.RegisterStates.{state_at, Suits}
 use Rattle.p4_run.specs.Effects.{applied_to, left, Effect}
 use Rattle.p4_run.specs.declared.stmt_codes.Application.{Application}
 use Rattle.p4_run.specs.States.{fields_fit}

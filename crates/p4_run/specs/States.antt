@@ -2,7 +2,7 @@
 use Rattle.std.specs.Prelude.{ℕ, ◌^◌, ◌&&◌, Bool, true, false, nat_lt, List, [], ◌∷◌}
 use Rattle.packed_fields.specs.AtOnce.{widths_in}
 use Rattle.p4_ir.specs.P4Tree.{field_widths, Program, program_layout}
-use Rattle.p4_code.specs.declared.registers.Registers.{Registers}
+use Rattle.p4_run.specs.declared.registers.Registers.{Registers}
 
 abbrev pub fields_fit : List ℕ → List ℕ → Bool
 fields_fit [] [] = true

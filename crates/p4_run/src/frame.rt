@@ -1,15 +1,15 @@
 //! The memory that runs work in.
 ghost use Rattle.std.specs.Prelude.{◌≡◌, ◌↔◌, IfOk, IsTrue};
-ghost use Rattle.p4_code.specs.States.{Fit};
+ghost use Rattle.p4_run.specs.RegisterStates.{Fit};
 ghost use Rattle.p4_run.specs.Frames.{Fits, headers_in};
 ghost use Rattle.p4_run.specs.Running.{program_in};
 ghost use Rattle.p4_run.specs.Frames as frames;
 ghost use Rattle.p4_run.specs.States as spec;
 
+use crate::filling::{numbers_fit, zero_registers};
 use crate::loaded::Loaded;
-use crate::registers::{numbers_fit, zero_registers};
+use crate::registers::Registers;
 use cocoon_num::NoMemory;
-use p4_code::Registers;
 use std::alloc::Global;
 
 /// What a run works in: made once for a program, and used for packet after packet.

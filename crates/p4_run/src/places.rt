@@ -9,7 +9,7 @@ ghost use Rattle.p4_ir.specs.P4Kinds.{numbers_of};
 ghost use Rattle.p4_ir.specs.P4Tree.{field_widths};
 ghost use Rattle.p4_ir.specs.Program.{field_of, header_of, program_of, table_of};
 ghost use Rattle.p4_ir.specs.Switch.{table_numbered};
-ghost use Rattle.p4_code.specs.Places.{layout_of, starts_from};
+ghost use Rattle.p4_run.specs.Places.{layout_of, starts_from};
 ghost use Rattle.p4_run.specs.Runs.{ArePlaced, PlacesTables};
 
 use cocoon_num::NoMemory;

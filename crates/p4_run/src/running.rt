@@ -1,11 +1,13 @@
 //! Resolved statements, run one after another.
 ghost use Rattle.std.specs.Prelude.{◌≡◌, ◌%◌, ◌^◌, if◌then◌else◌, map, slice_set};
-ghost use Rattle.p4_code.specs.Held.{held};
-ghost use Rattle.p4_code.specs.Meaning.{truth_by};
+ghost use Rattle.p4_run.specs.Held.{held};
+ghost use Rattle.p4_run.specs.Meaning.{truth_by};
 ghost use Rattle.p4_run.specs.Effects.{applied_at, applied_to, goes_on, ran, stmt_by, stmts_by};
 
+use crate::evaluating::{number, truth};
+use crate::expr_codes::TruthCode;
+use crate::registers::Registers;
 use crate::stmt_codes::{Application, StmtCode};
-use p4_code::{Registers, TruthCode, number, truth};
 
 /// How statements end.
 #[derive(Clone, Copy, Drop)]

@@ -3,7 +3,7 @@ ghost use Rattle.std.specs.Prelude.{All, ◌≡◌, ◌<◌, length};
 ghost use Rattle.std.proofs.Props.{props};
 ghost use Rattle.row_search.specs.GroupsLaid.{key_count};
 
-use p4_code::{NumberCode, TruthCode};
+use crate::expr_codes::{NumberCode, TruthCode};
 use row_search::LaidRows;
 
 /// A table as it is applied: its rows, laid flat, and which meta fields are its keys and its result.

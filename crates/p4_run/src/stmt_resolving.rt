@@ -6,14 +6,14 @@ ghost use Rattle.p4_ir.specs.NetOf.{table_rows_of};
 ghost use Rattle.p4_ir.specs.P4Kinds.{block_fits, stmt_fits};
 ghost use Rattle.p4_ir.specs.Program.{block_of, stmt_of};
 ghost use Rattle.p4_run.specs.Doing.{AreTables, Does, DoesAll};
-ghost use Rattle.p4_code.specs.Resolving.{AreNames, program_at};
-ghost use Rattle.p4_code.specs.Running.{within_in};
+ghost use Rattle.p4_run.specs.Resolving.{AreNames, program_at};
+ghost use Rattle.p4_run.specs.Controls.{within_in};
 ghost use Rattle.p4_run.specs.Effects.{stmt_by, stmts_by};
 
+use crate::expr_resolving::{Names, field_place, resolved_number, resolved_truth};
 use crate::stmt_codes::{Application, StmtCode};
 use cocoon_num::NoMemory;
 use numbering::number_table::NumberTable;
-use p4_code::{Names, field_place, resolved_number, resolved_truth};
 use p4_ir::{P4Stmt, TableRows};
 use std::alloc::Global;
 

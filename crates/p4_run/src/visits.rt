@@ -6,17 +6,17 @@ ghost use Rattle.packed_fields.specs.AtOnce.{bytes_in, widths_in};
 ghost use Rattle.p4_ir.specs.P4Tree.{RowsFile};
 ghost use Rattle.p4_ir.specs.Switch as switch;
 ghost use Rattle.p4_ir.specs.Switch.{egress_of, p4_run_all, state_of};
-ghost use Rattle.p4_code.specs.Running.{running_in};
-ghost use Rattle.p4_code.specs.States.{Fit, state_in};
+ghost use Rattle.p4_run.specs.Controls.{running_in};
+ghost use Rattle.p4_run.specs.RegisterStates.{Fit, state_in};
 ghost use Rattle.p4_run.specs.Frames.{Fits, headers_in, left_in};
 ghost use Rattle.p4_run.specs.Running.{layout_in, program_in, rows_in};
 ghost use Rattle.p4_run.specs.Visits.{after_egress, after_ingress, AreHeaders, ingress_left};
 
+use crate::filling::{copy_from, fill};
 use crate::frame::Frame;
 use crate::loaded::Loaded;
-use crate::registers::{copy_from, fill};
+use crate::registers::Registers;
 use crate::running::run_all;
-use p4_code::Registers;
 use packed_fields::join_into;
 
 /// What follows a run.

@@ -3,7 +3,7 @@ use Rattle.cocoon_num.specs.PacketForms.{FieldsFit}
 use Rattle.packed_fields.specs.AtOnce.{widths_in}
 use Rattle.p4_ir.specs.P4Tree.{field_widths}
 use Rattle.p4_run.specs.Running.{layout_in, program_in}
-use Rattle.p4_code.proofs.WidthFacts.{zeros_fit}
+use Rattle.p4_run.proofs.WidthFacts.{zeros_fit}
 use Rattle.p4_run.proofs.frame.zeros.Goals as goal
 
 pub returns : goal.returns

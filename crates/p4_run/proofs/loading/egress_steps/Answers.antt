@@ -5,7 +5,7 @@ use Rattle.p4_ir.specs.Loading.{table_numbers}
 use Rattle.p4_ir.specs.NetOf.{rows_of, table_rows_of}
 use Rattle.p4_ir.specs.P4Kinds.{block_fits}
 use Rattle.p4_ir.specs.Program.{block_of, program_of, stmt_of}
-use Rattle.p4_code.specs.Running.{within_in}
+use Rattle.p4_run.specs.Controls.{within_in}
 use Rattle.p4_run.specs.Doing.{AreTables, DoesAll}
 use Rattle.p4_run.specs.Effects.{stmt_by, stmts_by}
 use Rattle.p4_run.proofs.AppliedTables.{are_tables}

@@ -1,7 +1,7 @@
 use Rattle.std.proofs.Common.{◌≡◌, ◌++◌, drop, length, map}
 use Rattle.packed_fields.specs.AtOnce.{widths_in}
 use Rattle.p4_ir.specs.Program.{header_of}
-use Rattle.p4_code.specs.Places.{layout_of, starts_from}
+use Rattle.p4_run.specs.Places.{layout_of, starts_from}
 use Rattle.p4_run.proofs.places.field_widths.Given as goal
 
 abbrev pub invariant-loop-header : goal.invariant-loop-header

@@ -1,5 +1,5 @@
 use Rattle.std.proofs.Common.{◌≡◌, drop, map}
-use Rattle.p4_code.specs.Held.{held}
+use Rattle.p4_run.specs.Held.{held}
 use Rattle.p4_run.specs.Effects.{stmt_by, stmts_by}
 use Rattle.p4_run.proofs.running.+run.Given as goal
 

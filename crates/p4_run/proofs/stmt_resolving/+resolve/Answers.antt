@@ -8,9 +8,9 @@ use Rattle.p4_ir.specs.P4Kinds.{block_fits, field_sort, is_empty, meta_sort, p4_
 use Rattle.p4_ir.specs.P4Tree.{apply_table, egress_port, group, p_if, p_if_else, set_header, set_meta}
 use Rattle.p4_ir.specs.Program.{block_of, expr_of, stmt_of}
 use Rattle.p4_ir.specs.declared.program.P4Stmt as stmts
-use Rattle.p4_code.specs.Resolving.{GivesTruths, program_at}
-use Rattle.p4_code.specs.Meaning.{truth_by}
-use Rattle.p4_code.specs.Running.{within_in}
+use Rattle.p4_run.specs.Resolving.{GivesTruths, program_at}
+use Rattle.p4_run.specs.Meaning.{truth_by}
+use Rattle.p4_run.specs.Controls.{within_in}
 use Rattle.p4_run.specs.Doing.{Does, DoesAll, EachDoes}
 use Rattle.p4_run.specs.Effects.{stmt_by, stmts_by}
 use Rattle.p4_run.specs.declared.stmt_codes.StmtCode.TheVariants.{SetMeta, SetField, Apply, IfElse, EgressPort, Group}

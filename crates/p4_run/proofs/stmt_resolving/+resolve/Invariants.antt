@@ -3,8 +3,8 @@ use Rattle.p4_ir.specs.NetOf.{table_rows_of}
 use Rattle.p4_ir.specs.P4Kinds.{block_fits}
 use Rattle.p4_ir.specs.Program.{block_of, stmt_of}
 use Rattle.p4_run.specs.Doing.{EachDoes}
-use Rattle.p4_code.specs.Resolving.{program_at}
-use Rattle.p4_code.specs.Running.{within_in}
+use Rattle.p4_run.specs.Resolving.{program_at}
+use Rattle.p4_run.specs.Controls.{within_in}
 use Rattle.p4_run.specs.Effects.{stmt_by}
 use Rattle.p4_run.proofs.StmtSizes.{block_size, stmt_size}
 use Rattle.p4_run.proofs.stmt_resolving.+resolve.Given as goal

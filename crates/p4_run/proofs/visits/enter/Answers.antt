@@ -9,7 +9,7 @@ use Rattle.packed_fields.proofs.Packing.{fit_length}
 use Rattle.p4_ir.specs.P4Tree.{field_widths}
 use Rattle.p4_run.specs.Running.{layout_in, program_in}
 use Rattle.p4_run.proofs.VisitSteps.{are_bytes, ingress_begins}
-use Rattle.p4_code.proofs.WidthFacts.{meta_counted, Widths, zeros_fit}
+use Rattle.p4_run.proofs.WidthFacts.{meta_counted, Widths, zeros_fit}
 use Rattle.p4_run.proofs.FitFacts.{declared_at}
 use Rattle.p4_run.proofs.visits.enter.Goals as goal
 

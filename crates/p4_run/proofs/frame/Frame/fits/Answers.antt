@@ -4,10 +4,10 @@ use Rattle.packed_fields.specs.AtOnce.{bytes_in, widths_in}
 use Rattle.p4_ir.specs.P4Tree.{field_widths, Program, program_layout}
 use Rattle.p4_run.specs.Frames.{Fits, frame_fits}
 use Rattle.p4_run.specs.Running.{program_in}
-use Rattle.p4_code.specs.States.{Fit}
+use Rattle.p4_run.specs.RegisterStates.{Fit}
 use Rattle.p4_run.specs.States.{fields_fit, registers_fit}
 use Rattle.p4_run.specs.declared.frame.Frame.{Frame}
-use Rattle.p4_code.specs.declared.registers.Registers.{Registers}
+use Rattle.p4_run.specs.declared.registers.Registers.{Registers}
 use Rattle.p4_run.proofs.FitFacts.{fit_true, true_fit}
 use Rattle.p4_run.proofs.frame.Frame.fits.Goals as goal
 

@@ -1,8 +1,8 @@
 use Rattle.std.proofs.Common.{◌≡◌, false, Some, option_map, sym, subst, ap, ◌∙◌}
 use Rattle.p4_ir.specs.Switch.{egress_of, p4_run_all, state_of}
-use Rattle.p4_code.specs.Running.{running_in}
-use Rattle.p4_code.specs.States.{state_in}
-use Rattle.p4_code.proofs.WidthFacts.{Widths}
+use Rattle.p4_run.specs.Controls.{running_in}
+use Rattle.p4_run.specs.RegisterStates.{state_in}
+use Rattle.p4_run.proofs.WidthFacts.{Widths}
 use Rattle.p4_run.specs.Frames.{left_in}
 use Rattle.p4_run.specs.Running.{layout_in, program_in, rows_in}
 use Rattle.p4_run.specs.Visits.{after_egress, AreHeaders}

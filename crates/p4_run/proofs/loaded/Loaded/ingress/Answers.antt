@@ -2,12 +2,12 @@ use Rattle.std.proofs.Common.{◌≡◌, ◌<◌, true, IfSome, length, Option, 
 use Rattle.cocoon_num.specs.PacketForms.{AreBytes}
 use Rattle.p4_ir.specs.Switch.{p4_run_all, state_of}
 use Rattle.p4_run.specs.Frames.{headers_in, left_in}
-use Rattle.p4_code.specs.Running.{running_in}
-use Rattle.p4_code.specs.States.{state_in}
+use Rattle.p4_run.specs.Controls.{running_in}
+use Rattle.p4_run.specs.RegisterStates.{state_in}
 use Rattle.p4_run.specs.Running.{layout_in, program_in, rows_in}
 use Rattle.p4_run.specs.Visits.{after_ingress, AreHeaders, ingress_left}
 use Rattle.p4_run.proofs.VisitSteps.{are_bytes, headers_of, short_left}
-use Rattle.p4_code.proofs.WidthFacts.{Widths}
+use Rattle.p4_run.proofs.WidthFacts.{Widths}
 use Rattle.p4_run.proofs.FitFacts.{declared_at}
 use Rattle.p4_run.proofs.loaded.Loaded.ingress.Goals as goal
 

@@ -1,8 +1,0 @@
-pub mod CodeFacts
-pub mod FieldFacts
-pub mod HeaderParts
-pub mod OperatorFacts
-pub mod ResolvingFacts
-pub mod Sizes
-pub mod WidthFacts
-pub mod Widths

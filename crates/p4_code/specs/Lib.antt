@@ -1,7 +1,0 @@
-pub mod Held
-pub mod Meaning
-pub mod Operating
-pub mod Places
-pub mod Resolving
-pub mod Running
-pub mod States
