@@ -16,7 +16,7 @@ use Rattle.bit_blast.specs.Goals.{IsGoal}
 use Rattle.bit_blast.specs.Meanings.{IsValuation, all_hold}
 use Rattle.bv_terms.specs.Inputs.{InputsFit}
 use Rattle.bit_blast.specs.Readings.{Extends, ReadsAs, input_bits, number_read}
-use Rattle.term_walk.proofs.Sights.{among-last, among-more}
+use Rattle.bv_terms.proofs.Sights.{among-last, among-more}
 use Rattle.bit_blast.specs.Orders.{Fresh, Ordered}
 use Rattle.bit_blast.proofs.Defining.{Agree, AllNamed, ClausesNamed, Defines, Named, every-append, hold-both, hold-parts, holds-same, lit, lit-same, lit-valuation, opp, put, put-here, put-other}
 use Rattle.bit_blast.proofs.Tabling.{Tabled, among-cases, goal-ordered, goal-tabled, goal-there, its-bits, its-defines, its-tabled, its_circuit, kept-bits, later-bits, no-terms, parts-each}

@@ -6,7 +6,7 @@ use Rattle.bv_terms.specs.TermTrees.{Term, constant, input, apply, not_, binary,
 use Rattle.bv_terms.specs.Walks.{is_among, leave, walk}
 use Rattle.bit_blast.specs.Goals.{IsUnapplied}
 use Rattle.bit_blast.specs.Orders.{OfParts, Ordered}
-use Rattle.term_walk.proofs.Sights.{among-last, among-more}
+use Rattle.bv_terms.proofs.Sights.{among-last, among-more}
 
 ordered-append : (seen xs ys : List Term) → Ordered seen xs → Ordered (seen ++ xs) ys → Ordered seen (xs ++ ys)
 ordered-append seen [] ys h k = subst (λ s. Ordered s ys) (append-nil seen) k

@@ -9,11 +9,10 @@ ghost use Rattle.bit_blast.specs.Goals.{IsUnapplied};
 use crate::counts::clause_count;
 use crate::emit::assemble;
 use crate::inputs::InputMap;
-use bv_terms::{TermId, Terms};
+use bv_terms::{TermId, Terms, distinct};
 use cnf_core::Cnf;
 use cocoon_num::NoMemory;
 use std::alloc::Global;
-use term_walk::distinct;
 
 /// More clauses are refused.
 const MOST_CLAUSES: u64 = 4_000_000;

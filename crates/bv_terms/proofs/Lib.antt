@@ -13,3 +13,8 @@ pub mod NeededFacts
 pub mod Evaluating
 pub mod ReplaceFacts
 pub mod Substituting
+pub mod Sights
+pub mod Walking
+pub mod Applied
+pub mod InputLists
+pub mod Copies

@@ -10,3 +10,8 @@ pub mod Evaluated
 pub mod Rebuilt
 pub mod Walks
 pub mod Inputs
+pub mod Seen
+pub mod Steps
+pub mod Copies
+pub mod Copying
+pub mod Values

@@ -1,17 +1,27 @@
 //! Terms over numbers of fixed widths, their values, and terms in place of inputs. docs/CLAUSES.md says what they mean.
+//! Walks over terms. [`walk`] gives the distinct terms that a term is made of, in the order in which a walk leaves them
+//! (docs/CLAUSES.md says which order this is); [`copy`] copies terms into another arena, with other names for their inputs;
+//! [`input_values`] finds the values of inputs by the inputs' numbers.
 #![tactic(auto)]
 
 pub mod arena;
+mod copying;
 pub mod eval;
+pub mod input_values;
 mod keys;
 pub mod laws;
 mod needed;
 pub mod node;
 mod substitute;
 mod term_map;
+pub mod walk;
+pub mod walk_laws;
 
 pub use arena::Terms;
+pub use copying::{Copied, copy};
 pub use eval::Env;
+pub use input_values::InputValues;
 pub use node::{FunId, InputId, Node, TermId, TermOp};
 pub use substitute::with_parts;
 pub use term_map::TermMap;
+pub use walk::{applications, distinct};

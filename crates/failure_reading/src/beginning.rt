@@ -1,17 +1,16 @@
 //! Where the run of an obligation begins, by the values of its inputs.
 ghost use Rattle.std.specs.Prelude.{◌≡◌, ◌↔◌, ◌<◌, ◌^◌, IfOk, IsTrue};
 ghost use Rattle.cocoon_num.specs.PacketForms.{FieldsFit};
-ghost use Rattle.term_walk.specs.Values.{values_of};
+ghost use Rattle.bv_terms.specs.Values.{values_of};
 ghost use Rattle.failure_reading.specs.OfObligation as spec;
 ghost use Rattle.failure_reading.specs.OfObligation.{AreShort, choices_of};
 
-use bv_terms::InputId;
+use bv_terms::{InputId, InputValues};
 use cocoon_num::{List, NoMemory};
 use failures::Begin;
 use obligation_gen::Obligation;
 use role_meaning::{Loc, Packet};
 use std::alloc::Global;
-use term_walk::InputValues;
 
 /// The inputs that are chosen on the way of the obligation's leaf, through all bodies.
 fn choices(obligation: &Obligation) -> &[InputId]

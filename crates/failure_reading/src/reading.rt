@@ -5,19 +5,19 @@ ghost use Rattle.cocoon_syntax.specs.TreeOf.{design_of};
 ghost use Rattle.cocoon_types.specs.Design.{last_level};
 ghost use Rattle.failures.specs.Found.{BeginsAt, CanFail, FailureFits, IsOfBlock, NoneBegins};
 ghost use Rattle.failures.specs.declared.failure.Begin.{Begin as AsBegin};
-ghost use Rattle.term_walk.specs.Values.{values_of};
+ghost use Rattle.bv_terms.specs.Values.{values_of};
 ghost use Rattle.obligation_gen.specs.Shown.{kind_in};
 ghost use Rattle.failure_reading.specs.OfObligation as spec;
 ghost use Rattle.failure_reading.specs.OfObligation.{AreShort, Fails, FailsIn, IsBegin, IsOwedSomewhere};
 
 use crate::beginning::{all_within, begin_of};
+use bv_terms::InputValues;
 use cocoon_num::NoMemory;
 use cocoon_resolve::Checked;
 use failures::{Failure, over, refuted};
 use obligation_gen::{Kind, Obligation};
 use runtime_defs::Defs;
 use std::alloc::Global;
-use term_walk::InputValues;
 
 /// The obligation is of a role that the block of its level refines. The call does nothing.
 fn know_block(checked: &Checked, obligation: &Obligation)

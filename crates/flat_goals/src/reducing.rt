@@ -7,10 +7,9 @@ ghost use Rattle.table_terms.specs.Growth.{IsMade};
 ghost use Rattle.flat_goals.specs.Reducing.{AreTaken, CanReduce, IsReduced, listed};
 
 use crate::applied::{Application, Applied};
-use bv_terms::{Node, TermId, TermMap, Terms, with_parts};
+use bv_terms::{Node, TermId, TermMap, Terms, distinct, with_parts};
 use cocoon_num::NoMemory;
 use std::alloc::Global;
-use term_walk::distinct;
 
 /// A goal with inputs in the place of its applications.
 #[derive(Drop)]

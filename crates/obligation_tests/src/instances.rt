@@ -2,7 +2,7 @@
 ghost use Rattle.cocoon_syntax.specs.TreeOf.{design_of};
 ghost use Rattle.obligation_gen.specs.Owed.{IsOwed};
 
-use bv_terms::{Node, TermId, Terms};
+use bv_terms::{Node, TermId, Terms, applications};
 use case_files::Printer;
 use cocoon_num::NoMemory;
 use cocoon_resolve::Checked;
@@ -12,7 +12,6 @@ use obligation_gen::Obligation;
 use pattern_instances::pattern_instances;
 use sound_types::laws::code_literals_fit;
 use std::alloc::Global;
-use term_walk::applications;
 
 /// So many instances are shown at most, and the last one.
 const MOST_SHOWN: usize = 8;

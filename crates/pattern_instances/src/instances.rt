@@ -20,7 +20,7 @@ ghost use Rattle.pattern_instances.specs.Goals.{AreTuples, IsGoal};
 use crate::patterns::patterns;
 use crate::tuples::{MOST_INSTANCES, first_tuples};
 use bv_terms::laws::{equal_terms_are_the_same, equal_terms_have_one_number};
-use bv_terms::{TermId, Terms};
+use bv_terms::{TermId, Terms, applications};
 use cocoon_num::NoMemory;
 use cocoon_resolve::Checked;
 use expr_terms::CallSizes;
@@ -28,7 +28,6 @@ use fun_instances::assumption_term;
 use pattern_laws::laws::{earlier_levels_come_first, tuples_fit};
 use sound_types::laws::code_literals_fit;
 use std::alloc::Global;
-use term_walk::applications;
 
 /// A goal, and its applications in the walk's order.
 #[derive(Drop)]

@@ -10,13 +10,12 @@ ghost use Rattle.fun_instances.specs.Taking.{OfAssumption};
 ghost use Rattle.pattern_laws.specs.Patterns as spec;
 ghost use Rattle.pattern_instances.specs.Found.{found_pattern, found_patterns};
 
-use bv_terms::{FunId, InputId, Node, TermId, Terms};
+use bv_terms::{FunId, InputId, Node, TermId, Terms, applications};
 use cocoon_num::NoMemory;
 use cocoon_resolve::Checked;
 use expr_terms::CallSizes;
 use fun_instances::own_term;
 use std::alloc::Global;
-use term_walk::applications;
 
 /// An application at exactly the parameters of an assumption, each once: for each of these the
 /// place of its argument.

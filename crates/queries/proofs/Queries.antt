@@ -15,7 +15,7 @@ use Rattle.flat_goals.specs.Applied.{AreApplied}
 use Rattle.flat_laws.specs.Flat.{flattened}
 use Rattle.pattern_laws.specs.Tuples.{pattern_terms}
 use Rattle.table_terms.specs.Chains.{chain}
-use Rattle.term_walk.specs.Copies.{new_name}
+use Rattle.bv_terms.specs.Copies.{new_name}
 use Rattle.query_laws.specs.OwnNames.{in_own_arena, input_count, inputs_of}
 use Rattle.query_laws.specs.Queries.{added, asked, instance_term, query}
 use Rattle.queries.specs.Asked.{IsQuery}

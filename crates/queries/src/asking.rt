@@ -8,7 +8,7 @@ ghost use Rattle.query_laws.specs.Certified.{AllFit};
 ghost use Rattle.queries.specs.Asked.{IsQuery};
 
 use crate::joining::{all_true, put_instances};
-use bv_terms::{InputId, TermId, Terms};
+use bv_terms::{InputId, TermId, Terms, copy};
 use cnf_core::Instance;
 use cocoon_num::{List, NoMemory};
 use cocoon_resolve::Checked;
@@ -18,7 +18,6 @@ use pattern_instances::pattern_instances;
 use query_laws::laws::{added_terms_fit, own_names_are_by_place, queries_are_goals};
 use sound_types::laws::code_literals_fit;
 use std::alloc::Global;
-use term_walk::copy;
 
 /// A goal in an arena of its own.
 #[derive(Drop)]

@@ -12,7 +12,7 @@ use Rattle.bv_terms.proofs.Subterms.{Each, EachArg}
 use Rattle.application_laws.specs.Over.{AreOver, IsOver, IsRuntimeAt}
 use Rattle.formula_functions.specs.LeafTerms.{any_input}
 use Rattle.sound_types.proofs.Members.{In}
-use Rattle.term_walk.specs.Copies.{index_in, new_name}
+use Rattle.bv_terms.specs.Copies.{index_in, new_name}
 
 -- ---- names
 

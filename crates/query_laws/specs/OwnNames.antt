@@ -4,7 +4,7 @@ use Rattle.std.specs.Prelude.{ℕ, ◌==◌, nat_lt, if◌then◌else◌, List, 
 use Rattle.bv_terms.specs.Inputs.{renamed}
 use Rattle.bv_terms.specs.TermTrees.{Term, input}
 use Rattle.bv_terms.specs.Walks.{walk}
-use Rattle.term_walk.specs.Copies.{new_name}
+use Rattle.bv_terms.specs.Copies.{new_name}
 
 -- some ascending numbers, and this one among them
 abbrev pub with_number : ℕ → List ℕ → List ℕ

@@ -17,7 +17,7 @@ ghost use Rattle.formula_functions.specs.LeafTerms.{Stands};
 ghost use Rattle.obligation_laws.specs.Failing.{NeverFails, NeverTrue};
 ghost use Rattle.obligation_laws.specs.Obligations.{all_obligations, Obligation};
 ghost use Rattle.sound_types.specs.Literals.{DesignLiteralsFit};
-ghost use Rattle.term_walk.specs.Copies.{AreInputs};
+ghost use Rattle.bv_terms.specs.Copies.{AreInputs};
 ghost use Rattle.query_laws.specs.Certified.{AllFit, IsCert};
 ghost use Rattle.query_laws.specs.OwnNames.{in_own_arena, input_count, inputs_of};
 ghost use Rattle.query_laws.specs.Queries.{added, asked, query};

@@ -28,14 +28,14 @@ use Rattle.candidates.specs.Flat.{MakesFormulaTrue}
 use Rattle.candidates.proofs.Inputs.{IsNode, has-nodes}
 use Rattle.candidates.proofs.Lists.{at-there}
 use Rattle.candidates.proofs.TrueQueries.{numbers-are}
-use Rattle.term_walk.specs.Values.{values_of}
+use Rattle.bv_terms.specs.Values.{values_of}
 use Rattle.query_laws.specs.OwnNames.{in_own_arena, inputs_of, own_name}
 use Rattle.query_laws.specs.Queries.{added, asked}
 use Rattle.query_laws.proofs.InputNumbers.{are_inputs, mentioned_in}
 use Rattle.query_laws.proofs.Renaming.{from_zero, index_below, index_there, value_agrees}
 use Rattle.sound_types.proofs.Members.{at_place}
 use Rattle.table_terms.specs.WithRows.{Tables}
-use Rattle.term_walk.specs.Copies.{AreRising, index_in}
+use Rattle.bv_terms.specs.Copies.{AreRising, index_in}
 use Rattle.rounds.specs.Steps.{IsOf, IsSolved}
 use Rattle.rounds.specs.declared.asking.Satisfied.{Satisfied as Solved}
 use Rattle.rounds.specs.declared.outcome.Witness.{Witness}

@@ -13,7 +13,7 @@ use Rattle.discharge.specs.Answering.{IsSpentOn}
 use Rattle.discharge.specs.Meeting.{OfTables}
 use Rattle.discharge.specs.Queries.{assumption_query}
 use Rattle.fun_instances.specs.Taking.{OfAssumption}
-use Rattle.term_walk.specs.Values.{values_of}
+use Rattle.bv_terms.specs.Values.{values_of}
 use Rattle.obligation_laws.specs.Failing.{NeverTrue}
 use Rattle.query_laws.specs.Certified.{HasClauses, HasTooMany, IsCert, IsSatisfiable}
 use Rattle.query_laws.specs.OwnNames.{inputs_of}

@@ -1,9 +1,8 @@
 //! Copies of terms.
 use crate::drafts::Draft;
-use bv_terms::{Node, Terms};
+use bv_terms::{Copied, Node, Terms, copy};
 use case_files::Printer;
 use std::alloc::Global;
-use term_walk::{Copied, copy};
 
 fn put_head(node: &Node, given: &mut Printer) {
     match node {

@@ -3,11 +3,10 @@ ghost use Rattle.std.specs.Prelude.{◌<◌, length};
 
 use crate::building::all_replaced;
 use crate::drafts::Draft;
-use bv_terms::{TermId, Terms};
+use bv_terms::{TermId, Terms, applications, distinct};
 use case_files::{Printer, first_word, number};
 use cocoon_num::NoMemory;
 use std::alloc::Global;
-use term_walk::{applications, distinct};
 
 /// Which terms of a walk are asked for.
 #[derive(Clone, Copy, Drop)]

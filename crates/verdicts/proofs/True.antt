@@ -22,10 +22,10 @@ use Rattle.query_laws.proofs.InputNumbers.{are_inputs}
 use Rattle.query_laws.proofs.Renaming.{from_zero}
 use Rattle.query_laws.specs.OwnNames.{inputs_of}
 use Rattle.role_meaning.specs.Located.{loc_of, sent_of}
-use Rattle.term_walk.specs.Values.{values_of}
+use Rattle.bv_terms.specs.Values.{values_of}
 use Rattle.failures.specs.Failures.{OfLevel}
 use Rattle.table_terms.specs.WithRows.{Tables}
-use Rattle.term_walk.specs.Copies.{index_in}
+use Rattle.bv_terms.specs.Copies.{index_in}
 use Rattle.verdicts.specs.Failing.{GoesBy, IsFailureOf}
 use Rattle.verdicts.specs.Telling.{IsVerdictOn, SaysItFails}
 use Rattle.verdicts.specs.declared.deciding.Verdict.{Verdict}

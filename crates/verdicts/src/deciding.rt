@@ -6,11 +6,11 @@ ghost use Rattle.cocoon_syntax.specs.TreeOf.{design_of};
 ghost use Rattle.failure_reading.specs.Witnesses.{OthersAreZero};
 ghost use Rattle.failures.specs.Found.{CanFail};
 ghost use Rattle.obligation_gen.specs.Owed.{IsOwed};
-ghost use Rattle.term_walk.specs.Values.{values_of};
+ghost use Rattle.bv_terms.specs.Values.{values_of};
 ghost use Rattle.verdicts.specs.Deciding.{Decides};
 ghost use Rattle.verdicts.specs.Telling.{IsVerdictOn, SaysItFails};
 
-use bv_terms::Terms;
+use bv_terms::{InputValues, Terms};
 use cnf_core::{Cert, Instance, Log};
 use cocoon_num::{List, NoMemory};
 use cocoon_resolve::Checked;
@@ -25,7 +25,6 @@ use refinement::laws::segments_are_hops;
 use rounds::{Outcome, Query, Witness, search};
 use sound_types::laws::code_literals_fit;
 use std::alloc::Global;
-use term_walk::InputValues;
 
 /// What a search says of an obligation.
 #[derive(Drop)]

@@ -1,5 +1,5 @@
 use Rattle.std.proofs.Common.{ℕ, ◌%◌, ◌^◌, map, ap, ◌∙◌}
-use Rattle.term_walk.specs.Values.{values_of}
+use Rattle.bv_terms.specs.Values.{values_of}
 use Rattle.failure_reading.proofs.Read.{made_of}
 use Rattle.failure_reading.proofs.beginning.begin_of.Goals as goal
 

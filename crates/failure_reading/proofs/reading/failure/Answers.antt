@@ -1,5 +1,5 @@
 use Rattle.cocoon_syntax.specs.TreeOf.{design_of}
-use Rattle.term_walk.specs.Values.{values_of}
+use Rattle.bv_terms.specs.Values.{values_of}
 use Rattle.failure_reading.proofs.Read.{begins_by, by_over, by_refuted, fits, none_over, none_refuted, not_fitting}
 use Rattle.failure_reading.proofs.reading.failure.Goals as goal
 

@@ -3,7 +3,7 @@ use Rattle.bv_terms.specs.Arenas.{term_at}
 use Rattle.cocoon_syntax.specs.TreeOf.{design_of}
 use Rattle.failure_reading.specs.OfObligation.{AreShort, begin_of, FailsIn}
 use Rattle.failures.specs.Found.{BeginsAt, FailureFits}
-use Rattle.term_walk.specs.Values.{values_of}
+use Rattle.bv_terms.specs.Values.{values_of}
 use Rattle.verdicts.proofs.True.{Laws, is_found, others_by, says_it_fails, true_by}
 use Rattle.verdicts.proofs.deciding.failing.Goals as goal
 
