@@ -21,9 +21,9 @@ use Rattle.defs_text.specs.Places.{result_value}
 use Rattle.expr_term_laws.specs.Shown.{functions_by}
 use Rattle.expr_term_laws.specs.TermOf.{result_width}
 use Rattle.runtime_defs.specs.Stands.{Stands}
-use Rattle.table_terms.specs.ByTables.{by_tables}
-use Rattle.table_terms.specs.WithRows.{Tables, table_of, with_rows}
-use Rattle.table_terms.proofs.Values.{rows-keep}
+use Rattle.bv_terms.specs.ByTables.{by_tables}
+use Rattle.bv_terms.specs.WithRows.{Tables, table_of, with_rows}
+use Rattle.bv_terms.proofs.Values.{rows-keep}
 use Rattle.flat_laws.proofs.FittingValues.{values-fit}
 use Rattle.application_laws.specs.Over.{AreOver, IsOver, IsRuntimeAt, fit_input}
 use Rattle.application_laws.proofs.Places.{fits-in, has-table, tables-fit}

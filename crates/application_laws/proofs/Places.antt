@@ -17,8 +17,8 @@ use Rattle.expr_term_laws.specs.TermOf.{result_width}
 use Rattle.runtime_defs.proofs.Fitted.{no-body}
 use Rattle.runtime_defs.proofs.Looking.{both-true}
 use Rattle.runtime_defs.proofs.Zips.{paired}
-use Rattle.table_terms.specs.Fitting.{CanStand, MasksFit, TablesFit, TablesFitArgs}
-use Rattle.table_terms.specs.WithRows.{Tables, table_of}
+use Rattle.bv_terms.specs.Fitting.{CanStand, MasksFit, TablesFit, TablesFitArgs}
+use Rattle.bv_terms.specs.WithRows.{Tables, table_of}
 use Rattle.application_laws.specs.Over.{AreOver, IsOver, IsRuntimeAt}
 
 pub fits-in : (w n : ℕ) → fits_width w n ≡ true → FitsWidth w n

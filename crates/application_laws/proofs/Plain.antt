@@ -9,8 +9,8 @@ use Rattle.bv_terms.specs.TermTrees.{Term, Args, constant, input, apply, not_, b
 use Rattle.bv_terms.proofs.Subterms.{Each, EachArg, in-walk}
 use Rattle.bit_blast.specs.Goals.{IsUnapplied}
 use Rattle.defs_text.specs.Fitting.{FitsDesign}
-use Rattle.table_terms.specs.Chains.{chain}
-use Rattle.table_terms.specs.WithRows.{Tables, args_with_rows, looked_up, picks, position_tests, with_rows}
+use Rattle.bv_terms.specs.Chains.{chain}
+use Rattle.bv_terms.specs.WithRows.{Tables, args_with_rows, looked_up, picks, position_tests, with_rows}
 use Rattle.application_laws.specs.Over.{AreOver, IsOver}
 use Rattle.application_laws.proofs.Places.{has-table}
 

@@ -12,8 +12,8 @@ ghost use Rattle.expr_term_laws.specs.Shown.{functions_by};
 ghost use Rattle.runtime_defs.specs.Fitting.{FitsDesign};
 ghost use Rattle.runtime_defs.specs.Stands.{Stands};
 ghost use Rattle.sound_types.specs.Literals.{DesignLiteralsFit};
-ghost use Rattle.table_terms.specs.Fitting.{TablesFit};
-ghost use Rattle.table_terms.specs.WithRows.{with_rows};
+ghost use Rattle.bv_terms.specs.Fitting.{TablesFit};
+ghost use Rattle.bv_terms.specs.WithRows.{with_rows};
 ghost use Rattle.application_laws.specs.Over.{IsOver, TermsAreOver, fit_input};
 
 /// The term of a typed expression applies run-time functions of the design alone, each at the widths that it is declared

@@ -18,3 +18,8 @@ pub mod Walking
 pub mod Applied
 pub mod InputLists
 pub mod Copies
+pub mod Widths
+pub mod Values
+pub mod Growing
+pub mod Choices
+pub mod Replaced

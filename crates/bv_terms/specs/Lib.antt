@@ -15,3 +15,9 @@ pub mod Steps
 pub mod Copies
 pub mod Copying
 pub mod Values
+pub mod Chains
+pub mod WithRows
+pub mod Fitting
+pub mod ByTables
+pub mod Growth
+pub mod Nodes

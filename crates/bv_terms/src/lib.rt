@@ -2,6 +2,7 @@
 //! Walks over terms. [`walk`] gives the distinct terms that a term is made of, in the order in which a walk leaves them
 //! (docs/CLAUSES.md says which order this is); [`copy`] copies terms into another arena, with other names for their inputs;
 //! [`input_values`] finds the values of inputs by the inputs' numbers.
+//! Terms in which tables stand for functions: each application is a chain of choices over the rows of a table. docs/CLAUSES.md says what it looks like.
 #![tactic(auto)]
 
 pub mod arena;
@@ -12,7 +13,10 @@ mod keys;
 pub mod laws;
 mod needed;
 pub mod node;
+pub mod replacing;
+mod rows;
 mod substitute;
+pub mod table_laws;
 mod term_map;
 pub mod walk;
 pub mod walk_laws;
@@ -22,6 +26,7 @@ pub use copying::{Copied, copy};
 pub use eval::Env;
 pub use input_values::InputValues;
 pub use node::{FunId, InputId, Node, TermId, TermOp};
+pub use replacing::with_defs;
 pub use substitute::with_parts;
 pub use term_map::TermMap;
 pub use walk::{applications, distinct};

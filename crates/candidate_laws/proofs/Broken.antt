@@ -30,9 +30,9 @@ use Rattle.runtime_defs.specs.Stands.{Stands}
 use Rattle.runtime_defs.proofs.Looking.{kept}
 use Rattle.sound_types.specs.Defined.{HasDefinitions}
 use Rattle.sound_types.specs.Literals.{DesignLiteralsFit}
-use Rattle.table_terms.specs.ByTables.{by_tables}
-use Rattle.table_terms.specs.Fitting.{TablesFit}
-use Rattle.table_terms.specs.WithRows.{Tables, table_of, with_rows}
+use Rattle.bv_terms.specs.ByTables.{by_tables}
+use Rattle.bv_terms.specs.Fitting.{TablesFit}
+use Rattle.bv_terms.specs.WithRows.{Tables, table_of, with_rows}
 use Rattle.candidate_laws.specs.Broken.{IsBroken}
 use Rattle.candidate_laws.specs.Candidates.{HasLiteralRows, IsFalseBy}
 

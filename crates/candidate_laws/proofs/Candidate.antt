@@ -40,8 +40,8 @@ use Rattle.query_laws.specs.Queries.{Fits, added, asked, instance_term, query}
 use Rattle.query_laws.proofs.InputNumbers.{are_inputs}
 use Rattle.query_laws.proofs.Renaming.{value_agrees}
 use Rattle.query_laws.proofs.Untrue.{each_instance, own_stands}
-use Rattle.table_terms.specs.ByTables.{by_tables}
-use Rattle.table_terms.specs.WithRows.{Tables, table_of}
+use Rattle.bv_terms.specs.ByTables.{by_tables}
+use Rattle.bv_terms.specs.WithRows.{Tables, table_of}
 use Rattle.bv_terms.proofs.InputLists.{names-apart}
 use Rattle.flat_laws.proofs.FittingValues.{values-fit}
 use Rattle.flat_laws.proofs.RenamedTerms.{among-renamed, value-renamed, walk-kept}

@@ -2,7 +2,7 @@
 use Rattle.std.proofs.Common.{◌≡◌, ℕ, zero, suc, ◌+◌, List, [], ◌∷◌, Some, None, ap, ◌∙◌, arith}
 use Rattle.cocoon_num.specs.declared.fun_table.FunRow.{FunRow}
 use Rattle.cocoon_num.specs.declared.fun_table.FunTable.{FunTable}
-use Rattle.table_terms.specs.WithRows.{Tables, table_of}
+use Rattle.bv_terms.specs.WithRows.{Tables, table_of}
 
 abbrev pub with-rows : (ℕ → List FunRow) → FunTable → ℕ → FunTable
 with-rows rows t n = record t { rows = rows n }

@@ -7,7 +7,7 @@ use Rattle.bv_terms.specs.TermTrees.{Term}
 use Rattle.cnf_core.specs.declared.certificates.Instance.{Instance}
 use Rattle.literal_tables.proofs.FirstRows.{all-append}
 use Rattle.query_laws.specs.Queries.{Fits, instance_term}
-use Rattle.table_terms.specs.WithRows.{Tables}
+use Rattle.bv_terms.specs.WithRows.{Tables}
 use Rattle.candidate_laws.specs.Candidates.{IsCandidate, IsFalseBy, IsTrueBy}
 use Rattle.candidate_laws.specs.Rounds.{AreDifferent, Breaks, Progress}
 

@@ -10,7 +10,7 @@ use Rattle.cocoon_types.specs.Val.{Env, bind, context, value}
 use Rattle.expr_term_laws.specs.Shown.{functions_by}
 use Rattle.runtime_defs.specs.Stands.{Stands}
 use Rattle.sound_types.specs.Defined.{HasDefinitions}
-use Rattle.table_terms.specs.WithRows.{Tables}
+use Rattle.bv_terms.specs.WithRows.{Tables}
 
 -- under the definitions of each text for which the tables stand the formula is true at these inputs
 abbrev pub IsMeantTrue : Design → Tables → Inputs → Term → Type 0

@@ -14,8 +14,8 @@ use Rattle.pattern_laws.specs.Tuples.{pattern_terms}
 use Rattle.query_laws.specs.OwnNames.{in_own_arena}
 use Rattle.query_laws.specs.Queries.{asked, instance_term}
 use Rattle.runtime_defs.specs.Fitting.{FitsDesign, all_ones}
-use Rattle.table_terms.specs.ByTables.{by_tables}
-use Rattle.table_terms.specs.WithRows.{Tables, table_of}
+use Rattle.bv_terms.specs.ByTables.{by_tables}
+use Rattle.bv_terms.specs.WithRows.{Tables, table_of}
 use Rattle.candidate_laws.specs.FirstRows.{applications_of}
 
 -- ---- truth under tables

@@ -18,7 +18,7 @@ use Rattle.query_laws.specs.Certified.{AllFit}
 use Rattle.query_laws.specs.OwnNames.{input_count}
 use Rattle.query_laws.specs.Queries.{asked, query}
 use Rattle.runtime_defs.specs.Fitting.{FitsDesign}
-use Rattle.table_terms.specs.WithRows.{Tables, table_of}
+use Rattle.bv_terms.specs.WithRows.{Tables, table_of}
 
 -- the distinct applications of the function of this number
 abbrev pub applications_of : (f : ℕ) → (goal : Term) → List Term

@@ -9,7 +9,7 @@ use Rattle.cocoon_types.specs.Design.{widths_of}
 use Rattle.bv_terms.specs.TermTrees.{Term}
 use Rattle.query_laws.specs.Certified.{AllFit}
 use Rattle.query_laws.specs.Queries.{instance_term}
-use Rattle.table_terms.specs.WithRows.{Tables}
+use Rattle.bv_terms.specs.WithRows.{Tables}
 use Rattle.candidate_laws.specs.Candidates.{IsCandidate, IsFalseBy}
 
 -- ---- progress

@@ -27,7 +27,7 @@ use Rattle.literal_tables.specs.FirstRows.{first_rows}
 use Rattle.literal_tables.specs.LookupRows.{row_of, rows_for}
 use Rattle.literal_tables.specs.Tables as made
 use Rattle.literal_tables.specs.declared.lookups.Lookup.{Lookup}
-use Rattle.table_terms.specs.WithRows.{Tables, table_of}
+use Rattle.bv_terms.specs.WithRows.{Tables, table_of}
 use Rattle.candidate_laws.specs.FirstRows.{HaveFirstRows, applications_of}
 use Rattle.candidate_laws.proofs.Candidate.{all-wide}
 use Rattle.candidates.specs.Applying.{IsLookup}

@@ -17,7 +17,7 @@ use Rattle.formula_functions.specs.LeafTerms.{AppliesDeclared, Stands}
 use Rattle.query_laws.specs.Certified.{AllFit}
 use Rattle.query_laws.specs.OwnNames.{input_count, own_name}
 use Rattle.query_laws.specs.Queries.{asked, query}
-use Rattle.table_terms.specs.WithRows.{Tables}
+use Rattle.bv_terms.specs.WithRows.{Tables}
 use Rattle.candidate_laws.specs.Candidates.{IsCandidate, MakeTrue}
 use Rattle.candidates.specs.Assigned.{assigned}
 

@@ -35,7 +35,7 @@ use Rattle.expr_term_laws.specs.TermOf.{bind_terms}
 use Rattle.expr_term_laws.proofs.Rows.{rows_fit}
 use Rattle.expr_term_laws.proofs.Values.{ShownAs}
 use Rattle.expr_term_laws.proofs.Widths.{params_are}
-use Rattle.table_terms.specs.WithRows.{Tables, with_rows}
+use Rattle.bv_terms.specs.WithRows.{Tables, with_rows}
 use Rattle.fun_instances.proofs.AssumptionValues.{bound_are, bound_fit, value_is}
 use Rattle.application_laws.specs.Over.{AllOver, IsOver, TermsAreOver, VariablesOver, fit_input}
 use Rattle.application_laws.proofs.Applied.{bound_over}

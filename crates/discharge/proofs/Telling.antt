@@ -22,7 +22,7 @@ use Rattle.bv_terms.specs.TermTrees.{IsTerm, Term, width}
 use Rattle.bv_terms.specs.declared.node.Node.{Node}
 use Rattle.expr_term_laws.specs.Shown.{HasWidth}
 use Rattle.refinement.specs.Assumptions.{IsMet, Meets}
-use Rattle.table_terms.specs.WithRows.{Tables}
+use Rattle.bv_terms.specs.WithRows.{Tables}
 use Rattle.discharge.specs.Answering.{Answers, AnswersTo}
 use Rattle.fun_instances.specs.OwnInputs.{HasInputsOf}
 use Rattle.discharge.specs.Asked.{IsQuery, Refuses, Says}

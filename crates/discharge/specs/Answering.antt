@@ -10,7 +10,7 @@ use Rattle.bit_blast.specs.Blasting.{IsClauses, most_clauses}
 use Rattle.bit_blast.specs.Clauses.{count_of, vars_of}
 use Rattle.bv_terms.specs.TermTrees.{Term}
 use Rattle.refinement.specs.Assumptions.{Meets}
-use Rattle.table_terms.specs.WithRows.{Tables}
+use Rattle.bv_terms.specs.WithRows.{Tables}
 use Rattle.discharge.specs.Meeting.{IsFalseAt, IsTold, OfTables}
 use Rattle.discharge.specs.Queries.{assumption_query}
 use Rattle.discharge.specs.declared.meeting.Met.{Met}

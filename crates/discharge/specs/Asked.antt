@@ -7,7 +7,7 @@ use Rattle.bit_blast.specs.declared.blasting.BlastFault.TheVariants.{Clauses, No
 use Rattle.bv_terms.specs.Arenas.{term_at}
 use Rattle.fun_instances.specs.OwnInputs.{HasInputsOf}
 use Rattle.refinement.specs.Assumptions.{IsMet}
-use Rattle.table_terms.specs.WithRows.{Tables}
+use Rattle.bv_terms.specs.WithRows.{Tables}
 use Rattle.discharge.specs.Answering.{IsSpentOn, IsTooBig}
 use Rattle.discharge.specs.Meeting.{IsFalseAt, OfTables}
 use Rattle.discharge.specs.Queries.{CanBeAsked, assumption_query}

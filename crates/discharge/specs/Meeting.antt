@@ -8,7 +8,7 @@ use Rattle.cocoon_types.specs.Val.{Env, bind, context, value}
 use Rattle.refinement.specs.Assumptions.{IsMet}
 use Rattle.runtime_defs.specs.Stands.{Stands}
 use Rattle.sound_types.specs.Defined.{HasDefinitions}
-use Rattle.table_terms.specs.WithRows.{Tables}
+use Rattle.bv_terms.specs.WithRows.{Tables}
 
 -- this holds of the definitions of each text for which the tables stand
 abbrev pub OfTables : Design → Tables → (Defs → Type 0) → Type 0

@@ -7,7 +7,7 @@ use Rattle.bit_blast.specs.Goals.{IsGoal}
 use Rattle.bit_blast.specs.Readings.{input_bits, number_read}
 use Rattle.bv_terms.specs.TermTrees.{IsTerm, Term, not_}
 pub use Rattle.fun_instances.specs.AssumptionTerms.{inputs_from, own_term}
-use Rattle.table_terms.specs.WithRows.{Tables, with_rows}
+use Rattle.bv_terms.specs.WithRows.{Tables, with_rows}
 
 -- that it is not true, with choices over the rows of the tables in the place of functions
 abbrev pub assumption_query : Design → AssumeDecl → Tables → Term

@@ -17,7 +17,8 @@ use crate::laws::queries_decide_assumptions;
 use crate::meeting::Met;
 use application_laws::laws::{tables_take_the_place, terms_apply_declared_functions};
 use bit_blast::{BlastFault, InputMap, blast};
-use bv_terms::{InputId, TermId, Terms};
+use bv_terms::table_laws::rows_keep_values;
+use bv_terms::{InputId, TermId, Terms, with_defs};
 use cdcl::{Answer, solve};
 use cnf_core::Assignment;
 use cnf_core::laws::derived_clauses_have_no_model;
@@ -29,8 +30,6 @@ use fun_instances::own_term;
 use runtime_defs::Defs;
 use sound_types::laws::{code_literals_fit, declarations_are_typed};
 use std::alloc::Global;
-use table_terms::laws::rows_keep_values;
-use table_terms::with_defs;
 
 /// A goal in an arena of its own.
 #[derive(Drop)]

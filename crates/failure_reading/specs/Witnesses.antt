@@ -17,7 +17,7 @@ use Rattle.obligation_gen.specs.Owed.{IsOwed}
 use Rattle.obligation_gen.specs.Shown.{kind_in}
 use Rattle.obligation_gen.specs.declared.obligation.Obligation.{Obligation}
 use Rattle.refinement.specs.Ways.{Way, hops_by}
-use Rattle.table_terms.specs.WithRows.{Tables}
+use Rattle.bv_terms.specs.WithRows.{Tables}
 
 -- ---- inputs
 

@@ -7,7 +7,7 @@ ghost use Rattle.failures.specs.Found.{BeginFits, CanFail, NoneBegins};
 ghost use Rattle.obligation_gen.specs.Shown.{kind_in};
 ghost use Rattle.obligation_gen.specs.declared.obligation.Obligation.{Obligation};
 ghost use Rattle.sound_types.specs.Literals.{DesignLiteralsFit};
-ghost use Rattle.table_terms.specs.WithRows.{Tables};
+ghost use Rattle.bv_terms.specs.WithRows.{Tables};
 ghost use Rattle.failure_reading.specs.Witnesses.{AreShort, begin_of, Fails, HasFailure, IsTrueFor};
 
 use candidate_laws::laws::formulas_stay_true;

@@ -12,9 +12,9 @@ use Rattle.bv_terms.specs.declared.node.TermOp.TheVariants.{And, Equal}
 use Rattle.bv_terms.specs.TermTrees.{Term, Args, constant, binary, arg, no_args, width}
 use Rattle.bv_terms.specs.Arenas.{args_of, term_at, width_at}
 use Rattle.bv_terms.proofs.Members.{each}
-use Rattle.table_terms.specs.Chains.{chain}
-use Rattle.table_terms.specs.Growth.{IsMade, OnlyGrows}
-use Rattle.table_terms.proofs.Growing.{all-there, args-kept, grows-both, grows-none, still-there, widths-kept}
+use Rattle.bv_terms.specs.Chains.{chain}
+use Rattle.bv_terms.specs.Growth.{IsMade, OnlyGrows}
+use Rattle.bv_terms.proofs.Growing.{all-there, args-kept, grows-both, grows-none, still-there, widths-kept}
 use Rattle.flat_laws.specs.Flat.{equal_args}
 use Rattle.flat_goals.specs.Agreeing.{AreAlike, CanAgree, IsPair, IsThere, agreement_of, agreements_with, all_agreements, at_place, no_application, same_function}
 use Rattle.flat_goals.specs.Groups.{IsAdded, places_of}

@@ -7,10 +7,10 @@ use Rattle.bv_terms.specs.declared.node.Node.{Node}
 use Rattle.bv_terms.specs.declared.node.TermOp.TheVariants.{And, Equal}
 use Rattle.bv_terms.specs.TermTrees.{Term, constant, binary, width}
 use Rattle.bv_terms.specs.Arenas.{args_of, term_at, width_at}
-use Rattle.table_terms.specs.Chains.{chain}
-use Rattle.table_terms.specs.Growth.{IsMade, OnlyGrows}
-use Rattle.table_terms.proofs.Choices.{below-at}
-use Rattle.table_terms.proofs.Growing.{grows-both, still-there}
+use Rattle.bv_terms.specs.Chains.{chain}
+use Rattle.bv_terms.specs.Growth.{IsMade, OnlyGrows}
+use Rattle.bv_terms.proofs.Choices.{below-at}
+use Rattle.bv_terms.proofs.Growing.{grows-both, still-there}
 use Rattle.flat_laws.specs.Flat.{equal_args}
 
 pub same-count : (w : ℕ → ℕ) (ts us : List ℕ) → map w ts ≡ map w us → length us ≡ length ts

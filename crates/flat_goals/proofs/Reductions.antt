@@ -19,7 +19,7 @@ use Rattle.bv_terms.proofs.NodeFacts.{node-width}
 use Rattle.bv_terms.proofs.OneNumber.{one-number}
 use Rattle.bv_terms.proofs.ReplaceFacts.{fit-with, grown-length, keeps-both, keeps-none, name-new, name-old, node-kept, there-with, width-with}
 use Rattle.bv_terms.proofs.SameTerms.{same-only}
-use Rattle.table_terms.specs.Growth.{IsMade}
+use Rattle.bv_terms.specs.Growth.{IsMade}
 use Rattle.flat_laws.specs.Flat.{args_in, place_in, reduced, reduced_args}
 use Rattle.flat_laws.specs.Rows.{is_of}
 use Rattle.flat_laws.proofs.Reduced.{reduced-width}

@@ -4,7 +4,7 @@ use Rattle.bv_terms.specs.declared.node.Node.{Node}
 use Rattle.bv_terms.specs.declared.node.TermOp.TheVariants.{And, Equal, Or}
 use Rattle.bv_terms.specs.Arenas.{args_of, width_at}
 use Rattle.bv_terms.specs.TermTrees.{Term, binary, constant, not_}
-use Rattle.table_terms.specs.Chains.{chain}
+use Rattle.bv_terms.specs.Chains.{chain}
 use Rattle.flat_laws.specs.Flat.{equal_args}
 use Rattle.flat_goals.specs.declared.applied.Application.{Application}
 

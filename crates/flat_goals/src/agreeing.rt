@@ -4,8 +4,8 @@ ghost use Rattle.bv_terms.specs.Arenas.{args_of, term_at, width_at};
 ghost use Rattle.bv_terms.specs.TermTrees.{OperandsFit};
 ghost use Rattle.bv_terms.specs.TermTrees as trees;
 ghost use Rattle.flat_laws.specs.Flat as flat;
-ghost use Rattle.table_terms.specs.Chains.{chain};
-ghost use Rattle.table_terms.specs.Growth.{IsMade, OnlyGrows};
+ghost use Rattle.bv_terms.specs.Chains.{chain};
+ghost use Rattle.bv_terms.specs.Growth.{IsMade, OnlyGrows};
 ghost use Rattle.flat_goals.specs.Agreeing.{AreAlike, CanAgree, IsPair, IsThere, agreement_of, agreements_with, all_agreements, at_place};
 
 use crate::applied::Application;

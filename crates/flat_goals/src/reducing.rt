@@ -3,7 +3,7 @@ ghost use Rattle.std.specs.Prelude.{◌≡◌, ◌<◌, ◌+◌, ◌++◌, IfOk,
 ghost use Rattle.bv_terms.specs.Arenas.{KeepsTerms, inputs_in, term_at, width_at};
 ghost use Rattle.bv_terms.specs.Walks as walks;
 ghost use Rattle.flat_laws.specs.Flat.{reduced};
-ghost use Rattle.table_terms.specs.Growth.{IsMade};
+ghost use Rattle.bv_terms.specs.Growth.{IsMade};
 ghost use Rattle.flat_goals.specs.Reducing.{AreTaken, CanReduce, IsReduced, listed};
 
 use crate::applied::{Application, Applied};

@@ -11,7 +11,7 @@ use Rattle.bv_terms.specs.TermTrees.{Term, Args, constant, input, apply, not_, b
 use Rattle.bv_terms.specs.TermValues.{Functions, Inputs, arg_numbers, number_in, operated, term_number, term_value}
 use Rattle.bv_terms.specs.Walks.{applications, is_among, is_application, walk}
 use Rattle.bv_terms.proofs.Subterms.{Each, EachArg, in-walk, walk-all, walk-has}
-use Rattle.table_terms.specs.Chains.{chain}
+use Rattle.bv_terms.specs.Chains.{chain}
 use Rattle.flat_laws.specs.Flat.{agreement, agreements, agreements_with, equal_args, flattened, place_in, reduced, reduced_args, same_function}
 use Rattle.flat_laws.specs.Meant.{CanFlatten, with_results}
 use Rattle.flat_laws.proofs.Places.{Applied, all-applied, all-filtered, at-place, still-among}

@@ -8,7 +8,7 @@ use Rattle.bv_terms.specs.Inputs.{Applies}
 use Rattle.bv_terms.specs.TermTrees.{Term, Args, constant, input, apply, not_, binary, slice, pick, no_args, arg, width, arg_widths, AreArgs, IsTerm}
 use Rattle.bv_terms.specs.Walks.{applications, is_among, walk}
 use Rattle.bv_terms.proofs.Subterms.{Each}
-use Rattle.table_terms.specs.Chains.{chain}
+use Rattle.bv_terms.specs.Chains.{chain}
 use Rattle.flat_laws.specs.Flat.{agreement, agreements, equal_args, flattened, reduced, reduced_args, same_function}
 use Rattle.flat_laws.specs.Meant.{CanFlatten}
 use Rattle.flat_laws.proofs.Kept.{all-agree, all-in, is-term}

@@ -15,9 +15,9 @@ use Rattle.bv_terms.specs.TermTrees.{Term, Args, constant, input, apply, not_, b
 use Rattle.bv_terms.specs.TermValues.{Functions, Inputs, arg_numbers, number_in, operated, term_number, term_value}
 use Rattle.bv_terms.specs.Walks.{applications, is_among, same_term, walk}
 use Rattle.bv_terms.proofs.Subterms.{Each, EachArg, in-list, in-walk, walk-has}
-use Rattle.table_terms.specs.ByTables.{by_tables}
-use Rattle.table_terms.specs.Chains.{chain}
-use Rattle.table_terms.specs.WithRows.{Tables}
+use Rattle.bv_terms.specs.ByTables.{by_tables}
+use Rattle.bv_terms.specs.Chains.{chain}
+use Rattle.bv_terms.specs.WithRows.{Tables}
 use Rattle.flat_laws.proofs.FittingValues.{values-fit}
 use Rattle.bv_terms.proofs.SameTerms.{same-only}
 use Rattle.flat_laws.specs.Flat.{agreement, agreements, args_in, equal_args, flattened, reduced, reduced_args, same_function}

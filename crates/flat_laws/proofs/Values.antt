@@ -8,7 +8,7 @@ use Rattle.bv_terms.specs.declared.node.TermOp.TheVariants.{And, Or, Equal}
 use Rattle.bv_terms.specs.TermTrees.{Term, Args, constant, binary, not_, no_args, arg, width, arg_widths, IsTerm, AreArgs}
 use Rattle.bv_terms.specs.TermValues.{Functions, Inputs, arg_numbers, number_in, operated, term_number, term_value}
 use Rattle.bv_terms.proofs.ValueFacts.{compared, value-width}
-use Rattle.table_terms.specs.Chains.{chain}
+use Rattle.bv_terms.specs.Chains.{chain}
 use Rattle.flat_laws.specs.Flat.{equal_args}
 
 abbrev pub bit : Bool → ℕ

@@ -5,7 +5,7 @@ use Rattle.std.specs.Prelude.{ℕ, suc, ◌+◌, ◌==◌, Bool, false, List, []
 use Rattle.bv_terms.specs.declared.node.TermOp.TheVariants.{And, Or, Equal}
 use Rattle.bv_terms.specs.TermTrees.{Term, Args, constant, input, apply, not_, binary, slice, pick, no_args, arg}
 use Rattle.bv_terms.specs.Walks.{applications, same_term}
-use Rattle.table_terms.specs.Chains.{chain}
+use Rattle.bv_terms.specs.Chains.{chain}
 
 -- the place of a term in a list that it is in
 abbrev pub place_in : List Term → Term → ℕ

@@ -8,7 +8,7 @@ use Rattle.bv_terms.specs.Inputs.{Applies, InputsFit}
 use Rattle.bv_terms.specs.TermTrees.{Term, Args, apply, arg_widths}
 use Rattle.bv_terms.specs.TermValues.{Functions, Inputs, arg_numbers}
 use Rattle.bv_terms.specs.Walks.{applications}
-use Rattle.table_terms.specs.WithRows.{Tables, table_of}
+use Rattle.bv_terms.specs.WithRows.{Tables, table_of}
 use Rattle.flat_laws.specs.Flat.{args_in, place_in, reduced_args}
 
 abbrev pub is_of : (f : ℕ) → Term → Bool

@@ -12,9 +12,9 @@ use Rattle.bv_terms.specs.Arenas.{args_of, made_of, parts, term_at, width_at}
 use Rattle.bv_terms.specs.Environments.{Covers, CoversArgs, HasTable}
 use Rattle.bv_terms.specs.Needed.{AreNeeded, IsAmong}
 use Rattle.bv_terms.proofs.Members.{both}
-use Rattle.table_terms.specs.Fitting.{CanStand, TablesFit, TablesFitArgs}
-use Rattle.table_terms.specs.Nodes.{FitsNode}
-use Rattle.table_terms.specs.WithRows.{Tables, table_of}
+use Rattle.bv_terms.specs.Fitting.{CanStand, TablesFit, TablesFitArgs}
+use Rattle.bv_terms.specs.Nodes.{FitsNode}
+use Rattle.bv_terms.specs.WithRows.{Tables, table_of}
 use Rattle.obligation_tests.specs.Plain.{CoversNode, HasFitting}
 
 -- the node under a number has a property

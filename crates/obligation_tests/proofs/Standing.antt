@@ -10,7 +10,7 @@ use Rattle.cocoon_num.specs.Values.{FitsWidth, fits_width}
 use Rattle.cocoon_num.specs.declared.fun_table.FunRow.{FunRow}
 use Rattle.bv_terms.specs.Environments.{RowFits}
 use Rattle.runtime_defs.specs.Places.{all_fit_widths}
-use Rattle.table_terms.specs.Fitting.{MasksFit}
+use Rattle.bv_terms.specs.Fitting.{MasksFit}
 use Rattle.obligation_tests.specs.Plain.{RowStands}
 
 -- one, shifted by a width

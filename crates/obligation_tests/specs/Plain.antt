@@ -7,8 +7,8 @@ use Rattle.bv_terms.specs.declared.eval.Env.{Env}
 use Rattle.bv_terms.specs.declared.node.Node.{Node}
 use Rattle.bv_terms.specs.declared.node.Node.TheVariants.{Input, Apply}
 use Rattle.bv_terms.specs.Environments.{RowFits}
-use Rattle.table_terms.specs.Fitting.{CanStand, MasksFit}
-use Rattle.table_terms.specs.WithRows.{table_of}
+use Rattle.bv_terms.specs.Fitting.{CanStand, MasksFit}
+use Rattle.bv_terms.specs.WithRows.{table_of}
 
 -- there is a number of this index, and it has the width
 abbrev pub HasNumber : List Bits → ℕ → ℕ → Type 0

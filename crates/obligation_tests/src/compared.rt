@@ -5,11 +5,10 @@ use crate::questions::{term, value_at};
 use crate::random::Generator;
 use crate::tables::tables;
 use crate::texts::Question;
-use bv_terms::{Env, TermId, Terms};
+use bv_terms::{Env, TermId, Terms, with_defs};
 use case_files::{Printer, first_word, last_line, number};
 use cocoon_num::{Bits, FunTable, List};
 use std::alloc::Global;
-use table_terms::with_defs;
 
 /// Where a term comes from, and its values: words, with tables; or the question of a design, with definitions.
 #[derive(Drop)]

@@ -3,9 +3,9 @@ ghost use Rattle.std.specs.Prelude.{◌≡◌, ◌<◌, All, IfSome, IsTrue, Som
 ghost use Rattle.cocoon_num.specs.Values.{fits_width};
 ghost use Rattle.bv_terms.specs.Arenas.{term_at, width_at};
 ghost use Rattle.bv_terms.specs.Environments.{Covers};
-ghost use Rattle.table_terms.specs.Fitting.{CanStand, TablesFit};
-ghost use Rattle.table_terms.specs.Nodes.{FitsNode};
-ghost use Rattle.table_terms.specs.WithRows.{table_of};
+ghost use Rattle.bv_terms.specs.Fitting.{CanStand, TablesFit};
+ghost use Rattle.bv_terms.specs.Nodes.{FitsNode};
+ghost use Rattle.bv_terms.specs.WithRows.{table_of};
 ghost use Rattle.runtime_defs.specs.Places.{all_fit_widths};
 ghost use Rattle.obligation_tests.specs.Plain.{CoversNode, HasNumber, RowStands};
 

@@ -6,7 +6,7 @@ ghost use Rattle.bv_terms.specs.Arenas.{term_at, width_at};
 ghost use Rattle.bv_terms.specs.TermTrees.{binary, constant, width};
 ghost use Rattle.bv_terms.specs.declared.node.TermOp.TheVariants as op;
 ghost use Rattle.expr_terms.specs.Variables.{AreThere, Keeps, Makes, MakesAll, terms_at};
-ghost use Rattle.table_terms.specs.Chains.{chain};
+ghost use Rattle.bv_terms.specs.Chains.{chain};
 ghost use Rattle.query_laws.specs.Queries as spec;
 ghost use Rattle.queries.specs.Asked.{AreOfAssumptions, IsOfAssumption};
 

@@ -10,7 +10,7 @@ use Rattle.flat_laws.specs.Flat.{flattened}
 use Rattle.fun_instances.specs.AssumptionTerms.{value_term}
 use Rattle.fun_instances.specs.Taking.{NumbersFit, OfAssumption}
 use Rattle.pattern_laws.specs.Tuples.{pattern_terms}
-use Rattle.table_terms.specs.Chains.{chain}
+use Rattle.bv_terms.specs.Chains.{chain}
 use Rattle.query_laws.specs.OwnNames.{in_own_arena, input_count}
 
 -- ---- instances

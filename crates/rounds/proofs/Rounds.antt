@@ -19,7 +19,7 @@ use Rattle.fun_instances.specs.Taking.{NumbersFit, OfAssumption}
 use Rattle.query_laws.specs.Certified.{HasTooMany, IsSatisfiable}
 use Rattle.query_laws.specs.Queries.{Fits, instance_term, query}
 use Rattle.refinement.specs.Assumptions.{Meets}
-use Rattle.table_terms.specs.WithRows.{Tables}
+use Rattle.bv_terms.specs.WithRows.{Tables}
 use Rattle.candidates.specs.Flat.{MakesFormulaTrue}
 use Rattle.rounds.specs.Outcomes.{IsAsked, IsSpentAfter, ShowsNeverTrue, Tells}
 use Rattle.rounds.specs.Steps.{IsBroken, IsFoundBy, IsInstance, IsRefuted, IsSolved}

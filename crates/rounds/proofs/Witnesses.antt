@@ -34,7 +34,7 @@ use Rattle.query_laws.specs.Queries.{added, asked}
 use Rattle.query_laws.proofs.InputNumbers.{are_inputs, mentioned_in}
 use Rattle.query_laws.proofs.Renaming.{from_zero, index_below, index_there, value_agrees}
 use Rattle.sound_types.proofs.Members.{at_place}
-use Rattle.table_terms.specs.WithRows.{Tables}
+use Rattle.bv_terms.specs.WithRows.{Tables}
 use Rattle.bv_terms.specs.Copies.{AreRising, index_in}
 use Rattle.rounds.specs.Steps.{IsOf, IsSolved}
 use Rattle.rounds.specs.declared.asking.Satisfied.{Satisfied as Solved}

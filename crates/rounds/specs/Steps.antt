@@ -23,7 +23,7 @@ use Rattle.cdcl.specs.declared.answer.Answer.{Answer}
 use Rattle.cdcl.specs.declared.answer.Answer.TheVariants as answer
 use Rattle.cdcl.specs.declared.answer.Answer.TheVariants.{Unsat}
 use Rattle.queries.specs.declared.asking.OwnGoal.{OwnGoal}
-use Rattle.table_terms.specs.WithRows.{Tables}
+use Rattle.bv_terms.specs.WithRows.{Tables}
 use Rattle.rounds.specs.Outcomes.{IsRefutedWithin, Tells}
 use Rattle.rounds.specs.declared.outcome.Outcome.{Outcome}
 use Rattle.rounds.specs.declared.outcome.Witness.{Witness}

@@ -24,7 +24,7 @@ use Rattle.query_laws.specs.OwnNames.{inputs_of}
 use Rattle.role_meaning.specs.Located.{loc_of, sent_of}
 use Rattle.bv_terms.specs.Values.{values_of}
 use Rattle.failures.specs.Failures.{OfLevel}
-use Rattle.table_terms.specs.WithRows.{Tables}
+use Rattle.bv_terms.specs.WithRows.{Tables}
 use Rattle.bv_terms.specs.Copies.{index_in}
 use Rattle.verdicts.specs.Failing.{GoesBy, IsFailureOf}
 use Rattle.verdicts.specs.Telling.{IsVerdictOn, SaysItFails}

@@ -1,4 +1,4 @@
-use Rattle.table_terms.specs.WithRows.{with_rows}
+use Rattle.bv_terms.specs.WithRows.{with_rows}
 use Rattle.application_laws.proofs.Places.{tables-fit}
 use Rattle.application_laws.proofs.Plain.{plain-inputs, plain-unapplied, rows-plain}
 use Rattle.application_laws.proofs.laws.tables_take_the_place.Goals as goal

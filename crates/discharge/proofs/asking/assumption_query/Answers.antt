@@ -7,8 +7,8 @@ use Rattle.bv_terms.specs.TermTrees.{not_}
 use Rattle.expr_terms.specs.Variables.{Keeps}
 use Rattle.expr_terms.proofs.Making.{keeps_on}
 use Rattle.application_laws.specs.Over.{IsOver}
-use Rattle.table_terms.specs.Fitting.{TablesFit}
-use Rattle.table_terms.specs.WithRows.{with_rows}
+use Rattle.bv_terms.specs.Fitting.{TablesFit}
+use Rattle.bv_terms.specs.WithRows.{with_rows}
 use Rattle.discharge.specs.Asked.{IsQuery}
 use Rattle.discharge.specs.Queries.{assumption_query, inputs_from, own_term}
 use Rattle.discharge.proofs.Ranges.{inputs_wide}

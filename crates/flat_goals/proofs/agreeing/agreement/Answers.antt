@@ -1,6 +1,6 @@
 use Rattle.std.proofs.Common.{sym, ap, ◌∙◌}
 use Rattle.bv_terms.specs.TermTrees.{width}
-use Rattle.table_terms.proofs.Growing.{grows-both, grows-put}
+use Rattle.bv_terms.proofs.Growing.{grows-both, grows-put}
 use Rattle.flat_goals.proofs.agreeing.agreement.Goals as goal
 
 pub joined-requires-2-clause-widths : goal.joined-requires-2-clause-widths

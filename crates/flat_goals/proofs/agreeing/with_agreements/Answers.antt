@@ -1,7 +1,7 @@
 use Rattle.std.proofs.Common.{sym, ap, ◌∙◌}
 use Rattle.std.proofs.lemmas.List.Elements.{recursion_from_All}
 use Rattle.bv_terms.specs.TermTrees.{width}
-use Rattle.table_terms.proofs.Growing.{grows-both}
+use Rattle.bv_terms.proofs.Growing.{grows-both}
 use Rattle.flat_goals.specs.Agreeing.{IsPair}
 use Rattle.flat_goals.proofs.Agreements.{read-alike, read-step}
 use Rattle.flat_goals.proofs.agreeing.with_agreements.Goals as goal

@@ -4,7 +4,7 @@ use Rattle.bv_terms.specs.Arenas.{inputs_in, term_at}
 use Rattle.bv_terms.specs.Rebuilt.{name_in}
 use Rattle.bv_terms.specs.Walks.{applications}
 use Rattle.flat_laws.specs.Flat.{reduced}
-use Rattle.table_terms.specs.Growth.{IsMade}
+use Rattle.bv_terms.specs.Growth.{IsMade}
 use Rattle.flat_goals.proofs.Reductions.{goal-made, own-can, own-step}
 use Rattle.flat_goals.proofs.reducing.reduce.Goals as goal
 

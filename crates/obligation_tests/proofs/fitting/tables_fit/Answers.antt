@@ -3,7 +3,7 @@ use Rattle.std.specs.List.{All}
 use Rattle.std.proofs.lemmas.List.{take_all}
 use Rattle.bv_terms.specs.Arenas.{width_at}
 use Rattle.bv_terms.specs.Needed.{AreNeeded}
-use Rattle.table_terms.specs.Nodes.{FitsNode}
+use Rattle.bv_terms.specs.Nodes.{FitsNode}
 use Rattle.obligation_tests.proofs.Made.{IsAt, fits-all, within}
 use Rattle.obligation_tests.proofs.fitting.tables_fit.Goals as goal
 

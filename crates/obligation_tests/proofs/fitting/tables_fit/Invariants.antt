@@ -1,7 +1,7 @@
 use Rattle.std.proofs.Common.{take}
 use Rattle.std.specs.List.{All}
 use Rattle.bv_terms.specs.Arenas.{width_at}
-use Rattle.table_terms.specs.Nodes.{FitsNode}
+use Rattle.bv_terms.specs.Nodes.{FitsNode}
 use Rattle.obligation_tests.proofs.Made.{IsAt}
 use Rattle.obligation_tests.proofs.fitting.tables_fit.Given as goal
 

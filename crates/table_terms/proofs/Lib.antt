@@ -1,5 +1,0 @@
-pub mod Widths
-pub mod Values
-pub mod Growing
-pub mod Choices
-pub mod Replaced
