@@ -16,9 +16,8 @@ use cocoon_num::NoMemory;
 use cocoon_resolve::Checked;
 use cocoon_syntax::Name;
 use declarations::RoleId;
-use role_meaning::{Loc, Packet};
+use role_meaning::{Followed, Loc, Packet, follow};
 use runtime_defs::Defs;
-use segment_runs::{Followed, follow};
 use std::alloc::Global;
 
 /// Whether a name is that of the role of this number.

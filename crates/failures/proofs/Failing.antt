@@ -16,8 +16,8 @@ use Rattle.refinement.specs.Ways.{Arrival, Way, hops_by}
 use Rattle.role_meaning.proofs.Bridges.{packet_fits}
 use Rattle.role_meaning.specs.Located.{loc_of, role_name, sent_of}
 use Rattle.runtime_defs.specs.Stands.{Stands}
-use Rattle.segment_runs.specs.Follows.{Stops}
-use Rattle.segment_runs.specs.declared.running.Followed.{Followed}
+use Rattle.role_meaning.specs.Follows.{Stops}
+use Rattle.role_meaning.specs.declared.following.Followed.{Followed}
 use Rattle.send_laws.specs.Sending.{CanSend}
 use Rattle.sound_types.specs.Literals.{DesignLiteralsFit}
 use Rattle.failures.specs.Ending.{Ends}

@@ -2,8 +2,8 @@
 use Rattle.std.specs.Prelude.{◌≡◌, ℕ, ◌-◌, List, Option, Some, slice_get}
 use Rattle.cocoon_num.specs.Tree.{Design, Refine}
 use Rattle.cocoon_num.specs.declared.fun_table.FunTable.{FunTable}
-use Rattle.segment_runs.specs.Follows.{Follows}
-use Rattle.segment_runs.specs.declared.running.Followed.{Followed}
+use Rattle.role_meaning.specs.Follows.{Follows}
+use Rattle.role_meaning.specs.declared.following.Followed.{Followed}
 use Rattle.failures.specs.Found.{defined}
 use Rattle.failures.specs.declared.failure.Begin.{Begin}
 

@@ -2,9 +2,8 @@
 ghost use Rattle.std.specs.Prelude.{◌≡◌};
 
 use cocoon_num::List;
-use role_meaning::{Loc, Packet};
+use role_meaning::{Followed, Loc, Packet};
 use runtime_defs::Defs;
-use segment_runs::Followed;
 
 /// Where a run begins, with which packet, and which choices are made on it.
 #[derive(Drop)]

@@ -4,3 +4,4 @@ pub mod Sizes
 pub mod Bridges
 pub mod Exactly
 pub mod Layouts
+pub mod Chains

@@ -3,3 +3,5 @@ pub mod Levels
 pub mod Progresses
 pub mod Goings
 pub mod Leading
+pub mod Onward
+pub mod Follows

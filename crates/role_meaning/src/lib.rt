@@ -1,8 +1,11 @@
 //! One body's run, as the section "A body's run" of docs/LANGUAGE.md defines it, and packets that
 //! enter from bytes and leave as bytes. Functions that are defined at run time are evaluated by tables.
+//! Which segment some choices make: a body of a role that a block refines, and the bodies of the
+//! new roles that it leads through. How such choices were found plays no part here.
 #![tactic(auto)]
 
 pub mod bytes;
+mod following;
 mod going;
 pub mod leading;
 mod level;
@@ -12,5 +15,6 @@ mod run;
 mod steps;
 
 pub use bytes::{enter, leave};
+pub use following::{Followed, follow};
 pub use leading::{go, lead};
 pub use place::{Led, Loc, Packet};

@@ -1,7 +1,7 @@
 use Rattle.std.proofs.Common.{List, ℕ, ◌-◌, subst}
 use Rattle.std.proofs.lemmas.Result.{IfOk-weaker}
 use Rattle.cocoon_syntax.specs.TreeOf.{design_of}
-use Rattle.segment_runs.specs.Follows.{Follows}
+use Rattle.role_meaning.specs.Follows.{Follows}
 use Rattle.failures.specs.Found.{defined}
 use Rattle.failures.proofs.testing.ended.Goals as goal
 

@@ -1,6 +1,6 @@
 use Rattle.std.proofs.Common.{◌≡◌, true, false, Option, Some, None, sym, subst, ◌∙◌}
 use Rattle.cocoon_syntax.specs.TreeOf.{design_of}
-use Rattle.segment_runs.specs.declared.running.Followed.{Followed}
+use Rattle.role_meaning.specs.declared.following.Followed.{Followed}
 use Rattle.failures.specs.Ending.{Ends}
 use Rattle.failures.specs.Failures.{IsOver, IsRefuted, OfLevel}
 use Rattle.failures.specs.Found.{failure_of}

@@ -5,8 +5,8 @@ use Rattle.cocoon_syntax.specs.TreeOf.{design_of}
 use Rattle.cocoon_types.specs.Tables.{Defs}
 use Rattle.role_meaning.specs.Located.{loc_of, sent_of}
 use Rattle.runtime_defs.specs.Stands.{Stands}
-use Rattle.segment_runs.specs.Onward.{onward}
-use Rattle.segment_runs.proofs.running.go_on.Given as goal
+use Rattle.role_meaning.specs.Onward.{onward}
+use Rattle.role_meaning.proofs.following.go_on.Given as goal
 
 abbrev pub invariant-loop-bodies : goal.invariant-loop-bodies
 invariant-loop-bodies l =

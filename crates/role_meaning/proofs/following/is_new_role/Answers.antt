@@ -3,8 +3,8 @@ use Rattle.cocoon_syntax.specs.TreeOf.{design_of, role_of}
 use Rattle.cocoon_types.specs.Design.{role_at}
 use Rattle.declarations.specs.Declares.{role_number}
 use Rattle.role_meaning.proofs.Guards.{role_name_of}
-use Rattle.segment_runs.proofs.Chains.{mapped, new_is}
-use Rattle.segment_runs.proofs.running.is_new_role.Goals as goal
+use Rattle.role_meaning.proofs.Chains.{mapped, new_is}
+use Rattle.role_meaning.proofs.following.is_new_role.Goals as goal
 
 pub returns : goal.returns
 returns c =

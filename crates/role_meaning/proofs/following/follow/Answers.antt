@@ -3,9 +3,9 @@ use Rattle.cocoon_num.specs.PacketForms.{FieldsFit}
 use Rattle.cocoon_resolve.specs.Readers.{field_widths, HasRole}
 use Rattle.role_meaning.specs.Located.{loc_of, sent_of}
 use Rattle.cocoon_syntax.specs.TreeOf.{design_of}
-use Rattle.segment_runs.specs.Onward.{chain, if_whole}
-use Rattle.segment_runs.proofs.Chains.{ends_so, follows}
-use Rattle.segment_runs.proofs.running.follow.Goals as goal
+use Rattle.role_meaning.specs.Onward.{chain, if_whole}
+use Rattle.role_meaning.proofs.Chains.{ends_so, follows}
+use Rattle.role_meaning.proofs.following.follow.Goals as goal
 
 pub returns-clause-follows : goal.returns-clause-follows
 returns-clause-follows c = λ block at defined stands.

@@ -11,10 +11,10 @@ use Rattle.refinement.specs.Segments.{is_new, IsNew, IsRefined, Segment, Through
 use Rattle.role_meaning.specs.Located.{loc_of, role_name, sent_of}
 use Rattle.role_meaning.specs.declared.place.Loc as code
 use Rattle.role_meaning.specs.declared.place.Packet as sent
-use Rattle.segment_runs.specs.Follows.{Follows, Stops}
-use Rattle.segment_runs.specs.Onward.{chain, end_of, if_whole, onward, Stop}
-use Rattle.segment_runs.specs.declared.running.Followed.{Followed}
-use Rattle.segment_runs.specs.declared.running.Reached.{Reached}
+use Rattle.role_meaning.specs.Follows.{Follows, Stops}
+use Rattle.role_meaning.specs.Onward.{chain, end_of, if_whole, onward, Stop}
+use Rattle.role_meaning.specs.declared.following.Followed.{Followed}
+use Rattle.role_meaning.specs.declared.following.Reached.{Reached}
 
 there : {A B : Type 0} (f : A → Option B) (o : Option A) (b : B) → option_and_then f o ≡ Some b → (a : A) × (o ≡ Some a) × (f a ≡ Some b)
 there f None b h = absurd (cc)

@@ -8,7 +8,7 @@ use Rattle.refinement.specs.Segments.{is_new, IsNew, Segment}
 use Rattle.role_meaning.specs.Located.{loc_of, sent_of}
 use Rattle.role_meaning.specs.declared.place.Loc.{Loc}
 use Rattle.role_meaning.specs.declared.place.Packet.{Packet}
-use Rattle.segment_runs.specs.declared.running.Followed.{Followed}
+use Rattle.role_meaning.specs.declared.following.Followed.{Followed}
 
 -- a segment of at most as many bodies as the block allows, which has left the new roles or has as many
 pub record Stops (above : ℕ) (d : Design) (block : Refine) (defs : Defs) (from : runs.Loc) (packet : packets.Packet) (choices : List ℕ) (bodies : ℕ) (to : runs.Loc) (sent : packets.Packet) : Type 0 where

@@ -8,8 +8,8 @@ use Rattle.cocoon_types.specs.Tables.{Defs}
 use Rattle.cocoon_types.specs.Taken.{go}
 use Rattle.refinement.specs.Segments.{is_new}
 use Rattle.role_meaning.specs.Located.{loc_of, sent_of}
-use Rattle.segment_runs.specs.declared.running.Followed.{Followed}
-use Rattle.segment_runs.specs.declared.running.Reached.{Reached}
+use Rattle.role_meaning.specs.declared.following.Followed.{Followed}
+use Rattle.role_meaning.specs.declared.following.Reached.{Reached}
 
 -- how many bodies have run, where they have led, and the choices that are left
 abbrev pub Stop : Type 0

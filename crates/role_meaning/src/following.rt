@@ -9,16 +9,17 @@ ghost use Rattle.refinement.specs.Segments.{is_new, IsRefined};
 ghost use Rattle.role_meaning.specs.Located.{loc_of, role_name, sent_of};
 ghost use Rattle.runtime_defs.specs.Fitting.{FitsDesign};
 ghost use Rattle.runtime_defs.specs.Stands.{Stands};
-ghost use Rattle.segment_runs.specs.Follows.{Follows};
-ghost use Rattle.segment_runs.specs.Onward as spec;
-ghost use Rattle.segment_runs.specs.declared.running.Reached.{Reached as AsReached};
+ghost use Rattle.role_meaning.specs.Follows.{Follows};
+ghost use Rattle.role_meaning.specs.Onward as spec;
+ghost use Rattle.role_meaning.specs.declared.following.Reached.{Reached as AsReached};
 
+use crate::leading::lead;
+use crate::place::{Led, Loc, Packet};
 use cocoon_num::NoMemory;
 use cocoon_resolve::Checked;
 use cocoon_types::runs::runs_are_taken;
 use declarations::RoleId;
 use refinement::laws::levels_keep_roles;
-use role_meaning::{Led, Loc, Packet, lead};
 use runtime_defs::Defs;
 use std::alloc::Global;
 

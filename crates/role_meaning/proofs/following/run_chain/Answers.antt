@@ -3,8 +3,8 @@ use Rattle.std.proofs.lemmas.Result.{IfOk-weaker}
 use Rattle.cocoon_syntax.specs.TreeOf.{design_of}
 use Rattle.role_meaning.specs.Goings.{led_of}
 use Rattle.role_meaning.specs.Located.{loc_of, sent_of}
-use Rattle.segment_runs.proofs.Chains.{chain_none, chain_some}
-use Rattle.segment_runs.proofs.running.run_chain.Goals as goal
+use Rattle.role_meaning.proofs.Chains.{chain_none, chain_some}
+use Rattle.role_meaning.proofs.following.run_chain.Goals as goal
 
 pub returns-in-Some-clause-runs : goal.returns-in-Some-clause-runs
 returns-in-Some-clause-runs c =

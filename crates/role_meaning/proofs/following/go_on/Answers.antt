@@ -6,9 +6,9 @@ use Rattle.refinement.specs.Segments.{is_new}
 use Rattle.role_meaning.specs.Goings.{led_of}
 use Rattle.role_meaning.specs.Located.{loc_of, role_name, sent_of}
 use Rattle.role_meaning.specs.declared.place.Led.{Led}
-use Rattle.segment_runs.proofs.Chains.{all_on, none_on, old_on, one_on}
-use Rattle.segment_runs.proofs.running.go_on.Goals as goal
-use Rattle.segment_runs.proofs.running.go_on.Goals.{then-loop-bodies-test+else-is_new_role, else-loop-bodies-test}
+use Rattle.role_meaning.proofs.Chains.{all_on, none_on, old_on, one_on}
+use Rattle.role_meaning.proofs.following.go_on.Goals as goal
+use Rattle.role_meaning.proofs.following.go_on.Goals.{then-loop-bodies-test+else-is_new_role, else-loop-bodies-test}
 
 pub returns-in-None-clause-runs : goal.returns-in-None-clause-runs
 returns-in-None-clause-runs c = λ defined stands.
