@@ -10,8 +10,7 @@ use crate::places::{location, packet};
 use case_files::Printer;
 use cocoon_num::NoMemory;
 use cocoon_resolve::Checked;
-use role_meaning::{Loc, Packet};
-use role_sends::can_send;
+use role_meaning::{Loc, Packet, can_send};
 use runtime_defs::Defs;
 use std::alloc::Global;
 

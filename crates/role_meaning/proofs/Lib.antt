@@ -5,3 +5,5 @@ pub mod Bridges
 pub mod Exactly
 pub mod Layouts
 pub mod Chains
+pub mod Kept
+pub mod Sent

@@ -5,3 +5,4 @@ pub mod Goings
 pub mod Leading
 pub mod Onward
 pub mod Follows
+pub mod Views

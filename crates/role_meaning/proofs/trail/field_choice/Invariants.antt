@@ -1,0 +1,7 @@
+use Rattle.std.proofs.Common.{◌≡◌, drop, map}
+use Rattle.send_laws.specs.Trails.{field_choice}
+use Rattle.role_meaning.specs.Views.{field_of}
+use Rattle.role_meaning.proofs.trail.field_choice.Given as goal
+
+abbrev pub invariant-loop-field : goal.invariant-loop-field
+invariant-loop-field l = field_choice (map field_of (drop l.field-index l.fields)) l.header l.name ≡ field_choice (map field_of l.fields) l.header l.name

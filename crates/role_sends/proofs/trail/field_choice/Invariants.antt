@@ -1,7 +1,0 @@
-use Rattle.std.proofs.Common.{◌≡◌, drop, map}
-use Rattle.send_laws.specs.Trails.{field_choice}
-use Rattle.role_sends.specs.Views.{field_of}
-use Rattle.role_sends.proofs.trail.field_choice.Given as goal
-
-abbrev pub invariant-loop-field : goal.invariant-loop-field
-invariant-loop-field l = field_choice (map field_of (drop l.field-index l.fields)) l.header l.name ≡ field_choice (map field_of l.fields) l.header l.name
