@@ -15,7 +15,7 @@ use Rattle.hop_inline.specs.declared.tree.End.TheVariants.{Sent, Inside}
 use Rattle.hop_inline.specs.declared.tree.Leaf.{Leaf}
 use Rattle.hop_inline.specs.declared.tree.Tree.{Tree}
 use Rattle.hop_inline.proofs.Growing.{inputs_on, leaves_on, zip_append}
-use Rattle.formula_terms.specs.Compared.{AreCompared}
+use Rattle.obligation_gen.specs.Compared.{AreCompared}
 use Rattle.obligation_laws.specs.Obligations as owed
 use Rattle.symbolic_laws.specs.Leaves as laws
 use Rattle.symbolic_laws.specs.Leaves.{sent_to, inside}

@@ -1,6 +1,6 @@
 -- Cited by private clauses: how many terms are joined to the formulas of a tree.
 use Rattle.std.specs.Prelude.{ℕ, suc, ◌+◌, ◌*◌, ◌==◌, List, [], ◌∷◌, if◌then◌else◌, length}
-use Rattle.formula_terms.specs.Sent.{role_in}
+use Rattle.obligation_gen.specs.Sent.{role_in}
 use Rattle.hop_inline.specs.declared.tree.End.{End}
 use Rattle.hop_inline.specs.declared.tree.End.TheVariants.{Sent, Inside}
 use Rattle.hop_inline.specs.declared.tree.Leaf.{Leaf}

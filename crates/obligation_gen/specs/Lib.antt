@@ -1,3 +1,7 @@
+pub mod Sent
+pub mod Replacing
+pub mod Compared
+pub mod Parts
 pub mod Shown
 pub mod Counted
 pub mod Refined

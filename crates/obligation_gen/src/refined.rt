@@ -10,12 +10,12 @@ ghost use Rattle.obligation_laws.specs.Obligations as owed;
 ghost use Rattle.obligation_gen.specs.Refined.{AreComparable, Comparable};
 ghost use Rattle.obligation_gen.specs.Shown.{ShowsObligation, ShowsObligations, kind_in};
 
+use crate::comparing::formula;
 use crate::copies::with_leaf;
 use crate::obligation::{Kind, Obligation};
 use bv_terms::Terms;
 use cocoon_num::NoMemory;
 use declarations::RoleId;
-use formula_terms::formula;
 use hop_inline::{End, Tree};
 use std::alloc::Global;
 

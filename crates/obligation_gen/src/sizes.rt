@@ -1,7 +1,7 @@
 //! How large formulas are.
 ghost use Rattle.std.specs.Prelude.{◌≡◌};
 ghost use Rattle.cocoon_types.specs.Limits.{reported};
-ghost use Rattle.formula_terms.specs.Sent.{role_in};
+ghost use Rattle.obligation_gen.specs.Sent.{role_in};
 ghost use Rattle.obligation_gen.specs.Joined.{count_to, joined, joined_to, sent};
 
 use declarations::RoleId;

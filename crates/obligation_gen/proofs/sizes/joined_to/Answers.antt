@@ -1,6 +1,6 @@
 use Rattle.std.proofs.Common.{◌≡◌, ◌+◌, ◌*◌, ap, ◌∙◌}
 use Rattle.cocoon_types.specs.Limits.{reported}
-use Rattle.formula_terms.specs.Sent.{role_in}
+use Rattle.obligation_gen.specs.Sent.{role_in}
 use Rattle.obligation_gen.specs.Joined.{count_to, sent}
 use Rattle.obligation_gen.proofs.Joining.{pairs}
 use Rattle.obligation_gen.proofs.sizes.joined_to.Goals as goal

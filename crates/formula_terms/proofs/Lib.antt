@@ -1,8 +1,0 @@
-mod Results
-mod Names
-mod Inputs
-mod ReadBack
-mod PushedBack
-mod Chains
-mod Pairing
-mod Gathering

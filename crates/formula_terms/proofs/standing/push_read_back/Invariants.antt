@@ -1,6 +1,0 @@
-use Rattle.std.proofs.Common.{◌++◌, List, map, take}
-use Rattle.formula_terms.proofs.PushedBack.{Pushed}
-use Rattle.formula_terms.proofs.standing.push_read_back.Given as goal
-
-abbrev pub invariant-loop-choice : goal.invariant-loop-choice
-invariant-loop-choice l = Pushed l.fn.terms l.terms l.choices l.old l.end l.fn.into.items l.into.items l.choice-index

@@ -1,4 +1,0 @@
-pub mod Sent
-pub mod Replacing
-pub mod Compared
-pub mod Parts

@@ -1,9 +1,0 @@
-//! The formula of one leaf of a refined role over an arena: the term that is true where the leaf
-//! fails.
-#![tactic(auto)]
-
-mod comparing;
-mod replacing;
-mod standing;
-
-pub use comparing::formula;
