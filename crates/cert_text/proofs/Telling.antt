@@ -6,8 +6,8 @@ use Rattle.cocoon_num.specs.Tree.{Design}
 use Rattle.bv_terms.specs.declared.node.Node.{Node}
 use Rattle.cnf_core.specs.declared.certificates.Cert.{Cert}
 use Rattle.cert_text.specs.CertsForm.{certs_form}
-use Rattle.hop_inline.specs.declared.tree.InlineFault.{InlineFault}
-use Rattle.hop_inline.specs.declared.tree.InlineFault.TheVariants as tree
+use Rattle.obligation_gen.specs.declared.tree.InlineFault.{InlineFault}
+use Rattle.obligation_gen.specs.declared.tree.InlineFault.TheVariants as tree
 use Rattle.json_forms.specs.Reading.{Refused as IsUnread}
 use Rattle.json_forms.specs.declared.fault.FormFault.{FormFault}
 use Rattle.json_forms.specs.declared.fault.FormFault.TheVariants as form

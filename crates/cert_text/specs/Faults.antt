@@ -3,8 +3,8 @@ use Rattle.std.specs.Prelude.{ℕ, List}
 use Rattle.json_forms.specs.Reading.{Refused}
 use Rattle.json_forms.specs.declared.fault.FormFault.{FormFault}
 use Rattle.json_forms.specs.declared.fault.FormFault.TheVariants as form
-use Rattle.hop_inline.specs.declared.tree.InlineFault.{InlineFault}
-use Rattle.hop_inline.specs.declared.tree.InlineFault.TheVariants as tree
+use Rattle.obligation_gen.specs.declared.tree.InlineFault.{InlineFault}
+use Rattle.obligation_gen.specs.declared.tree.InlineFault.TheVariants as tree
 use Rattle.queries.specs.declared.checking.RecheckFault.{RecheckFault}
 use Rattle.queries.specs.declared.checking.RecheckFault.TheVariants as query
 use Rattle.cert_text.specs.CertsForm.{certs_form}

@@ -6,7 +6,7 @@ use Rattle.cocoon_num.specs.Tree.{Design}
 use Rattle.bit_blast.specs.Blasting.{most_clauses}
 use Rattle.bit_blast.specs.Clauses.{count_of}
 use Rattle.cnf_core.specs.declared.certificates.Cert.{Cert}
-use Rattle.hop_inline.specs.declared.tree.InlineFault.TheVariants as tree
+use Rattle.obligation_gen.specs.declared.tree.InlineFault.TheVariants as tree
 use Rattle.obligation_laws.specs.Obligations.{Obligation, all_obligations}
 use Rattle.obligation_gen.specs.Counted.{AreFew, TellsFirst, all_counts}
 use Rattle.query_laws.specs.Certified.{AllFit}

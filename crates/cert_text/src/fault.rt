@@ -1,7 +1,7 @@
 //! Why certificates are not accepted.
 use cocoon_num::{NoMemory, Text};
-use hop_inline::InlineFault;
 use json_forms::FormFault;
+use obligation_gen::InlineFault;
 use queries::RecheckFault;
 
 /// Why certificates are not read, or not accepted for a design. A number that does not fit is told as the greatest.

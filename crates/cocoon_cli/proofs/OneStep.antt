@@ -51,7 +51,7 @@ use Rattle.cocoon_types.specs.Tables as tables
 use Rattle.cocoon_types.specs.Tables.{defs_of}
 use Rattle.cocoon_num.specs.Values.{Value, truth}
 use Rattle.cocoon_resolve.specs.Readers.{all_assumptions}
-use Rattle.hop_inline.specs.Counted.{most_leaves}
+use Rattle.obligation_gen.specs.CountedTrees.{most_leaves}
 use Rattle.obligation_gen.specs.Counted.{all_counts}
 use Rattle.refinement.specs.Assumptions.{IsMet, Meets}
 use Rattle.refinement.specs.Owed.{Refines}

@@ -14,7 +14,7 @@ use Rattle.failures.specs.Failures as runs
 use Rattle.failures.specs.Found.{failure_of}
 use Rattle.failures.specs.declared.failure.Failure.{Failure}
 use Rattle.failures.specs.Told.{Tells}
-use Rattle.hop_inline.specs.Counted.{most_leaves}
+use Rattle.obligation_gen.specs.CountedTrees.{most_leaves}
 use Rattle.obligation_gen.specs.Counted.{AreFew, all_counts}
 use Rattle.obligation_gen.specs.Shown.{kind_in}
 use Rattle.obligation_gen.specs.declared.obligation.Obligation.{Obligation}

@@ -42,7 +42,7 @@ use Rattle.net_bundle.specs.Bundle.{MadeFile, all_switch_files, bundle, net_text
 use Rattle.net_bundle.specs.Writing.{AllFit, FirstOver, most_of}
 use Rattle.net_bundle.specs.declared.file.BundleFile.{BundleFile}
 use Rattle.net_bundle.specs.declared.file.BundleFile.TheVariants as files
-use Rattle.hop_inline.specs.Counted.{most_leaves}
+use Rattle.obligation_gen.specs.CountedTrees.{most_leaves}
 use Rattle.obligation_gen.specs.Counted.{AreFew, all_counts}
 use Rattle.obligation_laws.specs.Obligations.{all_obligations}
 use Rattle.refinement.specs.Assumptions.{Meets}

@@ -25,8 +25,8 @@ use Rattle.failures.specs.Failures.{Failure}
 use Rattle.failures.specs.Found.{BeginFits, BeginsSo, CanFail, NoneBegins, defined}
 use Rattle.obligation_laws.proofs.Fitting.{new_role}
 use Rattle.formula_functions.specs.LeafTerms as applies
-use Rattle.hop_inline.specs.Shown.{HasInput, ShowsInputs, ShowsLeaves}
-use Rattle.hop_inline.specs.declared.tree.Leaf.{Leaf as CodeLeaf}
+use Rattle.obligation_gen.specs.ShownTrees.{HasInput, ShowsInputs, ShowsLeaves}
+use Rattle.obligation_gen.specs.declared.tree.Leaf.{Leaf as CodeLeaf}
 use Rattle.obligation_laws.specs.LeafShown.{LeafShown}
 use Rattle.obligation_gen.specs.Shown.{ShowsObligation, kind_in}
 use Rattle.obligation_gen.specs.declared.obligation.Obligation.{Obligation}

@@ -11,7 +11,7 @@ use Rattle.bv_terms.specs.TermValues.{Inputs}
 use Rattle.bv_terms.specs.Walks.{is_among, walk}
 use Rattle.bv_terms.specs.declared.node.Node.{Node}
 use Rattle.cocoon_num.specs.Values.{FitsWidth}
-use Rattle.hop_inline.specs.Shown.{HasInput}
+use Rattle.obligation_gen.specs.ShownTrees.{HasInput}
 use Rattle.sound_types.proofs.Members.{In}
 use Rattle.symbolic_laws.specs.Meant.{AllFit}
 use Rattle.symbolic_laws.specs.States.{NewInput}

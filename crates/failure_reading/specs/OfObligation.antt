@@ -10,7 +10,7 @@ use Rattle.failures.specs.Failures as laws
 use Rattle.failures.specs.Found.{failure_of}
 use Rattle.failures.specs.declared.failure.Begin.{Begin}
 use Rattle.failures.specs.declared.failure.Failure.{Failure}
-use Rattle.hop_inline.specs.declared.tree.Leaf.{Leaf}
+use Rattle.obligation_gen.specs.declared.tree.Leaf.{Leaf}
 use Rattle.obligation_gen.specs.Owed.{IsOwed}
 use Rattle.obligation_gen.specs.Shown.{kind_in}
 use Rattle.obligation_gen.specs.declared.obligation.Obligation.{Obligation}

@@ -14,7 +14,7 @@ use Rattle.expr_term_laws.specs.Shown.{HasWidth}
 use Rattle.expr_terms.specs.Variables.{AreThere, Keeps, Makes, terms_at}
 use Rattle.expr_terms.proofs.Making.{keeps_on}
 use Rattle.obligation_laws.specs.FormulaForms.{SameWidths}
-use Rattle.hop_inline.proofs.Growing.{inputs_on}
+use Rattle.obligation_gen.proofs.Growing.{inputs_on}
 use Rattle.obligation_laws.specs.Formulas.{chain, equals}
 use Rattle.symbolic_laws.specs.States.{NewInput}
 use Rattle.symbolic_runs.proofs.Growing.{head_all, longer, tail_all, terms_on, there_on}

@@ -7,9 +7,9 @@ use Rattle.std.proofs.lemmas.Bool.{cases_Bool, lt-ltb, ltb-true, false≢true}
 use Rattle.std.proofs.lemmas.List.Concat.{flat_map-append}
 use Rattle.cocoon_num.specs.Tree.{Name, Refine, Design}
 use Rattle.cocoon_types.specs.Limits.{first_above, reported}
-use Rattle.hop_inline.specs.Counted.{TellsCount, most_leaves}
-use Rattle.hop_inline.specs.declared.tree.InlineFault.{InlineFault}
-use Rattle.hop_inline.specs.declared.tree.InlineFault.TheVariants.{Paths, NoMemory}
+use Rattle.obligation_gen.specs.CountedTrees.{TellsCount, most_leaves}
+use Rattle.obligation_gen.specs.declared.tree.InlineFault.{InlineFault}
+use Rattle.obligation_gen.specs.declared.tree.InlineFault.TheVariants.{Paths, NoMemory}
 use Rattle.obligation_gen.specs.Counted.{AreFew, TellsFirst, block_counts, blocks_counts, counts_behind, tree_counts}
 
 -- an error that is passed on

@@ -17,12 +17,12 @@ use Rattle.expr_term_laws.specs.Shown.{HasWidth}
 use Rattle.expr_terms.specs.Variables.{Keeps, Makes, MakesAll, terms_at}
 use Rattle.expr_terms.proofs.Making.{keeps_on}
 use Rattle.obligation_laws.specs.FormulaForms.{PartFits}
-use Rattle.hop_inline.specs.Shown.{ShowsEnd, ShowsLeaf, ShowsLeaves}
-use Rattle.hop_inline.specs.declared.tree.End.{End}
-use Rattle.hop_inline.specs.declared.tree.End.TheVariants.{Sent, Inside}
-use Rattle.hop_inline.specs.declared.tree.Leaf.{Leaf}
-use Rattle.hop_inline.specs.declared.tree.Tree.{Tree}
-use Rattle.hop_inline.proofs.Growing.{inputs_on, leaf_on}
+use Rattle.obligation_gen.specs.ShownTrees.{ShowsEnd, ShowsLeaf, ShowsLeaves}
+use Rattle.obligation_gen.specs.declared.tree.End.{End}
+use Rattle.obligation_gen.specs.declared.tree.End.TheVariants.{Sent, Inside}
+use Rattle.obligation_gen.specs.declared.tree.Leaf.{Leaf}
+use Rattle.obligation_gen.specs.declared.tree.Tree.{Tree}
+use Rattle.obligation_gen.proofs.Growing.{inputs_on, leaf_on}
 use Rattle.obligation_laws.specs.Formulas.{any_of, chain, part, parts, sending_to}
 use Rattle.symbolic_laws.specs.Leaves as laws
 use Rattle.symbolic_runs.proofs.Growing.{longer}

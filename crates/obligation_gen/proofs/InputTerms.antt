@@ -15,7 +15,7 @@ use Rattle.expr_term_laws.specs.Shown.{HasWidth}
 use Rattle.expr_terms.specs.Variables.{AreThere, Keeps, MakesAll, terms_at}
 use Rattle.symbolic_laws.specs.States.{NewInput, input_term}
 use Rattle.symbolic_runs.proofs.Growing.{head_all, map_all, one_all, tail_all}
-use Rattle.hop_inline.specs.Shown.{HasInput, ShowsInputs}
+use Rattle.obligation_gen.specs.ShownTrees.{HasInput, ShowsInputs}
 
 -- an input stands once
 one_place : (nodes : List Node) → IsArena nodes → (j k i v w : ℕ) → slice_get nodes j ≡ Some (Input i v) → slice_get nodes k ≡ Some (Input i w) → j ≡ k

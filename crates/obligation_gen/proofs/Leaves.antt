@@ -10,11 +10,11 @@ use Rattle.bv_terms.specs.Arenas.{KeepsTerms, inputs_in}
 use Rattle.declarations.specs.Declares.{role_number}
 use Rattle.expr_terms.specs.Variables.{Keeps}
 use Rattle.expr_terms.proofs.Making.{keeps_on}
-use Rattle.hop_inline.specs.Shown.{ShowsEnd, ShowsLeaf, ShowsLeaves}
-use Rattle.hop_inline.specs.declared.tree.End.TheVariants.{Sent, Inside}
-use Rattle.hop_inline.specs.declared.tree.Leaf.{Leaf}
-use Rattle.hop_inline.specs.declared.tree.Tree.{Tree}
-use Rattle.hop_inline.proofs.Growing.{inputs_on, leaves_on, zip_append}
+use Rattle.obligation_gen.specs.ShownTrees.{ShowsEnd, ShowsLeaf, ShowsLeaves}
+use Rattle.obligation_gen.specs.declared.tree.End.TheVariants.{Sent, Inside}
+use Rattle.obligation_gen.specs.declared.tree.Leaf.{Leaf}
+use Rattle.obligation_gen.specs.declared.tree.Tree.{Tree}
+use Rattle.obligation_gen.proofs.Growing.{inputs_on, leaves_on, zip_append}
 use Rattle.obligation_gen.specs.Compared.{AreCompared}
 use Rattle.obligation_laws.specs.Obligations as owed
 use Rattle.symbolic_laws.specs.Leaves as laws

@@ -1,3 +1,9 @@
+pub mod Growing
+mod NewInputs
+pub mod RoleNames
+mod Bodies
+pub mod Ends
+mod Roots
 mod Results
 mod RoleNumbers
 mod InputTerms

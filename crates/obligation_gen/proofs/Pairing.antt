@@ -12,12 +12,12 @@ use Rattle.bv_terms.specs.TermTrees.{Term, width}
 use Rattle.expr_term_laws.specs.Shown.{HasWidth}
 use Rattle.expr_terms.specs.Variables.{Makes, MakesAll, terms_at}
 use Rattle.obligation_laws.specs.FormulaForms.{PartFits, SameWidths}
-use Rattle.hop_inline.specs.Shown.{ShowsEnd, ShowsInputs}
-use Rattle.hop_inline.specs.declared.tree.End.{End}
-use Rattle.hop_inline.specs.declared.tree.End.TheVariants.{Sent, Inside}
-use Rattle.hop_inline.specs.declared.tree.Leaf.{Leaf}
-use Rattle.hop_inline.specs.declared.tree.Tree.{Tree}
-use Rattle.hop_inline.proofs.Growing.{inputs_on, makes_all_on}
+use Rattle.obligation_gen.specs.ShownTrees.{ShowsEnd, ShowsInputs}
+use Rattle.obligation_gen.specs.declared.tree.End.{End}
+use Rattle.obligation_gen.specs.declared.tree.End.TheVariants.{Sent, Inside}
+use Rattle.obligation_gen.specs.declared.tree.Leaf.{Leaf}
+use Rattle.obligation_gen.specs.declared.tree.Tree.{Tree}
+use Rattle.obligation_gen.proofs.Growing.{inputs_on, makes_all_on}
 use Rattle.obligation_laws.specs.Formulas.{any_of, chain, equals, formula, leaf_inputs, part, parts, replacing, stand_ins}
 use Rattle.symbolic_laws.specs.Leaves as laws
 use Rattle.symbolic_laws.specs.Leaves.{sent_to, inside, end_fields, end_values}

@@ -8,9 +8,9 @@ use Rattle.bv_terms.specs.Arenas.{IsArena, IsInputTerm, KeepsTerms}
 use Rattle.bv_terms.specs.TermTrees.{Term}
 use Rattle.expr_terms.specs.Variables.{Keeps, Makes, MakesAll}
 use Rattle.expr_terms.proofs.Making.{keeps_on}
-use Rattle.hop_inline.specs.Shown.{HasInput, ShowsEnd, ShowsInputs}
-use Rattle.hop_inline.specs.declared.tree.End.{End}
-use Rattle.hop_inline.proofs.Growing.{end_on, inputs_on, makes_all_on}
+use Rattle.obligation_gen.specs.ShownTrees.{HasInput, ShowsEnd, ShowsInputs}
+use Rattle.obligation_gen.specs.declared.tree.End.{End}
+use Rattle.obligation_gen.proofs.Growing.{end_on, inputs_on, makes_all_on}
 use Rattle.obligation_laws.specs.Formulas.{read_back}
 use Rattle.symbolic_laws.specs.Leaves as laws
 use Rattle.symbolic_laws.specs.States.{NewInput, input_term}

@@ -16,9 +16,9 @@ use Rattle.symbolic_laws.specs.Leaves as laws
 use Rattle.symbolic_laws.specs.Leaves.{sent_to, inside}
 use Rattle.symbolic_laws.specs.States.{NewInput, input_term}
 use Rattle.symbolic_runs.proofs.Growing.{head_all, tail_all}
-use Rattle.hop_inline.specs.Shown.{ShowsEnd}
-use Rattle.hop_inline.specs.declared.tree.End.{End}
-use Rattle.hop_inline.specs.declared.tree.End.TheVariants.{Sent, Inside}
+use Rattle.obligation_gen.specs.ShownTrees.{ShowsEnd}
+use Rattle.obligation_gen.specs.declared.tree.End.{End}
+use Rattle.obligation_gen.specs.declared.tree.End.TheVariants.{Sent, Inside}
 use Rattle.obligation_laws.specs.Formulas as formulas
 use Rattle.obligation_laws.specs.Formulas.{position, read_back}
 use Rattle.obligation_gen.specs.Sent.{fields_of, position_of, sent_at, values_of}

@@ -9,7 +9,7 @@ use Rattle.cocoon_types.specs.Limits.{first_above}
 use Rattle.cocoon_types.specs.NameRules.{not_refinable_in}
 use Rattle.cocoon_types.specs.RuleParts.{has_name, repeated, role_names, unless_named}
 use Rattle.cocoon_types.specs.Rules.{WellFormed, not_refinable, zero_count}
-use Rattle.hop_inline.specs.Bodies.{IsDeclared}
+use Rattle.obligation_gen.specs.Bodies.{IsDeclared}
 use Rattle.sound_types.proofs.Levels.{block_at, role_in, role_there, roles_grow}
 use Rattle.sound_types.proofs.Members.{In, at_place, none_at}
 use Rattle.sound_types.proofs.Options.{both_true, nil_left, nil_right, passes}

@@ -7,11 +7,11 @@ use Rattle.bv_terms.specs.declared.node.Node.{Node}
 use Rattle.bv_terms.specs.Arenas.{KeepsTerms, inputs_in}
 use Rattle.expr_term_laws.specs.Shown.{HasWidth}
 use Rattle.obligation_laws.specs.FormulaForms.{PartFits}
-use Rattle.hop_inline.specs.Counted.{most_leaves}
-use Rattle.hop_inline.specs.Shown.{ShowsTree}
-use Rattle.hop_inline.specs.declared.tree.InlineFault.{InlineFault}
-use Rattle.hop_inline.specs.declared.tree.Tree.{Tree}
-use Rattle.hop_inline.proofs.Growing.{inputs_on, leaves_on}
+use Rattle.obligation_gen.specs.CountedTrees.{most_leaves}
+use Rattle.obligation_gen.specs.ShownTrees.{ShowsTree}
+use Rattle.obligation_gen.specs.declared.tree.InlineFault.{InlineFault}
+use Rattle.obligation_gen.specs.declared.tree.Tree.{Tree}
+use Rattle.obligation_gen.proofs.Growing.{inputs_on, leaves_on}
 use Rattle.obligation_laws.specs.Obligations.{old_tree, refined_tree}
 use Rattle.symbolic_laws.specs.Leaves as laws
 use Rattle.symbolic_laws.specs.Leaves.{body_tree, end_role}

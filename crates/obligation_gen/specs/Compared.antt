@@ -7,9 +7,9 @@ use Rattle.bv_terms.specs.Arenas.{width_at}
 use Rattle.expr_term_laws.specs.Shown.{HasWidth}
 use Rattle.symbolic_laws.specs.Leaves as laws
 use Rattle.symbolic_laws.specs.Leaves.{end_role}
-use Rattle.hop_inline.specs.Shown.{ShowsInputs, ShowsLeaf, ShowsTree}
-use Rattle.hop_inline.specs.declared.tree.Leaf.{Leaf}
-use Rattle.hop_inline.specs.declared.tree.Tree.{Tree}
+use Rattle.obligation_gen.specs.ShownTrees.{ShowsInputs, ShowsLeaf, ShowsTree}
+use Rattle.obligation_gen.specs.declared.tree.Leaf.{Leaf}
+use Rattle.obligation_gen.specs.declared.tree.Tree.{Tree}
 use Rattle.obligation_laws.specs.FormulaForms.{PartFits}
 
 -- the number is that of a truth value

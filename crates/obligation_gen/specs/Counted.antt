@@ -6,9 +6,9 @@ use Rattle.cocoon_types.specs.Design.{role_at}
 use Rattle.cocoon_types.specs.Limits.{first_above, reported}
 use Rattle.refinement.specs.Segments.{is_new}
 use Rattle.symbolic_laws.specs.Counts.{leaf_count}
-use Rattle.hop_inline.specs.Counted.{most_leaves}
-use Rattle.hop_inline.specs.declared.tree.InlineFault.{InlineFault}
-use Rattle.hop_inline.specs.declared.tree.InlineFault.TheVariants.{Paths, NoMemory}
+use Rattle.obligation_gen.specs.CountedTrees.{most_leaves}
+use Rattle.obligation_gen.specs.declared.tree.InlineFault.{InlineFault}
+use Rattle.obligation_gen.specs.declared.tree.InlineFault.TheVariants.{Paths, NoMemory}
 
 -- those of a role of a block: of its own tree, and then of that of its body above
 abbrev pub tree_counts : (above : ℕ) → Design → Refine → (role : List ℕ) → List ℕ

@@ -1,10 +1,10 @@
 -- Cited by private clauses: how many terms are joined to the formulas of a tree.
 use Rattle.std.specs.Prelude.{ℕ, suc, ◌+◌, ◌*◌, ◌==◌, List, [], ◌∷◌, if◌then◌else◌, length}
 use Rattle.obligation_gen.specs.Sent.{role_in}
-use Rattle.hop_inline.specs.declared.tree.End.{End}
-use Rattle.hop_inline.specs.declared.tree.End.TheVariants.{Sent, Inside}
-use Rattle.hop_inline.specs.declared.tree.Leaf.{Leaf}
-use Rattle.hop_inline.specs.declared.tree.Tree.{Tree}
+use Rattle.obligation_gen.specs.declared.tree.End.{End}
+use Rattle.obligation_gen.specs.declared.tree.End.TheVariants.{Sent, Inside}
+use Rattle.obligation_gen.specs.declared.tree.Leaf.{Leaf}
+use Rattle.obligation_gen.specs.declared.tree.Tree.{Tree}
 
 -- how many values and fields are sent: none where a leaf ends inside
 abbrev pub sent : End → ℕ

@@ -1,3 +1,6 @@
+pub mod ShownTrees
+pub mod Bodies
+pub mod CountedTrees
 pub mod Sent
 pub mod Replacing
 pub mod Compared

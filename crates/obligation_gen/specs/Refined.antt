@@ -4,8 +4,8 @@ use Rattle.cocoon_num.specs.Tree.{Design}
 use Rattle.bv_terms.specs.declared.node.Node.{Node}
 use Rattle.expr_term_laws.specs.Shown.{HasWidth}
 use Rattle.obligation_laws.specs.FormulaForms.{PartFits}
-use Rattle.hop_inline.specs.Shown.{ShowsTree}
-use Rattle.hop_inline.specs.declared.tree.Tree.{Tree}
+use Rattle.obligation_gen.specs.ShownTrees.{ShowsTree}
+use Rattle.obligation_gen.specs.declared.tree.Tree.{Tree}
 use Rattle.symbolic_laws.specs.Leaves as laws
 use Rattle.symbolic_laws.specs.Leaves.{end_role}
 

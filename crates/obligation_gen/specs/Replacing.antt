@@ -7,8 +7,8 @@ use Rattle.bv_terms.specs.Replacements.{beside, replaced}
 use Rattle.expr_term_laws.specs.Shown.{HasWidth}
 use Rattle.expr_terms.specs.Variables.{AreThere, Makes, MakesAll, terms_at}
 use Rattle.obligation_laws.specs.FormulaForms.{SameWidths}
-use Rattle.hop_inline.specs.Shown.{ShowsInputs}
-use Rattle.hop_inline.specs.declared.tree.Leaf.{Leaf}
+use Rattle.obligation_gen.specs.ShownTrees.{ShowsInputs}
+use Rattle.obligation_gen.specs.declared.tree.Leaf.{Leaf}
 use Rattle.symbolic_laws.specs.Leaves as laws
 use Rattle.symbolic_laws.specs.Leaves.{end_fields, end_values}
 use Rattle.symbolic_laws.specs.States.{NewInput}

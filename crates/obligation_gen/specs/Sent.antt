@@ -1,7 +1,7 @@
 -- Cited by private clauses: what a leaf of the code sends, and where a term stands among others.
 use Rattle.std.specs.Prelude.{ℕ, suc, ◌==◌, List, [], ◌∷◌, if◌then◌else◌, Option, Some, None, option_map, option_and_then, slice_get}
-use Rattle.hop_inline.specs.declared.tree.End.{End}
-use Rattle.hop_inline.specs.declared.tree.End.TheVariants.{Sent, Inside}
+use Rattle.obligation_gen.specs.declared.tree.End.{End}
+use Rattle.obligation_gen.specs.declared.tree.End.TheVariants.{Sent, Inside}
 
 abbrev pub role_in : End → ℕ
 role_in (Sent role values fields) = role

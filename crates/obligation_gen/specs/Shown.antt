@@ -5,7 +5,7 @@ use Rattle.cocoon_num.specs.Tree.{Design}
 use Rattle.bv_terms.specs.declared.node.Node.{Node}
 use Rattle.declarations.specs.Declares.{role_number}
 use Rattle.expr_terms.specs.Variables.{Makes}
-use Rattle.hop_inline.specs.Shown.{ShowsInputs, ShowsLeaves}
+use Rattle.obligation_gen.specs.ShownTrees.{ShowsInputs, ShowsLeaves}
 use Rattle.obligation_laws.specs.Obligations as laws
 use Rattle.obligation_laws.specs.Obligations.{contained, bounded}
 use Rattle.obligation_gen.specs.declared.obligation.Kind.{Kind}

@@ -12,10 +12,10 @@ ghost use Rattle.obligation_gen.specs.Sent.{role_in};
 
 use crate::replacing::Replacing;
 use crate::standing::{leaf_inputs, stand_ins};
+use crate::tree::{End, Leaf, Tree};
 use bv_terms::{TermId, TermOp, Terms};
 use cocoon_num::{Bits, NoMemory};
 use declarations::RoleId;
-use hop_inline::{End, Leaf, Tree};
 use std::alloc::Global;
 
 /// The role that is sent to.

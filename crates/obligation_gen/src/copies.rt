@@ -1,8 +1,8 @@
 //! Copies of what an obligation keeps of a tree.
 ghost use Rattle.std.specs.Prelude.{◌≡◌, ◌∷◌, [], IfOk};
 
+use crate::tree::{End, Leaf, Tree};
 use cocoon_num::{List, NoMemory};
-use hop_inline::{End, Leaf, Tree};
 use std::alloc::Global;
 
 /// Numbers of inputs or of terms.

@@ -3,12 +3,12 @@ ghost use Rattle.std.specs.Prelude.{◌≡◌, ◌≤◌, ◌-◌, ℕ, IfErr, O
 ghost use Rattle.cocoon_syntax.specs.TreeOf.{design_of, refine_of};
 ghost use Rattle.cocoon_types.specs.Design.{last_level};
 ghost use Rattle.cocoon_types.specs.Limits.{reported};
-ghost use Rattle.hop_inline.specs.Counted.{TellsCount, most_leaves};
+ghost use Rattle.obligation_gen.specs.CountedTrees.{TellsCount, most_leaves};
 ghost use Rattle.obligation_gen.specs.Counted.{AreFew, TellsFirst, counts_behind, tree_counts};
 
+use crate::tree::InlineFault;
 use cocoon_resolve::Checked;
 use cocoon_syntax::Refine;
-use hop_inline::InlineFault;
 use leaf_counts::{body_leaf_count, leaf_count};
 use std::alloc::Global;
 

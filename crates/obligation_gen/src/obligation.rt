@@ -1,7 +1,7 @@
 //! What a refinement owes.
+use crate::tree::Tree;
 use bv_terms::TermId;
 use declarations::RoleId;
-use hop_inline::Tree;
 
 /// What is owed of a leaf.
 #[derive(Clone, Copy, Debug, Drop, PartialEq, Eq)]

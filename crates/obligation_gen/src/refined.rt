@@ -4,7 +4,7 @@ ghost use Rattle.cocoon_num.specs.Tree.{Design};
 ghost use Rattle.bv_terms.specs.declared.node.Node.{Node};
 ghost use Rattle.declarations.specs.Declares.{role_number};
 ghost use Rattle.expr_terms.specs.Variables.{Keeps};
-ghost use Rattle.hop_inline.specs.Shown.{ShowsEnd};
+ghost use Rattle.obligation_gen.specs.ShownTrees.{ShowsEnd};
 ghost use Rattle.symbolic_laws.specs.Leaves as laws;
 ghost use Rattle.obligation_laws.specs.Obligations as owed;
 ghost use Rattle.obligation_gen.specs.Refined.{AreComparable, Comparable};
@@ -13,10 +13,10 @@ ghost use Rattle.obligation_gen.specs.Shown.{ShowsObligation, ShowsObligations, 
 use crate::comparing::formula;
 use crate::copies::with_leaf;
 use crate::obligation::{Kind, Obligation};
+use crate::tree::{End, Tree};
 use bv_terms::Terms;
 use cocoon_num::NoMemory;
 use declarations::RoleId;
-use hop_inline::{End, Tree};
 use std::alloc::Global;
 
 /// A refined role: the level of its block, its tree there, and the tree of its body above.

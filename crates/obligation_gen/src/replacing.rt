@@ -13,9 +13,9 @@ ghost use Rattle.symbolic_laws.specs.Leaves.{end_fields, end_values};
 ghost use Rattle.obligation_gen.specs.Replacing.{CanJoin, Ready, StandFor, replacing_in};
 
 use crate::standing::{fields, values};
+use crate::tree::Leaf;
 use bv_terms::{InputId, TermId, TermOp, Terms};
 use cocoon_num::NoMemory;
-use hop_inline::Leaf;
 use std::alloc::Global;
 
 /// Inputs, with the terms that stand for them.

@@ -4,8 +4,8 @@ ghost use Rattle.cocoon_types.specs.Limits.{reported};
 ghost use Rattle.obligation_gen.specs.Sent.{role_in};
 ghost use Rattle.obligation_gen.specs.Joined.{count_to, joined, joined_to, sent};
 
+use crate::tree::{End, Leaf, Tree};
 use declarations::RoleId;
-use hop_inline::{End, Leaf, Tree};
 
 /// The role that a leaf leads to.
 fn role(leaf: &Leaf) -> RoleId

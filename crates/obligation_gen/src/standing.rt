@@ -6,13 +6,13 @@ ghost use Rattle.bv_terms.specs.TermTrees.{Term};
 ghost use Rattle.expr_terms.specs.Variables.{Keeps, Makes, MakesAll};
 ghost use Rattle.symbolic_laws.specs.Leaves as laws;
 ghost use Rattle.symbolic_laws.specs.States.{NewInput, input_term};
-ghost use Rattle.hop_inline.specs.Shown.{HasInput, ShowsEnd, ShowsInputs, ShowsLeaf};
+ghost use Rattle.obligation_gen.specs.ShownTrees.{HasInput, ShowsEnd, ShowsInputs, ShowsLeaf};
 ghost use Rattle.obligation_laws.specs.Formulas as formulas;
 ghost use Rattle.obligation_gen.specs.Sent.{fields_of, position_of, sent_at, values_of};
 
+use crate::tree::{End, Leaf, Tree};
 use bv_terms::{InputId, TermId, Terms};
 use cocoon_num::{Bits, NoMemory};
-use hop_inline::{End, Leaf, Tree};
 use std::alloc::Global;
 
 /// The values that are sent.

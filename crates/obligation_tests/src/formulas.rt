@@ -6,8 +6,7 @@ use crate::told::{Given, Owed};
 use bv_terms::Terms;
 use case_files::{Printer, first_word, last_line, number};
 use cocoon_resolve::Checked;
-use hop_inline::InlineFault;
-use obligation_gen::{Obligation, all_obligations, obligations};
+use obligation_gen::{InlineFault, Obligation, all_obligations, obligations};
 use std::alloc::Global;
 
 /// What one level owes, if it has a block.

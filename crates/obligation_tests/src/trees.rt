@@ -15,7 +15,7 @@ use case_files::{Printer, first_word, last_line, number, numbers};
 use cocoon_num::{FunTable, List};
 use cocoon_resolve::Checked;
 use declarations::RoleId;
-use hop_inline::{End, InlineFault, Leaf, Tree, body_tree, inline};
+use obligation_gen::{End, InlineFault, Leaf, Tree, body_tree, inline};
 use std::alloc::Global;
 
 /// The tree of a role, with its arena.

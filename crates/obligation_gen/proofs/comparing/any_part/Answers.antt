@@ -3,7 +3,7 @@ use Rattle.std.proofs.lemmas.Result.{IfOk-weaker}
 use Rattle.bv_terms.specs.declared.node.Node.{Node}
 use Rattle.bv_terms.specs.TermTrees as term
 use Rattle.bv_terms.specs.TermTrees.{width}
-use Rattle.hop_inline.specs.declared.tree.Leaf.{Leaf}
+use Rattle.obligation_gen.specs.declared.tree.Leaf.{Leaf}
 use Rattle.expr_terms.proofs.Making.{keeps_on, keeps_self}
 use Rattle.obligation_gen.specs.Sent.{role_in}
 use Rattle.obligation_gen.proofs.Gathering.{Gathered, none_gathered, none_left, one_gathered, one_passed, paired_now, some_left, truth_on}

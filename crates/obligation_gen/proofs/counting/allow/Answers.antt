@@ -1,5 +1,5 @@
 use Rattle.std.proofs.Common.{arith}
-use Rattle.hop_inline.proofs.Names.{few_enough, too_many}
+use Rattle.obligation_gen.proofs.RoleNames.{few_enough, too_many}
 use Rattle.obligation_gen.proofs.counting.allow.Goals as goal
 
 pub returns-then-leaves-gt-MOST_LEAVES-clause-told : goal.returns-then-leaves-gt-MOST_LEAVES-clause-told

@@ -4,7 +4,7 @@ use Rattle.std.proofs.Math.ListN.{drop_of_length-le}
 use Rattle.cocoon_num.specs.Tree.{Refine}
 use Rattle.cocoon_syntax.specs.TreeOf.{design_of, name_of, refine_of}
 use Rattle.cocoon_types.specs.Limits.{first_above}
-use Rattle.hop_inline.specs.Counted.{most_leaves}
+use Rattle.obligation_gen.specs.CountedTrees.{most_leaves}
 use Rattle.leaf_counts.proofs.Tables.{read_there, same_length}
 use Rattle.obligation_gen.specs.Counted.{AreFew, TellsFirst, counts_behind, tree_counts}
 use Rattle.obligation_gen.proofs.Counts.{counts_are, one_left, one_told, passed}

@@ -1,5 +1,5 @@
 use Rattle.std.proofs.Common.{◌≡◌, ◌-◌, sym, ◌∙◌}
-use Rattle.hop_inline.specs.declared.tree.InlineFault.TheVariants.{NoMemory}
+use Rattle.obligation_gen.specs.declared.tree.InlineFault.TheVariants.{NoMemory}
 use Rattle.obligation_gen.proofs.Counts.{passed}
 use Rattle.obligation_gen.proofs.making.obligations.Goals as goal
 

@@ -8,8 +8,8 @@ use Rattle.cocoon_types.specs.Design.{role_at}
 use Rattle.bv_terms.specs.Arenas.{inputs_in}
 use Rattle.bv_terms.proofs.ReplaceFacts.{keeps-both}
 use Rattle.declarations.specs.Declares.{role_number}
-use Rattle.hop_inline.specs.Counted.{most_leaves}
-use Rattle.hop_inline.proofs.Ends.{numbered}
+use Rattle.obligation_gen.specs.CountedTrees.{most_leaves}
+use Rattle.obligation_gen.proofs.Ends.{numbered}
 use Rattle.obligation_laws.specs.Obligations as owed
 use Rattle.obligation_laws.specs.Obligations.{old_tree, refined_tree}
 use Rattle.refinement.specs.Segments.{is_new}

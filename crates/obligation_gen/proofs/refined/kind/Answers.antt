@@ -1,5 +1,5 @@
 use Rattle.std.proofs.Common.{subst}
-use Rattle.hop_inline.specs.Shown.{ShowsEnd}
+use Rattle.obligation_gen.specs.ShownTrees.{ShowsEnd}
 use Rattle.obligation_gen.proofs.Leaves.{inside_kind, sent_kind}
 use Rattle.obligation_gen.proofs.refined.kind.Goals as goal
 

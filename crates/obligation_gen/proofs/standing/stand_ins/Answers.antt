@@ -2,7 +2,7 @@ use Rattle.std.proofs.Common.{◌≡◌, ◌++◌, List, [], map, sym, ap, subst
 use Rattle.std.proofs.lemmas.List.{append_assoc}
 use Rattle.bv_terms.specs.TermTrees.{Term}
 use Rattle.expr_terms.specs.Variables.{MakesAll}
-use Rattle.hop_inline.specs.Shown.{ShowsInputs}
+use Rattle.obligation_gen.specs.ShownTrees.{ShowsInputs}
 use Rattle.obligation_laws.specs.Formulas.{read_back}
 use Rattle.symbolic_laws.specs.States.{input_term}
 use Rattle.obligation_gen.proofs.InputTerms.{makes_none}

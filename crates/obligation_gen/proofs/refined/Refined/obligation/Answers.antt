@@ -1,7 +1,7 @@
 use Rattle.std.proofs.Common.{◌≡◌, [], ◌∷◌, get_or, refl, sym, ap, subst, ◌∙◌}
-use Rattle.hop_inline.specs.Shown.{ShowsInputs, ShowsLeaves}
-use Rattle.hop_inline.specs.declared.tree.Tree.{Tree}
-use Rattle.hop_inline.proofs.Growing.{leaf_on}
+use Rattle.obligation_gen.specs.ShownTrees.{ShowsInputs, ShowsLeaves}
+use Rattle.obligation_gen.specs.declared.tree.Tree.{Tree}
+use Rattle.obligation_gen.proofs.Growing.{leaf_on}
 use Rattle.obligation_gen.proofs.Leaves.{compared, some_leaf, tree_on}
 use Rattle.obligation_gen.proofs.refined.Refined.obligation.Goals as goal
 

@@ -1,6 +1,6 @@
 use Rattle.std.proofs.Common.{◌≡◌, ◌<◌, ◌≤◌, ◌+◌, List, length, sym, subst}
 use Rattle.expr_terms.proofs.Making.{keeps_on, keeps_self}
-use Rattle.hop_inline.specs.declared.tree.Leaf.{Leaf}
+use Rattle.obligation_gen.specs.declared.tree.Leaf.{Leaf}
 use Rattle.obligation_gen.proofs.Leaves.{Listed, all_listed, none_listed, one_listed, tree_on}
 use Rattle.obligation_gen.proofs.refined.Refined.obligations.Goals as goal
 

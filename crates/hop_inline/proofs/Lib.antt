@@ -1,6 +1,0 @@
-pub mod Growing
-mod NewInputs
-pub mod Names
-mod Bodies
-pub mod Ends
-mod Roots
