@@ -3,7 +3,7 @@ use Rattle.std.proofs.Common.{◌≡◌, ℕ, ◌+◌, ◌*◌, ◌<◌, ◌≤�
 use Rattle.std.proofs.Math.Nat.{min-eq_left}
 use Rattle.std.proofs.lemmas.List.{drop_all}
 use Rattle.cocoon_types.specs.Limits.{reported}
-use Rattle.leaf_counts.proofs.Saturation.{product_left, product_right, sum_left}
+use Rattle.obligation_gen.proofs.Saturation.{product_left, product_right, sum_left}
 
 -- a number of 64 bits is reported as it is
 pub as_it_is : (n : ℕ) → n < 2 ^ 64 → reported n ≡ n

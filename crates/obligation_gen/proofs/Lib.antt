@@ -1,3 +1,8 @@
+pub mod NameTests
+pub mod Saturation
+pub mod BlockWays
+pub mod Weighing
+pub mod Tables
 pub mod Growing
 mod NewInputs
 pub mod RoleNames
@@ -12,7 +17,7 @@ mod PushedBack
 mod Chains
 mod Pairing
 mod Gathering
-mod Counts
+mod LargeCounts
 mod Refinable
 mod Leaves
 mod Roles

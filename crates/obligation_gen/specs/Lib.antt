@@ -1,3 +1,5 @@
+pub mod Weighed
+pub mod Tabled
 pub mod ShownTrees
 pub mod Bodies
 pub mod CountedTrees

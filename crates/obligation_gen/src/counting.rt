@@ -6,10 +6,10 @@ ghost use Rattle.cocoon_types.specs.Limits.{reported};
 ghost use Rattle.obligation_gen.specs.CountedTrees.{TellsCount, most_leaves};
 ghost use Rattle.obligation_gen.specs.Counted.{AreFew, TellsFirst, counts_behind, tree_counts};
 
+use crate::counts::{body_leaf_count, leaf_count};
 use crate::tree::InlineFault;
 use cocoon_resolve::Checked;
 use cocoon_syntax::Refine;
-use leaf_counts::{body_leaf_count, leaf_count};
 use std::alloc::Global;
 
 /// More leaves are a fault.

@@ -101,7 +101,7 @@ pub fn inline(
 {
     let declared = checked.role(role, level);
     let above = level - 1;
-    let leaves = leaf_counts::leaf_count(
+    let leaves = crate::counts::leaf_count(
         alloc,
         checked,
         above,
@@ -147,7 +147,7 @@ pub fn body_tree(
     ensures kept { KeepsTerms terms.old terms.new }
 {
     let declared = checked.role(role, level);
-    let leaves = leaf_counts::body_leaf_count(checked, level, declared.name.text.bytes());
+    let leaves = crate::counts::body_leaf_count(checked, level, declared.name.text.bytes());
     if leaves > MOST_LEAVES {
         return Err(InlineFault::Paths(leaves));
     }

@@ -5,9 +5,9 @@ use Rattle.cocoon_num.specs.Tree.{Refine}
 use Rattle.cocoon_syntax.specs.TreeOf.{design_of, name_of, refine_of}
 use Rattle.cocoon_types.specs.Limits.{first_above}
 use Rattle.obligation_gen.specs.CountedTrees.{most_leaves}
-use Rattle.leaf_counts.proofs.Tables.{read_there, same_length}
+use Rattle.obligation_gen.proofs.Tables.{read_there, same_length}
 use Rattle.obligation_gen.specs.Counted.{AreFew, TellsFirst, counts_behind, tree_counts}
-use Rattle.obligation_gen.proofs.Counts.{counts_are, one_left, one_told, passed}
+use Rattle.obligation_gen.proofs.LargeCounts.{counts_are, one_left, one_told, passed}
 use Rattle.obligation_gen.proofs.Refinable.{some_bodies}
 use Rattle.obligation_gen.proofs.counting.count_leaves.Goals as goal
 

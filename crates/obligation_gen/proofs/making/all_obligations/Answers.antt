@@ -1,5 +1,5 @@
 use Rattle.std.proofs.Common.{◌≡◌, sym, ◌∙◌}
-use Rattle.obligation_gen.proofs.Counts.{passed}
+use Rattle.obligation_gen.proofs.LargeCounts.{passed}
 use Rattle.obligation_gen.proofs.making.all_obligations.Goals as goal
 
 pub returns-in_err-count_all-clause-paths : goal.returns-in_err-count_all-clause-paths

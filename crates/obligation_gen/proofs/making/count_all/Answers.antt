@@ -4,7 +4,7 @@ use Rattle.cocoon_syntax.specs.TreeOf.{design_of}
 use Rattle.cocoon_types.specs.Limits.{first_above}
 use Rattle.obligation_gen.specs.CountedTrees.{most_leaves}
 use Rattle.obligation_gen.specs.Counted.{blocks_counts}
-use Rattle.obligation_gen.proofs.Counts.{LeftBehind, next_level, one_behind, passed, told_behind}
+use Rattle.obligation_gen.proofs.LargeCounts.{LeftBehind, next_level, one_behind, passed, told_behind}
 use Rattle.obligation_gen.proofs.making.count_all.Goals as goal
 
 pub loop-level-init : goal.loop-level-init

@@ -1,6 +1,6 @@
 use Rattle.std.proofs.Common.{◌≡◌, ◌-◌, sym, ◌∙◌}
 use Rattle.obligation_gen.specs.declared.tree.InlineFault.TheVariants.{NoMemory}
-use Rattle.obligation_gen.proofs.Counts.{passed}
+use Rattle.obligation_gen.proofs.LargeCounts.{passed}
 use Rattle.obligation_gen.proofs.making.obligations.Goals as goal
 
 pub returns-in_err-count_leaves-clause-paths : goal.returns-in_err-count_leaves-clause-paths

@@ -5,7 +5,7 @@ use Rattle.cocoon_syntax.specs.TreeOf.{design_of, name_of, refine_of}
 use Rattle.bv_terms.specs.Arenas.{inputs_in}
 use Rattle.bv_terms.proofs.ReplaceFacts.{keeps-both, keeps-none}
 use Rattle.obligation_gen.specs.Bodies.{IsDeclared}
-use Rattle.leaf_counts.proofs.Tables.{read_there, same_length}
+use Rattle.obligation_gen.proofs.Tables.{read_there, same_length}
 use Rattle.obligation_laws.specs.Obligations.{Owed, of_block, of_role, of_roles, obligations_behind}
 use Rattle.sound_types.proofs.Members.{In, at_place}
 use Rattle.obligation_gen.specs.Shown.{ShowsObligations}

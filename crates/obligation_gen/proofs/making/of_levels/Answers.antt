@@ -4,7 +4,7 @@ use Rattle.bv_terms.specs.Arenas.{inputs_in}
 use Rattle.bv_terms.proofs.ReplaceFacts.{keeps-both, keeps-none}
 use Rattle.obligation_laws.specs.Obligations.{Owed, of_blocks}
 use Rattle.obligation_gen.specs.Shown.{ShowsObligations}
-use Rattle.obligation_gen.proofs.Counts.{next_level}
+use Rattle.obligation_gen.proofs.LargeCounts.{next_level}
 use Rattle.obligation_gen.proofs.Roles.{Owing, all_shown, left_behind, no_level, none_owing, one_level}
 use Rattle.obligation_gen.proofs.making.of_levels.Goals as goal
 

@@ -17,7 +17,7 @@ use Rattle.symbolic_laws.specs.Counts.{leaf_count}
 use Rattle.symbolic_laws.specs.Leaves as laws
 use Rattle.symbolic_laws.specs.Leaves.{body_tree}
 use Rattle.obligation_gen.specs.Shown.{ShowsObligations}
-use Rattle.obligation_gen.proofs.Counts.{always}
+use Rattle.obligation_gen.proofs.LargeCounts.{always}
 use Rattle.obligation_gen.proofs.Treed.{Treed, comparable, few_leaves, last_next, treed}
 use Rattle.obligation_gen.proofs.making.of_role.Goals as goal
 

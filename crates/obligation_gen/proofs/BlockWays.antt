@@ -5,9 +5,9 @@ use Rattle.cocoon_num.specs.Tree.{Stmt}
 use Rattle.cocoon_syntax.specs.TreeOf.{block_of, stmt_of}
 use Rattle.cocoon_syntax.specs.declared.stmt.Stmt.{Stmt as CodeStmt}
 use Rattle.cocoon_types.specs.Limits.{Ways, either, followed_by, reported}
-use Rattle.leaf_counts.specs.declared.ways.Ways.{Ways as Counted}
-use Rattle.leaf_counts.specs.Weighed.{reported_ways, ways_of, weighed, weighed_in}
-use Rattle.leaf_counts.proofs.Saturation.{sum_left, sum_right, product_left, product_right}
+use Rattle.obligation_gen.specs.declared.ways.Ways.{Ways as Counted}
+use Rattle.obligation_gen.specs.Weighed.{reported_ways, ways_of, weighed, weighed_in}
+use Rattle.obligation_gen.proofs.Saturation.{sum_left, sum_right, product_left, product_right}
 use Rattle.design_limits.proofs.Steps.{taken_more}
 
 abbrev pair_of : ℕ → ℕ → Ways

@@ -17,10 +17,10 @@ use Rattle.sound_types.proofs.Levels.{block_decls}
 use Rattle.sound_types.proofs.Members.{In, in_either, in_reverse, named_some, named_there, reverse_in}
 use Rattle.sound_types.proofs.Options.{same_text, text_self}
 use Rattle.symbolic_laws.specs.Counts.{ends_in, leaf_count, sends_of, sum_of}
-use Rattle.leaf_counts.specs.declared.ways.RoleLeaves.{RoleLeaves}
-use Rattle.leaf_counts.specs.Tabled.{Tells, entries, role_texts, value_of, valued}
-use Rattle.leaf_counts.specs.Weighed.{leaves_in, weighed_in}
-use Rattle.leaf_counts.proofs.Weighing.{body_weighs, sum_reported}
+use Rattle.obligation_gen.specs.declared.ways.RoleLeaves.{RoleLeaves}
+use Rattle.obligation_gen.specs.Tabled.{Tells, entries, role_texts, value_of, valued}
+use Rattle.obligation_gen.specs.Weighed.{leaves_in, weighed_in}
+use Rattle.obligation_gen.proofs.Weighing.{body_weighs, sum_reported}
 
 -- ---- look-ups
 

@@ -6,8 +6,8 @@ ghost use Rattle.cocoon_types.specs.Design.{last_level, role_at};
 ghost use Rattle.cocoon_types.specs.Limits.{reported};
 ghost use Rattle.refinement.specs.Segments.{is_new};
 ghost use Rattle.symbolic_laws.specs.Counts.{leaf_count, sends_of, sum_of};
-ghost use Rattle.leaf_counts.specs.Tabled.{entries, role_texts, Tells, valued};
-ghost use Rattle.leaf_counts.specs.Weighed.{leaves_in};
+ghost use Rattle.obligation_gen.specs.Tabled.{entries, role_texts, Tells, valued};
+ghost use Rattle.obligation_gen.specs.Weighed.{leaves_in};
 
 use crate::ways::{RoleLeaves, body_leaves};
 use cocoon_num::NoMemory;

@@ -4,8 +4,8 @@ use Rattle.cocoon_num.specs.Tree.{Decl, Design, Role}
 use Rattle.cocoon_types.specs.Design.{as_role, role_at}
 use Rattle.cocoon_types.specs.Limits.{reported}
 use Rattle.symbolic_laws.specs.Counts.{leaf_count, sends_of, sum_of}
-use Rattle.leaf_counts.specs.declared.ways.RoleLeaves.{RoleLeaves}
-use Rattle.leaf_counts.specs.Weighed.{leaves_in}
+use Rattle.obligation_gen.specs.declared.ways.RoleLeaves.{RoleLeaves}
+use Rattle.obligation_gen.specs.Weighed.{leaves_in}
 
 -- the names and the leaves of a table
 abbrev pub entries : List RoleLeaves → List (List ℕ × ℕ)

@@ -5,10 +5,10 @@ use Rattle.cocoon_types.specs.Design.{role_at}
 use Rattle.cocoon_types.specs.Limits.{reported}
 use Rattle.refinement.specs.Segments.{is_new}
 use Rattle.symbolic_laws.specs.Counts.{sends_of, sum_of}
-use Rattle.leaf_counts.specs.Tabled.{entries, role_texts, value_of, valued}
-use Rattle.leaf_counts.specs.Weighed.{leaves_in}
-use Rattle.leaf_counts.proofs.Tables.{noted}
-use Rattle.leaf_counts.proofs.counts.note_decl.Goals as goal
+use Rattle.obligation_gen.specs.Tabled.{entries, role_texts, value_of, valued}
+use Rattle.obligation_gen.specs.Weighed.{leaves_in}
+use Rattle.obligation_gen.proofs.Tables.{noted}
+use Rattle.obligation_gen.proofs.counts.note_decl.Goals as goal
 
 pub returns-in_ok-push : goal.returns-in_ok-push
 returns-in_ok-push c =

@@ -5,10 +5,10 @@ use Rattle.cocoon_types.specs.Design.{role_at}
 use Rattle.cocoon_types.specs.Limits.{reported}
 use Rattle.refinement.specs.Segments.{is_new}
 use Rattle.symbolic_laws.specs.Counts.{leaf_count, sends_of, sum_of}
-use Rattle.leaf_counts.specs.Tabled.{Tells, entries, role_texts, valued}
-use Rattle.leaf_counts.specs.Weighed.{leaves_in}
-use Rattle.leaf_counts.proofs.Tables.{leaves_more, read_there, same_length, table_more}
-use Rattle.leaf_counts.proofs.counts.leaf_count.Goals as goal
+use Rattle.obligation_gen.specs.Tabled.{Tells, entries, role_texts, valued}
+use Rattle.obligation_gen.specs.Weighed.{leaves_in}
+use Rattle.obligation_gen.proofs.Tables.{leaves_more, read_there, same_length, table_more}
+use Rattle.obligation_gen.proofs.counts.leaf_count.Goals as goal
 
 pub loop-bodies-preserved : goal.loop-bodies-preserved
 loop-bodies-preserved c =

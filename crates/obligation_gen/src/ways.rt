@@ -3,7 +3,7 @@ ghost use Rattle.std.specs.Prelude.{◌≡◌, map};
 ghost use Rattle.cocoon_num.specs.Names.{same_name};
 ghost use Rattle.cocoon_syntax.specs.TreeOf.{block_of, stmt_of};
 ghost use Rattle.cocoon_types.specs.Limits.{either, followed_by, reported};
-ghost use Rattle.leaf_counts.specs.Weighed.{leaves_in, reported_ways, sent_only, ways_of, weighed, weighed_in};
+ghost use Rattle.obligation_gen.specs.Weighed.{leaves_in, reported_ways, sent_only, ways_of, weighed, weighed_in};
 
 use cocoon_syntax::{Stmt, StmtKind};
 
@@ -15,7 +15,7 @@ pub(crate) struct RoleLeaves<'d> {
 }
 
 /// Whether two names are the same.
-#[tactic(auto, using(crate::proofs::Names::same_is))]
+#[tactic(auto, using(crate::proofs::NameTests::same_is))]
 fn is_same(name: &[u8], other: &[u8]) -> bool
     ensures { result ≡ same_name name.now other.now }
 {

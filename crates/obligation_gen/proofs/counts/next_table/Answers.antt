@@ -1,6 +1,6 @@
 use Rattle.cocoon_syntax.specs.TreeOf.{design_of}
-use Rattle.leaf_counts.proofs.Tables.{table_step}
-use Rattle.leaf_counts.proofs.counts.next_table.Goals as goal
+use Rattle.obligation_gen.proofs.Tables.{table_step}
+use Rattle.obligation_gen.proofs.counts.next_table.Goals as goal
 
 pub loop-decl-preserved : goal.loop-decl-preserved
 loop-decl-preserved c =

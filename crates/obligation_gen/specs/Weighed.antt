@@ -5,8 +5,8 @@ use Rattle.cocoon_num.specs.Names.{same_name}
 use Rattle.cocoon_num.specs.Tree.{Stmt, if_, fork, send, Block, no_stmts, stmt}
 use Rattle.cocoon_types.specs.Limits as spec
 use Rattle.cocoon_types.specs.Limits.{either, followed_by, one_going}
-use Rattle.leaf_counts.specs.declared.ways.RoleLeaves.{RoleLeaves}
-use Rattle.leaf_counts.specs.declared.ways.Ways.{Ways}
+use Rattle.obligation_gen.specs.declared.ways.RoleLeaves.{RoleLeaves}
+use Rattle.obligation_gen.specs.declared.ways.Ways.{Ways}
 
 -- the leaves behind a way that sends to a role, where those of some roles are told, and each other has one
 abbrev pub leaves_in : List RoleLeaves → List ℕ → ℕ

@@ -2,9 +2,9 @@ use Rattle.std.proofs.Common.{rules, ◌≡◌, ◌∙◌, ap, map, Some, option
 use Rattle.cocoon_syntax.specs.TreeOf.{block_of, body_of, design_of, role_of, stmt_of}
 use Rattle.cocoon_types.specs.Design.{role_at}
 use Rattle.cocoon_types.specs.Limits.{reported}
-use Rattle.leaf_counts.specs.Weighed.{leaves_in, weighed_in}
-use Rattle.leaf_counts.proofs.Tables.{role_weighs}
-use Rattle.leaf_counts.proofs.counts.role_leaves.Goals as goal
+use Rattle.obligation_gen.specs.Weighed.{leaves_in, weighed_in}
+use Rattle.obligation_gen.proofs.Tables.{role_weighs}
+use Rattle.obligation_gen.proofs.counts.role_leaves.Goals as goal
 
 pub returns-in-Some-body : goal.returns-in-Some-body
 returns-in-Some-body c =

@@ -1,5 +1,0 @@
-pub mod Names
-pub mod Saturation
-pub mod BlockWays
-pub mod Weighing
-pub mod Tables

@@ -1,2 +1,0 @@
-pub mod Weighed
-pub mod Tabled
