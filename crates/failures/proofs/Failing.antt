@@ -18,7 +18,7 @@ use Rattle.role_meaning.specs.Located.{loc_of, role_name, sent_of}
 use Rattle.runtime_defs.specs.Stands.{Stands}
 use Rattle.role_meaning.specs.Follows.{Stops}
 use Rattle.role_meaning.specs.declared.following.Followed.{Followed}
-use Rattle.send_laws.specs.Sending.{CanSend}
+use Rattle.refinement.specs.Sending.{CanSend}
 use Rattle.sound_types.specs.Literals.{DesignLiteralsFit}
 use Rattle.failures.specs.Ending.{Ends}
 use Rattle.failures.specs.Failures.{Failure, IsOver, IsRefuted, OfLevel}

@@ -1,7 +1,7 @@
 -- Cited by the clauses of what prints failures: their text, line by line. It follows "Reports" in docs/FORMATS.md.
 use Rattle.std.specs.Prelude.{ℕ, List, [], ◌∷◌, ◌++◌, codes, decimal}
 use Rattle.cocoon_types.specs.Runs.{Loc}
-use Rattle.send_laws.specs.Sending.{flat}
+use Rattle.refinement.specs.Sending.{flat}
 use Rattle.text_printer.specs.Printing.{each_text}
 use Rattle.failures.specs.Failures.{Failure}
 

@@ -8,7 +8,7 @@ use Rattle.cocoon_types.specs.Runs.{Loc, world}
 use Rattle.cocoon_types.specs.Tables.{Defs}
 use Rattle.refinement.specs.Owed.{Given}
 use Rattle.refinement.specs.Segments.{IsNew, IsOld, Segment}
-use Rattle.send_laws.specs.Sending.{CanSend}
+use Rattle.refinement.specs.Sending.{CanSend}
 
 -- The definitions; where the run begins, with which packet and which choices; where it leads, and the packet that it sends there.
 pub record Failure : Type 0 where

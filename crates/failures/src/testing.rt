@@ -8,7 +8,7 @@ ghost use Rattle.cocoon_types.specs.Runs.{world};
 ghost use Rattle.defs_text.specs.Fitting.{FitsDesign};
 ghost use Rattle.refinement.specs.Segments.{IsOld};
 ghost use Rattle.role_meaning.specs.Located.{loc_of, sent_of};
-ghost use Rattle.send_laws.specs.Sending.{CanSend};
+ghost use Rattle.refinement.specs.Sending.{CanSend};
 ghost use Rattle.failures.specs.Ending.{Ends};
 ghost use Rattle.failures.specs.Failures.{IsOver, IsRefuted, OfLevel};
 ghost use Rattle.failures.specs.Found.{BeginFits, BeginsAt, CanFail, defined, FailureFits, failure_of, IsOfBlock, NoneBegins};

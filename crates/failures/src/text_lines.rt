@@ -4,7 +4,7 @@ ghost use Rattle.cocoon_num.specs.PacketForms.{FieldsFit};
 ghost use Rattle.cocoon_resolve.specs.Readers.{field_widths, HasRole};
 ghost use Rattle.cocoon_syntax.specs.TreeOf.{design_of};
 ghost use Rattle.role_meaning.specs.Located.{loc_of, role_name, sent_of};
-ghost use Rattle.send_laws.specs.Sending.{flat};
+ghost use Rattle.refinement.specs.Sending.{flat};
 ghost use Rattle.text_printer.specs.Printing.{Prints};
 ghost use Rattle.failures.specs.Found.{FailureFits, failure_of};
 ghost use Rattle.failures.specs.FailureTexts as spec;

@@ -19,7 +19,7 @@ use Rattle.symbolic_laws.specs.Leaves.{Leaf, Tree, at_new, begins, body_tree, en
 use Rattle.symbolic_laws.specs.States.{NewInput, Place, State, input_term, inputs_from, term_world}
 use Rattle.symbolic_laws.proofs.Followings.{each_in, passed}
 use Rattle.symbolic_laws.proofs.Statements.{block_vars}
-use Rattle.send_laws.proofs.Named.{AreNamed}
+use Rattle.refinement.proofs.Named.{AreNamed}
 use Rattle.obligation_laws.specs.MadeOf.{AllMade, Made}
 use Rattle.obligation_laws.proofs.Made.{guard_made}
 use Rattle.obligation_laws.specs.ReadBackLeaves.{IsReadBack, Other, StandsAmong}

@@ -10,3 +10,12 @@ pub mod Together
 pub mod Ways
 pub mod Hops
 pub mod Indices
+pub mod Beside
+pub mod Same
+pub mod Counts
+pub mod Following
+pub mod Marked
+pub mod Wanted
+pub mod Complete
+pub mod Named
+pub mod Bodies

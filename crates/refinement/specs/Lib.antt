@@ -5,3 +5,5 @@ pub mod Ways
 pub mod Delivering
 pub mod Plain
 pub mod Indices
+pub mod Trails
+pub mod Sending

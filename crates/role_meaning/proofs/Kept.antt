@@ -3,7 +3,7 @@ use Rattle.std.proofs.Common.{◌≡◌, ℕ, suc, ◌+◌, ◌<◌, ◌≤◌, 
 use Rattle.std.proofs.Math.Bool.{or-false}
 use Rattle.std.proofs.lemmas.List.Folds.{list_any-append}
 use Rattle.cocoon_num.specs.Names.{same_name}
-use Rattle.send_laws.specs.Trails.{FieldMark, Marks, set_choice}
+use Rattle.refinement.specs.Trails.{FieldMark, Marks, set_choice}
 use Rattle.role_meaning.specs.Views.{field_of, Keeps, marks_at, passes, place_of, some_goes, some_tried}
 use Rattle.role_meaning.specs.declared.trail.Field.{Field}
 use Rattle.role_meaning.specs.declared.trail.Trail.{Trail}

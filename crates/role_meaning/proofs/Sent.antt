@@ -21,7 +21,7 @@ use Rattle.role_meaning.specs.declared.place.Loc as code
 use Rattle.role_meaning.specs.declared.place.Packet as sent
 use Rattle.role_values.specs.Flat.{packet_of}
 use Rattle.role_values.specs.Worlds.{world_by}
-use Rattle.send_laws.specs.Sending.{CanSend, flat}
+use Rattle.refinement.specs.Sending.{CanSend, flat}
 use Rattle.sound_types.proofs.Options.{same_text}
 use Rattle.sound_types.specs.Ends.{LocFits}
 use Rattle.role_meaning.specs.Views.{some_tried}

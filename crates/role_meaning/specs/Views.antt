@@ -3,7 +3,7 @@ use Rattle.std.specs.Prelude.{◌≡◌, ℕ, ◌+◌, ◌&&◌, ◌||◌, if◌
 use Rattle.std.specs.List.{list_any}
 use Rattle.std.specs.declared.alloc.Global.{Global}
 use Rattle.cocoon_num.specs.Names.{same_name}
-use Rattle.send_laws.specs.Trails.{FieldMark, Marks, VarMark}
+use Rattle.refinement.specs.Trails.{FieldMark, Marks, VarMark}
 use Rattle.role_meaning.specs.declared.trail.Field.{Field}
 use Rattle.role_meaning.specs.declared.trail.Trail.{Trail}
 use Rattle.role_meaning.specs.declared.trail.Variable.{Variable}

@@ -2,8 +2,8 @@
 ghost use Rattle.std.specs.Prelude.{◌≡◌, ℕ, ◌||◌, Bool, false, IfOk, List, map, OnOk, Vec as Vector};
 ghost use Rattle.std.specs.declared.alloc.Global.{Global as Alloc};
 ghost use Rattle.cocoon_syntax.specs.TreeOf.{block_of, stmt_of};
-ghost use Rattle.send_laws.specs.Trails as spec;
-ghost use Rattle.send_laws.specs.Trails.{leaves, Marks};
+ghost use Rattle.refinement.specs.Trails as spec;
+ghost use Rattle.refinement.specs.Trails.{leaves, Marks};
 ghost use Rattle.role_meaning.specs.Views.{Keeps, marks_at, passes, some_goes, some_tried, var_of};
 
 use crate::trail::{

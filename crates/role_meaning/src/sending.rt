@@ -16,8 +16,8 @@ ghost use Rattle.role_meaning.specs.Views.{Keeps, some_tried};
 ghost use Rattle.role_values.specs.Worlds.{world_by};
 ghost use Rattle.runtime_defs.specs.Fitting.{FitsDesign};
 ghost use Rattle.runtime_defs.specs.Stands.{Stands};
-ghost use Rattle.send_laws.specs.Sending.{CanSend};
-ghost use Rattle.send_laws.specs.Trails.{finds_in, first_marks};
+ghost use Rattle.refinement.specs.Sending.{CanSend};
+ghost use Rattle.refinement.specs.Trails.{finds_in, first_marks};
 
 use crate::leading::go;
 use crate::paths::follow_block;
@@ -29,8 +29,8 @@ use cocoon_resolve::Checked;
 use cocoon_syntax::Stmt;
 use cocoon_types::runs::runs_are_taken;
 use declarations::RoleId;
+use refinement::sending_laws::tried_choices_send;
 use runtime_defs::Defs;
-use send_laws::laws::tried_choices_send;
 use sound_types::laws::{code_literals_fit, runs_by_tables};
 use std::alloc::Global;
 

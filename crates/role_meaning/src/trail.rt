@@ -2,9 +2,9 @@
 ghost use Rattle.std.specs.Prelude.{◌≡◌, ◌&&◌, ◌++◌, ◌∷◌, [], IfOk, map, OnOk, Some};
 ghost use Rattle.cocoon_syntax.specs.TreeOf.{expr_of, exprs_of, header_of};
 ghost use Rattle.cocoon_num.specs.Names.{same_name};
-ghost use Rattle.send_laws.specs.Trails as spec;
+ghost use Rattle.refinement.specs.Trails as spec;
 ghost use Rattle.role_meaning.specs.Views.{field_of, marks_at, place_of, var_of};
-ghost use Rattle.send_laws.specs.Trails.{first_marks, header_marks};
+ghost use Rattle.refinement.specs.Trails.{first_marks, header_marks};
 
 use cocoon_num::NoMemory;
 use cocoon_syntax::{Expr, ExprKind, HeaderDecl};

@@ -1,7 +1,7 @@
 //! The choices that are tried where a path sends.
 ghost use Rattle.std.specs.Prelude.{◌≡◌, ℕ, IfOk, List, map};
 ghost use Rattle.cocoon_syntax.specs.TreeOf.{expr_of, exprs_of};
-ghost use Rattle.send_laws.specs.Trails as spec;
+ghost use Rattle.refinement.specs.Trails as spec;
 ghost use Rattle.role_meaning.specs.Views.{marks_at};
 
 use crate::trail::{Trail, exprs_choices, fields_choices};

@@ -1,4 +1,4 @@
-use Rattle.send_laws.proofs.Named.{roles_named}
+use Rattle.refinement.proofs.Named.{roles_named}
 use Rattle.obligation_laws.proofs.Reading.{tree_reads}
 use Rattle.obligation_laws.proofs.read_back_laws.leaves_read_back.Goals as goal
 

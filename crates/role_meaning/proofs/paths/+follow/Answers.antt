@@ -3,7 +3,7 @@ use Rattle.std.proofs.lemmas.List.{drop_all, drop_more}
 use Rattle.cocoon_syntax.specs.TreeOf.{block_of, stmt_of}
 use Rattle.cocoon_syntax.specs.declared.stmt.Stmt.{Stmt}
 use Rattle.role_meaning.proofs.Sizes.{one_of, size, size_all}
-use Rattle.send_laws.specs.Trails.{finds_in, leaves, VarMark}
+use Rattle.refinement.specs.Trails.{finds_in, leaves, VarMark}
 use Rattle.role_meaning.specs.Views.{Keeps, marks_at, passes, some_goes, some_tried, var_of}
 use Rattle.role_meaning.proofs.Kept.{left, OnOk-then}
 use Rattle.role_meaning.proofs.paths.+follow.Goals as goal

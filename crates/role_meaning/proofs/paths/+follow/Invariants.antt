@@ -1,7 +1,7 @@
 use Rattle.std.proofs.Common.{ℕ, ◌+◌, ◌*◌, ◌||◌, Bool, List, drop, map, vec_len}
 use Rattle.cocoon_syntax.specs.TreeOf.{block_of, stmt_of}
 use Rattle.role_meaning.proofs.Sizes.{size, size_all}
-use Rattle.send_laws.specs.Trails.{finds, finds_in, Marks}
+use Rattle.refinement.specs.Trails.{finds, finds_in, Marks}
 use Rattle.role_meaning.specs.Views.{Keeps, marks_at, passes, some_goes, some_tried}
 use Rattle.role_meaning.proofs.paths.+follow.Given as goal
 

@@ -1,5 +1,5 @@
 use Rattle.std.proofs.Common.{ℕ, ◌||◌, Bool, List, map, vec_len, Vec, Global}
-use Rattle.send_laws.specs.Trails.{leaves, Marks}
+use Rattle.refinement.specs.Trails.{leaves, Marks}
 use Rattle.role_meaning.specs.Views.{Keeps, passes, some_goes, var_of}
 use Rattle.role_meaning.proofs.paths.leave_all.Given as goal
 

@@ -8,8 +8,8 @@ use Rattle.cocoon_types.specs.Design.{layout, role_at}
 use Rattle.role_meaning.proofs.Bridges.{packet_fits}
 use Rattle.role_meaning.proofs.Guards.{role_name_of}
 use Rattle.role_meaning.specs.Located.{loc_of, sent_of}
-use Rattle.send_laws.specs.Sending.{flat}
-use Rattle.send_laws.specs.Trails.{finds_in, first_marks}
+use Rattle.refinement.specs.Sending.{flat}
+use Rattle.refinement.specs.Trails.{finds_in, first_marks}
 use Rattle.sound_types.proofs.Options.{text_self}
 use Rattle.sound_types.specs.Defined.{HasTables}
 use Rattle.role_meaning.specs.Views.{some_tried}

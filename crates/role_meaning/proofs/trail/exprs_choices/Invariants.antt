@@ -1,6 +1,6 @@
 use Rattle.std.proofs.Common.{◌≡◌, ◌++◌, drop, map}
 use Rattle.cocoon_syntax.specs.TreeOf.{expr_of, exprs_of}
-use Rattle.send_laws.specs.Trails.{exprs_choices}
+use Rattle.refinement.specs.Trails.{exprs_choices}
 use Rattle.role_meaning.specs.Views.{marks_at}
 use Rattle.role_meaning.proofs.trail.exprs_choices.Given as goal
 

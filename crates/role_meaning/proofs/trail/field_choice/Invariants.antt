@@ -1,5 +1,5 @@
 use Rattle.std.proofs.Common.{◌≡◌, drop, map}
-use Rattle.send_laws.specs.Trails.{field_choice}
+use Rattle.refinement.specs.Trails.{field_choice}
 use Rattle.role_meaning.specs.Views.{field_of}
 use Rattle.role_meaning.proofs.trail.field_choice.Given as goal
 

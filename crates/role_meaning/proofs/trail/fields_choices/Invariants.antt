@@ -1,5 +1,5 @@
 use Rattle.std.proofs.Common.{◌≡◌, take, map}
-use Rattle.send_laws.specs.Trails.{FieldMark}
+use Rattle.refinement.specs.Trails.{FieldMark}
 use Rattle.role_meaning.specs.Views.{field_of}
 use Rattle.role_meaning.proofs.trail.fields_choices.Given as goal
 

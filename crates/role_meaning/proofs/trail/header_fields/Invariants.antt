@@ -1,7 +1,7 @@
 use Rattle.std.proofs.Common.{◌≡◌, ◌++◌, drop, map}
 use Rattle.cocoon_syntax.specs.TreeOf.{header_of}
 use Rattle.role_meaning.specs.Views.{field_of}
-use Rattle.send_laws.specs.Trails.{first_marks}
+use Rattle.refinement.specs.Trails.{first_marks}
 use Rattle.role_meaning.proofs.trail.header_fields.Given as goal
 
 abbrev pub invariant-loop-header : goal.invariant-loop-header

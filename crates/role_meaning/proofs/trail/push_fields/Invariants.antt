@@ -1,7 +1,7 @@
 use Rattle.std.proofs.Common.{◌≡◌, ◌++◌, drop, map, None}
 use Rattle.cocoon_num.specs.Tree.{Param}
 use Rattle.cocoon_syntax.specs.TreeOf.{header_of, param_of}
-use Rattle.send_laws.specs.Trails.{FieldMark, header_marks}
+use Rattle.refinement.specs.Trails.{FieldMark, header_marks}
 use Rattle.role_meaning.specs.Views.{field_of}
 use Rattle.role_meaning.proofs.trail.push_fields.Given as goal
 

@@ -1,5 +1,5 @@
 use Rattle.std.proofs.Common.{◌≡◌, drop, map}
-use Rattle.send_laws.specs.Trails.{var_choice}
+use Rattle.refinement.specs.Trails.{var_choice}
 use Rattle.role_meaning.specs.Views.{var_of}
 use Rattle.role_meaning.proofs.trail.variable_choice.Given as goal
 

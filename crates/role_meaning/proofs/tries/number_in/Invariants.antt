@@ -1,5 +1,5 @@
 use Rattle.std.proofs.Common.{◌≡◌, length}
-use Rattle.send_laws.specs.Trails.{number_in}
+use Rattle.refinement.specs.Trails.{number_in}
 use Rattle.role_meaning.proofs.tries.number_in.Given as goal
 
 abbrev pub invariant-loop-value : goal.invariant-loop-value

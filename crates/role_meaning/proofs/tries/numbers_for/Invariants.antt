@@ -1,5 +1,5 @@
 use Rattle.std.proofs.Common.{◌≡◌, take, map}
-use Rattle.send_laws.specs.Trails.{wanted}
+use Rattle.refinement.specs.Trails.{wanted}
 use Rattle.role_meaning.proofs.tries.numbers_for.Given as goal
 
 abbrev pub invariant-loop-choice : goal.invariant-loop-choice

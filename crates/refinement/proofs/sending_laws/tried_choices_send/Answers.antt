@@ -1,6 +1,6 @@
-use Rattle.send_laws.proofs.Bodies.{sent_when_tried}
-use Rattle.send_laws.proofs.Named.{roles_named}
-use Rattle.send_laws.proofs.laws.tried_choices_send.Goals as goal
+use Rattle.refinement.proofs.Bodies.{sent_when_tried}
+use Rattle.refinement.proofs.Named.{roles_named}
+use Rattle.refinement.proofs.sending_laws.tried_choices_send.Goals as goal
 
 pub returns : goal.returns
 returns c = λ text d tables reads has level from to packet sent r body at is back fits can.

@@ -3,7 +3,7 @@ use Rattle.std.specs.Prelude.{◌≡◌, ℕ, Bool, true, false, List, [], ◌�
 use Rattle.cocoon_num.specs.Packets.{Packet}
 use Rattle.cocoon_num.specs.Tree.{Block, Design}
 use Rattle.cocoon_types.specs.Runs.{Go, Loc, World}
-use Rattle.send_laws.specs.Trails.{finds_in, first_marks}
+use Rattle.refinement.specs.Trails.{finds_in, first_marks}
 
 -- some choices give that send
 abbrev pub CanSend : World → Loc → Packet → Loc → Packet → Type 0

@@ -8,7 +8,7 @@ use Rattle.cocoon_types.specs.Parts.{list_of}
 use Rattle.cocoon_types.specs.ReadBack as read
 use Rattle.cocoon_types.specs.ReadBack.{all_replaced, chooses, field_value, FieldValue, meets, Path, paths, paths_in, replaced, unless_sent, Var, var_value, with_field, with_var_as}
 use Rattle.sound_types.proofs.Members.{flat_in, In, in_either, map_in}
-use Rattle.send_laws.specs.Trails.{binds, expr_choice, exprs_choices, field_choice, FieldMark, finds, finds_in, leaves, makes, Marks, set_choice, sets, tried, var_choice, VarMark}
+use Rattle.refinement.specs.Trails.{binds, expr_choice, exprs_choices, field_choice, FieldMark, finds, finds_in, leaves, makes, Marks, set_choice, sets, tried, var_choice, VarMark}
 
 -- the choice that a value is
 abbrev pub choice_of : Expr → Option ℕ

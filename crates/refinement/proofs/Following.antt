@@ -23,10 +23,10 @@ use Rattle.sound_types.specs.Soundness.{IsSound}
 use Rattle.sound_types.specs.WellTyped.{HasType, IsTyped, IsTypedStmt}
 use Rattle.sound_types.proofs.Fields.{written_fits}
 use Rattle.sound_types.proofs.Members.{In, in_flat, in_left, in_map, in_right}
-use Rattle.send_laws.proofs.Beside.{PacketBy, set_by_width, VarsBy}
-use Rattle.send_laws.proofs.Counts.{count_append, count_of, length_append, map_append, parted}
+use Rattle.refinement.proofs.Beside.{PacketBy, set_by_width, VarsBy}
+use Rattle.refinement.proofs.Counts.{count_append, count_of, length_append, map_append, parted}
 use Rattle.std.proofs.lemmas.List.Folds.{list_any-append}
-use Rattle.send_laws.proofs.Same.{AllClear, choice_value, Held, held_value, IsClear, NoneOf, same_numbers, same_value}
+use Rattle.refinement.proofs.Same.{AllClear, choice_value, Held, held_value, IsClear, NoneOf, same_numbers, same_value}
 
 -- the numbers of a choice differ
 abbrev pub differ : (f g : ℕ → ℕ) → ℕ → Bool

@@ -16,11 +16,11 @@ use Rattle.cocoon_types.specs.Val.{bind, bound, Env}
 use Rattle.refinement.specs.Indices.{block_indices}
 use Rattle.role_values.specs.ByTables.{apply_by, earlier}
 use Rattle.role_values.specs.Worlds.{world_by}
-use Rattle.send_laws.specs.Sending.{AreTried, flat}
-use Rattle.send_laws.specs.Trails.{FieldMark, finds_in, first_marks, header_marks}
-use Rattle.send_laws.proofs.Complete.{sends_so, start_of}
-use Rattle.send_laws.proofs.Marked.{field_mark, marks_of}
-use Rattle.send_laws.proofs.Named.{AreNamed, none_bound}
+use Rattle.refinement.specs.Sending.{AreTried, flat}
+use Rattle.refinement.specs.Trails.{FieldMark, finds_in, first_marks, header_marks}
+use Rattle.refinement.proofs.Complete.{sends_so, start_of}
+use Rattle.refinement.proofs.Marked.{field_mark, marks_of}
+use Rattle.refinement.proofs.Named.{AreNamed, none_bound}
 use Rattle.sound_types.specs.Matching.{Binds}
 use Rattle.sound_types.specs.Soundness.{IsSound}
 use Rattle.sound_types.specs.WellTyped.{IsTyped, scope_at}

@@ -8,7 +8,7 @@ use Rattle.cocoon_num.specs.Values.{apply_binary, apply_pick, apply_slice, apply
 use Rattle.cocoon_types.specs.Parts.{list_of, parts, parts_of}
 use Rattle.cocoon_types.specs.ReadBack.{all_replaced, field_value, is_choice_at, occurs, Path, replaced, var_value}
 use Rattle.cocoon_types.specs.Val.{Context, Env, numbers, value, variable}
-use Rattle.send_laws.proofs.Beside.{Both, field_by, PacketBy, Pairs, var_by, VarsBy}
+use Rattle.refinement.proofs.Beside.{Both, field_by, PacketBy, Pairs, var_by, VarsBy}
 
 -- no choice that passes a test occurs in the value
 abbrev pub IsClear : (ℕ → Bool) → Expr → Type 0

@@ -7,12 +7,12 @@ use Rattle.cocoon_num.specs.Packets.{Packet}
 use Rattle.cocoon_num.specs.Tree.{Expr, name, field, lit, true_or_false, call, unary, binary, slice, pick, HeaderDecl, Param}
 use Rattle.cocoon_num.specs.Values.{as_number, number, Value}
 use Rattle.cocoon_types.specs.ReadBack.{FieldValue, is_choice_at}
-use Rattle.send_laws.specs.Sending.{flat}
-use Rattle.send_laws.specs.Trails.{FieldMark, is_same, number_in, wanted}
-use Rattle.send_laws.proofs.Beside.{HeaderBy, PacketBy, Pairs}
-use Rattle.send_laws.proofs.Following.{ArgsAre}
-use Rattle.send_laws.proofs.Marked.{choice_of, field_mark}
-use Rattle.send_laws.proofs.Same.{Held}
+use Rattle.refinement.specs.Sending.{flat}
+use Rattle.refinement.specs.Trails.{FieldMark, is_same, number_in, wanted}
+use Rattle.refinement.proofs.Beside.{HeaderBy, PacketBy, Pairs}
+use Rattle.refinement.proofs.Following.{ArgsAre}
+use Rattle.refinement.proofs.Marked.{choice_of, field_mark}
+use Rattle.refinement.proofs.Same.{Held}
 
 -- the values of some fields
 abbrev pub field_values : List FieldValue → List Expr

@@ -9,10 +9,10 @@ ghost use Rattle.cocoon_resolve.specs.Readers.{reads_back};
 ghost use Rattle.cocoon_types.specs.Design.{layout, role_at};
 ghost use Rattle.cocoon_types.specs.Runs.{Go, Loc};
 ghost use Rattle.role_values.specs.Worlds.{world_by};
-ghost use Rattle.send_laws.specs.Sending.{AreTried, CanSend};
+ghost use Rattle.refinement.specs.Sending.{AreTried, CanSend};
 ghost use Rattle.sound_types.specs.Defined.{HasTables};
 
-use refinement::laws::statements_differ;
+use crate::laws::statements_differ;
 use sound_types::laws::{declarations_are_typed, expressions_have_values};
 
 /// What a body that reads back can send from a location, it sends with choices that are tried: where one

@@ -20,14 +20,14 @@ use Rattle.sound_types.specs.Matching.{Binds}
 use Rattle.sound_types.specs.Soundness.{IsSound}
 use Rattle.sound_types.specs.WellTyped.{IsTyped}
 use Rattle.sound_types.proofs.Members.{In, none_at, reverse_in, in_left}
-use Rattle.send_laws.specs.Trails.{FieldMark, fields_choices, finds_in, Marks, tried, wanted}
-use Rattle.send_laws.proofs.Beside.{Both, HeaderBy, PacketBy, VarsBy}
-use Rattle.send_laws.proofs.Counts.{count_of, numbered, once_at_most, within, within_same}
-use Rattle.send_laws.proofs.Following.{ArgsAre, Beside, block_follows, differ, Ended, Follows, IsTried, SentClear}
-use Rattle.send_laws.proofs.Marked.{block_found, choice_of, field_mark, marks_of, Passes}
-use Rattle.send_laws.proofs.Same.{AllClear, Held, IsClear}
-use Rattle.send_laws.proofs.Wanted.{field_values, packet_args, wanted_is}
-use Rattle.send_laws.specs.Sending.{flat}
+use Rattle.refinement.specs.Trails.{FieldMark, fields_choices, finds_in, Marks, tried, wanted}
+use Rattle.refinement.proofs.Beside.{Both, HeaderBy, PacketBy, VarsBy}
+use Rattle.refinement.proofs.Counts.{count_of, numbered, once_at_most, within, within_same}
+use Rattle.refinement.proofs.Following.{ArgsAre, Beside, block_follows, differ, Ended, Follows, IsTried, SentClear}
+use Rattle.refinement.proofs.Marked.{block_found, choice_of, field_mark, marks_of, Passes}
+use Rattle.refinement.proofs.Same.{AllClear, Held, IsClear}
+use Rattle.refinement.proofs.Wanted.{field_values, packet_args, wanted_is}
+use Rattle.refinement.specs.Sending.{flat}
 
 -- where a body begins
 abbrev pub start_of : Design → Path

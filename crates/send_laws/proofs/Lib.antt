@@ -1,9 +1,0 @@
-pub mod Beside
-pub mod Same
-pub mod Counts
-pub mod Following
-pub mod Marked
-pub mod Wanted
-pub mod Complete
-pub mod Named
-pub mod Bodies
