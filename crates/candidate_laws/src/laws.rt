@@ -25,7 +25,7 @@ use flat_laws::laws::flat_goals_have_tables;
 use fun_instances::laws::assumptions_have_values;
 use pattern_laws::laws::{earlier_levels_come_first, instances_fit};
 use query_laws::laws::queries_are_goals;
-use tables_stand::laws::tables_are_definitions;
+use refinement::table_laws::tables_are_definitions;
 
 /// What is asked of a formula with instances applies run-time functions of the design alone, each
 /// at the widths that it is declared with, if the formula does.

@@ -15,9 +15,9 @@ use formula_functions::laws::formulas_apply_declared_functions;
 use obligation_laws::exactness_laws::formulas_are_failures;
 use obligation_laws::leaf_laws::leaves_have_values;
 use refinement::laws::{levels_keep_roles, segments_are_hops};
+use refinement::table_laws::tables_are_definitions;
 use sound_types::laws::declarations_are_typed;
 use symbolic_laws::laws::leaves_end_by_role;
-use tables_stand::laws::tables_are_definitions;
 
 /// In a design that was read, where the formula of an obligation is true under tables: the run that
 /// begins with the values of its inputs fits its level, goes the way of its leaf, and fails under

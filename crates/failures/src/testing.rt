@@ -17,11 +17,11 @@ use crate::failure::{Begin, Failure, joined};
 use cocoon_num::NoMemory;
 use cocoon_resolve::Checked;
 use refinement::laws::segments_are_hops;
+use refinement::table_laws::tables_are_definitions;
 use role_meaning::{Followed, can_send, follow};
 use runtime_defs::Defs;
 use sound_types::laws::code_literals_fit;
 use std::alloc::Global;
-use tables_stand::laws::tables_are_definitions;
 
 /// Where the segment of a refined role ends that begins so.
 fn ended(

@@ -19,3 +19,6 @@ pub mod Wanted
 pub mod Complete
 pub mod Named
 pub mod Bodies
+pub mod Entries
+pub mod SamePlaces
+pub mod Standing

@@ -13,8 +13,8 @@ use Rattle.defs_text.specs.Tabled.{IsPlace}
 use Rattle.refinement.specs.Assumptions.{AreDefinitions}
 use Rattle.runtime_defs.specs.Stands.{Stands}
 use Rattle.runtime_defs.proofs.Fitted.{right-of, right-stands}
-use Rattle.tables_stand.proofs.Entries.{entries_own, entries_within}
-use Rattle.tables_stand.proofs.SamePlaces.{same_places}
+use Rattle.refinement.proofs.Entries.{entries_own, entries_within}
+use Rattle.refinement.proofs.SamePlaces.{same_places}
 
 -- their entries have no fault
 abbrev pub EntriesFaultless : Type 0

@@ -1,5 +1,5 @@
-use Rattle.tables_stand.proofs.Standing.{are_definitions, they_are_one, they_stand}
-use Rattle.tables_stand.proofs.laws.tables_are_definitions.Goals as goal
+use Rattle.refinement.proofs.Standing.{are_definitions, they_are_one, they_stand}
+use Rattle.refinement.proofs.table_laws.tables_are_definitions.Goals as goal
 
 pub returns : goal.returns
 returns c = record {
