@@ -44,11 +44,11 @@ use Rattle.sound_types.specs.Defined.{HasDefinitions}
 use Rattle.sound_types.specs.Literals.{DesignLiteralsFit}
 use Rattle.sound_types.specs.WellTyped.{IsTypedRole}
 use Rattle.sound_types.proofs.Members.{In, at_place}
-use Rattle.symbolic_laws.specs.LeafForms.{EndsBy}
-use Rattle.symbolic_laws.specs.LeafRuns.{first_packet}
-use Rattle.symbolic_laws.specs.Leaves.{Leaf, Tree, inlined}
-use Rattle.symbolic_laws.specs.Meant.{AllFit, IsOne, given}
-use Rattle.symbolic_laws.specs.States.{NewInput, inputs_from}
+use Rattle.obligation_laws.specs.LeafForms.{EndsBy}
+use Rattle.obligation_laws.specs.LeafRuns.{first_packet}
+use Rattle.obligation_laws.specs.Leaves.{Leaf, Tree, inlined}
+use Rattle.obligation_laws.specs.Meant.{AllFit, IsOne, given}
+use Rattle.obligation_laws.specs.States.{NewInput, inputs_from}
 use Rattle.failure_reading.specs.Witnesses.{AreShort, Fails, GoesBy, HasFailure, IsTrueFor, begin_of, choices_of}
 use Rattle.failure_reading.proofs.Failing as failing
 use Rattle.failure_reading.proofs.Failing.{Related}

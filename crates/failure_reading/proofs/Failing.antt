@@ -16,10 +16,10 @@ use Rattle.obligation_laws.specs.Obligations.{Kind, contained, bounded, kind_of}
 use Rattle.refinement.specs.Owed.{Given}
 use Rattle.refinement.specs.Segments.{IsNew, IsRefined, Segment, is_new, is_old}
 use Rattle.refinement.specs.Ways.{Arrival, hops_by}
-use Rattle.symbolic_laws.specs.LeafForms.{EndsBy}
-use Rattle.symbolic_laws.specs.LeafRuns.{first_loc, first_packet}
-use Rattle.symbolic_laws.specs.Leaves.{End, sent_to, inside, Leaf, Tree, end_role}
-use Rattle.symbolic_laws.specs.Meant.{arrives, given}
+use Rattle.obligation_laws.specs.LeafForms.{EndsBy}
+use Rattle.obligation_laws.specs.LeafRuns.{first_loc, first_packet}
+use Rattle.obligation_laws.specs.Leaves.{End, sent_to, inside, Leaf, Tree, end_role}
+use Rattle.obligation_laws.specs.Meant.{arrives, given}
 use Rattle.bv_terms.specs.TermValues.{Inputs}
 use Rattle.failure_reading.specs.Witnesses.{Fails}
 

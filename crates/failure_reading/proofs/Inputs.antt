@@ -13,8 +13,8 @@ use Rattle.bv_terms.specs.declared.node.Node.{Node}
 use Rattle.cocoon_num.specs.Values.{FitsWidth}
 use Rattle.obligation_gen.specs.ShownTrees.{HasInput}
 use Rattle.sound_types.proofs.Members.{In}
-use Rattle.symbolic_laws.specs.Meant.{AllFit}
-use Rattle.symbolic_laws.specs.States.{NewInput}
+use Rattle.obligation_laws.specs.Meant.{AllFit}
+use Rattle.obligation_laws.specs.States.{NewInput}
 use Rattle.failure_reading.specs.Witnesses.{OthersAreZero}
 use Rattle.failure_reading.proofs.Arenas.{is_node, one_width}
 

@@ -18,11 +18,11 @@ use Rattle.sound_types.specs.WellTyped.{IsTyped, IsTypedRole, IsTypedStmt, scope
 use Rattle.sound_types.proofs.Levels.{role_in, role_stands, site_at}
 use Rattle.sound_types.proofs.Members.{In, flat_in, in_either, map_in, named_there, none_at}
 use Rattle.sound_types.proofs.Options.{map_there, nil_left, nil_right, passes, then_there}
-use Rattle.symbolic_laws.specs.States as states
-use Rattle.symbolic_laws.specs.States.{NewInput, Place, State, TermWorld, choice_width, input_term, inputs_from, term_world, where_true}
-use Rattle.symbolic_laws.specs.Following.{Followed, chosen_as, each, follow, follow_all, has_sent, in_branch, next_input, one, sends_to, term_at, those_sent, unless_sent}
-use Rattle.symbolic_laws.specs.Leaves.{Leaf, Tree, at_new, begins, end_at, entered, entry_of, follow_body, hops, leaf_of, onward, params_of, tree_of}
-use Rattle.symbolic_laws.proofs.Followings.{passed}
+use Rattle.obligation_laws.specs.States as states
+use Rattle.obligation_laws.specs.States.{NewInput, Place, State, TermWorld, choice_width, input_term, inputs_from, term_world, where_true}
+use Rattle.obligation_laws.specs.Following.{Followed, chosen_as, each, follow, follow_all, has_sent, in_branch, next_input, one, sends_to, term_at, those_sent, unless_sent}
+use Rattle.obligation_laws.specs.Leaves.{Leaf, Tree, at_new, begins, end_at, entered, entry_of, follow_body, hops, leaf_of, onward, params_of, tree_of}
+use Rattle.obligation_laws.proofs.Followings.{passed}
 
 -- ---- widths that are declared
 

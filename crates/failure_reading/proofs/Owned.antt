@@ -8,7 +8,7 @@ use Rattle.expr_term_laws.proofs.Typings.{in_place}
 use Rattle.obligation_laws.specs.Obligations.{Obligation, all_obligations, obligation_of, of_blocks, of_leaves, of_role, of_roles, old_tree, refined_tree}
 use Rattle.sound_types.proofs.Members.{In, at_place, in_either}
 use Rattle.sound_types.proofs.Options.{text_self}
-use Rattle.symbolic_laws.specs.Leaves.{Leaf, Tree}
+use Rattle.obligation_laws.specs.Leaves.{Leaf, Tree}
 
 -- It is of a leaf of a role that the block behind a level refines.
 pub record Owned (d : Design) (o : Obligation) : Type 0 where

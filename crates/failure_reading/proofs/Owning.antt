@@ -21,7 +21,7 @@ use Rattle.role_meaning.specs.Located.{role_name}
 use Rattle.sound_types.proofs.Levels.{role_in, role_there, roles_grow}
 use Rattle.sound_types.proofs.Members.{In, at_place, in_either}
 use Rattle.sound_types.proofs.Options.{text_self}
-use Rattle.symbolic_laws.specs.Leaves.{Leaf, Tree}
+use Rattle.obligation_laws.specs.Leaves.{Leaf, Tree}
 
 -- ---- in the lists of obligations
 

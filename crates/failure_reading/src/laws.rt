@@ -14,10 +14,10 @@ use candidate_laws::laws::formulas_stay_true;
 use formula_functions::laws::formulas_apply_declared_functions;
 use obligation_laws::exactness_laws::formulas_are_failures;
 use obligation_laws::leaf_laws::leaves_have_values;
+use obligation_laws::tree_laws::leaves_end_by_role;
 use refinement::laws::{levels_keep_roles, segments_are_hops};
 use refinement::table_laws::tables_are_definitions;
 use sound_types::laws::declarations_are_typed;
-use symbolic_laws::laws::leaves_end_by_role;
 
 /// In a design that was read, where the formula of an obligation is true under tables: the run that
 /// begins with the values of its inputs fits its level, goes the way of its leaf, and fails under

@@ -19,10 +19,10 @@ use Rattle.sound_types.proofs.Options.{same_text}
 use Rattle.expr_term_laws.specs.Shown.{HasWidth}
 use Rattle.expr_term_laws.proofs.Typings.{in_place}
 use Rattle.application_laws.specs.Over.{AllOver, AreOver, IsRuntimeAt}
-use Rattle.symbolic_laws.specs.Leaves.{End, sent_to, inside, Leaf, Tree, body_tree, end_fields, end_role, end_values, inlined, params_of}
-use Rattle.symbolic_laws.specs.States.{NewInput, input_term, inputs_from, term_world}
-use Rattle.symbolic_laws.proofs.Ascending.{tree_ascends}
-use Rattle.symbolic_laws.proofs.Followings.{passed}
+use Rattle.obligation_laws.specs.Leaves.{End, sent_to, inside, Leaf, Tree, body_tree, end_fields, end_role, end_values, inlined, params_of}
+use Rattle.obligation_laws.specs.States.{NewInput, input_term, inputs_from, term_world}
+use Rattle.obligation_laws.proofs.Ascending.{tree_ascends}
+use Rattle.obligation_laws.proofs.Followings.{passed}
 use Rattle.obligation_laws.specs.MadeOf.{AllMade, LeafMade, Made, MadeArgs, OfInputs}
 use Rattle.obligation_laws.proofs.MadeLeaves.{have_back, have_front, leaf_made}
 use Rattle.obligation_laws.proofs.Replaced.{Pairs, Standing, beside_pairs, pairs_join, pairs_stand}

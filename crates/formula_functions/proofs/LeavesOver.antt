@@ -14,16 +14,16 @@ use Rattle.sound_types.proofs.Members.{In, at_place, flat_in, in_either, map_in}
 use Rattle.expr_term_laws.specs.Shown.{AreVariables, FitsScope, HasWidth, TermsHaveWidths, sort_width}
 use Rattle.expr_term_laws.specs.TermOf.{TermEnv, bind_terms, term_context, term_of, terms_of}
 use Rattle.expr_term_laws.proofs.Widths.{params_are}
-use Rattle.symbolic_laws.specs.States as states
-use Rattle.symbolic_laws.specs.States.{NewInput, Place, State, TermWorld, and_with, choice_width, guard_term, input_term, inputs_from, term_world, where_true}
-use Rattle.symbolic_laws.specs.Following.{Followed, chosen_as, each, follow, follow_all, has_sent, in_branch, next_input, one, sends_to, term_at, those_sent, unless_sent}
-use Rattle.symbolic_laws.specs.Leaves.{Leaf, at_new, begins, end_at, entered, entry_of, follow_body, hops, leaf_of, onward, params_of, tree_of}
+use Rattle.obligation_laws.specs.States as states
+use Rattle.obligation_laws.specs.States.{NewInput, Place, State, TermWorld, and_with, choice_width, guard_term, input_term, inputs_from, term_world, where_true}
+use Rattle.obligation_laws.specs.Following.{Followed, chosen_as, each, follow, follow_all, has_sent, in_branch, next_input, one, sends_to, term_at, those_sent, unless_sent}
+use Rattle.obligation_laws.specs.Leaves.{Leaf, at_new, begins, end_at, entered, entry_of, follow_body, hops, leaf_of, onward, params_of, tree_of}
 use Rattle.application_laws.specs.Over.{AllOver, TermsAreOver, VariablesOver}
 use Rattle.application_laws.proofs.Applied.{bound_over}
 use Rattle.formula_functions.specs.LeafTerms.{LeafApplies, Stands, any_input}
-use Rattle.symbolic_laws.proofs.Fields.{set_fits}
-use Rattle.symbolic_laws.proofs.Followings.{each_in, passed, some_place, unless_in}
-use Rattle.symbolic_laws.proofs.Statements.{block_vars}
+use Rattle.obligation_laws.proofs.FieldTerms.{set_fits}
+use Rattle.obligation_laws.proofs.Followings.{each_in, passed, some_place, unless_in}
+use Rattle.obligation_laws.proofs.Statements.{block_vars}
 
 module _ (d : Design) (level : ℕ) (wide : TermsHaveWidths d) (over : TermsAreOver d) (roles : (name : List ℕ) (r : Role) → role_at level d name ≡ Some r → IsTypedRole d level r) where
   abbrev T : TermWorld

@@ -8,7 +8,7 @@ use Rattle.cocoon_types.specs.Design.{role_at, widths_of}
 use Rattle.bv_terms.specs.TermTrees.{Term}
 use Rattle.expr_term_laws.specs.Shown.{HasWidth}
 use Rattle.application_laws.specs.Over.{IsOver}
-use Rattle.symbolic_laws.specs.Leaves.{Leaf, end_fields, end_role, end_values}
+use Rattle.obligation_laws.specs.Leaves.{Leaf, end_fields, end_role, end_values}
 
 -- no input is ruled out
 abbrev pub any_input : ℕ → ℕ → Bool

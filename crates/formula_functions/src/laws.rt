@@ -4,7 +4,7 @@ ghost use Rattle.cocoon_num.specs.Tree.{Design, Role};
 ghost use Rattle.cocoon_types.specs.Design.{last_level, role_at};
 ghost use Rattle.cocoon_types.specs.Rules.{WellFormed};
 ghost use Rattle.sound_types.specs.Literals.{DesignLiteralsFit};
-ghost use Rattle.symbolic_laws.specs.Leaves.{body_tree, inlined, Leaf};
+ghost use Rattle.obligation_laws.specs.Leaves.{body_tree, inlined, Leaf};
 ghost use Rattle.obligation_laws.specs.Obligations.{Obligation, all_obligations};
 ghost use Rattle.formula_functions.specs.LeafTerms.{LeafApplies, Stands};
 

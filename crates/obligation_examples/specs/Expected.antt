@@ -3,7 +3,7 @@ use Rattle.std.specs.Prelude.{ℕ, List, map}
 use Rattle.bv_terms.specs.declared.node.TermOp.TheVariants.{And, Concat, Equal, Less}
 use Rattle.bv_terms.specs.TermTrees.{Term, apply, arg, binary, constant, input, no_args, not_, slice}
 use Rattle.obligation_laws.specs.Obligations.{Kind, Obligation}
-use Rattle.symbolic_laws.specs.States.{NewInput}
+use Rattle.obligation_laws.specs.States.{NewInput}
 
 -- its level, its role, the number of its leaf, what is owed, and the numbers of parameters, fields and choices
 abbrev pub Told : Type 0

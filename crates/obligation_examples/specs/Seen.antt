@@ -2,8 +2,8 @@
 use Rattle.std.specs.Prelude.{ℕ, ◌==◌, ◌-◌, Bool, true, false, List, [], ◌∷◌, filter, if◌then◌else◌, map}
 use Rattle.refinement.specs.Ways.{Way}
 use Rattle.bv_terms.specs.TermValues.{Functions, Inputs, number_in, term_value}
-use Rattle.symbolic_laws.specs.States.{NewInput}
-use Rattle.symbolic_laws.specs.Leaves.{End, sent_to, inside, Leaf, end_role}
+use Rattle.obligation_laws.specs.States.{NewInput}
+use Rattle.obligation_laws.specs.Leaves.{End, sent_to, inside, Leaf, end_role}
 
 -- a leaf ends inside
 abbrev pub is_inside : End → Bool

@@ -8,11 +8,11 @@ use Rattle.cocoon_syntax.specs.TreeOf.{design_of}
 use Rattle.bv_terms.specs.declared.node.Node.{Node}
 use Rattle.bv_terms.specs.Arenas.{KeepsTerms, inputs_in}
 use Rattle.bv_terms.proofs.ReplaceFacts.{keeps-both, keeps-none}
-use Rattle.symbolic_laws.specs.States as tree
-use Rattle.symbolic_laws.specs.States.{TermWorld}
-use Rattle.symbolic_laws.specs.Following.{Followed, each, one}
-use Rattle.symbolic_laws.specs.Leaves as laws
-use Rattle.symbolic_laws.specs.Leaves.{at_new, leaf_of, onward}
+use Rattle.obligation_laws.specs.States as tree
+use Rattle.obligation_laws.specs.States.{TermWorld}
+use Rattle.obligation_laws.specs.Following.{Followed, each, one}
+use Rattle.obligation_laws.specs.Leaves as laws
+use Rattle.obligation_laws.specs.Leaves.{at_new, leaf_of, onward}
 use Rattle.symbolic_runs.specs.Fitting.{FitsState, Stands}
 use Rattle.symbolic_runs.specs.Reading.{IsThere, from_place, state_of, states_of}
 use Rattle.symbolic_runs.specs.declared.states.State.{State}

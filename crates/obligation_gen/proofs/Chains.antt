@@ -16,7 +16,7 @@ use Rattle.expr_terms.proofs.Making.{keeps_on}
 use Rattle.obligation_laws.specs.FormulaForms.{SameWidths}
 use Rattle.obligation_gen.proofs.Growing.{inputs_on}
 use Rattle.obligation_laws.specs.Formulas.{chain, equals}
-use Rattle.symbolic_laws.specs.States.{NewInput}
+use Rattle.obligation_laws.specs.States.{NewInput}
 use Rattle.symbolic_runs.proofs.Growing.{head_all, longer, tail_all, terms_on, there_on}
 use Rattle.obligation_gen.specs.Replacing.{StandFor, replacing_in}
 use Rattle.obligation_gen.specs.declared.replacing.Replacing.{Replacing}

@@ -9,9 +9,9 @@ use Rattle.declarations.specs.Declares.{Declares, role_number}
 use Rattle.declarations.specs.declared.tables.Declarations.{Declarations}
 use Rattle.declarations.proofs.ReaderFacts.{role-none}
 use Rattle.expr_terms.specs.Variables.{AreThere, terms_at}
-use Rattle.symbolic_laws.specs.States.{NewInput}
-use Rattle.symbolic_laws.specs.Leaves as laws
-use Rattle.symbolic_laws.specs.Leaves.{end_at, leaf_of}
+use Rattle.obligation_laws.specs.States.{NewInput}
+use Rattle.obligation_laws.specs.Leaves as laws
+use Rattle.obligation_laws.specs.Leaves.{end_at, leaf_of}
 use Rattle.symbolic_runs.specs.Fitting.{FitsBy, Stands}
 use Rattle.symbolic_runs.specs.Reading.{IsInput, IsThere, PlaceThere, input_of, place_of, state_of}
 use Rattle.symbolic_runs.specs.declared.states.Choice.{Choice}

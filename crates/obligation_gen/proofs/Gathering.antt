@@ -24,9 +24,9 @@ use Rattle.obligation_gen.specs.declared.tree.Leaf.{Leaf}
 use Rattle.obligation_gen.specs.declared.tree.Tree.{Tree}
 use Rattle.obligation_gen.proofs.Growing.{inputs_on, leaf_on}
 use Rattle.obligation_laws.specs.Formulas.{any_of, chain, part, parts, sending_to}
-use Rattle.symbolic_laws.specs.Leaves as laws
+use Rattle.obligation_laws.specs.Leaves as laws
 use Rattle.symbolic_runs.proofs.Growing.{longer}
-use Rattle.symbolic_laws.specs.Leaves.{sent_to, inside, end_role}
+use Rattle.obligation_laws.specs.Leaves.{sent_to, inside, end_role}
 use Rattle.obligation_gen.specs.Compared.{AreCompared, ArePaired, Compared, IsTruth, Paired}
 use Rattle.obligation_gen.specs.Parts.{either, parts_of, with_parts}
 use Rattle.obligation_gen.specs.Sent.{role_in}

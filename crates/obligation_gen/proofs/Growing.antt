@@ -9,9 +9,9 @@ use Rattle.bv_terms.specs.Arenas.{KeepsTerms}
 use Rattle.bv_terms.proofs.ReplaceFacts.{node-kept}
 use Rattle.bv_terms.specs.TermTrees.{Term}
 use Rattle.expr_terms.specs.Variables.{MakesAll}
-use Rattle.symbolic_laws.specs.States.{NewInput}
-use Rattle.symbolic_laws.specs.Leaves as laws
-use Rattle.symbolic_laws.specs.Leaves.{sent_to, inside}
+use Rattle.obligation_laws.specs.States.{NewInput}
+use Rattle.obligation_laws.specs.Leaves as laws
+use Rattle.obligation_laws.specs.Leaves.{sent_to, inside}
 use Rattle.symbolic_runs.proofs.Growing.{makes_on, map_all, terms_on, there_on}
 use Rattle.obligation_gen.specs.declared.tree.End.{End}
 use Rattle.obligation_gen.specs.declared.tree.End.TheVariants.{Sent, Inside}

@@ -17,8 +17,8 @@ use Rattle.obligation_gen.specs.declared.tree.Tree.{Tree}
 use Rattle.obligation_gen.proofs.Growing.{inputs_on, leaves_on, zip_append}
 use Rattle.obligation_gen.specs.Compared.{AreCompared}
 use Rattle.obligation_laws.specs.Obligations as owed
-use Rattle.symbolic_laws.specs.Leaves as laws
-use Rattle.symbolic_laws.specs.Leaves.{sent_to, inside}
+use Rattle.obligation_laws.specs.Leaves as laws
+use Rattle.obligation_laws.specs.Leaves.{sent_to, inside}
 use Rattle.symbolic_runs.proofs.Growing.{makes_on}
 use Rattle.obligation_gen.specs.Refined.{AreComparable}
 use Rattle.obligation_gen.specs.Shown.{ShowsObligation, ShowsObligations}

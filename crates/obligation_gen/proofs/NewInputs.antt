@@ -14,7 +14,7 @@ use Rattle.bv_terms.proofs.ReplaceFacts.{keeps-both, keeps-none}
 use Rattle.expr_term_laws.specs.Shown.{HasWidth}
 use Rattle.expr_terms.specs.Variables.{MakesAll}
 use Rattle.role_values.specs.DeclaredWidths.{AllDeclared}
-use Rattle.symbolic_laws.specs.States.{NewInput, input_term, inputs_from}
+use Rattle.obligation_laws.specs.States.{NewInput, input_term, inputs_from}
 use Rattle.symbolic_runs.proofs.Growing.{one_all}
 use Rattle.obligation_gen.specs.ShownTrees.{HasInput, ShowsInputs}
 use Rattle.obligation_gen.proofs.Growing.{inputs_on, makes_all_on}

@@ -19,9 +19,9 @@ use Rattle.obligation_gen.specs.declared.tree.Leaf.{Leaf}
 use Rattle.obligation_gen.specs.declared.tree.Tree.{Tree}
 use Rattle.obligation_gen.proofs.Growing.{inputs_on, makes_all_on}
 use Rattle.obligation_laws.specs.Formulas.{any_of, chain, equals, formula, leaf_inputs, part, parts, replacing, stand_ins}
-use Rattle.symbolic_laws.specs.Leaves as laws
-use Rattle.symbolic_laws.specs.Leaves.{sent_to, inside, end_fields, end_values}
-use Rattle.symbolic_laws.specs.States.{NewInput}
+use Rattle.obligation_laws.specs.Leaves as laws
+use Rattle.obligation_laws.specs.Leaves.{sent_to, inside, end_fields, end_values}
+use Rattle.obligation_laws.specs.States.{NewInput}
 use Rattle.symbolic_runs.proofs.Growing.{makes_on}
 use Rattle.obligation_gen.specs.Compared.{ArePaired}
 use Rattle.obligation_gen.specs.Replacing.{Ready, StandFor, replacing_in}

@@ -12,8 +12,8 @@ use Rattle.obligation_gen.specs.ShownTrees.{HasInput, ShowsEnd, ShowsInputs}
 use Rattle.obligation_gen.specs.declared.tree.End.{End}
 use Rattle.obligation_gen.proofs.Growing.{end_on, inputs_on, makes_all_on}
 use Rattle.obligation_laws.specs.Formulas.{read_back}
-use Rattle.symbolic_laws.specs.Leaves as laws
-use Rattle.symbolic_laws.specs.States.{NewInput, input_term}
+use Rattle.obligation_laws.specs.Leaves as laws
+use Rattle.obligation_laws.specs.States.{NewInput, input_term}
 use Rattle.symbolic_runs.proofs.Growing.{head_all, one_all, tail_all}
 use Rattle.obligation_gen.proofs.InputTerms.{makes_both, own_term}
 

@@ -12,9 +12,9 @@ use Rattle.bv_terms.specs.Walks.{same_term}
 use Rattle.bv_terms.proofs.OneNumber.{one-number}
 use Rattle.bv_terms.proofs.SameTerms.{same-itself, same-only}
 use Rattle.expr_terms.specs.Variables.{AreThere, Makes, MakesAll, terms_at}
-use Rattle.symbolic_laws.specs.Leaves as laws
-use Rattle.symbolic_laws.specs.Leaves.{sent_to, inside}
-use Rattle.symbolic_laws.specs.States.{NewInput, input_term}
+use Rattle.obligation_laws.specs.Leaves as laws
+use Rattle.obligation_laws.specs.Leaves.{sent_to, inside}
+use Rattle.obligation_laws.specs.States.{NewInput, input_term}
 use Rattle.symbolic_runs.proofs.Growing.{head_all, tail_all}
 use Rattle.obligation_gen.specs.ShownTrees.{ShowsEnd}
 use Rattle.obligation_gen.specs.declared.tree.End.{End}

@@ -8,10 +8,10 @@ use Rattle.cocoon_types.specs.Design.{role_at, widths_of}
 use Rattle.bv_terms.specs.declared.node.Node.{Node}
 use Rattle.expr_term_laws.specs.Shown.{HasWidth}
 use Rattle.expr_terms.specs.Variables.{MakesAll, terms_at}
-use Rattle.symbolic_laws.specs.States.{NewInput, State, TermWorld, input_term, inputs_from}
-use Rattle.symbolic_laws.specs.Following.{Followed}
-use Rattle.symbolic_laws.specs.Leaves as laws
-use Rattle.symbolic_laws.specs.Leaves.{begins, entry_of, hops, leaf_of, params_of, tree_of, tree_with}
+use Rattle.obligation_laws.specs.States.{NewInput, State, TermWorld, input_term, inputs_from}
+use Rattle.obligation_laws.specs.Following.{Followed}
+use Rattle.obligation_laws.specs.Leaves as laws
+use Rattle.obligation_laws.specs.Leaves.{begins, entry_of, hops, leaf_of, params_of, tree_of, tree_with}
 use Rattle.symbolic_runs.specs.Fitting.{CanEnter}
 use Rattle.symbolic_runs.specs.declared.world.World.{World}
 use Rattle.obligation_gen.specs.declared.tree.Leaf.{Leaf}

@@ -16,7 +16,7 @@ use Rattle.design_limits.proofs.Steps.{taken_more}
 use Rattle.sound_types.proofs.Levels.{block_decls}
 use Rattle.sound_types.proofs.Members.{In, in_either, in_reverse, named_some, named_there, reverse_in}
 use Rattle.sound_types.proofs.Options.{same_text, text_self}
-use Rattle.symbolic_laws.specs.Counts.{ends_in, leaf_count, sends_of, sum_of}
+use Rattle.obligation_laws.specs.Counts.{ends_in, leaf_count, sends_of, sum_of}
 use Rattle.obligation_gen.specs.declared.ways.RoleLeaves.{RoleLeaves}
 use Rattle.obligation_gen.specs.Tabled.{Tells, entries, role_texts, value_of, valued}
 use Rattle.obligation_gen.specs.Weighed.{leaves_in, weighed_in}

@@ -13,8 +13,8 @@ use Rattle.obligation_gen.specs.declared.tree.InlineFault.{InlineFault}
 use Rattle.obligation_gen.specs.declared.tree.Tree.{Tree}
 use Rattle.obligation_gen.proofs.Growing.{inputs_on, leaves_on}
 use Rattle.obligation_laws.specs.Obligations.{old_tree, refined_tree}
-use Rattle.symbolic_laws.specs.Leaves as laws
-use Rattle.symbolic_laws.specs.Leaves.{body_tree, end_role}
+use Rattle.obligation_laws.specs.Leaves as laws
+use Rattle.obligation_laws.specs.Leaves.{body_tree, end_role}
 use Rattle.obligation_gen.specs.Refined.{AreComparable}
 use Rattle.obligation_gen.proofs.Leaves.{as_many}
 

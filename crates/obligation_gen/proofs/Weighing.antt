@@ -3,7 +3,7 @@ use Rattle.std.proofs.Common.{◌≡◌, ℕ, ◌+◌, List, [], ◌∷◌, ◌+
 use Rattle.std.specs.Prelude.{filter_map, flat_map}
 use Rattle.cocoon_num.specs.Tree.{Stmt, let_, set_field, if_, filter, havoc_var, havoc_field, assume, fork, send, Block, no_stmts, stmt}
 use Rattle.cocoon_types.specs.Limits.{Ways, either, followed_by, one_going, reported}
-use Rattle.symbolic_laws.specs.Counts.{WayEnd, ends, ends_in, sum_of, those_ended, unless_ended}
+use Rattle.obligation_laws.specs.Counts.{WayEnd, ends, ends_in, sum_of, those_ended, unless_ended}
 use Rattle.obligation_gen.specs.Weighed.{sent_only, weighed, weighed_in}
 use Rattle.obligation_gen.proofs.Saturation.{sum_left, sum_right}
 

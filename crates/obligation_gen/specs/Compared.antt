@@ -5,8 +5,8 @@ use Rattle.cocoon_num.specs.Tree.{Design}
 use Rattle.bv_terms.specs.declared.node.Node.{Node}
 use Rattle.bv_terms.specs.Arenas.{width_at}
 use Rattle.expr_term_laws.specs.Shown.{HasWidth}
-use Rattle.symbolic_laws.specs.Leaves as laws
-use Rattle.symbolic_laws.specs.Leaves.{end_role}
+use Rattle.obligation_laws.specs.Leaves as laws
+use Rattle.obligation_laws.specs.Leaves.{end_role}
 use Rattle.obligation_gen.specs.ShownTrees.{ShowsInputs, ShowsLeaf, ShowsTree}
 use Rattle.obligation_gen.specs.declared.tree.Leaf.{Leaf}
 use Rattle.obligation_gen.specs.declared.tree.Tree.{Tree}

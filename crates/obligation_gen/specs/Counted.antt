@@ -5,7 +5,7 @@ use Rattle.cocoon_num.specs.Tree.{Name, Refine, Design}
 use Rattle.cocoon_types.specs.Design.{role_at}
 use Rattle.cocoon_types.specs.Limits.{first_above, reported}
 use Rattle.refinement.specs.Segments.{is_new}
-use Rattle.symbolic_laws.specs.Counts.{leaf_count}
+use Rattle.obligation_laws.specs.Counts.{leaf_count}
 use Rattle.obligation_gen.specs.CountedTrees.{most_leaves}
 use Rattle.obligation_gen.specs.declared.tree.InlineFault.{InlineFault}
 use Rattle.obligation_gen.specs.declared.tree.InlineFault.TheVariants.{Paths, NoMemory}

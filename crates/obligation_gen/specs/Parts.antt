@@ -3,7 +3,7 @@ use Rattle.std.specs.Prelude.{List, Option, Some, None, map}
 use Rattle.bv_terms.specs.declared.node.TermOp.TheVariants as ops
 use Rattle.bv_terms.specs.TermTrees as term
 use Rattle.bv_terms.specs.TermTrees.{Term}
-use Rattle.symbolic_laws.specs.Leaves.{Leaf, Tree, end_role}
+use Rattle.obligation_laws.specs.Leaves.{Leaf, Tree, end_role}
 use Rattle.obligation_laws.specs.Formulas.{any_of, chain, part, sending_to}
 
 -- one more part, if there is one already

@@ -6,8 +6,8 @@ use Rattle.expr_term_laws.specs.Shown.{HasWidth}
 use Rattle.obligation_laws.specs.FormulaForms.{PartFits}
 use Rattle.obligation_gen.specs.ShownTrees.{ShowsTree}
 use Rattle.obligation_gen.specs.declared.tree.Tree.{Tree}
-use Rattle.symbolic_laws.specs.Leaves as laws
-use Rattle.symbolic_laws.specs.Leaves.{end_role}
+use Rattle.obligation_laws.specs.Leaves as laws
+use Rattle.obligation_laws.specs.Leaves.{end_role}
 
 pub record AreComparable (d : Design) (nodes : List Node) (old tree : Tree) (old_of of : laws.Tree) : Type 0 where
   pub old_ : ShowsTree d nodes old old_of

@@ -9,9 +9,9 @@ use Rattle.expr_terms.specs.Variables.{AreThere, Makes, MakesAll, terms_at}
 use Rattle.obligation_laws.specs.FormulaForms.{SameWidths}
 use Rattle.obligation_gen.specs.ShownTrees.{ShowsInputs}
 use Rattle.obligation_gen.specs.declared.tree.Leaf.{Leaf}
-use Rattle.symbolic_laws.specs.Leaves as laws
-use Rattle.symbolic_laws.specs.Leaves.{end_fields, end_values}
-use Rattle.symbolic_laws.specs.States.{NewInput}
+use Rattle.obligation_laws.specs.Leaves as laws
+use Rattle.obligation_laws.specs.Leaves.{end_fields, end_values}
+use Rattle.obligation_laws.specs.States.{NewInput}
 use Rattle.obligation_gen.specs.Sent.{fields_of, values_of}
 use Rattle.obligation_gen.specs.declared.replacing.Replacing.{Replacing}
 

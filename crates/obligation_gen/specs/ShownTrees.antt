@@ -6,9 +6,9 @@ use Rattle.bv_terms.specs.declared.node.Node.{Node}
 use Rattle.bv_terms.specs.declared.node.Node.TheVariants.{Input}
 use Rattle.declarations.specs.Declares.{role_number}
 use Rattle.expr_terms.specs.Variables.{Makes, MakesAll}
-use Rattle.symbolic_laws.specs.States.{NewInput}
-use Rattle.symbolic_laws.specs.Leaves as laws
-use Rattle.symbolic_laws.specs.Leaves.{sent_to, inside}
+use Rattle.obligation_laws.specs.States.{NewInput}
+use Rattle.obligation_laws.specs.Leaves as laws
+use Rattle.obligation_laws.specs.Leaves.{sent_to, inside}
 use Rattle.obligation_gen.specs.declared.tree.End.{End}
 use Rattle.obligation_gen.specs.declared.tree.End.TheVariants.{Sent, Inside}
 use Rattle.obligation_gen.specs.declared.tree.Leaf.{Leaf}

@@ -3,7 +3,7 @@ use Rattle.std.specs.Prelude.{◌≡◌, ℕ, suc, Bool, List, filter_map, map, 
 use Rattle.cocoon_num.specs.Tree.{Decl, Design, Role}
 use Rattle.cocoon_types.specs.Design.{as_role, role_at}
 use Rattle.cocoon_types.specs.Limits.{reported}
-use Rattle.symbolic_laws.specs.Counts.{leaf_count, sends_of, sum_of}
+use Rattle.obligation_laws.specs.Counts.{leaf_count, sends_of, sum_of}
 use Rattle.obligation_gen.specs.declared.ways.RoleLeaves.{RoleLeaves}
 use Rattle.obligation_gen.specs.Weighed.{leaves_in}
 

@@ -3,7 +3,7 @@ ghost use Rattle.std.specs.Prelude.{◌≡◌, IfOk, IfSome, option_map};
 ghost use Rattle.cocoon_num.specs.Tree.{Design};
 ghost use Rattle.bv_terms.specs.Arenas.{term_at};
 ghost use Rattle.expr_terms.specs.Variables.{Keeps, Makes};
-ghost use Rattle.symbolic_laws.specs.Leaves as laws;
+ghost use Rattle.obligation_laws.specs.Leaves as laws;
 ghost use Rattle.obligation_laws.specs.Formulas as formulas;
 ghost use Rattle.obligation_gen.specs.Compared.{AreCompared, ArePaired, Compared, IsTruth, Paired};
 ghost use Rattle.obligation_gen.specs.Parts.{either};

@@ -5,7 +5,7 @@ ghost use Rattle.cocoon_syntax.specs.TreeOf.{decl_of, design_of};
 ghost use Rattle.cocoon_types.specs.Design.{last_level, role_at};
 ghost use Rattle.cocoon_types.specs.Limits.{reported};
 ghost use Rattle.refinement.specs.Segments.{is_new};
-ghost use Rattle.symbolic_laws.specs.Counts.{leaf_count, sends_of, sum_of};
+ghost use Rattle.obligation_laws.specs.Counts.{leaf_count, sends_of, sum_of};
 ghost use Rattle.obligation_gen.specs.Tabled.{entries, role_texts, Tells, valued};
 ghost use Rattle.obligation_gen.specs.Weighed.{leaves_in};
 

@@ -5,7 +5,7 @@ ghost use Rattle.cocoon_types.specs.Design.{widths_of};
 ghost use Rattle.bv_terms.specs.Arenas.{KeepsTerms, inputs_in};
 ghost use Rattle.expr_terms.specs.Variables.{MakesAll};
 ghost use Rattle.role_values.specs.DeclaredWidths.{AllDeclared};
-ghost use Rattle.symbolic_laws.specs.States.{input_term, inputs_from};
+ghost use Rattle.obligation_laws.specs.States.{input_term, inputs_from};
 ghost use Rattle.obligation_gen.specs.ShownTrees.{ShowsInputs};
 
 use bv_terms::{InputId, TermId, Terms};

@@ -22,9 +22,9 @@ use cocoon_num::NoMemory;
 use cocoon_resolve::Checked;
 use cocoon_syntax::Refine;
 use obligation_laws::form_laws::formulas_fit;
+use obligation_laws::tree_laws::{leaves_are_counted, leaves_have_widths};
 use sound_types::laws::code_literals_fit;
 use std::alloc::Global;
-use symbolic_laws::laws::{leaves_are_counted, leaves_have_widths};
 
 /// Formulas of which more terms are joined are out of memory.
 const MOST_JOINED: u64 = 1 << 25;

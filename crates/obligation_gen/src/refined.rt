@@ -5,7 +5,7 @@ ghost use Rattle.bv_terms.specs.declared.node.Node.{Node};
 ghost use Rattle.declarations.specs.Declares.{role_number};
 ghost use Rattle.expr_terms.specs.Variables.{Keeps};
 ghost use Rattle.obligation_gen.specs.ShownTrees.{ShowsEnd};
-ghost use Rattle.symbolic_laws.specs.Leaves as laws;
+ghost use Rattle.obligation_laws.specs.Leaves as laws;
 ghost use Rattle.obligation_laws.specs.Obligations as owed;
 ghost use Rattle.obligation_gen.specs.Refined.{AreComparable, Comparable};
 ghost use Rattle.obligation_gen.specs.Shown.{ShowsObligation, ShowsObligations, kind_in};

@@ -8,8 +8,8 @@ ghost use Rattle.bv_terms.specs.declared.node.TermOp.TheVariants as op;
 ghost use Rattle.expr_terms.specs.Variables.{AreThere, Keeps, Makes, terms_at};
 ghost use Rattle.obligation_laws.specs.FormulaForms.{SameWidths};
 ghost use Rattle.obligation_laws.specs.Formulas.{chain, equals};
-ghost use Rattle.symbolic_laws.specs.Leaves as laws;
-ghost use Rattle.symbolic_laws.specs.Leaves.{end_fields, end_values};
+ghost use Rattle.obligation_laws.specs.Leaves as laws;
+ghost use Rattle.obligation_laws.specs.Leaves.{end_fields, end_values};
 ghost use Rattle.obligation_gen.specs.Replacing.{CanJoin, Ready, StandFor, replacing_in};
 
 use crate::standing::{fields, values};

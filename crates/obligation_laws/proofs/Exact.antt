@@ -24,13 +24,13 @@ use Rattle.sound_types.proofs.Levels.{block_at}
 use Rattle.sound_types.proofs.Members.{In, at_place, flat_in, in_map, none_at}
 use Rattle.expr_term_laws.specs.Shown.{functions_by}
 use Rattle.expr_term_laws.proofs.OperatorTerms.{shown}
-use Rattle.symbolic_laws.specs.Following.{Followed, follow_all, one, those_sent}
-use Rattle.symbolic_laws.specs.LeafRuns.{IsItsRun, LeavesAreRuns, first_loc, first_packet}
-use Rattle.symbolic_laws.specs.Leaves.{End, sent_to, inside, Leaf, Tree, begins, end_role, entered, entry_of, follow_body, hops, inlined, leaf_of, onward}
-use Rattle.symbolic_laws.specs.Meant.{AllFit, IsOne, arrives, given}
-use Rattle.symbolic_laws.specs.States.{State, input_term, term_world}
-use Rattle.symbolic_laws.proofs.Followings.{each_in}
-use Rattle.symbolic_laws.proofs.Values.{IsBit, and_bit, holds, is_one, not_bit, parts_hold}
+use Rattle.obligation_laws.specs.Following.{Followed, follow_all, one, those_sent}
+use Rattle.obligation_laws.specs.LeafRuns.{IsItsRun, LeavesAreRuns, first_loc, first_packet}
+use Rattle.obligation_laws.specs.Leaves.{End, sent_to, inside, Leaf, Tree, begins, end_role, entered, entry_of, follow_body, hops, inlined, leaf_of, onward}
+use Rattle.obligation_laws.specs.Meant.{AllFit, IsOne, arrives, given}
+use Rattle.obligation_laws.specs.States.{State, input_term, term_world}
+use Rattle.obligation_laws.proofs.Followings.{each_in}
+use Rattle.obligation_laws.proofs.TruthValues.{IsBit, and_bit, holds, is_one, not_bit, parts_hold}
 use Rattle.obligation_laws.proofs.LeafValues.{leaf_shown}
 use Rattle.obligation_laws.proofs.MadeLeaves.{leaf_made}
 use Rattle.obligation_laws.proofs.Together.{holds_of}

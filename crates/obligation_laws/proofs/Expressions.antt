@@ -12,7 +12,7 @@ use Rattle.bv_terms.specs.TermTrees.{Term}
 use Rattle.expr_term_laws.specs.TermOf.{TermContext, TermEnv, field_term, term_of, terms_of}
 use Rattle.expr_term_laws.specs.TypedExprs.{TypedAll, TypedAs}
 use Rattle.sound_types.proofs.Members.{In}
-use Rattle.symbolic_laws.specs.States.{NewInput}
+use Rattle.obligation_laws.specs.States.{NewInput}
 use Rattle.obligation_laws.specs.MadeOf.{AllMade, Made, OfInputs}
 use Rattle.obligation_laws.proofs.Made.{CallsMade, operator_made}
 use Rattle.obligation_laws.specs.ReadBackLeaves.{Other}

@@ -13,12 +13,12 @@ use Rattle.bv_terms.specs.TermTrees as term
 use Rattle.bv_terms.specs.TermTrees.{Term, joined_width, width}
 use Rattle.sound_types.proofs.Members.{In, at_place, flat_in}
 use Rattle.expr_term_laws.specs.Shown.{HasWidth}
-use Rattle.symbolic_laws.specs.LeafForms.{LeafFits}
-use Rattle.symbolic_laws.specs.Leaves.{End, sent_to, inside, Leaf, Tree, begins, body_tree, entered, entry_of, follow_body, hops, leaf_of, onward, end_fields, end_role, end_values, inlined, params_of}
-use Rattle.symbolic_laws.specs.States.{NewInput, State, input_term, inputs_from, term_world}
-use Rattle.symbolic_laws.specs.Following.{Followed, follow_all, one, those_sent}
-use Rattle.symbolic_laws.proofs.Followings.{each_in}
-use Rattle.symbolic_laws.proofs.Ascending.{tree_ascends}
+use Rattle.obligation_laws.specs.LeafForms.{LeafFits}
+use Rattle.obligation_laws.specs.Leaves.{End, sent_to, inside, Leaf, Tree, begins, body_tree, entered, entry_of, follow_body, hops, leaf_of, onward, end_fields, end_role, end_values, inlined, params_of}
+use Rattle.obligation_laws.specs.States.{NewInput, State, input_term, inputs_from, term_world}
+use Rattle.obligation_laws.specs.Following.{Followed, follow_all, one, those_sent}
+use Rattle.obligation_laws.proofs.Followings.{each_in}
+use Rattle.obligation_laws.proofs.Ascending.{tree_ascends}
 use Rattle.obligation_laws.specs.MadeOf.{AllMade, LeafMade, Made, OfInputs}
 use Rattle.obligation_laws.proofs.MadeLeaves.{have_back, have_front, leaf_made}
 use Rattle.obligation_laws.proofs.Replaced.{Pairs, Standing, beside_pairs, pairs_join, pairs_stand}

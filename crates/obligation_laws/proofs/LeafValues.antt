@@ -9,12 +9,12 @@ use Rattle.cocoon_types.specs.Tables.{Defs}
 use Rattle.bv_terms.specs.TermValues.{Functions, Inputs}
 use Rattle.sound_types.proofs.Members.{In, flat_in}
 use Rattle.expr_term_laws.specs.Shown.{HasNumber, functions_by}
-use Rattle.symbolic_laws.specs.States.{Place, State, guard_term, input_term, inputs_from, term_world}
-use Rattle.symbolic_laws.specs.Leaves.{Leaf, Tree, begins, end_at, entry_of, hops, leaf_of, params_of, tree_of}
-use Rattle.symbolic_laws.specs.Meant.{AllFit}
-use Rattle.symbolic_laws.proofs.Hopping.{hops_lead}
-use Rattle.symbolic_laws.proofs.Meaning.{AtFits, Fits, FitsBy, Holds, guard_shown}
-use Rattle.symbolic_laws.proofs.Values.{holds}
+use Rattle.obligation_laws.specs.States.{Place, State, guard_term, input_term, inputs_from, term_world}
+use Rattle.obligation_laws.specs.Leaves.{Leaf, Tree, begins, end_at, entry_of, hops, leaf_of, params_of, tree_of}
+use Rattle.obligation_laws.specs.Meant.{AllFit}
+use Rattle.obligation_laws.proofs.Hopping.{hops_lead}
+use Rattle.obligation_laws.proofs.Meaning.{AtFits, Fits, FitsBy, Holds, guard_shown}
+use Rattle.obligation_laws.proofs.TruthValues.{holds}
 use Rattle.obligation_laws.specs.LeafShown.{LeafShown}
 
 pub have_numbers : (F : Functions) (ins : Inputs) (first : ℕ) (ws : List ℕ) → AllFit ins (inputs_from first ws) → AllZip (HasNumber F ins) ws (map input_term (inputs_from first ws))

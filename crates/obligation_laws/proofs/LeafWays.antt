@@ -5,11 +5,11 @@ use Rattle.std.proofs.lemmas.List.{append-nil, append_assoc}
 use Rattle.cocoon_num.specs.Tree.{Role, Stmt, let_, set_field, if_, filter as filter_stmt, havoc_var, havoc_field, assume, fork, send, Block, no_stmts, stmt}
 use Rattle.refinement.specs.Ways.{Way}
 use Rattle.sound_types.proofs.Members.{In, flat_in, in_either, map_in}
-use Rattle.symbolic_laws.specs.States as states
-use Rattle.symbolic_laws.specs.States.{Place, State, TermWorld, choice_width, input_term, where_true}
-use Rattle.symbolic_laws.specs.Following.{Followed, chosen_as, each, follow, follow_all, has_sent, in_branch, next_input, one, sends_to, term_at, those_sent, unless_sent}
-use Rattle.symbolic_laws.specs.Leaves.{Leaf, at_new, begins, end_at, entered, follow_body, hops, leaf_of, onward, tree_of}
-use Rattle.symbolic_laws.proofs.Followings.{passed}
+use Rattle.obligation_laws.specs.States as states
+use Rattle.obligation_laws.specs.States.{Place, State, TermWorld, choice_width, input_term, where_true}
+use Rattle.obligation_laws.specs.Following.{Followed, chosen_as, each, follow, follow_all, has_sent, in_branch, next_input, one, sends_to, term_at, those_sent, unless_sent}
+use Rattle.obligation_laws.specs.Leaves.{Leaf, at_new, begins, end_at, entered, follow_body, hops, leaf_of, onward, tree_of}
+use Rattle.obligation_laws.proofs.Followings.{passed}
 
 -- ---- ways that part
 

@@ -14,7 +14,7 @@ use Rattle.refinement.proofs.Lists.{same_number}
 use Rattle.sound_types.proofs.Options.{both_true}
 use Rattle.expr_term_laws.specs.TermOf.{TermContext, TermEnv, args_of, bind_terms, binary_term, call_in, field_term, result_width, term_context, term_in, term_of, terms_of, variable_term}
 use Rattle.obligation_laws.specs.MadeOf.{AllMade, Made, MadeArgs, OfInputs, VarsMade}
-use Rattle.symbolic_laws.specs.States.{Place, guard_term, set_in, set_term, term_world}
+use Rattle.obligation_laws.specs.States.{Place, guard_term, set_in, set_term, term_world}
 
 module _ (P : OfInputs) where
   pub made_join : (ts us : List Term) → AllMade P ts → AllMade P us → AllMade P (ts ++ us)

@@ -7,11 +7,11 @@ use Rattle.cocoon_types.specs.Design.{role_at}
 use Rattle.bv_terms.specs.TermTrees.{Term}
 use Rattle.sound_types.proofs.Members.{In, flat_in, in_either, map_in}
 use Rattle.expr_term_laws.specs.TermOf.{term_context, terms_of}
-use Rattle.symbolic_laws.specs.States as states
-use Rattle.symbolic_laws.specs.States.{NewInput, Place, State, TermWorld, choice_width, guard_term, input_term, term_world, where_true}
-use Rattle.symbolic_laws.specs.Following.{Followed, chosen_as, each, follow, follow_all, has_sent, in_branch, next_input, one, sends_to, term_at, those_sent, unless_sent}
-use Rattle.symbolic_laws.specs.Leaves.{Leaf, at_new, begins, end_at, entered, entry_of, follow_body, hops, leaf_of, onward, tree_of}
-use Rattle.symbolic_laws.proofs.Followings.{passed}
+use Rattle.obligation_laws.specs.States as states
+use Rattle.obligation_laws.specs.States.{NewInput, Place, State, TermWorld, choice_width, guard_term, input_term, term_world, where_true}
+use Rattle.obligation_laws.specs.Following.{Followed, chosen_as, each, follow, follow_all, has_sent, in_branch, next_input, one, sends_to, term_at, those_sent, unless_sent}
+use Rattle.obligation_laws.specs.Leaves.{Leaf, at_new, begins, end_at, entered, entry_of, follow_body, hops, leaf_of, onward, tree_of}
+use Rattle.obligation_laws.proofs.Followings.{passed}
 use Rattle.obligation_laws.specs.MadeOf.{AllMade, Have, LeafMade, Made, OfInputs, VarsMade}
 use Rattle.obligation_laws.proofs.Made.{bound_made, calls_made, expr_made, exprs_made, guard_made, set_made}
 

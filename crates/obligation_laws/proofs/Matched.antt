@@ -28,12 +28,12 @@ use Rattle.sound_types.specs.Matching.{IsOfSort}
 use Rattle.sound_types.proofs.Members.{In, at_place}
 use Rattle.sound_types.proofs.Options.{same_self, text_self}
 use Rattle.expr_term_laws.specs.Shown.{HasNumber, HasWidth, functions_by, numbers_of}
-use Rattle.symbolic_laws.specs.LeafRuns.{HasLeaf, RunsHaveLeaves, first_loc, first_packet}
-use Rattle.symbolic_laws.specs.Leaves.{Leaf, Tree, body_tree, end_fields, end_role, end_values, inlined, params_of}
-use Rattle.symbolic_laws.specs.Meant.{AllFit, IsOne, arrives, given}
-use Rattle.symbolic_laws.specs.States.{NewInput, inputs_from, term_world}
-use Rattle.symbolic_laws.proofs.Meaning.{Holds}
-use Rattle.symbolic_laws.proofs.Values.{chain_holds}
+use Rattle.obligation_laws.specs.LeafRuns.{HasLeaf, RunsHaveLeaves, first_loc, first_packet}
+use Rattle.obligation_laws.specs.Leaves.{Leaf, Tree, body_tree, end_fields, end_role, end_values, inlined, params_of}
+use Rattle.obligation_laws.specs.Meant.{AllFit, IsOne, arrives, given}
+use Rattle.obligation_laws.specs.States.{NewInput, inputs_from, term_world}
+use Rattle.obligation_laws.proofs.Meaning.{Holds}
+use Rattle.obligation_laws.proofs.TruthValues.{chain_holds}
 use Rattle.obligation_laws.specs.MadeOf.{AllMade, Have, LeafMade, OfInputs, OneOf}
 use Rattle.obligation_laws.proofs.MadeLeaves.{leaf_made}
 use Rattle.obligation_laws.proofs.Replaced.{Standing, of_width, replaced_value, values_of}

@@ -4,7 +4,7 @@ use Rattle.std.specs.Prelude.{slice_get}
 use Rattle.cocoon_num.specs.Tree.{Name, Refine, Design}
 use Rattle.refinement.specs.Ways.{Way}
 use Rattle.sound_types.proofs.Members.{In, at_place, in_either}
-use Rattle.symbolic_laws.specs.Leaves.{Leaf, Tree}
+use Rattle.obligation_laws.specs.Leaves.{Leaf, Tree}
 use Rattle.obligation_laws.specs.Failing.{NeverFails, NeverTrue, NoRunFails}
 use Rattle.obligation_laws.specs.Obligations.{Kind, Obligation, Owed, all_obligations, kind_of, obligation_of, obligations_behind, of_block, of_blocks, of_leaves, of_role, of_roles, old_tree, refined_tree}
 use Rattle.obligation_laws.proofs.RunsFound.{Known}

@@ -31,13 +31,13 @@ use Rattle.sound_types.proofs.Members.{In}
 use Rattle.sound_types.proofs.Options.{both_true, same_text}
 use Rattle.expr_term_laws.specs.Shown.{HasNumber, HasWidth, functions_by, numbers_of}
 use Rattle.expr_term_laws.proofs.Typings.{in_place}
-use Rattle.symbolic_laws.specs.LeafRuns.{LeavesAreRuns, first_loc, first_packet}
-use Rattle.symbolic_laws.specs.Leaves.{Leaf, Tree, body_tree, end_fields, end_role, end_values, inlined, params_of}
-use Rattle.symbolic_laws.specs.Meant.{AllFit, IsOne, arrives, given}
-use Rattle.symbolic_laws.specs.States.{NewInput, input_term, inputs_from, term_world}
-use Rattle.symbolic_laws.proofs.Ascending.{tree_ascends}
-use Rattle.symbolic_laws.proofs.Meaning.{Holds}
-use Rattle.symbolic_laws.proofs.Values.{IsBit}
+use Rattle.obligation_laws.specs.LeafRuns.{LeavesAreRuns, first_loc, first_packet}
+use Rattle.obligation_laws.specs.Leaves.{Leaf, Tree, body_tree, end_fields, end_role, end_values, inlined, params_of}
+use Rattle.obligation_laws.specs.Meant.{AllFit, IsOne, arrives, given}
+use Rattle.obligation_laws.specs.States.{NewInput, input_term, inputs_from, term_world}
+use Rattle.obligation_laws.proofs.Ascending.{tree_ascends}
+use Rattle.obligation_laws.proofs.Meaning.{Holds}
+use Rattle.obligation_laws.proofs.TruthValues.{IsBit}
 use Rattle.obligation_laws.specs.Formulas.{chain, equals, leaf_inputs, part, position, read_back, replacing, sent_at, stand_ins}
 use Rattle.obligation_laws.proofs.Chains.{AllBits, AllOne, chain_bit, chain_true, compare}
 use Rattle.obligation_laws.specs.LeafShown.{LeafShown}

@@ -14,11 +14,11 @@ use Rattle.bv_terms.specs.TermTrees.{Term}
 use Rattle.sound_types.specs.WellTyped.{IsTypedRole}
 use Rattle.sound_types.proofs.Members.{In, at_place, flat_in, named_there, none_at}
 use Rattle.expr_term_laws.specs.TermOf.{bind_terms, variable_term}
-use Rattle.symbolic_laws.specs.Following.{Followed, follow_all, has_sent, one, those_sent}
-use Rattle.symbolic_laws.specs.Leaves.{Leaf, Tree, at_new, begins, body_tree, end_at, entered, entry_of, follow_body, hops, leaf_of, onward, params_of}
-use Rattle.symbolic_laws.specs.States.{NewInput, Place, State, input_term, inputs_from, term_world}
-use Rattle.symbolic_laws.proofs.Followings.{each_in, passed}
-use Rattle.symbolic_laws.proofs.Statements.{block_vars}
+use Rattle.obligation_laws.specs.Following.{Followed, follow_all, has_sent, one, those_sent}
+use Rattle.obligation_laws.specs.Leaves.{Leaf, Tree, at_new, begins, body_tree, end_at, entered, entry_of, follow_body, hops, leaf_of, onward, params_of}
+use Rattle.obligation_laws.specs.States.{NewInput, Place, State, input_term, inputs_from, term_world}
+use Rattle.obligation_laws.proofs.Followings.{each_in, passed}
+use Rattle.obligation_laws.proofs.Statements.{block_vars}
 use Rattle.refinement.proofs.Named.{AreNamed}
 use Rattle.obligation_laws.specs.MadeOf.{AllMade, Made}
 use Rattle.obligation_laws.proofs.Made.{guard_made}

@@ -18,10 +18,10 @@ use Rattle.sound_types.specs.Defined.{HasDefinitions}
 use Rattle.sound_types.proofs.Members.{In}
 use Rattle.sound_types.proofs.Options.{same_text}
 use Rattle.expr_term_laws.proofs.Typings.{in_place}
-use Rattle.symbolic_laws.specs.LeafForms.{EndsBy}
-use Rattle.symbolic_laws.specs.Leaves.{End, sent_to, inside, Leaf, Tree, end_role}
-use Rattle.symbolic_laws.specs.States.{term_world}
-use Rattle.symbolic_laws.proofs.Ascending.{tree_ends}
+use Rattle.obligation_laws.specs.LeafForms.{EndsBy}
+use Rattle.obligation_laws.specs.Leaves.{End, sent_to, inside, Leaf, Tree, end_role}
+use Rattle.obligation_laws.specs.States.{term_world}
+use Rattle.obligation_laws.proofs.Ascending.{tree_ends}
 use Rattle.obligation_laws.specs.Failing.{IsKept, NeverFails}
 use Rattle.obligation_laws.specs.Obligations.{Obligation, all_obligations, kind_of, obligation_of, of_block, of_blocks, of_leaves, of_role, of_roles, old_tree, refined_tree}
 use Rattle.obligation_laws.proofs.RunsFound.{Known, run_found}

@@ -9,7 +9,7 @@ use Rattle.bv_terms.specs.TermTrees as term
 use Rattle.bv_terms.specs.TermTrees.{Term, Args, no_args, arg}
 use Rattle.expr_term_laws.specs.TermOf.{TermEnv, variable_term}
 use Rattle.sound_types.proofs.Members.{In}
-use Rattle.symbolic_laws.specs.States.{NewInput, input_term}
+use Rattle.obligation_laws.specs.States.{NewInput, input_term}
 use Rattle.obligation_laws.specs.MadeOf.{AllMade, Made, MadeArgs, OfInputs}
 use Rattle.obligation_laws.specs.ReadBackLeaves.{Other}
 

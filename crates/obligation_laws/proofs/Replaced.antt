@@ -10,9 +10,9 @@ use Rattle.bv_terms.specs.TermValues.{Functions, Inputs, arg_numbers, number_in,
 use Rattle.sound_types.specs.Matching.{IsOfSort}
 use Rattle.sound_types.proofs.Options.{same_self}
 use Rattle.expr_term_laws.specs.Shown.{HasNumber, numbers_of}
-use Rattle.symbolic_laws.specs.LeafForms.{Ascend}
-use Rattle.symbolic_laws.specs.Meant.{AllFit, given}
-use Rattle.symbolic_laws.specs.States.{NewInput}
+use Rattle.obligation_laws.specs.LeafForms.{Ascend}
+use Rattle.obligation_laws.specs.Meant.{AllFit, given}
+use Rattle.obligation_laws.specs.States.{NewInput}
 use Rattle.obligation_laws.specs.MadeOf.{Have, Made, MadeArgs, OfInputs}
 
 pub of_width : (w : ℕ) (v : Value) → IsOfSort (bits_sort w) v → v ≡ number w (number_in v)

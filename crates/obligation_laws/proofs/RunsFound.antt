@@ -21,13 +21,13 @@ use Rattle.sound_types.specs.Literals.{DesignLiteralsFit}
 use Rattle.sound_types.specs.Soundness.{IsSound}
 use Rattle.sound_types.proofs.Members.{In, at_place}
 use Rattle.expr_term_laws.specs.Shown.{functions_by}
-use Rattle.symbolic_laws.specs.LeafForms.{LeafFits}
-use Rattle.symbolic_laws.specs.LeafRuns.{LeavesAreRuns, RunsHaveLeaves, first_loc, first_packet}
-use Rattle.symbolic_laws.specs.Leaves.{Leaf, body_tree, inlined, params_of}
-use Rattle.symbolic_laws.specs.Meant.{AllFit, IsOne, arrives, given}
-use Rattle.symbolic_laws.specs.States.{term_world}
-use Rattle.symbolic_laws.proofs.Leading.{some_there}
-use Rattle.symbolic_laws.proofs.Together.{RolesTyped}
+use Rattle.obligation_laws.specs.LeafForms.{LeafFits}
+use Rattle.obligation_laws.specs.LeafRuns.{LeavesAreRuns, RunsHaveLeaves, first_loc, first_packet}
+use Rattle.obligation_laws.specs.Leaves.{Leaf, body_tree, inlined, params_of}
+use Rattle.obligation_laws.specs.Meant.{AllFit, IsOne, arrives, given}
+use Rattle.obligation_laws.specs.States.{term_world}
+use Rattle.obligation_laws.proofs.Leading.{some_there}
+use Rattle.obligation_laws.proofs.TreesTogether.{RolesTyped}
 use Rattle.obligation_laws.proofs.Starting.{flat, flat_fits, flat_packet, ran_at, same_fit, started}
 
 pub params_there : (level : ℕ) (d : Design) (role : List ℕ) (r : Role) → role_at level d role ≡ Some r → params_of (term_world level d) role ≡ r.params

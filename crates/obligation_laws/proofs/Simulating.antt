@@ -15,13 +15,13 @@ use Rattle.sound_types.proofs.Options.{both_true, same_self}
 use Rattle.refinement.proofs.Lists.{same_number}
 use Rattle.expr_term_laws.specs.TermOf.{term_context, term_of, terms_of}
 use Rattle.expr_term_laws.proofs.Typings.{all_typed_everywhere, everywhere, typed_everywhere}
-use Rattle.symbolic_laws.specs.States as states
-use Rattle.symbolic_laws.specs.States.{NewInput, Place, State, TermWorld, choice_width, guard_term, input_term, term_world, where_true}
-use Rattle.symbolic_laws.specs.Following as following
-use Rattle.symbolic_laws.specs.Following.{Followed, chosen_as, each, follow, follow_all, has_sent, in_branch, next_input, one, sends_to, term_at}
-use Rattle.symbolic_laws.proofs.Followings.{passed, unless_in}
-use Rattle.symbolic_laws.proofs.Growing.{Grows, block_grows, each_grows, followed_grows}
-use Rattle.symbolic_laws.proofs.Statements.{block_vars}
+use Rattle.obligation_laws.specs.States as states
+use Rattle.obligation_laws.specs.States.{NewInput, Place, State, TermWorld, choice_width, guard_term, input_term, term_world, where_true}
+use Rattle.obligation_laws.specs.Following as following
+use Rattle.obligation_laws.specs.Following.{Followed, chosen_as, each, follow, follow_all, has_sent, in_branch, next_input, one, sends_to, term_at}
+use Rattle.obligation_laws.proofs.Followings.{passed, unless_in}
+use Rattle.obligation_laws.proofs.Growing.{Grows, block_grows, each_grows, followed_grows}
+use Rattle.obligation_laws.proofs.Statements.{block_vars}
 use Rattle.obligation_laws.specs.MadeOf.{AllMade, Made}
 use Rattle.obligation_laws.proofs.Made.{calls_made, guard_made}
 use Rattle.obligation_laws.specs.ReadBackLeaves.{Other}

@@ -13,10 +13,10 @@ use Rattle.refinement.specs.Ways.{Arrival, body_by, go_by, on_true}
 use Rattle.refinement.proofs.Fitting.{bound_fits}
 use Rattle.bv_terms.specs.TermValues.{Inputs}
 use Rattle.role_values.specs.Flat.{packet_of}
-use Rattle.symbolic_laws.specs.Meant.{AllFit, given}
-use Rattle.symbolic_laws.specs.States.{NewInput, inputs_from}
-use Rattle.symbolic_laws.proofs.Numbering.{Fill, filled_fit, numbered_from, put, put_fit, put_given, put_kept}
-use Rattle.symbolic_laws.proofs.Leading.{some_there}
+use Rattle.obligation_laws.specs.Meant.{AllFit, given}
+use Rattle.obligation_laws.specs.States.{NewInput, inputs_from}
+use Rattle.obligation_laws.proofs.Numbering.{Fill, filled_fit, numbered_from, put, put_fit, put_given, put_kept}
+use Rattle.obligation_laws.proofs.Leading.{some_there}
 
 -- ---- packets as lists of numbers
 

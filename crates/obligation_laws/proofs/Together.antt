@@ -12,11 +12,11 @@ use Rattle.sound_types.specs.Soundness.{IsSound}
 use Rattle.sound_types.proofs.Declared.{names_differ}
 use Rattle.sound_types.proofs.Members.{In, at_place, in_left, in_right}
 use Rattle.expr_term_laws.proofs.Rows.{rows_fit}
-use Rattle.symbolic_laws.specs.Leaves.{Leaf, tree_of}
-use Rattle.symbolic_laws.specs.Meant.{AllFit}
-use Rattle.symbolic_laws.specs.States.{NewInput, TermWorld, term_world}
-use Rattle.symbolic_laws.proofs.Meaning.{Holds}
-use Rattle.symbolic_laws.proofs.Together.{RolesTyped, it_holds}
+use Rattle.obligation_laws.specs.Leaves.{Leaf, tree_of}
+use Rattle.obligation_laws.specs.Meant.{AllFit}
+use Rattle.obligation_laws.specs.States.{NewInput, TermWorld, term_world}
+use Rattle.obligation_laws.proofs.Meaning.{Holds}
+use Rattle.obligation_laws.proofs.TreesTogether.{RolesTyped, it_holds}
 use Rattle.obligation_laws.specs.LeafShown.{LeafShown}
 use Rattle.obligation_laws.specs.MadeOf.{Have, LeafMade, OneOf}
 use Rattle.obligation_laws.proofs.LeafValues.{leaf_shown}

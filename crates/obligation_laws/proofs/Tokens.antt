@@ -9,8 +9,8 @@ use Rattle.refinement.proofs.Lists.{same_number}
 use Rattle.refinement.specs.Indices.{block_indices, stmt_indices}
 use Rattle.sound_types.proofs.Members.{In, flat_in, in_either, map_in}
 use Rattle.sound_types.proofs.Options.{both_true, same_self}
-use Rattle.symbolic_laws.specs.States.{NewInput}
-use Rattle.symbolic_laws.proofs.Followings.{passed}
+use Rattle.obligation_laws.specs.States.{NewInput}
+use Rattle.obligation_laws.proofs.Followings.{passed}
 use Rattle.obligation_laws.proofs.Relating.{Pairing}
 
 -- ---- how often numbers stand in lists

@@ -22,13 +22,13 @@ use Rattle.sound_types.proofs.Members.{In, flat_in, map_in}
 use Rattle.sound_types.proofs.Options.{same_text}
 use Rattle.expr_term_laws.specs.Shown.{HasNumber, functions_by}
 use Rattle.expr_term_laws.proofs.Typings.{in_place}
-use Rattle.symbolic_laws.specs.Following.{Followed, follow_all, one, those_sent}
-use Rattle.symbolic_laws.specs.LeafRuns.{first_loc, first_packet}
-use Rattle.symbolic_laws.specs.Leaves.{End, sent_to, inside, Leaf, Tree, begins, body_tree, end_role, end_values, entered, entry_of, follow_body, hops, inlined, leaf_of, onward}
-use Rattle.symbolic_laws.specs.Meant.{AllFit, IsOne, arrives}
-use Rattle.symbolic_laws.specs.States.{State, input_term, term_world}
-use Rattle.symbolic_laws.proofs.Followings.{each_in, passed}
-use Rattle.symbolic_laws.proofs.Values.{IsBit}
+use Rattle.obligation_laws.specs.Following.{Followed, follow_all, one, those_sent}
+use Rattle.obligation_laws.specs.LeafRuns.{first_loc, first_packet}
+use Rattle.obligation_laws.specs.Leaves.{End, sent_to, inside, Leaf, Tree, begins, body_tree, end_role, end_values, entered, entry_of, follow_body, hops, inlined, leaf_of, onward}
+use Rattle.obligation_laws.specs.Meant.{AllFit, IsOne, arrives}
+use Rattle.obligation_laws.specs.States.{State, input_term, term_world}
+use Rattle.obligation_laws.proofs.Followings.{each_in, passed}
+use Rattle.obligation_laws.proofs.TruthValues.{IsBit}
 use Rattle.obligation_laws.specs.MadeOf.{AllMade, Made, OfInputs}
 use Rattle.obligation_laws.proofs.LeafValues.{leaf_shown}
 use Rattle.obligation_laws.proofs.LeafWays.{one_way}

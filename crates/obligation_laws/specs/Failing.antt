@@ -12,7 +12,7 @@ use Rattle.bv_terms.specs.Inputs.{InputsFit}
 use Rattle.bv_terms.specs.TermTrees.{Term}
 use Rattle.bv_terms.specs.TermValues.{Inputs}
 use Rattle.expr_term_laws.specs.Shown.{functions_by}
-use Rattle.symbolic_laws.specs.Meant.{IsOne}
+use Rattle.obligation_laws.specs.Meant.{IsOne}
 use Rattle.obligation_laws.specs.Obligations.{Kind, contained, bounded, Obligation}
 
 -- under no definitions that meet the assumptions up to this level is the term true, whatever numbers its inputs have that

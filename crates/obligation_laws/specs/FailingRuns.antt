@@ -5,9 +5,9 @@ use Rattle.cocoon_types.specs.Tables.{Defs}
 use Rattle.refinement.specs.Ways.{hops_by}
 use Rattle.bv_terms.specs.TermValues.{Inputs}
 use Rattle.expr_term_laws.specs.Shown.{functions_by}
-use Rattle.symbolic_laws.specs.LeafRuns.{first_loc, first_packet}
-use Rattle.symbolic_laws.specs.Leaves.{Leaf, Tree}
-use Rattle.symbolic_laws.specs.Meant.{arrives, given}
+use Rattle.obligation_laws.specs.LeafRuns.{first_loc, first_packet}
+use Rattle.obligation_laws.specs.Leaves.{Leaf, Tree}
+use Rattle.obligation_laws.specs.Meant.{arrives, given}
 use Rattle.obligation_laws.specs.Failing.{IsKept}
 use Rattle.obligation_laws.specs.Obligations.{kind_of}
 

@@ -8,8 +8,8 @@ use Rattle.bv_terms.specs.Replacements.{Replacing, beside, replaced}
 use Rattle.bv_terms.specs.TermTrees as term
 use Rattle.bv_terms.specs.TermTrees.{Term}
 use Rattle.bv_terms.specs.Walks.{same_term}
-use Rattle.symbolic_laws.specs.States.{NewInput, input_term}
-use Rattle.symbolic_laws.specs.Leaves.{End, sent_to, inside, Leaf, Tree, end_fields, end_role, end_values}
+use Rattle.obligation_laws.specs.States.{NewInput, input_term}
+use Rattle.obligation_laws.specs.Leaves.{End, sent_to, inside, Leaf, Tree, end_fields, end_role, end_values}
 
 -- ---- chains
 

@@ -1,3 +1,10 @@
+pub mod States
+pub mod Following
+pub mod Leaves
+pub mod Counts
+pub mod Meant
+pub mod LeafRuns
+pub mod LeafForms
 pub mod MadeOf
 pub mod LeafShown
 pub mod Formulas

@@ -4,8 +4,8 @@ use Rattle.std.specs.Prelude.{◌≡◌, ◌⊎◌, ℕ, List, [], ◌∷◌}
 use Rattle.bv_terms.specs.TermTrees as term
 use Rattle.bv_terms.specs.TermTrees.{Term, Args, no_args, arg}
 use Rattle.expr_term_laws.specs.TermOf.{TermEnv}
-use Rattle.symbolic_laws.specs.States.{NewInput}
-use Rattle.symbolic_laws.specs.Leaves.{Leaf, end_fields, end_values}
+use Rattle.obligation_laws.specs.States.{NewInput}
+use Rattle.obligation_laws.specs.Leaves.{Leaf, end_fields, end_values}
 
 -- a property of inputs, by number and width
 abbrev pub OfInputs : Type 1

@@ -4,8 +4,8 @@
 use Rattle.std.specs.Prelude.{ℕ, suc, List, [], ◌∷◌, ◌++◌, Some, None, slice_get}
 use Rattle.cocoon_num.specs.Tree.{Name, Refine, Design}
 use Rattle.bv_terms.specs.TermTrees.{Term}
-use Rattle.symbolic_laws.specs.States.{NewInput}
-use Rattle.symbolic_laws.specs.Leaves.{End, sent_to, inside, Leaf, Tree, body_tree, inlined}
+use Rattle.obligation_laws.specs.States.{NewInput}
+use Rattle.obligation_laws.specs.Leaves.{End, sent_to, inside, Leaf, Tree, body_tree, inlined}
 use Rattle.obligation_laws.specs.Formulas.{formula}
 
 -- What is owed of a leaf: that the body above sends what it sends, or that no run comes to it.

@@ -1,8 +1,8 @@
 -- Cited by the clause of the law `leaves_read_back`: choices of a leaf that are read back from what it sends.
 use Rattle.std.specs.Prelude.{◌≡◌, ◌⊎◌, List, [], ◌∷◌, ◌++◌}
 use Rattle.bv_terms.specs.TermTrees.{Term}
-use Rattle.symbolic_laws.specs.States.{NewInput, input_term}
-use Rattle.symbolic_laws.specs.Leaves.{Leaf, end_fields, end_values}
+use Rattle.obligation_laws.specs.States.{NewInput, input_term}
+use Rattle.obligation_laws.specs.Leaves.{Leaf, end_fields, end_values}
 use Rattle.obligation_laws.specs.MadeOf.{LeafMade, OfInputs}
 
 -- an input other than the choice

@@ -4,8 +4,8 @@ use Rattle.std.specs.Prelude.{ℕ, [], ◌∷◌, codes}
 use Rattle.bv_terms.specs.declared.node.TermOp.TheVariants as ops
 use Rattle.bv_terms.specs.TermTrees as term
 use Rattle.bv_terms.specs.TermTrees.{Term}
-use Rattle.symbolic_laws.specs.States.{NewInput}
-use Rattle.symbolic_laws.specs.Leaves.{End, sent_to, Leaf, Tree}
+use Rattle.obligation_laws.specs.States.{NewInput}
+use Rattle.obligation_laws.specs.Leaves.{End, sent_to, Leaf, Tree}
 
 abbrev pub byte : ℕ → NewInput
 byte n = record { number = n; width = 8 }

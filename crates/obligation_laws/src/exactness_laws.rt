@@ -7,16 +7,16 @@ ghost use Rattle.cocoon_types.specs.RuleParts.{has_name};
 ghost use Rattle.cocoon_types.specs.Tables.{defs_of};
 ghost use Rattle.expr_term_laws.specs.Shown.{functions_by};
 ghost use Rattle.sound_types.specs.Defined.{HasDefinitions};
-ghost use Rattle.symbolic_laws.specs.Leaves.{Leaf};
-ghost use Rattle.symbolic_laws.specs.Meant.{AllFit, IsOne};
+ghost use Rattle.obligation_laws.specs.Leaves.{Leaf};
+ghost use Rattle.obligation_laws.specs.Meant.{AllFit, IsOne};
 ghost use Rattle.obligation_laws.specs.Formulas.{formula};
 ghost use Rattle.obligation_laws.specs.Obligations.{old_tree, refined_tree};
 ghost use Rattle.obligation_laws.specs.FailingRuns.{Fails};
 
 use crate::read_back_laws::leaves_read_back;
+use crate::tree_laws::{leaves_are_runs, leaves_have_widths, runs_have_leaves};
 use cocoon_types::runs::runs_are_taken;
 use sound_types::laws::{declarations_are_typed, expressions_have_values};
-use symbolic_laws::laws::{leaves_are_runs, leaves_have_widths, runs_have_leaves};
 
 /// In a design that was read, under the definitions of a text and for inputs that fit a leaf of a role
 /// that a block refines: the leaf's formula is true exactly where its run fails.

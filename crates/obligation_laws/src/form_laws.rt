@@ -4,13 +4,13 @@ ghost use Rattle.cocoon_num.specs.Tree.{Design, Refine};
 ghost use Rattle.cocoon_types.specs.Rules.{WellFormed};
 ghost use Rattle.expr_term_laws.specs.Shown.{HasWidth};
 ghost use Rattle.sound_types.specs.Literals.{DesignLiteralsFit};
-ghost use Rattle.symbolic_laws.specs.Leaves.{end_role, Leaf};
+ghost use Rattle.obligation_laws.specs.Leaves.{end_role, Leaf};
 ghost use Rattle.obligation_laws.specs.Formulas.{formula};
 ghost use Rattle.obligation_laws.specs.Obligations.{old_tree, refined_tree};
 ghost use Rattle.obligation_laws.specs.FormulaForms.{PartFits};
 
+use crate::tree_laws::leaves_have_widths;
 use sound_types::laws::declarations_are_typed;
-use symbolic_laws::laws::leaves_have_widths;
 
 /// A formula has width 1, and the terms of each of its parts have the widths that they are joined at.
 pub fn formulas_fit()

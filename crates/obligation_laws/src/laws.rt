@@ -7,15 +7,15 @@ ghost use Rattle.cocoon_num.specs.Tree.{Design, Refine};
 ghost use Rattle.cocoon_types.specs.Rules.{WellFormed};
 ghost use Rattle.refinement.specs.Owed.{Contained, Refines, Within};
 ghost use Rattle.sound_types.specs.Literals.{DesignLiteralsFit};
-ghost use Rattle.symbolic_laws.specs.Leaves.{inside, sent_to};
+ghost use Rattle.obligation_laws.specs.Leaves.{inside, sent_to};
 ghost use Rattle.obligation_laws.specs.Failing.{NeverFails, NeverTrue};
 ghost use Rattle.obligation_laws.specs.Formulas.{formula, read_back};
 ghost use Rattle.obligation_laws.specs.Obligations.{Obligation, all_obligations, obligations_behind, of_block};
 ghost use Rattle.obligation_laws.specs.SmallTrees.{byte, first_part, second_part, small_leaf, small_old, small_tree};
 
+use crate::tree_laws::{leaves_are_runs, leaves_have_widths, runs_have_leaves};
 use cocoon_types::runs::runs_are_taken;
 use sound_types::laws::{declarations_are_typed, expressions_have_values};
-use symbolic_laws::laws::{leaves_are_runs, leaves_have_widths, runs_have_leaves};
 
 /// A leaf whose formula is never true never fails.
 pub fn untrue_formulas_never_fail()

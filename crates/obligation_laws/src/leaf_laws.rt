@@ -8,8 +8,8 @@ ghost use Rattle.bv_terms.specs.TermTrees.{Term};
 ghost use Rattle.bv_terms.specs.TermValues.{Inputs};
 ghost use Rattle.cocoon_num.specs.Values.{FitsWidth};
 ghost use Rattle.sound_types.specs.Defined.{HasDefinitions};
-ghost use Rattle.symbolic_laws.specs.Leaves.{body_tree, inlined, Leaf};
-ghost use Rattle.symbolic_laws.specs.Meant.{AllFit};
+ghost use Rattle.obligation_laws.specs.Leaves.{body_tree, inlined, Leaf};
+ghost use Rattle.obligation_laws.specs.Meant.{AllFit};
 ghost use Rattle.obligation_laws.specs.LeafShown.{LeafShown};
 ghost use Rattle.obligation_laws.specs.MadeOf.{LeafMade, Made, OneOf};
 

@@ -3,6 +3,7 @@
 //! formulas, which code that makes them asks for ([`form_laws`]), and the read-back rule on leaves: a choice of a body that
 //! a later level refines is read back from what a leaf sends, or is read nowhere ([`read_back_laws`]). Each law is the
 //! contract of a function that does nothing.
+//! Bodies of roles as trees: what each statement makes of a symbolic state, and that a leaf is true exactly at the runs of its way.
 #![tactic(auto)]
 
 pub mod exactness_laws;
@@ -10,3 +11,4 @@ pub mod form_laws;
 pub mod laws;
 pub mod leaf_laws;
 pub mod read_back_laws;
+pub mod tree_laws;

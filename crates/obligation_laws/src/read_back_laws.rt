@@ -6,8 +6,8 @@ ghost use Rattle.cocoon_resolve.specs.Readers.{reads_back};
 ghost use Rattle.cocoon_types.specs.Design.{role_at};
 ghost use Rattle.cocoon_types.specs.Rules.{WellFormed};
 ghost use Rattle.sound_types.specs.Literals.{DesignLiteralsFit};
-ghost use Rattle.symbolic_laws.specs.Leaves.{body_tree, Leaf};
-ghost use Rattle.symbolic_laws.specs.States.{NewInput};
+ghost use Rattle.obligation_laws.specs.Leaves.{body_tree, Leaf};
+ghost use Rattle.obligation_laws.specs.States.{NewInput};
 ghost use Rattle.obligation_laws.specs.ReadBackLeaves.{IsReadBack};
 
 use refinement::laws::statements_differ;

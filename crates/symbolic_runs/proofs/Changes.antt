@@ -12,8 +12,8 @@ use Rattle.bv_terms.specs.Arenas.{IsPut, KeepsTerms, term_at}
 use Rattle.bv_terms.specs.TermTrees.{Term}
 use Rattle.expr_terms.specs.Variables.{AreThere, Makes, MakesAll, VariablesThere, terms_at, variable_of, variables_of}
 use Rattle.expr_terms.specs.declared.variables.Variable.{Variable}
-use Rattle.symbolic_laws.specs.States as tree
-use Rattle.symbolic_laws.specs.States.{where_true, with_branch, with_choice, with_field, with_variable}
+use Rattle.obligation_laws.specs.States as tree
+use Rattle.obligation_laws.specs.States.{where_true, with_branch, with_choice, with_field, with_variable}
 use Rattle.symbolic_runs.specs.Places as places
 use Rattle.symbolic_runs.specs.Reading.{IsInput, IsThere, PlaceThere, Reads, input_of, place_of, state_of}
 use Rattle.symbolic_runs.specs.declared.states.Choice.{Choice}

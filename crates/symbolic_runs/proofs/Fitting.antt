@@ -13,12 +13,12 @@ use Rattle.sound_types.proofs.Members.{In, in_either, map_in}
 use Rattle.expr_term_laws.specs.Shown.{AreVariables, HasWidth, TermsHaveWidths, sort_width}
 use Rattle.expr_term_laws.specs.TermOf.{TermEnv, bind_terms, term_context, term_of, terms_of}
 use Rattle.expr_term_laws.proofs.Widths.{params_are}
-use Rattle.symbolic_laws.specs.States as states
-use Rattle.symbolic_laws.specs.States.{Place, State, TermWorld, choice_width, guard_term, input_term, term_world, where_true}
-use Rattle.symbolic_laws.specs.Following.{chosen_as, each, follow, follow_all, has_sent, in_branch, next_input, one, sends_to, term_at, unless_sent}
-use Rattle.symbolic_laws.proofs.Fields.{set_fits}
-use Rattle.symbolic_laws.proofs.Followings.{each_in, passed, some_place, unless_in}
-use Rattle.symbolic_laws.proofs.Statements.{block_vars}
+use Rattle.obligation_laws.specs.States as states
+use Rattle.obligation_laws.specs.States.{Place, State, TermWorld, choice_width, guard_term, input_term, term_world, where_true}
+use Rattle.obligation_laws.specs.Following.{chosen_as, each, follow, follow_all, has_sent, in_branch, next_input, one, sends_to, term_at, unless_sent}
+use Rattle.obligation_laws.proofs.FieldTerms.{set_fits}
+use Rattle.obligation_laws.proofs.Followings.{each_in, passed, some_place, unless_in}
+use Rattle.obligation_laws.proofs.Statements.{block_vars}
 use Rattle.symbolic_runs.specs.Fitting.{FitsBy, FitsPlace, FitsState}
 
 module _ (d : Design) (level : ℕ) (wide : TermsHaveWidths d) (roles : (name : List ℕ) (r : Role) → role_at level d name ≡ Some r → IsTypedRole d level r) where

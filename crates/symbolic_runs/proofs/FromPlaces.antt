@@ -13,13 +13,13 @@ use Rattle.expr_term_laws.specs.Shown.{HasWidth}
 use Rattle.expr_term_laws.specs.TermOf.{bind_terms}
 use Rattle.expr_term_laws.proofs.Widths.{params_are}
 use Rattle.expr_terms.specs.Variables.{AreThere, Makes, VariablesThere, terms_at, variables_of}
-use Rattle.symbolic_laws.specs.States as tree
-use Rattle.symbolic_laws.specs.States.{TermWorld, guard_term}
-use Rattle.symbolic_laws.specs.Following.{Followed, follow_all, has_sent, one, those_sent}
-use Rattle.symbolic_laws.proofs.Followings.{passed, some_place}
-use Rattle.symbolic_laws.proofs.Statements.{block_vars}
+use Rattle.obligation_laws.specs.States as tree
+use Rattle.obligation_laws.specs.States.{TermWorld, guard_term}
+use Rattle.obligation_laws.specs.Following.{Followed, follow_all, has_sent, one, those_sent}
+use Rattle.obligation_laws.proofs.Followings.{passed, some_place}
+use Rattle.obligation_laws.proofs.Statements.{block_vars}
 use Rattle.sound_types.proofs.Members.{In}
-use Rattle.symbolic_laws.specs.Leaves.{begins, entered, follow_body}
+use Rattle.obligation_laws.specs.Leaves.{begins, entered, follow_body}
 use Rattle.symbolic_runs.specs.Entering.{IsBodyAt, NoBodyAt}
 use Rattle.symbolic_runs.specs.Fitting.{CanFollow, FitsBy, FitsPlace, FitsState, IsReady, Stands}
 use Rattle.symbolic_runs.specs.Reading.{Follows, IsInput, IsThere, PlaceThere, Reads, from_place, input_of, place_of, state_of, states_of, values_at, world_in}

@@ -7,8 +7,8 @@ use Rattle.bv_terms.specs.declared.node.Node.{Node}
 use Rattle.bv_terms.specs.Arenas.{KeepsTerms, inputs_in, term_at}
 use Rattle.expr_terms.specs.Variables.{AreThere, VariablesThere, terms_at, variable_of, variables_of}
 use Rattle.expr_terms.specs.declared.variables.Variable.{Variable}
-use Rattle.symbolic_laws.specs.States as tree
-use Rattle.symbolic_laws.specs.Following.{Followed, each, has_sent, then_those}
+use Rattle.obligation_laws.specs.States as tree
+use Rattle.obligation_laws.specs.Following.{Followed, each, has_sent, then_those}
 use Rattle.symbolic_runs.specs.Reading.{Follows, IsInput, IsThere, PlaceThere, cut_to, input_of, place_of, state_of, states_of}
 use Rattle.symbolic_runs.specs.declared.states.Place.{Place}
 use Rattle.symbolic_runs.specs.declared.states.State.{State}

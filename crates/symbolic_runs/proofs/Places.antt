@@ -13,7 +13,7 @@ use Rattle.expr_term_laws.specs.Shown.{HasWidth}
 use Rattle.role_values.proofs.FieldSteps.{counted}
 use Rattle.sound_types.proofs.Variables.{width_among}
 use Rattle.symbolic_runs.specs.Places.{later, place_in, place_of}
-use Rattle.symbolic_laws.specs.States.{choice_width, set_in, set_term}
+use Rattle.obligation_laws.specs.States.{choice_width, set_in, set_term}
 
 -- ---- the width of a term is a width
 

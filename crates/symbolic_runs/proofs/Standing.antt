@@ -10,9 +10,9 @@ use Rattle.bv_terms.specs.Arenas.{KeepsTerms, inputs_in}
 use Rattle.sound_types.specs.WellTyped.{IsTyped, IsTypedStmt, scope_at}
 use Rattle.sound_types.proofs.Bodies.{after_scope, after_vars}
 use Rattle.sound_types.proofs.Members.{In}
-use Rattle.symbolic_laws.specs.States as tree
-use Rattle.symbolic_laws.specs.Following.{Followed, each, follow, follow_all, one, unless_sent}
-use Rattle.symbolic_laws.proofs.Statements.{block_vars}
+use Rattle.obligation_laws.specs.States as tree
+use Rattle.obligation_laws.specs.Following.{Followed, each, follow, follow_all, one, unless_sent}
+use Rattle.obligation_laws.proofs.Statements.{block_vars}
 use Rattle.symbolic_runs.specs.Fitting.{CanDo, CanFollow, FitsState, IsReady, Stands}
 use Rattle.symbolic_runs.specs.Reading.{Follows, IsThere, Reads, place_of, state_of, states_of, world_in}
 use Rattle.symbolic_runs.specs.declared.states.Place.{Place}

@@ -26,10 +26,10 @@ use Rattle.expr_term_laws.proofs.Widths.{params_are}
 use Rattle.expr_terms.specs.Scopes.{AreTyped, IsTyped}
 use Rattle.expr_terms.specs.Variables.{AreThere, Keeps, Makes, MakesAll, VariablesThere, terms_at, variable_of, variables_of}
 use Rattle.expr_terms.specs.declared.variables.Variable.{Variable}
-use Rattle.symbolic_laws.specs.States as tree
-use Rattle.symbolic_laws.specs.States.{TermWorld, input_term, where_true, with_variable}
-use Rattle.symbolic_laws.specs.Following as following
-use Rattle.symbolic_laws.specs.Following.{Followed, all_back_to, chosen_as, follow, follow_all, has_sent, in_branch, next_input, one, sends_to, then_those, those_sent}
+use Rattle.obligation_laws.specs.States as tree
+use Rattle.obligation_laws.specs.States.{TermWorld, input_term, where_true, with_variable}
+use Rattle.obligation_laws.specs.Following as following
+use Rattle.obligation_laws.specs.Following.{Followed, all_back_to, chosen_as, follow, follow_all, has_sent, in_branch, next_input, one, sends_to, then_those, those_sent}
 use Rattle.symbolic_runs.specs.Fitting.{CanDo, CanEnter, CanFollow, FitsBy, FitsPlace, FitsState, HaveTerms, IsOfType, IsReady, Stands}
 use Rattle.symbolic_runs.specs.Reading.{Follows, IsThere, Reads, cut_to, forked, place_of, state_of, states_of, world_in}
 use Rattle.symbolic_runs.specs.declared.states.Place.{Place}

@@ -4,7 +4,7 @@ use Rattle.cocoon_num.specs.Tree.{Block, Role}
 use Rattle.cocoon_syntax.specs.TreeOf.{design_of}
 use Rattle.cocoon_types.specs.Design.{role_at}
 use Rattle.bv_terms.specs.declared.node.Node.{Node}
-use Rattle.symbolic_laws.specs.States as tree
+use Rattle.obligation_laws.specs.States as tree
 use Rattle.symbolic_runs.specs.declared.states.Place.{Place}
 use Rattle.symbolic_runs.specs.declared.world.World.{World}
 use Rattle.symbolic_runs.specs.Reading.{from_place, place_of, world_in}

@@ -12,7 +12,7 @@ use Rattle.expr_term_laws.specs.Shown.{AreVariables, HasWidth, TermsHaveWidths}
 use Rattle.expr_term_laws.specs.TermOf.{TermEnv}
 use Rattle.expr_terms.specs.Sizes.{AreSizes}
 use Rattle.expr_terms.specs.Variables.{AreThere, terms_at}
-use Rattle.symbolic_laws.specs.States as tree
+use Rattle.obligation_laws.specs.States as tree
 use Rattle.symbolic_runs.specs.declared.states.State.{State}
 use Rattle.symbolic_runs.specs.declared.world.World.{World}
 use Rattle.symbolic_runs.specs.Reading.{IsThere, state_of}

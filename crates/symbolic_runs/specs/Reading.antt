@@ -6,11 +6,11 @@ use Rattle.bv_terms.specs.declared.node.Node.{Node}
 use Rattle.bv_terms.specs.declared.node.Node.TheVariants.{Input}
 use Rattle.bv_terms.specs.Arenas.{inputs_in, term_at}
 use Rattle.expr_terms.specs.Variables.{AreThere, VariablesThere, terms_at, variables_of}
-use Rattle.symbolic_laws.specs.States as tree
-use Rattle.symbolic_laws.specs.States.{NewInput, TermWorld, term_world}
-use Rattle.symbolic_laws.specs.Following.{Followed, chosen_as, next_input}
-use Rattle.symbolic_laws.specs.Following as following
-use Rattle.symbolic_laws.specs.Leaves as leaves
+use Rattle.obligation_laws.specs.States as tree
+use Rattle.obligation_laws.specs.States.{NewInput, TermWorld, term_world}
+use Rattle.obligation_laws.specs.Following.{Followed, chosen_as, next_input}
+use Rattle.obligation_laws.specs.Following as following
+use Rattle.obligation_laws.specs.Leaves as leaves
 use Rattle.symbolic_runs.specs.declared.states.Choice.{Choice}
 use Rattle.symbolic_runs.specs.declared.states.Place.{Place}
 use Rattle.symbolic_runs.specs.declared.states.State.{State}

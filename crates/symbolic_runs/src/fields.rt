@@ -8,7 +8,7 @@ ghost use Rattle.cocoon_types.specs.Design as design;
 ghost use Rattle.bv_terms.specs.TermTrees.{IsWidth};
 ghost use Rattle.expr_term_laws.specs.Shown.{HasWidth};
 ghost use Rattle.expr_terms.specs.Variables.{AreThere, terms_at};
-ghost use Rattle.symbolic_laws.specs.States.{choice_width};
+ghost use Rattle.obligation_laws.specs.States.{choice_width};
 ghost use Rattle.symbolic_runs.specs.Places as places;
 
 use bv_terms::{TermId, Terms};

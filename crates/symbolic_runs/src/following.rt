@@ -3,7 +3,7 @@ ghost use Rattle.std.specs.Prelude.{◌≡◌, ◌∷◌, [], IfOk, map};
 ghost use Rattle.cocoon_num.specs.Tree as tree;
 ghost use Rattle.cocoon_syntax.specs.TreeOf.{block_of, expr_of, name_of, stmt_of};
 ghost use Rattle.bv_terms.specs.Arenas.{KeepsTerms, inputs_in};
-ghost use Rattle.symbolic_laws.specs.Following.{each, follow, follow_all, then_those, unless_sent};
+ghost use Rattle.obligation_laws.specs.Following.{each, follow, follow_all, then_those, unless_sent};
 ghost use Rattle.symbolic_runs.specs.Fitting.{CanDo, CanFollow, HasNoBlock, IsReady};
 ghost use Rattle.symbolic_runs.specs.Reading.{Follows, state_of, states_of, world_in};
 

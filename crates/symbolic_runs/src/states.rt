@@ -6,10 +6,10 @@ ghost use Rattle.bv_terms.specs.declared.node.Node.{Node};
 ghost use Rattle.bv_terms.specs.Arenas.{KeepsTerms, inputs_in, width_at};
 ghost use Rattle.bv_terms.specs.TermTrees.{IsWidth, Term};
 ghost use Rattle.expr_terms.specs.Variables.{Makes, MakesAll};
-ghost use Rattle.symbolic_laws.specs.States as tree;
-ghost use Rattle.symbolic_laws.specs.States.{input_term, where_true, with_branch, with_choice, with_field, with_variable};
-ghost use Rattle.symbolic_laws.specs.Following as spec;
-ghost use Rattle.symbolic_laws.specs.Following.{Followed, next_input};
+ghost use Rattle.obligation_laws.specs.States as tree;
+ghost use Rattle.obligation_laws.specs.States.{input_term, where_true, with_branch, with_choice, with_field, with_variable};
+ghost use Rattle.obligation_laws.specs.Following as spec;
+ghost use Rattle.obligation_laws.specs.Following.{Followed, next_input};
 ghost use Rattle.symbolic_runs.specs.Reading.{cut_to, Follows, Reads};
 
 use crate::fields::place_of;

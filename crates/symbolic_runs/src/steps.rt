@@ -5,10 +5,10 @@ ghost use Rattle.cocoon_syntax.specs.TreeOf.{expr_of, exprs_of, name_of, stmt_of
 ghost use Rattle.bv_terms.specs.Arenas.{KeepsTerms, inputs_in, width_at};
 ghost use Rattle.bv_terms.specs.TermTrees.{IsWidth, Term};
 ghost use Rattle.expr_terms.specs.Variables.{Makes};
-ghost use Rattle.symbolic_laws.specs.States as states;
-ghost use Rattle.symbolic_laws.specs.States.{where_true, with_branch};
-ghost use Rattle.symbolic_laws.specs.Following.{follow, in_branch};
-ghost use Rattle.symbolic_laws.specs.Following as spec;
+ghost use Rattle.obligation_laws.specs.States as states;
+ghost use Rattle.obligation_laws.specs.States.{where_true, with_branch};
+ghost use Rattle.obligation_laws.specs.Following.{follow, in_branch};
+ghost use Rattle.obligation_laws.specs.Following as spec;
 ghost use Rattle.symbolic_runs.specs.Fitting.{CanDo, HasNoBlock, IsReady};
 ghost use Rattle.symbolic_runs.specs.Reading.{Follows, forked, Reads, state_of, world_in};
 

@@ -6,8 +6,8 @@ ghost use Rattle.bv_terms.specs.TermTrees as term;
 ghost use Rattle.expr_term_laws.specs.TermOf.{terms_of};
 ghost use Rattle.expr_terms.specs.Sizes.{AreSizes};
 ghost use Rattle.expr_terms.specs.Variables.{Makes, MakesAll, terms_at};
-ghost use Rattle.symbolic_laws.specs.States.{guard_term};
-ghost use Rattle.symbolic_laws.specs.Following.{term_at as term_in};
+ghost use Rattle.obligation_laws.specs.States.{guard_term};
+ghost use Rattle.obligation_laws.specs.Following.{term_at as term_in};
 ghost use Rattle.symbolic_runs.specs.Fitting.{CanEnter, HasTerm, HaveTerms, IsReady};
 ghost use Rattle.symbolic_runs.specs.Reading.{state_of, world_in};
 

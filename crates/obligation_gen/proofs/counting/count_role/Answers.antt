@@ -3,7 +3,7 @@ use Rattle.std.proofs.lemmas.Result.{IfErr-weaker, on_ok_weaker}
 use Rattle.cocoon_syntax.specs.TreeOf.{design_of}
 use Rattle.cocoon_types.specs.Design.{role_at}
 use Rattle.refinement.specs.Segments.{is_new}
-use Rattle.symbolic_laws.specs.Counts.{leaf_count}
+use Rattle.obligation_laws.specs.Counts.{leaf_count}
 use Rattle.obligation_gen.proofs.LargeCounts.{below, first_told, passed, told_same}
 use Rattle.obligation_gen.proofs.counting.count_role.Goals as goal
 

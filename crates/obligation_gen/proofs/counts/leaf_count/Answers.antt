@@ -4,7 +4,7 @@ use Rattle.cocoon_syntax.specs.TreeOf.{design_of, refine_of}
 use Rattle.cocoon_types.specs.Design.{role_at}
 use Rattle.cocoon_types.specs.Limits.{reported}
 use Rattle.refinement.specs.Segments.{is_new}
-use Rattle.symbolic_laws.specs.Counts.{leaf_count, sends_of, sum_of}
+use Rattle.obligation_laws.specs.Counts.{leaf_count, sends_of, sum_of}
 use Rattle.obligation_gen.specs.Tabled.{Tells, entries, role_texts, valued}
 use Rattle.obligation_gen.specs.Weighed.{leaves_in}
 use Rattle.obligation_gen.proofs.Tables.{leaves_more, read_there, same_length, table_more}

@@ -4,7 +4,7 @@ use Rattle.cocoon_syntax.specs.TreeOf.{decl_of, design_of, role_of}
 use Rattle.cocoon_types.specs.Design.{role_at}
 use Rattle.cocoon_types.specs.Limits.{reported}
 use Rattle.refinement.specs.Segments.{is_new}
-use Rattle.symbolic_laws.specs.Counts.{sends_of, sum_of}
+use Rattle.obligation_laws.specs.Counts.{sends_of, sum_of}
 use Rattle.obligation_gen.specs.Tabled.{entries, role_texts, value_of, valued}
 use Rattle.obligation_gen.specs.Weighed.{leaves_in}
 use Rattle.obligation_gen.proofs.Tables.{noted}

@@ -2,9 +2,9 @@ use Rattle.std.proofs.Common.{◌≡◌, ◌++◌, sym, subst, rules, arith}
 use Rattle.std.proofs.lemmas.Result.{IfOk-weaker}
 use Rattle.bv_terms.specs.Arenas.{inputs_in}
 use Rattle.bv_terms.proofs.ReplaceFacts.{keeps-both}
-use Rattle.symbolic_laws.specs.Following.{Followed}
-use Rattle.symbolic_laws.specs.Leaves as laws
-use Rattle.symbolic_laws.specs.Leaves.{onward}
+use Rattle.obligation_laws.specs.Following.{Followed}
+use Rattle.obligation_laws.specs.Leaves as laws
+use Rattle.obligation_laws.specs.Leaves.{onward}
 use Rattle.symbolic_runs.specs.Reading.{state_of, states_of, world_in}
 use Rattle.obligation_gen.specs.Bodies.{design_in, new_in}
 use Rattle.obligation_gen.specs.ShownTrees.{ShowsLeaves}

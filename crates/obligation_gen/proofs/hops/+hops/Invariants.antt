@@ -1,6 +1,6 @@
 use Rattle.std.proofs.Common.{◌+◌, ◌*◌}
-use Rattle.symbolic_laws.specs.Leaves as laws
-use Rattle.symbolic_laws.specs.Leaves.{onward}
+use Rattle.obligation_laws.specs.Leaves as laws
+use Rattle.obligation_laws.specs.Leaves.{onward}
 use Rattle.symbolic_runs.specs.Reading.{world_in}
 use Rattle.obligation_gen.specs.Bodies.{new_in}
 use Rattle.obligation_gen.proofs.Bodies.{Gone}

@@ -1,5 +1,5 @@
 use Rattle.std.proofs.Common.{◌≡◌, List, [], ◌∷◌, ◌++◌, map, sym, ap, subst, ◌∙◌}
-use Rattle.symbolic_laws.specs.Leaves.{leaf_of}
+use Rattle.obligation_laws.specs.Leaves.{leaf_of}
 use Rattle.symbolic_runs.specs.Reading.{state_of}
 use Rattle.symbolic_runs.specs.declared.states.Choice.{Choice}
 use Rattle.obligation_gen.specs.declared.tree.Leaf.{Leaf}

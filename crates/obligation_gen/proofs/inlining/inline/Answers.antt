@@ -5,10 +5,10 @@ use Rattle.cocoon_types.specs.Design.{role_at}
 use Rattle.cocoon_types.specs.Limits.{reported}
 use Rattle.bv_terms.specs.Arenas.{inputs_in}
 use Rattle.refinement.specs.Segments.{is_new}
-use Rattle.symbolic_laws.specs.Counts.{leaf_count}
-use Rattle.symbolic_laws.specs.States.{term_world}
-use Rattle.symbolic_laws.specs.Leaves as laws
-use Rattle.symbolic_laws.specs.Leaves.{tree_of}
+use Rattle.obligation_laws.specs.Counts.{leaf_count}
+use Rattle.obligation_laws.specs.States.{term_world}
+use Rattle.obligation_laws.specs.Leaves as laws
+use Rattle.obligation_laws.specs.Leaves.{tree_of}
 use Rattle.obligation_gen.specs.ShownTrees.{ShowsTree}
 use Rattle.obligation_gen.proofs.RoleNames.{few_enough, role_named, too_many}
 use Rattle.obligation_gen.proofs.inlining.inline.Goals as goal

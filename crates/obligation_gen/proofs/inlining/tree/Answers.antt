@@ -6,8 +6,8 @@ use Rattle.cocoon_types.specs.Design.{widths_of}
 use Rattle.bv_terms.specs.Arenas.{KeepsTerms, inputs_in}
 use Rattle.bv_terms.proofs.ReplaceFacts.{keeps-both}
 use Rattle.role_values.specs.DeclaredWidths.{AllDeclared}
-use Rattle.symbolic_laws.specs.States.{input_term, inputs_from}
-use Rattle.symbolic_laws.specs.Leaves.{begins, hops, leaf_of}
+use Rattle.obligation_laws.specs.States.{input_term, inputs_from}
+use Rattle.obligation_laws.specs.Leaves.{begins, hops, leaf_of}
 use Rattle.symbolic_runs.specs.Reading.{state_of, world_in}
 use Rattle.expr_terms.specs.Variables.{MakesAll}
 use Rattle.obligation_gen.specs.Bodies.{design_in, new_in}

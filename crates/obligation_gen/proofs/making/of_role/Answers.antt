@@ -13,9 +13,9 @@ use Rattle.obligation_gen.proofs.Ends.{numbered}
 use Rattle.obligation_laws.specs.Obligations as owed
 use Rattle.obligation_laws.specs.Obligations.{old_tree, refined_tree}
 use Rattle.refinement.specs.Segments.{is_new}
-use Rattle.symbolic_laws.specs.Counts.{leaf_count}
-use Rattle.symbolic_laws.specs.Leaves as laws
-use Rattle.symbolic_laws.specs.Leaves.{body_tree}
+use Rattle.obligation_laws.specs.Counts.{leaf_count}
+use Rattle.obligation_laws.specs.Leaves as laws
+use Rattle.obligation_laws.specs.Leaves.{body_tree}
 use Rattle.obligation_gen.specs.Shown.{ShowsObligations}
 use Rattle.obligation_gen.proofs.LargeCounts.{always}
 use Rattle.obligation_gen.proofs.Treed.{Treed, comparable, few_leaves, last_next, treed}

@@ -1,6 +1,6 @@
 use Rattle.std.proofs.Common.{◌+◌, ◌++◌, map, slice_index, take, sym, subst}
 use Rattle.expr_terms.specs.Variables.{MakesAll}
-use Rattle.symbolic_laws.specs.States.{input_term}
+use Rattle.obligation_laws.specs.States.{input_term}
 use Rattle.obligation_gen.proofs.InputTerms.{own_term}
 use Rattle.obligation_gen.proofs.PushedBack.{all_taken, input_at, one_made}
 use Rattle.obligation_gen.proofs.standing.push_inputs.Goals as goal

@@ -4,7 +4,7 @@ use Rattle.bv_terms.specs.TermTrees.{Term}
 use Rattle.expr_terms.specs.Variables.{MakesAll}
 use Rattle.obligation_gen.specs.ShownTrees.{ShowsInputs}
 use Rattle.obligation_laws.specs.Formulas.{read_back}
-use Rattle.symbolic_laws.specs.States.{input_term}
+use Rattle.obligation_laws.specs.States.{input_term}
 use Rattle.obligation_gen.proofs.InputTerms.{makes_none}
 use Rattle.obligation_gen.proofs.standing.stand_ins.Goals as goal
 

@@ -1,7 +1,7 @@
 use Rattle.std.proofs.Common.{suc, false}
 use Rattle.cocoon_resolve.specs.Readers.{all_widths}
 use Rattle.refinement.specs.Segments.{is_new}
-use Rattle.symbolic_laws.specs.States.{term_world}
+use Rattle.obligation_laws.specs.States.{term_world}
 use Rattle.obligation_laws.proofs.Together.{ways_part}
 use Rattle.obligation_laws.proofs.leaf_laws.ways_differ.Goals as goal
 

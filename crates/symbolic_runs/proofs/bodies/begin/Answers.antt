@@ -1,8 +1,8 @@
 use Rattle.std.proofs.Common.{◌≡◌, List, [], Some, rules, refl, sym, subst}
 use Rattle.bv_terms.specs.Arenas.{inputs_in}
 use Rattle.expr_terms.specs.Variables.{Makes, terms_at}
-use Rattle.symbolic_laws.specs.States.{guard_term}
-use Rattle.symbolic_laws.specs.Leaves.{begins}
+use Rattle.obligation_laws.specs.States.{guard_term}
+use Rattle.obligation_laws.specs.Leaves.{begins}
 use Rattle.symbolic_runs.specs.Fitting.{CanEnter}
 use Rattle.symbolic_runs.specs.Reading.{Reads, world_in}
 use Rattle.symbolic_runs.specs.declared.states.Place.{Place}

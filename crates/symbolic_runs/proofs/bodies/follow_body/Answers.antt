@@ -4,7 +4,7 @@ use Rattle.std.proofs.lemmas.Result.{IfOk-weaker}
 use Rattle.cocoon_syntax.specs.TreeOf.{block_of, role_of, stmt_of}
 use Rattle.bv_terms.specs.Arenas.{inputs_in}
 use Rattle.bv_terms.proofs.ReplaceFacts.{keeps-both}
-use Rattle.symbolic_laws.specs.Following.{Followed, follow_all}
+use Rattle.obligation_laws.specs.Following.{Followed, follow_all}
 use Rattle.symbolic_runs.specs.Fitting.{CanFollow, Stands}
 use Rattle.symbolic_runs.specs.Reading.{Follows, from_place, place_of, state_of, states_of, world_in}
 use Rattle.symbolic_runs.proofs.FromPlaces.{followed_body, on_ok, sent_stand}

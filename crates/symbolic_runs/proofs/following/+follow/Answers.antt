@@ -7,7 +7,7 @@ use Rattle.cocoon_syntax.specs.declared.stmt.StmtKind as kinds
 use Rattle.cocoon_syntax.specs.TreeOf.{block_of, expr_of, name_of, stmt_of}
 use Rattle.bv_terms.specs.Arenas.{KeepsTerms, inputs_in}
 use Rattle.bv_terms.proofs.ReplaceFacts.{keeps-both, keeps-none}
-use Rattle.symbolic_laws.specs.Following.{Followed, all_back_to, each, follow, follow_all, in_branch, one, term_at, then_those, those_sent, unless_sent}
+use Rattle.obligation_laws.specs.Following.{Followed, all_back_to, each, follow, follow_all, in_branch, one, term_at, then_those, those_sent, unless_sent}
 use Rattle.symbolic_runs.specs.Fitting.{CanDo, CanFollow}
 use Rattle.symbolic_runs.specs.Reading.{Follows, IsThere, Reads, forked, state_of, states_of, world_in}
 use Rattle.symbolic_runs.proofs.Growing.{one_all, states_on}

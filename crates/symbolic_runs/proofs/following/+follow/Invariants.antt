@@ -2,7 +2,7 @@ use Rattle.std.proofs.Common.{◌≡◌, ◌+◌, ◌*◌, All, drop, map}
 use Rattle.cocoon_num.specs.Tree.{no_stmts, stmt}
 use Rattle.cocoon_syntax.specs.TreeOf.{block_of, stmt_of}
 use Rattle.bv_terms.specs.Arenas.{KeepsTerms, inputs_in}
-use Rattle.symbolic_laws.specs.Following.{each, follow, follow_all, then_those, unless_sent}
+use Rattle.obligation_laws.specs.Following.{each, follow, follow_all, then_those, unless_sent}
 use Rattle.symbolic_runs.specs.Fitting.{CanFollow}
 use Rattle.symbolic_runs.specs.Reading.{IsThere, states_of, world_in}
 use Rattle.symbolic_runs.proofs.Sizes.{size, size_all}

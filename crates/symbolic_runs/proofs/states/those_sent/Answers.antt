@@ -2,7 +2,7 @@ use Rattle.std.proofs.Common.{◌≡◌, List, [], ◌∷◌, ◌++◌, All, tru
 use Rattle.std.specs.Prelude.{filter, is_some}
 use Rattle.std.proofs.lemmas.List.{append-nil}
 use Rattle.std.proofs.lemmas.List.Elements.{All-append}
-use Rattle.symbolic_laws.specs.Following.{has_sent}
+use Rattle.obligation_laws.specs.Following.{has_sent}
 use Rattle.symbolic_runs.specs.Reading.{IsThere, states_of}
 use Rattle.symbolic_runs.proofs.Growing.{head_all, one_all, tail_all}
 use Rattle.symbolic_runs.proofs.Lists.{empty_of, sent_more, sent_past}

@@ -1,7 +1,7 @@
 use Rattle.std.proofs.Common.{◌≡◌, ◌++◌, All, List}
 use Rattle.std.specs.Prelude.{filter}
 use Rattle.bv_terms.specs.declared.node.Node.{Node}
-use Rattle.symbolic_laws.specs.Following.{has_sent}
+use Rattle.obligation_laws.specs.Following.{has_sent}
 use Rattle.symbolic_runs.specs.Reading.{IsThere, states_of}
 use Rattle.symbolic_runs.proofs.states.those_sent.Given as goal
 

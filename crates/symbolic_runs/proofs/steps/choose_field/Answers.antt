@@ -7,8 +7,8 @@ use Rattle.cocoon_types.specs.Design.{field_width}
 use Rattle.bv_terms.specs.Arenas.{inputs_in}
 use Rattle.expr_term_laws.specs.Shown.{HasWidth}
 use Rattle.expr_terms.specs.Variables.{AreThere, terms_at}
-use Rattle.symbolic_laws.specs.States.{choice_width, input_term, with_choice, with_field}
-use Rattle.symbolic_laws.specs.Following.{next_input}
+use Rattle.obligation_laws.specs.States.{choice_width, input_term, with_choice, with_field}
+use Rattle.obligation_laws.specs.Following.{next_input}
 use Rattle.symbolic_runs.specs.Reading.{Reads, state_of}
 use Rattle.symbolic_runs.proofs.Standing.{follows_one}
 use Rattle.symbolic_runs.proofs.Stepping.{choice_fits, fields_many, reads_self}

@@ -8,8 +8,8 @@ use Rattle.bv_terms.proofs.ReplaceFacts.{keeps-both}
 use Rattle.expr_term_laws.specs.Shown.{HasWidth}
 use Rattle.expr_term_laws.specs.TermOf.{term_context, terms_of}
 use Rattle.expr_terms.specs.Variables.{MakesAll, terms_at}
-use Rattle.symbolic_laws.specs.States.{Place, guard_term, where_true}
-use Rattle.symbolic_laws.specs.Following.{sends_to}
+use Rattle.obligation_laws.specs.States.{Place, guard_term, where_true}
+use Rattle.obligation_laws.specs.Following.{sends_to}
 use Rattle.symbolic_runs.specs.Fitting.{CanEnter}
 use Rattle.symbolic_runs.specs.Reading.{Reads, state_of, world_in}
 use Rattle.symbolic_runs.proofs.Standing.{follows_one}

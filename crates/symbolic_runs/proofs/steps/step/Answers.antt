@@ -3,7 +3,7 @@ use Rattle.cocoon_num.specs.Tree.{assume, filter, havoc_field, havoc_var, let_, 
 use Rattle.cocoon_syntax.specs.declared.stmt.StmtKind as kinds
 use Rattle.cocoon_syntax.specs.TreeOf.{expr_of, exprs_of, name_of, stmt_of}
 use Rattle.bv_terms.specs.Arenas.{inputs_in}
-use Rattle.symbolic_laws.specs.Following.{follow}
+use Rattle.obligation_laws.specs.Following.{follow}
 use Rattle.symbolic_runs.specs.Fitting.{CanDo}
 use Rattle.symbolic_runs.specs.Reading.{Follows, state_of, world_in}
 use Rattle.symbolic_runs.proofs.Stepping.{as_stmt, declared_width}

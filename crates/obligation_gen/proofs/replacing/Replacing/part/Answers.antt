@@ -6,7 +6,7 @@ use Rattle.bv_terms.specs.TermTrees.{width}
 use Rattle.expr_terms.specs.Variables.{AreThere, Makes, terms_at}
 use Rattle.expr_terms.proofs.Making.{keeps_on}
 use Rattle.obligation_laws.specs.Formulas.{chain, equals}
-use Rattle.symbolic_laws.specs.Leaves.{end_fields, end_values}
+use Rattle.obligation_laws.specs.Leaves.{end_fields, end_values}
 use Rattle.obligation_gen.proofs.Pairing.{first_made, joined, ready_on, same_widths, values_width}
 use Rattle.obligation_gen.proofs.replacing.Replacing.part.Goals as goal
 

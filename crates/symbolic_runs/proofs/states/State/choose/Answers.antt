@@ -1,8 +1,8 @@
 use Rattle.std.proofs.Common.{◌≡◌, rules, sym, subst}
 use Rattle.bv_terms.specs.declared.node.Node.TheVariants.{Input}
 use Rattle.bv_terms.specs.Arenas.{IsPut, inputs_in}
-use Rattle.symbolic_laws.specs.States.{with_choice}
-use Rattle.symbolic_laws.specs.Following.{next_input}
+use Rattle.obligation_laws.specs.States.{with_choice}
+use Rattle.obligation_laws.specs.Following.{next_input}
 use Rattle.symbolic_runs.specs.Reading.{Reads}
 use Rattle.symbolic_runs.specs.declared.states.Choice.{Choice}
 use Rattle.symbolic_runs.specs.declared.states.State.{State}

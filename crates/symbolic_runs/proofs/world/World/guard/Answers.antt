@@ -4,7 +4,7 @@ use Rattle.cocoon_types.specs.Design.{role_at}
 use Rattle.expr_term_laws.specs.TermOf.{bind_terms, term_context, term_of}
 use Rattle.expr_terms.specs.Scopes.{IsTyped}
 use Rattle.expr_terms.specs.Variables.{terms_at, variables_of}
-use Rattle.symbolic_laws.specs.States.{guard_term}
+use Rattle.obligation_laws.specs.States.{guard_term}
 use Rattle.symbolic_runs.specs.Reading.{world_in}
 use Rattle.symbolic_runs.proofs.Stepping.{guard_is, guard_typed, made_ok}
 use Rattle.symbolic_runs.proofs.world.World.guard.Goals as goal
