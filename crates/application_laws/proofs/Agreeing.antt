@@ -18,8 +18,8 @@ use Rattle.bv_terms.specs.TermValues.{Functions, Inputs, arg_numbers, number_in,
 use Rattle.bv_terms.proofs.Subterms.{Each, EachArg, in-walk}
 use Rattle.defs_text.specs.Fitting.{FitsDesign, all_fit_widths}
 use Rattle.defs_text.specs.Places.{result_value}
-use Rattle.expr_term_laws.specs.Shown.{functions_by}
-use Rattle.expr_term_laws.specs.TermOf.{result_width}
+use Rattle.obligation_laws.specs.Shown.{functions_by}
+use Rattle.obligation_laws.specs.TermOf.{result_width}
 use Rattle.runtime_defs.specs.Stands.{Stands}
 use Rattle.bv_terms.specs.ByTables.{by_tables}
 use Rattle.bv_terms.specs.WithRows.{Tables, table_of, with_rows}

@@ -16,12 +16,12 @@ use Rattle.sound_types.specs.WellTyped.{scope_in}
 use Rattle.sound_types.proofs.Declared.{names_differ, typed_bodies}
 use Rattle.sound_types.proofs.Functions.{AreTypedBodies, NamesDiffer}
 use Rattle.sound_types.proofs.Members.{at_place}
-use Rattle.expr_term_laws.specs.TermOf.{TermContext, TermEnv, args_of, binary_term, bind_terms, call_in, field_term, term_context, term_in, term_of, terms_of, variable_term}
-use Rattle.expr_term_laws.specs.TypedExprs.{TypedAll, TypedAs}
-use Rattle.expr_term_laws.specs.Shown.{HasWidth}
-use Rattle.expr_term_laws.proofs.InFunctions.{HoldsNext, HoldsOf, all_hold}
-use Rattle.expr_term_laws.proofs.Typings.{everywhere, typed_everywhere}
-use Rattle.expr_term_laws.proofs.Widths.{Call, IsWide, SeesWidths, StandsAfter, call_steps, called, calls_wide, first_calls_wide, own_call, params_are, stands_after, term_widths}
+use Rattle.obligation_laws.specs.TermOf.{TermContext, TermEnv, args_of, binary_term, bind_terms, call_in, field_term, term_context, term_in, term_of, terms_of, variable_term}
+use Rattle.obligation_laws.specs.TypedExprs.{TypedAll, TypedAs}
+use Rattle.obligation_laws.specs.Shown.{HasWidth}
+use Rattle.obligation_laws.proofs.InFunctions.{HoldsNext, HoldsOf, all_hold}
+use Rattle.obligation_laws.proofs.Typings.{everywhere, typed_everywhere}
+use Rattle.obligation_laws.proofs.ExprWidths.{Call, IsWide, SeesWidths, StandsAfter, call_steps, called, calls_wide, first_calls_wide, own_call, params_are, stands_after, term_widths}
 use Rattle.application_laws.specs.Over.{AllOver, AreOver, IsOver, TermsAreOver, VariablesOver}
 
 module _ (d : Design) (inputs : ℕ → ℕ → Bool) where

@@ -13,7 +13,7 @@ use Rattle.bv_terms.specs.Environments.{RowFits}
 use Rattle.bv_terms.specs.TermTrees.{Term, Args, constant, input, apply, not_, binary, slice, pick, no_args, arg, arg_widths}
 use Rattle.defs_text.specs.Fitting as fitting
 use Rattle.defs_text.specs.Fitting.{FitsDesign, FitsFunction, FitsPlace, FitsRow, all_fit_widths}
-use Rattle.expr_term_laws.specs.TermOf.{result_width}
+use Rattle.obligation_laws.specs.TermOf.{result_width}
 use Rattle.runtime_defs.proofs.Fitted.{no-body}
 use Rattle.runtime_defs.proofs.Looking.{both-true}
 use Rattle.runtime_defs.proofs.Zips.{paired}

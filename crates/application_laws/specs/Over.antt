@@ -9,8 +9,8 @@ use Rattle.cocoon_types.specs.Typing.{Scope}
 use Rattle.bv_terms.specs.TermTrees.{Term, Args, constant, input, apply, not_, binary, slice, pick, no_args, arg, arg_widths}
 use Rattle.bv_terms.specs.TermValues.{Inputs}
 use Rattle.sound_types.specs.WellTyped.{HasType}
-use Rattle.expr_term_laws.specs.Shown.{FitsScope}
-use Rattle.expr_term_laws.specs.TermOf.{TermEnv, result_width, term_context, term_of}
+use Rattle.obligation_laws.specs.Shown.{FitsScope}
+use Rattle.obligation_laws.specs.TermOf.{TermEnv, result_width, term_context, term_of}
 
 -- the function of this number is defined at run time, with parameters and a result of these widths
 pub record IsRuntimeAt (d : Design) (f : ℕ) (widths : List ℕ) (w : ℕ) : Type 0 where

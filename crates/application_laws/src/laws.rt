@@ -8,7 +8,7 @@ ghost use Rattle.bit_blast.specs.Goals.{IsUnapplied};
 ghost use Rattle.bv_terms.specs.Inputs.{Mentions};
 ghost use Rattle.bv_terms.specs.TermTrees.{IsTerm, Term};
 ghost use Rattle.bv_terms.specs.TermValues.{Functions, Inputs, term_value};
-ghost use Rattle.expr_term_laws.specs.Shown.{functions_by};
+ghost use Rattle.obligation_laws.specs.Shown.{functions_by};
 ghost use Rattle.runtime_defs.specs.Fitting.{FitsDesign};
 ghost use Rattle.runtime_defs.specs.Stands.{Stands};
 ghost use Rattle.sound_types.specs.Literals.{DesignLiteralsFit};

@@ -20,7 +20,7 @@ use Rattle.bv_terms.specs.Walks.{applications, is_among, is_application, walk}
 use Rattle.bv_terms.proofs.Subterms.{Each, each-itself, each-weaker, walk-all, walk-has}
 use Rattle.cnf_core.specs.declared.certificates.Instance.{Instance}
 use Rattle.defs_text.specs.Fitting.{FitsDesign, all_ones}
-use Rattle.expr_term_laws.specs.Shown.{HasWidth}
+use Rattle.obligation_laws.specs.Shown.{HasWidth}
 use Rattle.application_laws.specs.Over.{AllOver, IsOver, fit_input}
 use Rattle.application_laws.proofs.Places.{fits-in, has-table}
 use Rattle.flat_laws.specs.Flat.{args_in, flattened}

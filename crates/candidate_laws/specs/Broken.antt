@@ -7,7 +7,7 @@ use Rattle.cocoon_num.specs.Tree.{AssumeDecl, DefsText, Design}
 use Rattle.cocoon_num.specs.Values.{number, truth}
 use Rattle.cocoon_types.specs.Tables.{defs_of}
 use Rattle.cocoon_types.specs.Val.{Env, bind, context, value}
-use Rattle.expr_term_laws.specs.Shown.{functions_by}
+use Rattle.obligation_laws.specs.Shown.{functions_by}
 use Rattle.runtime_defs.specs.Stands.{Stands}
 use Rattle.sound_types.specs.Defined.{HasDefinitions}
 use Rattle.bv_terms.specs.WithRows.{Tables}

@@ -23,7 +23,7 @@ use Rattle.bv_terms.proofs.Subterms.{Each}
 use Rattle.bv_terms.proofs.ValueFacts.{value-width}
 use Rattle.defs_text.specs.Fitting as fitting
 use Rattle.defs_text.specs.Fitting.{all_fit_widths}
-use Rattle.expr_term_laws.specs.TermOf.{result_width}
+use Rattle.obligation_laws.specs.TermOf.{result_width}
 use Rattle.application_laws.specs.Over.{IsOver}
 use Rattle.flat_goals.specs.Applied.{AreApplied, IsApplied}
 use Rattle.flat_goals.specs.declared.applied.Applied.{Applied as Code}

@@ -30,11 +30,11 @@ use Rattle.sound_types.specs.Matching.{IsOfSort}
 use Rattle.sound_types.specs.Soundness.{IsSound}
 use Rattle.sound_types.specs.WellTyped.{HasType, scope_at}
 use Rattle.sound_types.proofs.Declared.{names_differ}
-use Rattle.expr_term_laws.specs.Shown.{HasNumber, env_of, functions_by, numbers_of}
-use Rattle.expr_term_laws.specs.TermOf.{bind_terms}
-use Rattle.expr_term_laws.proofs.Rows.{rows_fit}
-use Rattle.expr_term_laws.proofs.Values.{ShownAs}
-use Rattle.expr_term_laws.proofs.Widths.{params_are}
+use Rattle.obligation_laws.specs.Shown.{HasNumber, env_of, functions_by, numbers_of}
+use Rattle.obligation_laws.specs.TermOf.{bind_terms}
+use Rattle.obligation_laws.proofs.Rows.{rows_fit}
+use Rattle.obligation_laws.proofs.ExprValues.{ShownAs}
+use Rattle.obligation_laws.proofs.ExprWidths.{params_are}
 use Rattle.bv_terms.specs.WithRows.{Tables, with_rows}
 use Rattle.fun_instances.proofs.AssumptionValues.{bound_are, bound_fit, value_is}
 use Rattle.application_laws.specs.Over.{AllOver, IsOver, TermsAreOver, VariablesOver, fit_input}

@@ -20,7 +20,7 @@ use Rattle.bit_blast.specs.Readings.{number_read}
 use Rattle.bv_terms.specs.Arenas.{IsArena, KeepsTerms, term_at}
 use Rattle.bv_terms.specs.TermTrees.{IsTerm, Term, width}
 use Rattle.bv_terms.specs.declared.node.Node.{Node}
-use Rattle.expr_term_laws.specs.Shown.{HasWidth}
+use Rattle.obligation_laws.specs.Shown.{HasWidth}
 use Rattle.refinement.specs.Assumptions.{IsMet, Meets}
 use Rattle.bv_terms.specs.WithRows.{Tables}
 use Rattle.discharge.specs.Answering.{Answers, AnswersTo}

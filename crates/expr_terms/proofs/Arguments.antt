@@ -4,7 +4,7 @@ use Rattle.bv_terms.specs.declared.node.Node.{Node}
 use Rattle.bv_terms.specs.Arenas as arenas
 use Rattle.bv_terms.specs.Arenas.{term_at}
 use Rattle.bv_terms.specs.TermTrees.{arg}
-use Rattle.expr_term_laws.specs.TermOf.{args_of}
+use Rattle.obligation_laws.specs.TermOf.{args_of}
 use Rattle.expr_terms.specs.Variables.{terms_at}
 
 pub arguments_are : (nodes : List Node) (ids : List ℕ) → arenas.args_of (term_at nodes) ids ≡ args_of (terms_at nodes ids)

@@ -7,10 +7,10 @@ use Rattle.cocoon_types.specs.Typing.{result_sort}
 use Rattle.bv_terms.specs.declared.node.Node.{Node}
 use Rattle.bv_terms.specs.TermTrees.{Term}
 use Rattle.sound_types.specs.WellTyped.{scope_in}
-use Rattle.expr_term_laws.specs.Shown.{AreVariables}
-use Rattle.expr_term_laws.specs.TermOf.{bind_terms}
-use Rattle.expr_term_laws.proofs.Together.{body_is_typed}
-use Rattle.expr_term_laws.proofs.Widths.{params_are}
+use Rattle.obligation_laws.specs.Shown.{AreVariables}
+use Rattle.obligation_laws.specs.TermOf.{bind_terms}
+use Rattle.obligation_laws.proofs.ExprsTogether.{body_is_typed}
+use Rattle.obligation_laws.proofs.ExprWidths.{params_are}
 use Rattle.expr_terms.specs.Finds.{called}
 use Rattle.expr_terms.specs.Scopes.{CanMake, CanMakeBody, IsSeen, Takes, design_in}
 use Rattle.expr_terms.specs.Variables.{VariablesThere, terms_at, variables_of}

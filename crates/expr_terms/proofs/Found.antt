@@ -7,7 +7,7 @@ use Rattle.cocoon_num.specs.Tree.{FunctionDecl, Design}
 use Rattle.cocoon_types.specs.Design.{functions}
 use Rattle.bv_terms.specs.TermTrees.{Term}
 use Rattle.sound_types.proofs.Options.{same_text}
-use Rattle.expr_term_laws.specs.TermOf.{call_in, no_term}
+use Rattle.obligation_laws.specs.TermOf.{call_in, no_term}
 use Rattle.expr_terms.specs.Finds.{called, called_in, number_in}
 use Rattle.expr_terms.specs.Sizes.{body_nodes, call_nodes, functions_before}
 

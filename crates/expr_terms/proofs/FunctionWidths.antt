@@ -14,8 +14,8 @@ use Rattle.bv_terms.specs.TermTrees.{IsWidth}
 use Rattle.sound_types.proofs.Levels.{site_at, stands}
 use Rattle.sound_types.proofs.Members.{In, in_filter, none_at}
 use Rattle.sound_types.proofs.Options.{nil_left, nil_right, passes}
-use Rattle.expr_term_laws.specs.Shown.{HasWidth}
-use Rattle.expr_term_laws.specs.TermOf.{result_width}
+use Rattle.obligation_laws.specs.Shown.{HasWidth}
+use Rattle.obligation_laws.specs.TermOf.{result_width}
 use Rattle.expr_terms.specs.Variables.{terms_at}
 
 is_function : (x : Decl) (g : FunctionDecl) → as_function x ≡ Some g → x ≡ a_function g

@@ -6,7 +6,7 @@ use Rattle.std.proofs.lemmas.List.{length-map}
 use Rattle.cocoon_num.specs.Names.{same_name}
 use Rattle.cocoon_num.specs.Tree.{Param, HeaderDecl}
 use Rattle.bv_terms.specs.TermTrees.{Term}
-use Rattle.expr_term_laws.specs.TermOf.{bind_terms, field_term, no_term, term_in}
+use Rattle.obligation_laws.specs.TermOf.{bind_terms, field_term, no_term, term_in}
 
 pub from : {A : Type 0} (xs : List A) (i : ℕ) (x : A) → i < length xs → x ≡ get_or xs i x → drop i xs ≡ x ∷ drop (i + 1) xs
 from xs i x l e = let one : suc i ≡ i + 1 = omega arith in drop-cons xs i x l ∙ (λ j. sym e j ∷ drop (one j) xs)

@@ -14,12 +14,12 @@ use Rattle.bv_terms.specs.TermTrees as term
 use Rattle.bv_terms.specs.TermTrees.{Term, width}
 use Rattle.sound_types.proofs.Declared.{names_differ}
 use Rattle.sound_types.proofs.Members.{In, at_place, in_left}
-use Rattle.expr_term_laws.specs.Shown.{FitsScope, HasWidth, WidthsFit, sort_width}
-use Rattle.expr_term_laws.specs.TermOf.{TermEnv, binary_term, call_in, term_of, terms_of}
-use Rattle.expr_term_laws.specs.TypedExprs.{TypedAll}
-use Rattle.expr_term_laws.proofs.InFunctions.{HoldsOf}
-use Rattle.expr_term_laws.proofs.OperatorTerms.{operands_fit, slice_fits}
-use Rattle.expr_term_laws.proofs.Widths.{IsWide, SeesWidths, first_calls_wide, term_width, term_widths}
+use Rattle.obligation_laws.specs.Shown.{FitsScope, HasWidth, WidthsFit, sort_width}
+use Rattle.obligation_laws.specs.TermOf.{TermEnv, binary_term, call_in, term_of, terms_of}
+use Rattle.obligation_laws.specs.TypedExprs.{TypedAll}
+use Rattle.obligation_laws.proofs.InFunctions.{HoldsOf}
+use Rattle.obligation_laws.proofs.OperatorTerms.{operands_fit, slice_fits}
+use Rattle.obligation_laws.proofs.ExprWidths.{IsWide, SeesWidths, first_calls_wide, term_width, term_widths}
 use Rattle.expr_terms.specs.Scopes.{CanCall, CanMake, CanMakeAll, IsSeen, Sees, Takes, context_in, design_in, term_in, terms_in}
 use Rattle.expr_terms.specs.Sizes.{functions_before}
 use Rattle.expr_terms.specs.Variables.{AreThere, Keeps, Makes, MakesAll, VariablesThere, terms_at, variable_of, variables_of}

@@ -6,9 +6,9 @@ use Rattle.cocoon_num.specs.Tree.{Expr, Exprs, Design}
 use Rattle.cocoon_types.specs.Design.{functions}
 use Rattle.cocoon_types.specs.Typing as typing
 use Rattle.bv_terms.specs.declared.node.Node.{Node}
-use Rattle.expr_term_laws.specs.Shown.{FitsScope}
-use Rattle.expr_term_laws.specs.TermOf.{call_in, term_context, term_of, terms_of}
-use Rattle.expr_term_laws.proofs.Typings.{all_typed_everywhere, everywhere, typed_everywhere}
+use Rattle.obligation_laws.specs.Shown.{FitsScope}
+use Rattle.obligation_laws.specs.TermOf.{call_in, term_context, term_of, terms_of}
+use Rattle.obligation_laws.proofs.Typings.{all_typed_everywhere, everywhere, typed_everywhere}
 use Rattle.expr_terms.specs.Scopes.{AreTyped, CanMake, CanMakeAll, IsTyped, IsWhole, Sees, context_in, design_in, functions_in, term_in, terms_in}
 use Rattle.expr_terms.specs.Sizes.{IsCount, functions_before, most_nodes}
 use Rattle.expr_terms.specs.Variables.{AreThere, VariablesThere, terms_at, variables_of}

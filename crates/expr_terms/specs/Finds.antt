@@ -4,7 +4,7 @@ use Rattle.cocoon_num.specs.Names.{same_name}
 use Rattle.cocoon_num.specs.Tree.{Expr, FunctionDecl, Design}
 use Rattle.bv_terms.specs.TermTrees as term
 use Rattle.bv_terms.specs.TermTrees.{Term}
-use Rattle.expr_term_laws.specs.TermOf.{TermEnv, args_of, bind_terms, call_in, result_width, term_of}
+use Rattle.obligation_laws.specs.TermOf.{TermEnv, args_of, bind_terms, call_in, result_width, term_of}
 use Rattle.expr_terms.specs.Sizes.{functions_before}
 
 -- the number of the first of these of a name, where they are numbered down to 0

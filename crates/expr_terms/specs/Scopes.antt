@@ -11,9 +11,9 @@ use Rattle.bv_terms.specs.declared.node.Node.{Node}
 use Rattle.bv_terms.specs.TermTrees.{Term}
 use Rattle.sound_types.specs.Literals.{DesignLiteralsFit}
 use Rattle.sound_types.specs.WellTyped.{HasType, HaveWidths, scope_in}
-use Rattle.expr_term_laws.specs.Shown.{AreVariables, FitsScope, HasWidth}
-use Rattle.expr_term_laws.specs.TermOf.{TermContext, call_in, term_of, terms_of}
-use Rattle.expr_term_laws.specs.TypedExprs.{TypedAll, TypedAs}
+use Rattle.obligation_laws.specs.Shown.{AreVariables, FitsScope, HasWidth}
+use Rattle.obligation_laws.specs.TermOf.{TermContext, call_in, term_of, terms_of}
+use Rattle.obligation_laws.specs.TypedExprs.{TypedAll, TypedAs}
 use Rattle.expr_terms.specs.Sizes.{functions_before}
 use Rattle.expr_terms.specs.Variables.{AreThere, VariablesThere, terms_at, variables_of}
 use Rattle.expr_terms.specs.declared.functions.Scope.{Scope}

@@ -3,7 +3,7 @@ use Rattle.std.specs.Prelude.{◌≡◌, ℕ, ◌<◌, List, All, length, map, r
 use Rattle.bv_terms.specs.declared.node.Node.{Node}
 use Rattle.bv_terms.specs.Arenas.{inputs_in, KeepsTerms, term_at}
 use Rattle.bv_terms.specs.TermTrees.{Term}
-use Rattle.expr_term_laws.specs.TermOf.{TermEnv, no_term}
+use Rattle.obligation_laws.specs.TermOf.{TermEnv, no_term}
 use Rattle.expr_terms.specs.declared.variables.Variable.{Variable}
 
 abbrev pub variable_of : List Node → Variable → List ℕ × Term

@@ -5,7 +5,7 @@ ghost use Rattle.cocoon_num.specs.Tree.{FunctionDecl as Declared};
 ghost use Rattle.cocoon_syntax.specs.TreeOf.{design_of, expr_of, exprs_of, function_of};
 ghost use Rattle.cocoon_types.specs.Design.{functions};
 ghost use Rattle.bv_terms.specs.Arenas.{KeepsTerms, inputs_in, term_at};
-ghost use Rattle.expr_term_laws.specs.TermOf.{call_in, term_context, term_of, terms_of};
+ghost use Rattle.obligation_laws.specs.TermOf.{call_in, term_context, term_of, terms_of};
 ghost use Rattle.expr_terms.specs.Finds.{body_term, called};
 ghost use Rattle.expr_terms.specs.Scopes.{AreTyped, CanCall, CanMake, CanMakeAll, CanMakeBody, IsSeen, IsTyped, IsWhole, Takes, design_in, term_in, terms_in};
 ghost use Rattle.expr_terms.specs.Sizes.{AreSizes, expr_nodes, exprs_nodes, functions_before, most_nodes};

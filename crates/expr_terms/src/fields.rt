@@ -2,7 +2,7 @@
 ghost use Rattle.std.specs.Prelude.{◌≡◌, ℕ, List, drop, map};
 ghost use Rattle.cocoon_syntax.specs.TreeOf.{header_of, param_of};
 ghost use Rattle.bv_terms.specs.declared.node.Node.{Node};
-ghost use Rattle.expr_term_laws.specs.TermOf.{field_term, term_in};
+ghost use Rattle.obligation_laws.specs.TermOf.{field_term, term_in};
 ghost use Rattle.expr_terms.specs.Variables.{AreThere, IsThere, found_term, terms_at};
 
 use crate::variables::is_same;

@@ -3,7 +3,7 @@ ghost use Rattle.std.specs.Prelude.{◌≡◌, ◌≤◌, length};
 ghost use Rattle.cocoon_syntax.specs.TreeOf.{design_of, result_of};
 ghost use Rattle.cocoon_types.specs.Design.{functions};
 ghost use Rattle.bv_terms.specs.TermTrees.{IsWidth};
-ghost use Rattle.expr_term_laws.specs.TermOf.{result_width};
+ghost use Rattle.obligation_laws.specs.TermOf.{result_width};
 ghost use Rattle.expr_terms.specs.Finds.{number_in};
 ghost use Rattle.expr_terms.specs.Sizes.{functions_before};
 

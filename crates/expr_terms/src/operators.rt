@@ -4,8 +4,8 @@ ghost use Rattle.cocoon_syntax.specs.TreeOf.{binary_of};
 ghost use Rattle.bv_terms.specs.Arenas.{term_at, width_at};
 ghost use Rattle.bv_terms.specs.TermTrees as term;
 ghost use Rattle.bv_terms.specs.TermTrees.{IsWidth, OperandsFit};
-ghost use Rattle.expr_term_laws.specs.TermOf.{args_of, binary_term};
-ghost use Rattle.expr_term_laws.specs.Shown.{WidthsFit};
+ghost use Rattle.obligation_laws.specs.TermOf.{args_of, binary_term};
+ghost use Rattle.obligation_laws.specs.Shown.{WidthsFit};
 ghost use Rattle.expr_terms.specs.Variables.{AreThere, IsThere, Keeps, Makes, found_term, terms_at};
 
 use bv_terms::{FunId, TermId, TermOp, Terms};

@@ -3,7 +3,7 @@ ghost use Rattle.std.specs.Prelude.{◌≡◌, ℕ, IfOk, List, map};
 ghost use Rattle.cocoon_num.specs.Names.{same_name};
 ghost use Rattle.cocoon_syntax.specs.TreeOf.{param_of};
 ghost use Rattle.bv_terms.specs.declared.node.Node.{Node};
-ghost use Rattle.expr_term_laws.specs.TermOf.{bind_terms, variable_term};
+ghost use Rattle.obligation_laws.specs.TermOf.{bind_terms, variable_term};
 ghost use Rattle.expr_terms.specs.Variables.{AreThere, IsThere, VariablesThere, found_term, terms_at, variables_of};
 
 use bv_terms::TermId;

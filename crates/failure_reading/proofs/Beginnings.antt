@@ -20,7 +20,7 @@ use Rattle.cocoon_types.specs.Tables.{Defs, defs_of}
 use Rattle.declarations.specs.Declares.{role_number}
 use Rattle.defs_text.specs.Fitting.{FitsDesign, IsMasked}
 use Rattle.obligation_laws.specs.FailingRuns as exact
-use Rattle.expr_term_laws.specs.Shown.{functions_by}
+use Rattle.obligation_laws.specs.Shown.{functions_by}
 use Rattle.failures.specs.Failures.{Failure}
 use Rattle.failures.specs.Found.{BeginFits, BeginsSo, CanFail, NoneBegins, defined}
 use Rattle.obligation_laws.proofs.Fitting.{new_role}

@@ -9,7 +9,7 @@ use Rattle.cocoon_types.specs.Runs.{Loc}
 use Rattle.cocoon_types.specs.Tables.{Defs}
 use Rattle.cocoon_types.specs.Taken.{Used}
 use Rattle.obligation_laws.specs.FailingRuns.{Fails as FailsHere}
-use Rattle.expr_term_laws.specs.Shown.{functions_by}
+use Rattle.obligation_laws.specs.Shown.{functions_by}
 use Rattle.failures.specs.Failures.{Failure, IsOver, IsRefuted}
 use Rattle.obligation_laws.specs.Failing.{IsKept}
 use Rattle.obligation_laws.specs.Obligations.{Kind, contained, bounded, kind_of}

@@ -13,7 +13,7 @@ use Rattle.cocoon_types.specs.Rules.{WellFormed, too_wide}
 use Rattle.cocoon_types.specs.Sites.{DeclSite, after_stmt, decl_sites, params_of as declared_params}
 use Rattle.cocoon_types.specs.TypeRules.{wide_params}
 use Rattle.cocoon_types.specs.Typing.{Scope, with_var}
-use Rattle.expr_term_laws.specs.TermOf.{term_context, terms_of}
+use Rattle.obligation_laws.specs.TermOf.{term_context, terms_of}
 use Rattle.sound_types.specs.WellTyped.{IsTyped, IsTypedRole, IsTypedStmt, scope_at}
 use Rattle.sound_types.proofs.Levels.{role_in, role_stands, site_at}
 use Rattle.sound_types.proofs.Members.{In, flat_in, in_either, map_in, named_there, none_at}

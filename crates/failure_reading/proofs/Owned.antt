@@ -4,7 +4,7 @@ use Rattle.std.specs.Prelude.{slice_get}
 use Rattle.cocoon_num.specs.Names.{same_name}
 use Rattle.cocoon_num.specs.Tree.{Name, Refine, Design}
 use Rattle.cocoon_types.specs.RuleParts.{has_name}
-use Rattle.expr_term_laws.proofs.Typings.{in_place}
+use Rattle.obligation_laws.proofs.Typings.{in_place}
 use Rattle.obligation_laws.specs.Obligations.{Obligation, all_obligations, obligation_of, of_blocks, of_leaves, of_role, of_roles, old_tree, refined_tree}
 use Rattle.sound_types.proofs.Members.{In, at_place, in_either}
 use Rattle.sound_types.proofs.Options.{text_self}

@@ -16,8 +16,8 @@ use Rattle.bv_terms.specs.TermTrees as term
 use Rattle.bv_terms.specs.TermTrees.{Term, Args, no_args, arg, arg_widths, joined_width, width}
 use Rattle.sound_types.proofs.Members.{In, at_place, in_either, map_in}
 use Rattle.sound_types.proofs.Options.{same_text}
-use Rattle.expr_term_laws.specs.Shown.{HasWidth}
-use Rattle.expr_term_laws.proofs.Typings.{in_place}
+use Rattle.obligation_laws.specs.Shown.{HasWidth}
+use Rattle.obligation_laws.proofs.Typings.{in_place}
 use Rattle.application_laws.specs.Over.{AllOver, AreOver, IsRuntimeAt}
 use Rattle.obligation_laws.specs.Leaves.{End, sent_to, inside, Leaf, Tree, body_tree, end_fields, end_role, end_values, inlined, params_of}
 use Rattle.obligation_laws.specs.States.{NewInput, input_term, inputs_from, term_world}

@@ -9,7 +9,7 @@ ghost use Rattle.obligation_laws.specs.Obligations.{Obligation, all_obligations}
 ghost use Rattle.formula_functions.specs.LeafTerms.{LeafApplies, Stands};
 
 use application_laws::laws::terms_apply_declared_functions;
-use expr_term_laws::laws::terms_have_widths;
+use obligation_laws::expr_laws::terms_have_widths;
 use sound_types::laws::declarations_are_typed;
 
 /// The terms of a leaf apply run-time functions of the design alone, each at the widths that it is

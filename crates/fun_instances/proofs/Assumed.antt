@@ -7,9 +7,9 @@ use Rattle.cocoon_types.specs.Design.{last_level, widths_of}
 use Rattle.bv_terms.specs.declared.node.Node.{Node}
 use Rattle.bv_terms.specs.TermTrees.{Term}
 use Rattle.sound_types.specs.WellTyped.{HasType, scope_at}
-use Rattle.expr_term_laws.specs.Shown.{FitsScope, HasWidth, TermsHaveWidths}
-use Rattle.expr_term_laws.specs.TermOf.{bind_terms}
-use Rattle.expr_term_laws.proofs.Widths.{params_are}
+use Rattle.obligation_laws.specs.Shown.{FitsScope, HasWidth, TermsHaveWidths}
+use Rattle.obligation_laws.specs.TermOf.{bind_terms}
+use Rattle.obligation_laws.proofs.ExprWidths.{params_are}
 use Rattle.expr_terms.specs.Scopes.{IsTyped, Takes}
 use Rattle.expr_terms.specs.Variables.{VariablesThere, terms_at, variables_of}
 use Rattle.expr_terms.specs.declared.variables.Variable.{Variable}

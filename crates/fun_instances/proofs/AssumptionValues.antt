@@ -17,10 +17,10 @@ use Rattle.sound_types.specs.Literals.{DesignLiteralsFit}
 use Rattle.sound_types.specs.Matching.{Binds, IsOfSort}
 use Rattle.sound_types.specs.WellTyped.{HasType, scope_at}
 use Rattle.sound_types.proofs.Declared.{names_differ, typed_bodies}
-use Rattle.expr_term_laws.specs.Shown.{HasNumber, env_of, functions_by, numbers_of}
-use Rattle.expr_term_laws.specs.TermOf.{bind_terms, term_context}
-use Rattle.expr_term_laws.proofs.Typings.{everywhere, typed_everywhere}
-use Rattle.expr_term_laws.proofs.Values.{RowsFit, ShownAs, calls_shown, value_shown}
+use Rattle.obligation_laws.specs.Shown.{HasNumber, env_of, functions_by, numbers_of}
+use Rattle.obligation_laws.specs.TermOf.{bind_terms, term_context}
+use Rattle.obligation_laws.proofs.Typings.{everywhere, typed_everywhere}
+use Rattle.obligation_laws.proofs.ExprValues.{RowsFit, ShownAs, calls_shown, value_shown}
 use Rattle.fun_instances.specs.AssumptionTerms.{assumption_term, number_terms, value_term}
 use Rattle.fun_instances.specs.Saying.{IsTrueUnder, SaysOf}
 use Rattle.fun_instances.specs.Taking.{NumbersFit, TermsFit}

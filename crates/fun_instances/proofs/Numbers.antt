@@ -19,7 +19,7 @@ use Rattle.bv_terms.specs.TermTrees.{Term, IsWidth, constant}
 use Rattle.sound_types.proofs.Levels.{site_at, stands}
 use Rattle.sound_types.proofs.Members.{In, at_place, in_filter, none_at}
 use Rattle.sound_types.proofs.Options.{nil_left, nil_right, passes}
-use Rattle.expr_term_laws.specs.Shown.{HasWidth}
+use Rattle.obligation_laws.specs.Shown.{HasWidth}
 use Rattle.expr_terms.specs.Variables.{AreThere, Keeps, Makes, terms_at}
 use Rattle.expr_terms.proofs.Lists.{from, from_any}
 use Rattle.expr_terms.proofs.Making.{terms_on}

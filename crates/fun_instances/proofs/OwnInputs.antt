@@ -12,7 +12,7 @@ use Rattle.bv_terms.specs.Arenas.{KeepsTerms, inputs_in}
 use Rattle.bv_terms.specs.TermTrees.{IsWidth}
 use Rattle.bv_terms.specs.declared.node.Node.{Node}
 use Rattle.bv_terms.specs.declared.node.Node.TheVariants.{Input}
-use Rattle.expr_term_laws.specs.Shown.{HasWidth}
+use Rattle.obligation_laws.specs.Shown.{HasWidth}
 use Rattle.expr_terms.specs.Variables.{AreThere, terms_at}
 use Rattle.fun_instances.specs.AssumptionTerms.{inputs_from}
 use Rattle.fun_instances.specs.OwnInputs.{HasInputs, InputsAre, IsInputAt, IsNewInput}

@@ -4,7 +4,7 @@ use Rattle.std.specs.Prelude.{ℕ, suc, List, [], ◌∷◌}
 use Rattle.cocoon_num.specs.Tree.{AssumeDecl, Design}
 use Rattle.cocoon_types.specs.Design.{widths_of}
 use Rattle.bv_terms.specs.TermTrees.{Term, constant, input}
-use Rattle.expr_term_laws.specs.TermOf.{bind_terms, term_context, term_of}
+use Rattle.obligation_laws.specs.TermOf.{bind_terms, term_context, term_of}
 
 -- what it says where its parameters stand for these terms: it has no packet
 abbrev pub assumption_term : Design → AssumeDecl → List Term → Term

@@ -6,7 +6,7 @@ use Rattle.cocoon_types.specs.Tables.{Defs}
 use Rattle.cocoon_types.specs.Val.{Env, bind, context, value}
 use Rattle.bv_terms.specs.TermTrees.{Term}
 use Rattle.bv_terms.specs.TermValues.{Inputs, term_number, term_value}
-use Rattle.expr_term_laws.specs.Shown.{functions_by, numbers_of}
+use Rattle.obligation_laws.specs.Shown.{functions_by, numbers_of}
 
 -- the term is true under these definitions
 abbrev pub IsTrueUnder : Design → Defs → Inputs → Term → Type 0

@@ -8,7 +8,7 @@ use Rattle.cocoon_types.specs.Design.{widths_of}
 use Rattle.cocoon_types.specs.Tables.{Defs}
 use Rattle.bv_terms.specs.TermTrees.{Term}
 use Rattle.bv_terms.specs.TermValues.{Inputs}
-use Rattle.expr_term_laws.specs.Shown.{HasNumber, functions_by}
+use Rattle.obligation_laws.specs.Shown.{HasNumber, functions_by}
 
 -- this holds of the assumption of this number, in the order of the text
 abbrev pub OfAssumption : Design → (number : ℕ) → (AssumeDecl → Type 0) → Type 0

@@ -10,7 +10,7 @@ ghost use Rattle.bv_terms.specs.TermValues.{Inputs};
 ghost use Rattle.refinement.specs.Assumptions.{IsMet};
 ghost use Rattle.sound_types.specs.Defined.{HasDefinitions};
 ghost use Rattle.sound_types.specs.Literals.{DesignLiteralsFit};
-ghost use Rattle.expr_term_laws.specs.Shown.{HasWidth};
+ghost use Rattle.obligation_laws.specs.Shown.{HasWidth};
 ghost use Rattle.fun_instances.specs.AssumptionTerms.{assumption_term, value_term};
 ghost use Rattle.bv_terms.specs.declared.node.Node.{Node};
 ghost use Rattle.expr_terms.specs.Variables.{Keeps};
@@ -18,7 +18,7 @@ ghost use Rattle.fun_instances.specs.OwnInputs.{HasInputsOf};
 ghost use Rattle.fun_instances.specs.Saying.{IsTrueUnder, SaysOf};
 ghost use Rattle.fun_instances.specs.Taking.{NumbersFit, OfAssumption, TermsFit};
 
-use expr_term_laws::laws::terms_have_widths;
+use obligation_laws::expr_laws::terms_have_widths;
 use sound_types::laws::{declarations_are_typed, expressions_have_values};
 
 /// The term of an assumption has width 1, where the terms of its parameters have their widths.

@@ -4,7 +4,7 @@ ghost use Rattle.bv_terms.specs.TermTrees.{apply, arg, binary, constant, input, 
 ghost use Rattle.bv_terms.specs.declared.node.TermOp.TheVariants as op;
 ghost use Rattle.cocoon_types.specs.Design.{role_at};
 ghost use Rattle.cocoon_types.specs.Limits.{reported};
-ghost use Rattle.expr_term_laws.specs.Shown.{functions_by};
+ghost use Rattle.obligation_laws.specs.Shown.{functions_by};
 ghost use Rattle.refinement.specs.Segments.{is_new};
 ghost use Rattle.obligation_examples.specs.DesignM.{m_design};
 ghost use Rattle.obligation_examples.specs.DesignT.{t_defs, t_design};

@@ -10,7 +10,7 @@ use Rattle.bv_terms.specs.Replacements as formulas
 use Rattle.bv_terms.specs.Replacements.{HasWidthOf, beside, replaced}
 use Rattle.bv_terms.specs.TermTrees as term
 use Rattle.bv_terms.specs.TermTrees.{Term, width}
-use Rattle.expr_term_laws.specs.Shown.{HasWidth}
+use Rattle.obligation_laws.specs.Shown.{HasWidth}
 use Rattle.expr_terms.specs.Variables.{AreThere, Keeps, Makes, terms_at}
 use Rattle.expr_terms.proofs.Making.{keeps_on}
 use Rattle.obligation_laws.specs.FormulaForms.{SameWidths}

@@ -13,7 +13,7 @@ use Rattle.bv_terms.specs.Replacements.{replaced}
 use Rattle.bv_terms.specs.TermTrees as term
 use Rattle.bv_terms.specs.TermTrees.{Term, width}
 use Rattle.declarations.specs.Declares.{role_number}
-use Rattle.expr_term_laws.specs.Shown.{HasWidth}
+use Rattle.obligation_laws.specs.Shown.{HasWidth}
 use Rattle.expr_terms.specs.Variables.{Keeps, Makes, MakesAll, terms_at}
 use Rattle.expr_terms.proofs.Making.{keeps_on}
 use Rattle.obligation_laws.specs.FormulaForms.{PartFits}

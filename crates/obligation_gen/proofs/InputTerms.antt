@@ -11,7 +11,7 @@ use Rattle.bv_terms.specs.Arenas.{IsArena, IsInputTerm, KeepsTerms, inputs_in, t
 use Rattle.bv_terms.specs.Replacements.{HasWidthOf}
 use Rattle.bv_terms.specs.TermTrees.{Term}
 use Rattle.bv_terms.proofs.ArenaFacts.{input-below, inputs-rise}
-use Rattle.expr_term_laws.specs.Shown.{HasWidth}
+use Rattle.obligation_laws.specs.Shown.{HasWidth}
 use Rattle.expr_terms.specs.Variables.{AreThere, Keeps, MakesAll, terms_at}
 use Rattle.obligation_laws.specs.States.{NewInput, input_term}
 use Rattle.symbolic_runs.proofs.Growing.{head_all, map_all, one_all, tail_all}

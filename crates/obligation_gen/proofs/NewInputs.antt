@@ -11,7 +11,7 @@ use Rattle.bv_terms.specs.declared.node.Node.TheVariants.{Input}
 use Rattle.bv_terms.specs.Arenas.{KeepsTerms, inputs_in, term_at}
 use Rattle.bv_terms.specs.TermTrees.{IsWidth}
 use Rattle.bv_terms.proofs.ReplaceFacts.{keeps-both, keeps-none}
-use Rattle.expr_term_laws.specs.Shown.{HasWidth}
+use Rattle.obligation_laws.specs.Shown.{HasWidth}
 use Rattle.expr_terms.specs.Variables.{MakesAll}
 use Rattle.role_values.specs.DeclaredWidths.{AllDeclared}
 use Rattle.obligation_laws.specs.States.{NewInput, input_term, inputs_from}

@@ -9,7 +9,7 @@ use Rattle.bv_terms.specs.Replacements as formulas
 use Rattle.bv_terms.specs.Replacements.{beside, replaced}
 use Rattle.bv_terms.specs.TermTrees as term
 use Rattle.bv_terms.specs.TermTrees.{Term, width}
-use Rattle.expr_term_laws.specs.Shown.{HasWidth}
+use Rattle.obligation_laws.specs.Shown.{HasWidth}
 use Rattle.expr_terms.specs.Variables.{Makes, MakesAll, terms_at}
 use Rattle.obligation_laws.specs.FormulaForms.{PartFits, SameWidths}
 use Rattle.obligation_gen.specs.ShownTrees.{ShowsEnd, ShowsInputs}

@@ -6,7 +6,7 @@ use Rattle.cocoon_num.specs.Tree.{Param, Role, Design}
 use Rattle.cocoon_syntax.specs.TreeOf.{design_of}
 use Rattle.cocoon_types.specs.Design.{role_at, widths_of}
 use Rattle.bv_terms.specs.declared.node.Node.{Node}
-use Rattle.expr_term_laws.specs.Shown.{HasWidth}
+use Rattle.obligation_laws.specs.Shown.{HasWidth}
 use Rattle.expr_terms.specs.Variables.{MakesAll, terms_at}
 use Rattle.obligation_laws.specs.States.{NewInput, State, TermWorld, input_term, inputs_from}
 use Rattle.obligation_laws.specs.Following.{Followed}

@@ -5,7 +5,7 @@ use Rattle.std.specs.Result.{IfOk, OnOk}
 use Rattle.cocoon_num.specs.Tree.{Refine, Design}
 use Rattle.bv_terms.specs.declared.node.Node.{Node}
 use Rattle.bv_terms.specs.Arenas.{KeepsTerms, inputs_in}
-use Rattle.expr_term_laws.specs.Shown.{HasWidth}
+use Rattle.obligation_laws.specs.Shown.{HasWidth}
 use Rattle.obligation_laws.specs.FormulaForms.{PartFits}
 use Rattle.obligation_gen.specs.CountedTrees.{most_leaves}
 use Rattle.obligation_gen.specs.ShownTrees.{ShowsTree}

@@ -4,7 +4,7 @@ use Rattle.std.specs.Prelude.{◌≡◌, ◌<◌, ℕ, List, Some, length, slice
 use Rattle.cocoon_num.specs.Tree.{Design}
 use Rattle.bv_terms.specs.declared.node.Node.{Node}
 use Rattle.bv_terms.specs.Arenas.{width_at}
-use Rattle.expr_term_laws.specs.Shown.{HasWidth}
+use Rattle.obligation_laws.specs.Shown.{HasWidth}
 use Rattle.obligation_laws.specs.Leaves as laws
 use Rattle.obligation_laws.specs.Leaves.{end_role}
 use Rattle.obligation_gen.specs.ShownTrees.{ShowsInputs, ShowsLeaf, ShowsTree}

@@ -4,7 +4,7 @@ use Rattle.std.specs.List.{AllZip}
 use Rattle.bv_terms.specs.declared.node.Node.{Node}
 use Rattle.bv_terms.specs.Replacements as formulas
 use Rattle.bv_terms.specs.Replacements.{beside, replaced}
-use Rattle.expr_term_laws.specs.Shown.{HasWidth}
+use Rattle.obligation_laws.specs.Shown.{HasWidth}
 use Rattle.expr_terms.specs.Variables.{AreThere, Makes, MakesAll, terms_at}
 use Rattle.obligation_laws.specs.FormulaForms.{SameWidths}
 use Rattle.obligation_gen.specs.ShownTrees.{ShowsInputs}

@@ -8,7 +8,7 @@ use Rattle.bv_terms.specs.TermValues.{Functions, Inputs, arg_numbers, number_in,
 use Rattle.bv_terms.specs.Walks.{same_term}
 use Rattle.refinement.proofs.Lists.{same_number}
 use Rattle.sound_types.proofs.Options.{both_true, same_self, true_both}
-use Rattle.expr_term_laws.specs.Shown.{numbers_of}
+use Rattle.obligation_laws.specs.Shown.{numbers_of}
 use Rattle.obligation_laws.specs.Leaves.{End, end_fields, end_values}
 use Rattle.obligation_laws.specs.States.{NewInput, input_term}
 use Rattle.obligation_laws.specs.MadeOf.{Made, MadeArgs, OfInputs}

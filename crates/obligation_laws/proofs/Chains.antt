@@ -8,8 +8,8 @@ use Rattle.bv_terms.specs.TermValues.{Functions, Inputs, number_in, operated, te
 use Rattle.refinement.proofs.Lists.{same_number}
 use Rattle.sound_types.proofs.Members.{In}
 use Rattle.sound_types.proofs.Options.{same_self}
-use Rattle.expr_term_laws.specs.Shown.{HasNumber}
-use Rattle.expr_term_laws.proofs.OperatorTerms.{shown}
+use Rattle.obligation_laws.specs.Shown.{HasNumber}
+use Rattle.obligation_laws.proofs.OperatorTerms.{shown}
 use Rattle.obligation_laws.specs.Meant.{IsOne}
 use Rattle.obligation_laws.proofs.TruthValues.{IsBit, and_bit, chain_holds, holds, is_one, not_bit, parts_hold}
 use Rattle.obligation_laws.proofs.Replaced.{of_width}

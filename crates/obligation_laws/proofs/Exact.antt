@@ -22,8 +22,8 @@ use Rattle.bv_terms.specs.TermValues.{Functions, Inputs, number_in, operated, te
 use Rattle.sound_types.specs.Defined.{HasDefinitions}
 use Rattle.sound_types.proofs.Levels.{block_at}
 use Rattle.sound_types.proofs.Members.{In, at_place, flat_in, in_map, none_at}
-use Rattle.expr_term_laws.specs.Shown.{functions_by}
-use Rattle.expr_term_laws.proofs.OperatorTerms.{shown}
+use Rattle.obligation_laws.specs.Shown.{functions_by}
+use Rattle.obligation_laws.proofs.OperatorTerms.{shown}
 use Rattle.obligation_laws.specs.Following.{Followed, follow_all, one, those_sent}
 use Rattle.obligation_laws.specs.LeafRuns.{IsItsRun, LeavesAreRuns, first_loc, first_packet}
 use Rattle.obligation_laws.specs.Leaves.{End, sent_to, inside, Leaf, Tree, begins, end_role, entered, entry_of, follow_body, hops, inlined, leaf_of, onward}

@@ -9,8 +9,8 @@ use Rattle.cocoon_types.specs.Parts.{list_of, parts, parts_of}
 use Rattle.cocoon_types.specs.ReadBack.{Path, all_replaced, is_choice_at, occurs, replaced}
 use Rattle.cocoon_types.specs.Typing.{Scope}
 use Rattle.bv_terms.specs.TermTrees.{Term}
-use Rattle.expr_term_laws.specs.TermOf.{TermContext, TermEnv, field_term, term_of, terms_of}
-use Rattle.expr_term_laws.specs.TypedExprs.{TypedAll, TypedAs}
+use Rattle.obligation_laws.specs.TermOf.{TermContext, TermEnv, field_term, term_of, terms_of}
+use Rattle.obligation_laws.specs.TypedExprs.{TypedAll, TypedAs}
 use Rattle.sound_types.proofs.Members.{In}
 use Rattle.obligation_laws.specs.States.{NewInput}
 use Rattle.obligation_laws.specs.MadeOf.{AllMade, Made, OfInputs}

@@ -5,7 +5,7 @@ use Rattle.cocoon_num.specs.Tree.{Expr, Name, Param, HeaderDecl}
 use Rattle.cocoon_types.specs.Design.{field_width}
 use Rattle.cocoon_types.specs.ReadBack.{FieldValue, field_value, with_field}
 use Rattle.bv_terms.specs.TermTrees.{Term}
-use Rattle.expr_term_laws.specs.TermOf.{field_term, term_in}
+use Rattle.obligation_laws.specs.TermOf.{field_term, term_in}
 use Rattle.obligation_laws.specs.States.{set_in, set_term}
 use Rattle.obligation_laws.proofs.Relating.{Extends, Pairing, Rel, rel_more}
 

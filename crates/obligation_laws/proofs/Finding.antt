@@ -13,7 +13,7 @@ use Rattle.cocoon_types.specs.Taken.{guard_at}
 use Rattle.cocoon_types.specs.Val.{Env, bind, bound, numbers, value}
 use Rattle.refinement.specs.Ways.{Arrival, Course, Way, after, arrival, body_by, branch, choose, go_by, if_new, if_sends, in_branch, on_true, run_all_by, run_by, since, straight, then_on}
 use Rattle.sound_types.proofs.Members.{In, in_left, in_map, in_right}
-use Rattle.expr_term_laws.specs.TermOf.{terms_of}
+use Rattle.obligation_laws.specs.TermOf.{terms_of}
 use Rattle.obligation_laws.specs.States as states
 use Rattle.obligation_laws.specs.States.{NewInput, Place, State, TermWorld, choice_width, input_term, term_world, where_true}
 use Rattle.obligation_laws.specs.Following as following

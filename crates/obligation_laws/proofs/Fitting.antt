@@ -12,7 +12,7 @@ use Rattle.bv_terms.specs.declared.node.TermOp.TheVariants as ops
 use Rattle.bv_terms.specs.TermTrees as term
 use Rattle.bv_terms.specs.TermTrees.{Term, joined_width, width}
 use Rattle.sound_types.proofs.Members.{In, at_place, flat_in}
-use Rattle.expr_term_laws.specs.Shown.{HasWidth}
+use Rattle.obligation_laws.specs.Shown.{HasWidth}
 use Rattle.obligation_laws.specs.LeafForms.{LeafFits}
 use Rattle.obligation_laws.specs.Leaves.{End, sent_to, inside, Leaf, Tree, begins, body_tree, entered, entry_of, follow_body, hops, leaf_of, onward, end_fields, end_role, end_values, inlined, params_of}
 use Rattle.obligation_laws.specs.States.{NewInput, State, input_term, inputs_from, term_world}

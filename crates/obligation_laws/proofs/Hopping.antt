@@ -11,7 +11,7 @@ use Rattle.refinement.specs.Segments.{is_new}
 use Rattle.refinement.specs.Ways.{Arrival, Course, Way, after, arrival, body_by, go_by, hops_by, if_new, on_true, run_all_by}
 use Rattle.bv_terms.specs.TermValues.{Functions, Inputs}
 use Rattle.sound_types.proofs.Members.{In}
-use Rattle.expr_term_laws.specs.Shown.{HasNumber, functions_by}
+use Rattle.obligation_laws.specs.Shown.{HasNumber, functions_by}
 use Rattle.obligation_laws.specs.States.{NewInput, Place, State, term_world}
 use Rattle.obligation_laws.specs.Following.{Followed, each, follow_all, has_sent, one, those_sent}
 use Rattle.obligation_laws.specs.Leaves.{at_new, entered, follow_body, hops, onward}

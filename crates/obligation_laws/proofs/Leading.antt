@@ -12,8 +12,8 @@ use Rattle.refinement.specs.Ways.{Course, Way, branch, if_sends, in_branch, on_t
 use Rattle.bv_terms.specs.TermTrees.{Term}
 use Rattle.bv_terms.specs.TermValues.{Functions, Inputs, term_value}
 use Rattle.sound_types.specs.Matching.{Binds}
-use Rattle.expr_term_laws.specs.Shown.{functions_by}
-use Rattle.expr_term_laws.proofs.OperatorTerms.{shown}
+use Rattle.obligation_laws.specs.Shown.{functions_by}
+use Rattle.obligation_laws.proofs.OperatorTerms.{shown}
 use Rattle.obligation_laws.specs.States.{NewInput, Place, State, and_with}
 use Rattle.obligation_laws.specs.States as states
 use Rattle.obligation_laws.specs.Meant.{AllFit, IsOne, given}

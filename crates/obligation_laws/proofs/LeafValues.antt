@@ -8,7 +8,7 @@ use Rattle.cocoon_types.specs.Design.{role_at, widths_of}
 use Rattle.cocoon_types.specs.Tables.{Defs}
 use Rattle.bv_terms.specs.TermValues.{Functions, Inputs}
 use Rattle.sound_types.proofs.Members.{In, flat_in}
-use Rattle.expr_term_laws.specs.Shown.{HasNumber, functions_by}
+use Rattle.obligation_laws.specs.Shown.{HasNumber, functions_by}
 use Rattle.obligation_laws.specs.States.{Place, State, guard_term, input_term, inputs_from, term_world}
 use Rattle.obligation_laws.specs.Leaves.{Leaf, Tree, begins, end_at, entry_of, hops, leaf_of, params_of, tree_of}
 use Rattle.obligation_laws.specs.Meant.{AllFit}

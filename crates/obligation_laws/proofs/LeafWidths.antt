@@ -11,9 +11,9 @@ use Rattle.bv_terms.specs.TermTrees.{Term}
 use Rattle.sound_types.specs.WellTyped.{HasType, HaveWidths, IsTyped, IsTypedRole, IsTypedStmt, scope_at}
 use Rattle.sound_types.proofs.Bodies.{after_scope, after_vars}
 use Rattle.sound_types.proofs.Members.{In, at_place, flat_in, in_either, map_in}
-use Rattle.expr_term_laws.specs.Shown.{AreVariables, HasWidth, TermsHaveWidths, sort_width}
-use Rattle.expr_term_laws.specs.TermOf.{TermEnv, bind_terms, term_context, term_of, terms_of}
-use Rattle.expr_term_laws.proofs.Widths.{params_are}
+use Rattle.obligation_laws.specs.Shown.{AreVariables, HasWidth, TermsHaveWidths, sort_width}
+use Rattle.obligation_laws.specs.TermOf.{TermEnv, bind_terms, term_context, term_of, terms_of}
+use Rattle.obligation_laws.proofs.ExprWidths.{params_are}
 use Rattle.obligation_laws.specs.States as states
 use Rattle.obligation_laws.specs.States.{NewInput, Place, State, TermWorld, choice_width, guard_term, input_term, inputs_from, term_world, where_true}
 use Rattle.obligation_laws.specs.Following.{Followed, chosen_as, each, follow, follow_all, has_sent, in_branch, next_input, one, sends_to, term_at, those_sent, unless_sent}

@@ -1,3 +1,11 @@
+pub mod InFunctions
+pub mod Names
+pub mod OperatorTerms
+pub mod Typings
+pub mod ExprWidths
+pub mod ExprValues
+pub mod ExprsTogether
+pub mod Rows
 pub mod TruthValues
 pub mod FieldTerms
 pub mod Followings

@@ -12,7 +12,7 @@ use Rattle.bv_terms.specs.TermValues.{Inputs}
 use Rattle.bv_terms.specs.Walks.{is_among, leave, same_term, walk, walk_args}
 use Rattle.refinement.proofs.Lists.{same_number}
 use Rattle.sound_types.proofs.Options.{both_true}
-use Rattle.expr_term_laws.specs.TermOf.{TermContext, TermEnv, args_of, bind_terms, binary_term, call_in, field_term, result_width, term_context, term_in, term_of, terms_of, variable_term}
+use Rattle.obligation_laws.specs.TermOf.{TermContext, TermEnv, args_of, bind_terms, binary_term, call_in, field_term, result_width, term_context, term_in, term_of, terms_of, variable_term}
 use Rattle.obligation_laws.specs.MadeOf.{AllMade, Made, MadeArgs, OfInputs, VarsMade}
 use Rattle.obligation_laws.specs.States.{Place, guard_term, set_in, set_term, term_world}
 

@@ -6,7 +6,7 @@ use Rattle.cocoon_resolve.specs.Readers.{all_widths}
 use Rattle.cocoon_types.specs.Design.{role_at}
 use Rattle.bv_terms.specs.TermTrees.{Term}
 use Rattle.sound_types.proofs.Members.{In, flat_in, in_either, map_in}
-use Rattle.expr_term_laws.specs.TermOf.{term_context, terms_of}
+use Rattle.obligation_laws.specs.TermOf.{term_context, terms_of}
 use Rattle.obligation_laws.specs.States as states
 use Rattle.obligation_laws.specs.States.{NewInput, Place, State, TermWorld, choice_width, guard_term, input_term, term_world, where_true}
 use Rattle.obligation_laws.specs.Following.{Followed, chosen_as, each, follow, follow_all, has_sent, in_branch, next_input, one, sends_to, term_at, those_sent, unless_sent}

@@ -27,7 +27,7 @@ use Rattle.sound_types.specs.Defined.{HasDefinitions}
 use Rattle.sound_types.specs.Matching.{IsOfSort}
 use Rattle.sound_types.proofs.Members.{In, at_place}
 use Rattle.sound_types.proofs.Options.{same_self, text_self}
-use Rattle.expr_term_laws.specs.Shown.{HasNumber, HasWidth, functions_by, numbers_of}
+use Rattle.obligation_laws.specs.Shown.{HasNumber, HasWidth, functions_by, numbers_of}
 use Rattle.obligation_laws.specs.LeafRuns.{HasLeaf, RunsHaveLeaves, first_loc, first_packet}
 use Rattle.obligation_laws.specs.Leaves.{Leaf, Tree, body_tree, end_fields, end_role, end_values, inlined, params_of}
 use Rattle.obligation_laws.specs.Meant.{AllFit, IsOne, arrives, given}

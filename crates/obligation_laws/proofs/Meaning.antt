@@ -17,10 +17,10 @@ use Rattle.bv_terms.specs.TermTrees.{Term}
 use Rattle.bv_terms.specs.TermValues.{Functions, Inputs, number_in, term_value}
 use Rattle.sound_types.specs.Matching.{Binds, IsOfSort}
 use Rattle.sound_types.specs.WellTyped.{HasType, HaveWidths, IsTypedRole, scope_at}
-use Rattle.expr_term_laws.specs.Shown.{HasNumber, env_of, functions_by, numbers_of, packet_in}
-use Rattle.expr_term_laws.specs.TermOf.{TermEnv, bind_terms, term_context, term_of, terms_of}
-use Rattle.expr_term_laws.proofs.OperatorTerms.{shown}
-use Rattle.expr_term_laws.proofs.Values.{AreNumbers, ShownAs}
+use Rattle.obligation_laws.specs.Shown.{HasNumber, env_of, functions_by, numbers_of, packet_in}
+use Rattle.obligation_laws.specs.TermOf.{TermEnv, bind_terms, term_context, term_of, terms_of}
+use Rattle.obligation_laws.proofs.OperatorTerms.{shown}
+use Rattle.obligation_laws.proofs.ExprValues.{AreNumbers, ShownAs}
 use Rattle.obligation_laws.specs.States.{Place, State, guard_term, term_world}
 use Rattle.obligation_laws.specs.Meant.{IsOne}
 use Rattle.obligation_laws.proofs.TruthValues.{IsBit}

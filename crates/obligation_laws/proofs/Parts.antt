@@ -29,8 +29,8 @@ use Rattle.role_values.specs.Flat.{packet_of}
 use Rattle.sound_types.specs.Matching.{IsOfSort}
 use Rattle.sound_types.proofs.Members.{In}
 use Rattle.sound_types.proofs.Options.{both_true, same_text}
-use Rattle.expr_term_laws.specs.Shown.{HasNumber, HasWidth, functions_by, numbers_of}
-use Rattle.expr_term_laws.proofs.Typings.{in_place}
+use Rattle.obligation_laws.specs.Shown.{HasNumber, HasWidth, functions_by, numbers_of}
+use Rattle.obligation_laws.proofs.Typings.{in_place}
 use Rattle.obligation_laws.specs.LeafRuns.{LeavesAreRuns, first_loc, first_packet}
 use Rattle.obligation_laws.specs.Leaves.{Leaf, Tree, body_tree, end_fields, end_role, end_values, inlined, params_of}
 use Rattle.obligation_laws.specs.Meant.{AllFit, IsOne, arrives, given}

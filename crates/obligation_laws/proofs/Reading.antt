@@ -13,7 +13,7 @@ use Rattle.refinement.specs.Indices.{block_indices}
 use Rattle.bv_terms.specs.TermTrees.{Term}
 use Rattle.sound_types.specs.WellTyped.{IsTypedRole}
 use Rattle.sound_types.proofs.Members.{In, at_place, flat_in, named_there, none_at}
-use Rattle.expr_term_laws.specs.TermOf.{bind_terms, variable_term}
+use Rattle.obligation_laws.specs.TermOf.{bind_terms, variable_term}
 use Rattle.obligation_laws.specs.Following.{Followed, follow_all, has_sent, one, those_sent}
 use Rattle.obligation_laws.specs.Leaves.{Leaf, Tree, at_new, begins, body_tree, end_at, entered, entry_of, follow_body, hops, leaf_of, onward, params_of}
 use Rattle.obligation_laws.specs.States.{NewInput, Place, State, input_term, inputs_from, term_world}

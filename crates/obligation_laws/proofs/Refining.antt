@@ -17,7 +17,7 @@ use Rattle.refinement.proofs.Lists.{all_front}
 use Rattle.sound_types.specs.Defined.{HasDefinitions}
 use Rattle.sound_types.proofs.Members.{In}
 use Rattle.sound_types.proofs.Options.{same_text}
-use Rattle.expr_term_laws.proofs.Typings.{in_place}
+use Rattle.obligation_laws.proofs.Typings.{in_place}
 use Rattle.obligation_laws.specs.LeafForms.{EndsBy}
 use Rattle.obligation_laws.specs.Leaves.{End, sent_to, inside, Leaf, Tree, end_role}
 use Rattle.obligation_laws.specs.States.{term_world}

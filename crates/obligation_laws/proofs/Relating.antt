@@ -7,7 +7,7 @@ use Rattle.cocoon_num.specs.Tree.{Param, Expr, name}
 use Rattle.cocoon_types.specs.ReadBack.{Var, is_choice_at, occurs, var_value}
 use Rattle.bv_terms.specs.TermTrees as term
 use Rattle.bv_terms.specs.TermTrees.{Term, Args, no_args, arg}
-use Rattle.expr_term_laws.specs.TermOf.{TermEnv, variable_term}
+use Rattle.obligation_laws.specs.TermOf.{TermEnv, variable_term}
 use Rattle.sound_types.proofs.Members.{In}
 use Rattle.obligation_laws.specs.States.{NewInput, input_term}
 use Rattle.obligation_laws.specs.MadeOf.{AllMade, Made, MadeArgs, OfInputs}

@@ -9,7 +9,7 @@ use Rattle.bv_terms.specs.TermTrees.{Term, Args, no_args, arg}
 use Rattle.bv_terms.specs.TermValues.{Functions, Inputs, arg_numbers, number_in, operated, term_number, term_value}
 use Rattle.sound_types.specs.Matching.{IsOfSort}
 use Rattle.sound_types.proofs.Options.{same_self}
-use Rattle.expr_term_laws.specs.Shown.{HasNumber, numbers_of}
+use Rattle.obligation_laws.specs.Shown.{HasNumber, numbers_of}
 use Rattle.obligation_laws.specs.LeafForms.{Ascend}
 use Rattle.obligation_laws.specs.Meant.{AllFit, given}
 use Rattle.obligation_laws.specs.States.{NewInput}

@@ -20,7 +20,7 @@ use Rattle.sound_types.specs.Defined.{HasDefinitions}
 use Rattle.sound_types.specs.Literals.{DesignLiteralsFit}
 use Rattle.sound_types.specs.Soundness.{IsSound}
 use Rattle.sound_types.proofs.Members.{In, at_place}
-use Rattle.expr_term_laws.specs.Shown.{functions_by}
+use Rattle.obligation_laws.specs.Shown.{functions_by}
 use Rattle.obligation_laws.specs.LeafForms.{LeafFits}
 use Rattle.obligation_laws.specs.LeafRuns.{LeavesAreRuns, RunsHaveLeaves, first_loc, first_packet}
 use Rattle.obligation_laws.specs.Leaves.{Leaf, body_tree, inlined, params_of}

@@ -13,8 +13,8 @@ use Rattle.sound_types.proofs.Bodies.{after_scope, after_vars}
 use Rattle.sound_types.proofs.Members.{In, in_either, in_flat, in_left, in_map, in_right, map_in}
 use Rattle.sound_types.proofs.Options.{both_true, same_self}
 use Rattle.refinement.proofs.Lists.{same_number}
-use Rattle.expr_term_laws.specs.TermOf.{term_context, term_of, terms_of}
-use Rattle.expr_term_laws.proofs.Typings.{all_typed_everywhere, everywhere, typed_everywhere}
+use Rattle.obligation_laws.specs.TermOf.{term_context, term_of, terms_of}
+use Rattle.obligation_laws.proofs.Typings.{all_typed_everywhere, everywhere, typed_everywhere}
 use Rattle.obligation_laws.specs.States as states
 use Rattle.obligation_laws.specs.States.{NewInput, Place, State, TermWorld, choice_width, guard_term, input_term, term_world, where_true}
 use Rattle.obligation_laws.specs.Following as following

@@ -17,9 +17,9 @@ use Rattle.bv_terms.specs.TermValues.{Functions, Inputs, number_in, term_value}
 use Rattle.sound_types.specs.WellTyped.{HasType, IsTyped, IsTypedStmt, scope_at}
 use Rattle.sound_types.proofs.Bodies.{after_scope, after_vars}
 use Rattle.sound_types.proofs.Members.{In, in_either, map_in}
-use Rattle.expr_term_laws.specs.Shown.{HasNumber, functions_by}
-use Rattle.expr_term_laws.specs.TermOf.{term_context, terms_of}
-use Rattle.expr_term_laws.proofs.Values.{numbers_are}
+use Rattle.obligation_laws.specs.Shown.{HasNumber, functions_by}
+use Rattle.obligation_laws.specs.TermOf.{term_context, terms_of}
+use Rattle.obligation_laws.proofs.ExprValues.{numbers_are}
 use Rattle.obligation_laws.specs.States.{NewInput, Place, State, TermWorld, choice_width, guard_term, input_term, set_term, term_world, where_true}
 use Rattle.obligation_laws.specs.States as states
 use Rattle.obligation_laws.specs.Following as following

@@ -11,7 +11,7 @@ use Rattle.sound_types.specs.Defined.{HasDefinitions}
 use Rattle.sound_types.specs.Soundness.{IsSound}
 use Rattle.sound_types.proofs.Declared.{names_differ}
 use Rattle.sound_types.proofs.Members.{In, at_place, in_left, in_right}
-use Rattle.expr_term_laws.proofs.Rows.{rows_fit}
+use Rattle.obligation_laws.proofs.Rows.{rows_fit}
 use Rattle.obligation_laws.specs.Leaves.{Leaf, tree_of}
 use Rattle.obligation_laws.specs.Meant.{AllFit}
 use Rattle.obligation_laws.specs.States.{NewInput, TermWorld, term_world}

@@ -13,8 +13,8 @@ use Rattle.refinement.specs.Ways.{Arrival, body_by, go_by, if_new, on_true}
 use Rattle.bv_terms.specs.TermValues.{Functions, Inputs}
 use Rattle.role_values.specs.Flat.{packet_of}
 use Rattle.sound_types.proofs.Members.{In, at_place, flat_in, in_flat}
-use Rattle.expr_term_laws.specs.Shown.{HasNumber, functions_by, numbers_of}
-use Rattle.expr_term_laws.proofs.Typings.{in_place}
+use Rattle.obligation_laws.specs.Shown.{HasNumber, functions_by, numbers_of}
+use Rattle.obligation_laws.proofs.Typings.{in_place}
 use Rattle.obligation_laws.specs.States.{NewInput, Place, State, guard_term, input_term, inputs_from, term_world}
 use Rattle.obligation_laws.specs.Leaves.{Leaf, Tree, begins, end_at, entry_of, hops, leaf_of, params_of, tree_of}
 use Rattle.obligation_laws.specs.LeafRuns.{IsItsRun, LeavesAreRuns, RunsHaveLeaves, first_loc, first_packet}

@@ -14,11 +14,11 @@ use Rattle.bv_terms.specs.TermValues.{Inputs}
 use Rattle.sound_types.specs.Literals.{DesignLiteralsFit}
 use Rattle.sound_types.specs.WellTyped.{IsTypedRole, scope_at}
 use Rattle.sound_types.proofs.Declared.{names_differ, typed_bodies}
-use Rattle.expr_term_laws.specs.Shown.{functions_by, packet_in}
-use Rattle.expr_term_laws.specs.TermOf.{term_context}
-use Rattle.expr_term_laws.proofs.InFunctions.{HoldsOf}
-use Rattle.expr_term_laws.proofs.Typings.{all_typed_everywhere, typed_everywhere}
-use Rattle.expr_term_laws.proofs.Values.{CallShown, RowsFit, both_in, calls_shown, value_shown, values_shown}
+use Rattle.obligation_laws.specs.Shown.{functions_by, packet_in}
+use Rattle.obligation_laws.specs.TermOf.{term_context}
+use Rattle.obligation_laws.proofs.InFunctions.{HoldsOf}
+use Rattle.obligation_laws.proofs.Typings.{all_typed_everywhere, typed_everywhere}
+use Rattle.obligation_laws.proofs.ExprValues.{CallShown, RowsFit, both_in, calls_shown, value_shown, values_shown}
 use Rattle.obligation_laws.specs.Counts.{leaf_count}
 use Rattle.obligation_laws.specs.States.{TermWorld, input_term, inputs_from, term_world}
 use Rattle.obligation_laws.specs.Leaves.{begins, body_tree, entry_of, inlined, params_of, tree_of}

@@ -6,7 +6,7 @@ use Rattle.bv_terms.specs.declared.node.TermOp.TheVariants as ops
 use Rattle.bv_terms.specs.TermTrees as term
 use Rattle.bv_terms.specs.TermTrees.{Term}
 use Rattle.bv_terms.specs.TermValues.{Functions, Inputs, number_in, operated, term_number, term_value}
-use Rattle.expr_term_laws.proofs.OperatorTerms.{shown}
+use Rattle.obligation_laws.proofs.OperatorTerms.{shown}
 use Rattle.obligation_laws.specs.Meant.{IsOne}
 use Rattle.obligation_laws.specs.States.{and_with}
 

@@ -20,8 +20,8 @@ use Rattle.bv_terms.specs.TermValues.{Functions, Inputs}
 use Rattle.sound_types.specs.Defined.{HasDefinitions}
 use Rattle.sound_types.proofs.Members.{In, flat_in, map_in}
 use Rattle.sound_types.proofs.Options.{same_text}
-use Rattle.expr_term_laws.specs.Shown.{HasNumber, functions_by}
-use Rattle.expr_term_laws.proofs.Typings.{in_place}
+use Rattle.obligation_laws.specs.Shown.{HasNumber, functions_by}
+use Rattle.obligation_laws.proofs.Typings.{in_place}
 use Rattle.obligation_laws.specs.Following.{Followed, follow_all, one, those_sent}
 use Rattle.obligation_laws.specs.LeafRuns.{first_loc, first_packet}
 use Rattle.obligation_laws.specs.Leaves.{End, sent_to, inside, Leaf, Tree, begins, body_tree, end_role, end_values, entered, entry_of, follow_body, hops, inlined, leaf_of, onward}

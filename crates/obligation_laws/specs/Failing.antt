@@ -11,7 +11,7 @@ use Rattle.refinement.specs.Ways.{Arrival, Way, hops_by}
 use Rattle.bv_terms.specs.Inputs.{InputsFit}
 use Rattle.bv_terms.specs.TermTrees.{Term}
 use Rattle.bv_terms.specs.TermValues.{Inputs}
-use Rattle.expr_term_laws.specs.Shown.{functions_by}
+use Rattle.obligation_laws.specs.Shown.{functions_by}
 use Rattle.obligation_laws.specs.Meant.{IsOne}
 use Rattle.obligation_laws.specs.Obligations.{Kind, contained, bounded, Obligation}
 

@@ -4,7 +4,7 @@ use Rattle.cocoon_num.specs.Tree.{Refine, Design}
 use Rattle.cocoon_types.specs.Tables.{Defs}
 use Rattle.refinement.specs.Ways.{hops_by}
 use Rattle.bv_terms.specs.TermValues.{Inputs}
-use Rattle.expr_term_laws.specs.Shown.{functions_by}
+use Rattle.obligation_laws.specs.Shown.{functions_by}
 use Rattle.obligation_laws.specs.LeafRuns.{first_loc, first_packet}
 use Rattle.obligation_laws.specs.Leaves.{Leaf, Tree}
 use Rattle.obligation_laws.specs.Meant.{arrives, given}

@@ -5,7 +5,7 @@ use Rattle.std.specs.Prelude.{ℕ, suc, Bool, true, false, List, [], ◌∷◌, 
 use Rattle.cocoon_num.specs.Tree.{Expr, Stmt, let_, set_field, if_, filter, havoc_var, havoc_field, assume, fork, send, Block, no_stmts, stmt}
 use Rattle.bv_terms.specs.TermTrees as term
 use Rattle.bv_terms.specs.TermTrees.{Term}
-use Rattle.expr_term_laws.specs.TermOf.{TermEnv, term_of, terms_of}
+use Rattle.obligation_laws.specs.TermOf.{TermEnv, term_of, terms_of}
 use Rattle.obligation_laws.specs.States.{NewInput, Place, State, TermWorld, back_to, choice_width, guard_term, input_term, where_true, with_branch, with_choice, with_field, with_variable}
 
 -- states in the order of their ways, and the number of the next input

@@ -4,7 +4,7 @@ use Rattle.std.specs.Prelude.{◌≡◌, List}
 use Rattle.std.specs.List.{AllZip}
 use Rattle.bv_terms.specs.Replacements.{Replacing, replaced}
 use Rattle.bv_terms.specs.TermTrees.{Term, width}
-use Rattle.expr_term_laws.specs.Shown.{HasWidth}
+use Rattle.obligation_laws.specs.Shown.{HasWidth}
 use Rattle.obligation_laws.specs.States.{NewInput}
 use Rattle.obligation_laws.specs.Leaves.{Leaf, Tree, end_fields, end_values}
 use Rattle.obligation_laws.specs.Formulas.{leaf_inputs, replacing, stand_ins}

@@ -5,7 +5,7 @@ use Rattle.std.specs.List.{AllZip}
 use Rattle.cocoon_num.specs.Tree.{Role, Design}
 use Rattle.cocoon_resolve.specs.Readers.{all_widths}
 use Rattle.cocoon_types.specs.Design.{role_at, widths_of}
-use Rattle.expr_term_laws.specs.Shown.{HasWidth}
+use Rattle.obligation_laws.specs.Shown.{HasWidth}
 use Rattle.obligation_laws.specs.States.{NewInput}
 use Rattle.obligation_laws.specs.Leaves.{End, sent_to, inside, Leaf, end_fields, end_role, end_values}
 

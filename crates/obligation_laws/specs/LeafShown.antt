@@ -8,7 +8,7 @@ use Rattle.cocoon_types.specs.Design.{role_at, widths_of}
 use Rattle.cocoon_types.specs.Tables.{Defs}
 use Rattle.bv_terms.specs.TermTrees.{Term}
 use Rattle.bv_terms.specs.TermValues.{Functions, Inputs, term_number, term_value}
-use Rattle.expr_term_laws.specs.Shown.{HasNumber, functions_by}
+use Rattle.obligation_laws.specs.Shown.{HasNumber, functions_by}
 use Rattle.obligation_laws.specs.Leaves.{Leaf, end_fields, end_role, end_values}
 
 -- the term is true or false

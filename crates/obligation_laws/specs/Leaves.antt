@@ -8,7 +8,7 @@ use Rattle.cocoon_types.specs.Design.{widths_of}
 use Rattle.refinement.specs.Segments.{is_new}
 use Rattle.refinement.specs.Ways.{Way}
 use Rattle.bv_terms.specs.TermTrees.{Term}
-use Rattle.expr_term_laws.specs.TermOf.{bind_terms}
+use Rattle.obligation_laws.specs.TermOf.{bind_terms}
 use Rattle.obligation_laws.specs.States.{NewInput, Place, State, TermWorld, guard_term, input_term, inputs_from, term_world}
 use Rattle.obligation_laws.specs.Following.{Followed, each, follow_all, one, those_sent}
 

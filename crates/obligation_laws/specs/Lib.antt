@@ -1,3 +1,6 @@
+pub mod TermOf
+pub mod TypedExprs
+pub mod Shown
 pub mod States
 pub mod Following
 pub mod Leaves

@@ -3,7 +3,7 @@
 use Rattle.std.specs.Prelude.{◌≡◌, ◌⊎◌, ℕ, List, [], ◌∷◌}
 use Rattle.bv_terms.specs.TermTrees as term
 use Rattle.bv_terms.specs.TermTrees.{Term, Args, no_args, arg}
-use Rattle.expr_term_laws.specs.TermOf.{TermEnv}
+use Rattle.obligation_laws.specs.TermOf.{TermEnv}
 use Rattle.obligation_laws.specs.States.{NewInput}
 use Rattle.obligation_laws.specs.Leaves.{Leaf, end_fields, end_values}
 

@@ -5,7 +5,7 @@ use Rattle.cocoon_num.specs.Values.{FitsWidth, number}
 use Rattle.refinement.specs.Ways.{Arrival}
 use Rattle.bv_terms.specs.TermTrees.{Term}
 use Rattle.bv_terms.specs.TermValues.{Functions, Inputs, term_value}
-use Rattle.expr_term_laws.specs.Shown.{numbers_of, packet_in}
+use Rattle.obligation_laws.specs.Shown.{numbers_of, packet_in}
 use Rattle.obligation_laws.specs.States.{NewInput}
 use Rattle.obligation_laws.specs.Leaves.{Leaf, end_fields, end_role, end_values}
 

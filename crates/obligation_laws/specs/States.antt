@@ -9,7 +9,7 @@ use Rattle.refinement.specs.Ways.{Way}
 use Rattle.bv_terms.specs.declared.node.TermOp.TheVariants as ops
 use Rattle.bv_terms.specs.TermTrees as term
 use Rattle.bv_terms.specs.TermTrees.{Term}
-use Rattle.expr_term_laws.specs.TermOf.{TermContext, TermEnv, bind_terms, no_term, term_context, term_of}
+use Rattle.obligation_laws.specs.TermOf.{TermContext, TermEnv, bind_terms, no_term, term_context, term_of}
 
 -- ---- inputs
 

@@ -5,7 +5,7 @@ ghost use Rattle.cocoon_num.specs.Reads.{Reads};
 ghost use Rattle.cocoon_num.specs.Tree.{DefsText, Design, Refine};
 ghost use Rattle.cocoon_types.specs.RuleParts.{has_name};
 ghost use Rattle.cocoon_types.specs.Tables.{defs_of};
-ghost use Rattle.expr_term_laws.specs.Shown.{functions_by};
+ghost use Rattle.obligation_laws.specs.Shown.{functions_by};
 ghost use Rattle.sound_types.specs.Defined.{HasDefinitions};
 ghost use Rattle.obligation_laws.specs.Leaves.{Leaf};
 ghost use Rattle.obligation_laws.specs.Meant.{AllFit, IsOne};

@@ -2,7 +2,7 @@
 ghost use Rattle.std.specs.Prelude.{◌≡◌, List, ℕ, slice_get, Some};
 ghost use Rattle.cocoon_num.specs.Tree.{Design, Refine};
 ghost use Rattle.cocoon_types.specs.Rules.{WellFormed};
-ghost use Rattle.expr_term_laws.specs.Shown.{HasWidth};
+ghost use Rattle.obligation_laws.specs.Shown.{HasWidth};
 ghost use Rattle.sound_types.specs.Literals.{DesignLiteralsFit};
 ghost use Rattle.obligation_laws.specs.Leaves.{end_role, Leaf};
 ghost use Rattle.obligation_laws.specs.Formulas.{formula};

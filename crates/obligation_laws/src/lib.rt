@@ -4,9 +4,11 @@
 //! a later level refines is read back from what a leaf sends, or is read nowhere ([`read_back_laws`]). Each law is the
 //! contract of a function that does nothing.
 //! Bodies of roles as trees: what each statement makes of a symbolic state, and that a leaf is true exactly at the runs of its way.
+//! Expressions of a design as terms: which term an expression stands for, and that it has the value of the expression.
 #![tactic(auto)]
 
 pub mod exactness_laws;
+pub mod expr_laws;
 pub mod form_laws;
 pub mod laws;
 pub mod leaf_laws;

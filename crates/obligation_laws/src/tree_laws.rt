@@ -10,13 +10,13 @@ ghost use Rattle.refinement.specs.Segments.{is_new};
 ghost use Rattle.refinement.specs.Ways.{go_by, hops_by};
 ghost use Rattle.sound_types.specs.Defined.{HasDefinitions};
 ghost use Rattle.sound_types.specs.Literals.{DesignLiteralsFit};
-ghost use Rattle.expr_term_laws.specs.Shown.{functions_by};
+ghost use Rattle.obligation_laws.specs.Shown.{functions_by};
 ghost use Rattle.obligation_laws.specs.Counts.{leaf_count};
 ghost use Rattle.obligation_laws.specs.LeafRuns.{LeavesAreRuns, RunsHaveLeaves};
 ghost use Rattle.obligation_laws.specs.LeafForms.{Ascend, EndsBy, LeafFits};
 ghost use Rattle.obligation_laws.specs.Leaves.{body_tree, inlined, Leaf};
 
-use expr_term_laws::laws::terms_have_widths;
+use crate::expr_laws::terms_have_widths;
 use sound_types::laws::{declarations_are_typed, expressions_have_values};
 
 /// Under any definitions of a text, and for inputs that fit: a leaf is true exactly where the run

@@ -9,8 +9,8 @@ use Rattle.bv_terms.specs.declared.node.Node.{Node}
 use Rattle.bv_terms.specs.Arenas.{width_at}
 use Rattle.cocoon_types.specs.Design.{last_level}
 use Rattle.sound_types.specs.WellTyped.{scope_at}
-use Rattle.expr_term_laws.specs.Shown.{AreVariables}
-use Rattle.expr_term_laws.specs.TermOf.{bind_terms}
+use Rattle.obligation_laws.specs.Shown.{AreVariables}
+use Rattle.obligation_laws.specs.TermOf.{bind_terms}
 use Rattle.expr_terms.specs.Scopes.{IsTyped}
 use Rattle.expr_terms.specs.Variables.{AreThere, VariablesThere, terms_at, variables_of}
 use Rattle.expr_terms.specs.declared.variables.Variable.{Variable}

@@ -11,7 +11,7 @@ use Rattle.bv_terms.specs.declared.node.Node.TheVariants.{Apply}
 use Rattle.bv_terms.specs.Arenas.{IsArena, args_of, term_at}
 use Rattle.bv_terms.specs.TermTrees.{apply}
 use Rattle.bv_terms.specs.Walks.{AreNumbersOf, applications}
-use Rattle.expr_term_laws.specs.Shown.{HasWidth}
+use Rattle.obligation_laws.specs.Shown.{HasWidth}
 use Rattle.expr_terms.specs.Scopes.{Takes}
 use Rattle.expr_terms.specs.Variables.{terms_at}
 use Rattle.pattern_laws.specs.Patterns.{Pattern, patterns}

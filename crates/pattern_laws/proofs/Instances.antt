@@ -14,9 +14,9 @@ use Rattle.cocoon_types.specs.Limits.{as_assumption}
 use Rattle.bv_terms.specs.TermTrees.{Term, Args, constant, input, apply, not_, binary, slice, pick, no_args, arg, IsTerm, AreArgs}
 use Rattle.bv_terms.proofs.Subterms.{Each, EachArg}
 use Rattle.sound_types.specs.WellTyped.{HasType, scope_at}
-use Rattle.expr_term_laws.specs.Shown.{HasWidth}
-use Rattle.expr_term_laws.specs.TermOf.{bind_terms}
-use Rattle.expr_term_laws.proofs.Widths.{params_are}
+use Rattle.obligation_laws.specs.Shown.{HasWidth}
+use Rattle.obligation_laws.specs.TermOf.{bind_terms}
+use Rattle.obligation_laws.proofs.ExprWidths.{params_are}
 use Rattle.application_laws.specs.Over.{AllOver, IsOver, TermsAreOver, VariablesOver}
 use Rattle.fun_instances.specs.AssumptionTerms.{assumption_term, inputs_from, number_terms, own_term}
 use Rattle.pattern_laws.proofs.Lists.{in-front}

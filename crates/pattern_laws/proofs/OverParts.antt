@@ -15,9 +15,9 @@ use Rattle.bv_terms.specs.Walks.{is_among, walk}
 use Rattle.bv_terms.proofs.Subterms.{Each, EachArg, in-walk, walk-has}
 use Rattle.sound_types.specs.Matching.{HasValue}
 use Rattle.sound_types.proofs.Members.{at_place}
-use Rattle.expr_term_laws.specs.Shown.{functions_by}
-use Rattle.expr_term_laws.specs.TermOf.{result_width}
-use Rattle.expr_term_laws.proofs.Values.{RowsFit}
+use Rattle.obligation_laws.specs.Shown.{functions_by}
+use Rattle.obligation_laws.specs.TermOf.{result_width}
+use Rattle.obligation_laws.proofs.ExprValues.{RowsFit}
 use Rattle.application_laws.specs.Over.{AreOver, IsOver, IsRuntimeAt}
 use Rattle.flat_laws.specs.Meant.{AppliesAlike}
 

@@ -8,7 +8,7 @@ use Rattle.cocoon_num.specs.Tree.{FunctionDecl, Design}
 use Rattle.cocoon_types.specs.Design.{widths_of}
 use Rattle.bv_terms.specs.TermTrees.{Term, Args, constant, input, apply, not_, binary, slice, pick, no_args, arg, arg_widths, width}
 use Rattle.fun_instances.specs.AssumptionTerms.{inputs_from}
-use Rattle.expr_term_laws.specs.Shown.{HasWidth}
+use Rattle.obligation_laws.specs.Shown.{HasWidth}
 use Rattle.application_laws.specs.Over.{AllOver, AreOver, IsOver, IsRuntimeAt}
 use Rattle.pattern_laws.specs.Patterns.{Pattern, arg_count, is_input, pattern_of, place_of, places_from}
 use Rattle.pattern_laws.specs.TupleFits.{HasPlaces}

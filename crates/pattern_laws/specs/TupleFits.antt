@@ -4,7 +4,7 @@ use Rattle.std.specs.List.{AllByRecursion, AllZip}
 use Rattle.cocoon_num.specs.Tree.{AssumeDecl}
 use Rattle.cocoon_types.specs.Design.{widths_of}
 use Rattle.bv_terms.specs.TermTrees.{Term, apply}
-use Rattle.expr_term_laws.specs.Shown.{HasWidth}
+use Rattle.obligation_laws.specs.Shown.{HasWidth}
 use Rattle.pattern_laws.specs.Patterns.{Pattern, arg_count}
 
 -- if the term applies the pattern's function, it has arguments at the places

@@ -10,7 +10,7 @@ ghost use Rattle.bv_terms.specs.TermTrees.{IsTerm, Term};
 ghost use Rattle.bv_terms.specs.TermValues.{Inputs};
 ghost use Rattle.refinement.specs.Assumptions.{AreDefinitions, Meets};
 ghost use Rattle.sound_types.specs.Literals.{DesignLiteralsFit};
-ghost use Rattle.expr_term_laws.specs.Shown.{HasWidth};
+ghost use Rattle.obligation_laws.specs.Shown.{HasWidth};
 ghost use Rattle.application_laws.specs.Over.{AllOver, IsOver};
 ghost use Rattle.fun_instances.specs.AssumptionTerms.{own_term, value_term};
 ghost use Rattle.fun_instances.specs.Saying.{IsTrueUnder};

@@ -6,7 +6,7 @@ ghost use Rattle.cocoon_types.specs.Rules.{WellFormed};
 ghost use Rattle.cocoon_types.specs.Tables.{Defs};
 ghost use Rattle.bv_terms.specs.Inputs.{FunctionsFit, Mentions};
 ghost use Rattle.bv_terms.specs.TermTrees.{Term};
-ghost use Rattle.expr_term_laws.specs.Shown.{functions_by};
+ghost use Rattle.obligation_laws.specs.Shown.{functions_by};
 ghost use Rattle.refinement.specs.Assumptions.{AreDefinitions};
 ghost use Rattle.sound_types.specs.Literals.{DesignLiteralsFit};
 ghost use Rattle.application_laws.specs.Over.{IsOver};

@@ -6,7 +6,7 @@ use Rattle.bv_terms.specs.Inputs.{Mentions}
 use Rattle.bv_terms.specs.TermTrees.{Term, constant, input, apply, not_, binary, slice, pick}
 use Rattle.bv_terms.specs.Walks.{is_among, same_term, walk}
 use Rattle.bv_terms.proofs.SameTerms.{same-itself, same-only}
-use Rattle.expr_term_laws.proofs.Typings.{in_place}
+use Rattle.obligation_laws.proofs.Typings.{in_place}
 use Rattle.sound_types.proofs.Members.{In, at_place}
 use Rattle.bv_terms.specs.Copies.{AreInputs, AreRising}
 use Rattle.query_laws.specs.OwnNames.{input_numbers, inputs_of, with_number}

@@ -25,7 +25,7 @@ use Rattle.bv_terms.specs.Walks.{is_among, walk}
 use Rattle.bv_terms.proofs.Subterms.{walk-has}
 use Rattle.cnf_core.specs.declared.certificates.Instance.{Instance}
 use Rattle.refinement.specs.Assumptions.{AreDefinitions, Meets}
-use Rattle.expr_term_laws.specs.Shown.{HasWidth, functions_by}
+use Rattle.obligation_laws.specs.Shown.{HasWidth, functions_by}
 use Rattle.application_laws.specs.Over.{AllOver, IsOver, fit_input}
 use Rattle.flat_laws.specs.Flat.{flattened}
 use Rattle.flat_laws.specs.Meant.{AppliesAlike, CanFlatten, HasInputsBelow, with_results}

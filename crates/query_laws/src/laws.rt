@@ -11,7 +11,7 @@ ghost use Rattle.cnf_core.specs.declared.clauses.Assignment.{Assignment};
 ghost use Rattle.cnf_core.specs.declared.clauses.Cnf.{Cnf};
 ghost use Rattle.cocoon_num.specs.Tree.{Design};
 ghost use Rattle.cocoon_types.specs.Rules.{WellFormed};
-ghost use Rattle.expr_term_laws.specs.Shown.{HasWidth};
+ghost use Rattle.obligation_laws.specs.Shown.{HasWidth};
 ghost use Rattle.flat_laws.specs.Meant.{CanFlatten};
 ghost use Rattle.formula_functions.specs.LeafTerms.{Stands};
 ghost use Rattle.obligation_laws.specs.Failing.{NeverFails, NeverTrue};

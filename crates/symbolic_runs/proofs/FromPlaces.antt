@@ -9,9 +9,9 @@ use Rattle.bv_terms.specs.Arenas.{KeepsTerms, inputs_in, term_at}
 use Rattle.bv_terms.specs.TermTrees.{Term}
 use Rattle.cocoon_resolve.specs.Readers.{all_widths}
 use Rattle.sound_types.specs.WellTyped.{IsTyped, scope_at}
-use Rattle.expr_term_laws.specs.Shown.{HasWidth}
-use Rattle.expr_term_laws.specs.TermOf.{bind_terms}
-use Rattle.expr_term_laws.proofs.Widths.{params_are}
+use Rattle.obligation_laws.specs.Shown.{HasWidth}
+use Rattle.obligation_laws.specs.TermOf.{bind_terms}
+use Rattle.obligation_laws.proofs.ExprWidths.{params_are}
 use Rattle.expr_terms.specs.Variables.{AreThere, Makes, VariablesThere, terms_at, variables_of}
 use Rattle.obligation_laws.specs.States as tree
 use Rattle.obligation_laws.specs.States.{TermWorld, guard_term}

@@ -9,7 +9,7 @@ use Rattle.cocoon_types.specs.Design.{field_width, widths_of}
 use Rattle.bv_terms.specs.declared.node.TermOp.{TermOp}
 use Rattle.bv_terms.specs.declared.node.TermOp.TheVariants.{Add, Sub, And, Or, Xor, Concat, Equal, Less}
 use Rattle.bv_terms.specs.TermTrees.{Term, constant, input, apply, not_, binary, slice, pick, width, joined_width, IsTerm, IsWidth, OperandsFit}
-use Rattle.expr_term_laws.specs.Shown.{HasWidth}
+use Rattle.obligation_laws.specs.Shown.{HasWidth}
 use Rattle.role_values.proofs.FieldSteps.{counted}
 use Rattle.sound_types.proofs.Variables.{width_among}
 use Rattle.symbolic_runs.specs.Places.{later, place_in, place_of}

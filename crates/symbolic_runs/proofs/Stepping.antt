@@ -20,9 +20,9 @@ use Rattle.bv_terms.specs.TermTrees.{IsWidth, Term}
 use Rattle.sound_types.specs.WellTyped as typing
 use Rattle.sound_types.specs.WellTyped.{scope_at}
 use Rattle.sound_types.proofs.Members.{In, in_either}
-use Rattle.expr_term_laws.specs.Shown.{AreVariables, FitsScope, HasWidth}
-use Rattle.expr_term_laws.specs.TermOf.{TermEnv, bind_terms, no_term, term_context, term_of, terms_of}
-use Rattle.expr_term_laws.proofs.Widths.{params_are}
+use Rattle.obligation_laws.specs.Shown.{AreVariables, FitsScope, HasWidth}
+use Rattle.obligation_laws.specs.TermOf.{TermEnv, bind_terms, no_term, term_context, term_of, terms_of}
+use Rattle.obligation_laws.proofs.ExprWidths.{params_are}
 use Rattle.expr_terms.specs.Scopes.{AreTyped, IsTyped}
 use Rattle.expr_terms.specs.Variables.{AreThere, Keeps, Makes, MakesAll, VariablesThere, terms_at, variable_of, variables_of}
 use Rattle.expr_terms.specs.declared.variables.Variable.{Variable}

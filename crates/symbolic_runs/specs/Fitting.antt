@@ -8,8 +8,8 @@ use Rattle.cocoon_syntax.specs.TreeOf.{design_of}
 use Rattle.cocoon_types.specs.Design.{role_at, widths_of}
 use Rattle.bv_terms.specs.declared.node.Node.{Node}
 use Rattle.sound_types.specs.WellTyped.{HasType, HaveWidths, IsTyped, IsTypedRole, IsTypedStmt, scope_at}
-use Rattle.expr_term_laws.specs.Shown.{AreVariables, HasWidth, TermsHaveWidths}
-use Rattle.expr_term_laws.specs.TermOf.{TermEnv}
+use Rattle.obligation_laws.specs.Shown.{AreVariables, HasWidth, TermsHaveWidths}
+use Rattle.obligation_laws.specs.TermOf.{TermEnv}
 use Rattle.expr_terms.specs.Sizes.{AreSizes}
 use Rattle.expr_terms.specs.Variables.{AreThere, terms_at}
 use Rattle.obligation_laws.specs.States as tree

@@ -5,7 +5,7 @@ ghost use Rattle.cocoon_resolve.specs.Readers.{all_widths};
 ghost use Rattle.cocoon_syntax.specs.TreeOf.{block_of, design_of, role_of, stmt_of};
 ghost use Rattle.bv_terms.specs.declared.node.Node.{Node};
 ghost use Rattle.bv_terms.specs.Arenas.{KeepsTerms, inputs_in};
-ghost use Rattle.expr_term_laws.specs.Shown.{HasWidth};
+ghost use Rattle.obligation_laws.specs.Shown.{HasWidth};
 ghost use Rattle.expr_terms.specs.Sizes.{AreSizes};
 ghost use Rattle.expr_terms.specs.Variables.{AreThere, terms_at};
 ghost use Rattle.obligation_laws.specs.States as tree;

@@ -6,7 +6,7 @@ ghost use Rattle.cocoon_resolve.specs.Readers.{all_widths};
 ghost use Rattle.cocoon_syntax.specs.TreeOf.{header_of, param_of};
 ghost use Rattle.cocoon_types.specs.Design as design;
 ghost use Rattle.bv_terms.specs.TermTrees.{IsWidth};
-ghost use Rattle.expr_term_laws.specs.Shown.{HasWidth};
+ghost use Rattle.obligation_laws.specs.Shown.{HasWidth};
 ghost use Rattle.expr_terms.specs.Variables.{AreThere, terms_at};
 ghost use Rattle.obligation_laws.specs.States.{choice_width};
 ghost use Rattle.symbolic_runs.specs.Places as places;

@@ -3,7 +3,7 @@ ghost use Rattle.std.specs.Prelude.{◌≡◌, ◌<◌, IfOk, length, map};
 ghost use Rattle.cocoon_syntax.specs.TreeOf.{design_of, expr_of, exprs_of};
 ghost use Rattle.bv_terms.specs.Arenas.{KeepsTerms, inputs_in, term_at};
 ghost use Rattle.bv_terms.specs.TermTrees as term;
-ghost use Rattle.expr_term_laws.specs.TermOf.{terms_of};
+ghost use Rattle.obligation_laws.specs.TermOf.{terms_of};
 ghost use Rattle.expr_terms.specs.Sizes.{AreSizes};
 ghost use Rattle.expr_terms.specs.Variables.{Makes, MakesAll, terms_at};
 ghost use Rattle.obligation_laws.specs.States.{guard_term};
@@ -16,8 +16,8 @@ use bv_terms::{TermId, Terms};
 use cocoon_num::{Bits, NoMemory};
 use cocoon_resolve::Checked;
 use cocoon_syntax::Expr;
-use expr_term_laws::laws::terms_have_widths;
 use expr_terms::{CallSizes, bind, expr_term, expr_terms};
+use obligation_laws::expr_laws::terms_have_widths;
 use sound_types::laws::{code_literals_fit, declarations_are_typed};
 use std::alloc::Global;
 

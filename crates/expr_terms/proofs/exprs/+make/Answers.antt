@@ -7,7 +7,7 @@ use Rattle.cocoon_syntax.specs.TreeOf.{binary_of, expr_of, exprs_of, function_of
 use Rattle.cocoon_types.specs.Design.{functions}
 use Rattle.bv_terms.specs.TermTrees as term
 use Rattle.bv_terms.specs.TermTrees.{IsWidth}
-use Rattle.expr_term_laws.specs.TermOf.{args_of, bind_terms, call_in, field_term, variable_term}
+use Rattle.obligation_laws.specs.TermOf.{args_of, bind_terms, call_in, field_term, variable_term}
 use Rattle.role_values.proofs.Sizes.{all_nodes, body_nodes, nodes, one_of, option_nodes, weight, weight_with}
 use Rattle.sound_types.proofs.Members.{at_place}
 use Rattle.expr_terms.specs.Finds.{body_term, called}

@@ -4,7 +4,7 @@ use Rattle.std.proofs.lemmas.List.Elements.{All-drop}
 use Rattle.cocoon_num.specs.Names.{same_name}
 use Rattle.cocoon_syntax.specs.TreeOf.{header_of, param_of}
 use Rattle.bv_terms.specs.Arenas.{term_at}
-use Rattle.expr_term_laws.specs.TermOf.{field_term}
+use Rattle.obligation_laws.specs.TermOf.{field_term}
 use Rattle.expr_terms.specs.Variables.{AreThere, terms_at}
 use Rattle.expr_terms.proofs.Lists.{header_past}
 use Rattle.expr_terms.proofs.fields.field.Goals as goal

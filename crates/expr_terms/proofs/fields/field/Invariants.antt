@@ -1,7 +1,7 @@
 use Rattle.std.proofs.Common.{◌≡◌, List, drop, map}
 use Rattle.cocoon_syntax.specs.TreeOf.{header_of}
 use Rattle.bv_terms.specs.declared.node.Node.{Node}
-use Rattle.expr_term_laws.specs.TermOf.{field_term}
+use Rattle.obligation_laws.specs.TermOf.{field_term}
 use Rattle.expr_terms.specs.Variables.{AreThere, terms_at}
 use Rattle.expr_terms.proofs.fields.field.Given as goal
 

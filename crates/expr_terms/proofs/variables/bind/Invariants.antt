@@ -1,7 +1,7 @@
 use Rattle.std.proofs.Common.{◌≡◌, ◌≤◌, List, drop, length, map}
 use Rattle.cocoon_syntax.specs.TreeOf.{param_of}
 use Rattle.bv_terms.specs.declared.node.Node.{Node}
-use Rattle.expr_term_laws.specs.TermOf.{bind_terms}
+use Rattle.obligation_laws.specs.TermOf.{bind_terms}
 use Rattle.expr_terms.specs.Variables.{AreThere, VariablesThere, terms_at, variables_of}
 use Rattle.expr_terms.proofs.variables.bind.Given as goal
 

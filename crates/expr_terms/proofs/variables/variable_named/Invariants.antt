@@ -1,6 +1,6 @@
 use Rattle.std.proofs.Common.{◌≡◌, ◌≤◌, List, take, length}
 use Rattle.bv_terms.specs.declared.node.Node.{Node}
-use Rattle.expr_term_laws.specs.TermOf.{variable_term}
+use Rattle.obligation_laws.specs.TermOf.{variable_term}
 use Rattle.expr_terms.specs.Variables.{variables_of}
 use Rattle.expr_terms.proofs.variables.variable_named.Given as goal
 

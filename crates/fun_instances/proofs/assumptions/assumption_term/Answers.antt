@@ -1,7 +1,7 @@
 use Rattle.std.proofs.Common.{◌≡◌, [], map, sym, ap, subst, ◌∙◌}
 use Rattle.cocoon_syntax.specs.TreeOf.{assume_of, design_of, param_of}
 use Rattle.cocoon_types.specs.Design.{last_level}
-use Rattle.expr_term_laws.specs.TermOf.{bind_terms}
+use Rattle.obligation_laws.specs.TermOf.{bind_terms}
 use Rattle.expr_terms.specs.Scopes.{IsTyped}
 use Rattle.expr_terms.specs.Variables.{terms_at, variables_of}
 use Rattle.fun_instances.proofs.Assumed.{body_typed}

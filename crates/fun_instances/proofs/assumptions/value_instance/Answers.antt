@@ -3,7 +3,7 @@ use Rattle.std.specs.List.{AllZip}
 use Rattle.cocoon_num.specs.Tree.{AssumeDecl}
 use Rattle.cocoon_syntax.specs.TreeOf.{assume_of, design_of, param_of}
 use Rattle.cocoon_types.specs.Design.{widths_of}
-use Rattle.expr_term_laws.specs.Shown.{HasWidth}
+use Rattle.obligation_laws.specs.Shown.{HasWidth}
 use Rattle.expr_terms.specs.Scopes.{Takes}
 use Rattle.expr_terms.specs.Variables.{MakesAll}
 use Rattle.fun_instances.specs.AssumptionTerms.{number_terms}

@@ -1,7 +1,7 @@
 use Rattle.cocoon_types.specs.Design.{last_level}
 use Rattle.cocoon_types.specs.Tables.{defs_of}
 use Rattle.sound_types.proofs.Declared.{names_differ}
-use Rattle.expr_term_laws.proofs.Rows.{rows_fit}
+use Rattle.obligation_laws.proofs.Rows.{rows_fit}
 use Rattle.fun_instances.proofs.AssumptionValues.{says}
 use Rattle.fun_instances.proofs.laws.assumptions_have_values.Goals as goal
 

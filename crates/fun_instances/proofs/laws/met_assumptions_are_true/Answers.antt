@@ -1,7 +1,7 @@
 use Rattle.cocoon_types.specs.Design.{last_level}
 use Rattle.cocoon_types.specs.Tables.{defs_of}
 use Rattle.sound_types.proofs.Declared.{names_differ}
-use Rattle.expr_term_laws.proofs.Rows.{rows_fit}
+use Rattle.obligation_laws.proofs.Rows.{rows_fit}
 use Rattle.fun_instances.proofs.AssumptionValues.{met_if_true, true_if_met, value_true_if_met}
 use Rattle.fun_instances.proofs.laws.met_assumptions_are_true.Goals as goal
 

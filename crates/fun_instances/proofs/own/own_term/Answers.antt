@@ -6,7 +6,7 @@ use Rattle.cocoon_syntax.specs.TreeOf.{assume_of, design_of, param_of}
 use Rattle.cocoon_types.specs.Design.{widths_of}
 use Rattle.bv_terms.specs.Arenas.{term_at}
 use Rattle.bv_terms.specs.TermTrees.{IsWidth}
-use Rattle.expr_term_laws.specs.Shown.{HasWidth}
+use Rattle.obligation_laws.specs.Shown.{HasWidth}
 use Rattle.expr_terms.specs.Scopes.{Takes}
 use Rattle.expr_terms.specs.Variables.{terms_at}
 use Rattle.fun_instances.specs.AssumptionTerms.{assumption_term, own_term}

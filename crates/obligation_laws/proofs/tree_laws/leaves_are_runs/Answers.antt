@@ -1,6 +1,6 @@
 use Rattle.cocoon_types.specs.Tables.{defs_of}
 use Rattle.sound_types.proofs.Declared.{names_differ}
-use Rattle.expr_term_laws.proofs.Rows.{rows_fit}
+use Rattle.obligation_laws.proofs.Rows.{rows_fit}
 use Rattle.obligation_laws.proofs.TreesTogether.{body_runs, inlined_runs}
 use Rattle.obligation_laws.proofs.tree_laws.leaves_are_runs.Goals as goal
 

@@ -1,7 +1,7 @@
 use Rattle.std.proofs.Common.{◌≡◌, ◌∙◌, ap, map, rules, subst, sym}
 use Rattle.std.specs.Bool.{IsTrue}
 use Rattle.cocoon_syntax.specs.TreeOf.{assume_of, design_of, param_of}
-use Rattle.expr_term_laws.specs.TermOf.{bind_terms}
+use Rattle.obligation_laws.specs.TermOf.{bind_terms}
 use Rattle.expr_terms.specs.Variables.{VariablesThere, terms_at, variables_of}
 use Rattle.obligation_tests.specs.Asked.{are_params}
 use Rattle.obligation_tests.proofs.QuestionTerms.{all-there, typed}

@@ -3,7 +3,7 @@ use Rattle.cocoon_num.specs.Tree.{Design}
 use Rattle.cocoon_types.specs.Design.{last_level, widths_of}
 use Rattle.bv_terms.specs.TermTrees.{Term, width}
 use Rattle.bv_terms.proofs.Subterms.{Each}
-use Rattle.expr_term_laws.specs.Shown.{HasWidth}
+use Rattle.obligation_laws.specs.Shown.{HasWidth}
 use Rattle.application_laws.specs.Over.{IsOver}
 use Rattle.fun_instances.specs.AssumptionTerms.{number_terms}
 use Rattle.pattern_laws.specs.Tuples.{instance_term, pattern_tuples}

@@ -3,7 +3,7 @@ use Rattle.cocoon_types.specs.Design.{last_level, widths_of}
 use Rattle.bv_terms.specs.TermTrees.{width}
 use Rattle.bv_terms.specs.Walks.{applications}
 use Rattle.bv_terms.proofs.Subterms.{Each, each-itself, each-weaker}
-use Rattle.expr_term_laws.specs.Shown.{HasWidth}
+use Rattle.obligation_laws.specs.Shown.{HasWidth}
 use Rattle.application_laws.specs.Over.{IsOver}
 use Rattle.pattern_laws.specs.Patterns.{patterns}
 use Rattle.pattern_laws.specs.TupleFits.{HasAllPlaces, HasPlaces}

@@ -1,9 +1,9 @@
 use Rattle.std.proofs.Common.{sym, subst}
 use Rattle.bv_terms.specs.Inputs.{FunctionsFit}
 use Rattle.cocoon_types.specs.Tables.{Defs, defs_of}
-use Rattle.expr_term_laws.specs.Shown.{functions_by}
+use Rattle.obligation_laws.specs.Shown.{functions_by}
 use Rattle.sound_types.proofs.Declared.{names_differ}
-use Rattle.expr_term_laws.proofs.Rows.{rows_fit}
+use Rattle.obligation_laws.proofs.Rows.{rows_fit}
 use Rattle.pattern_laws.proofs.OverParts.{functions-fit}
 use Rattle.pattern_laws.proofs.over.definitions_fit_design_terms.Goals as goal
 

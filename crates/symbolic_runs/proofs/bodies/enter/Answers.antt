@@ -1,6 +1,6 @@
 use Rattle.std.proofs.Common.{◌≡◌, map, None, refl, sym, ap, subst, ◌∙◌}
 use Rattle.cocoon_syntax.specs.TreeOf.{param_of, role_of}
-use Rattle.expr_term_laws.specs.TermOf.{bind_terms}
+use Rattle.obligation_laws.specs.TermOf.{bind_terms}
 use Rattle.expr_terms.specs.Variables.{AreThere, terms_at}
 use Rattle.symbolic_runs.specs.declared.states.State.{State}
 use Rattle.symbolic_runs.proofs.FromPlaces.{entered_reads, values_there}

@@ -9,7 +9,7 @@ use Rattle.cocoon_types.specs.Design.{widths_of}
 use Rattle.bv_terms.specs.Arenas.{inputs_in}
 use Rattle.bv_terms.specs.TermTrees as term
 use Rattle.bv_terms.proofs.ReplaceFacts.{keeps-both}
-use Rattle.expr_term_laws.specs.Shown.{HasWidth}
+use Rattle.obligation_laws.specs.Shown.{HasWidth}
 use Rattle.expr_terms.specs.Variables.{Makes, MakesAll, terms_at}
 use Rattle.obligation_laws.specs.States.{choice_width, guard_term, input_term, where_true, with_choice, with_field, with_variable}
 use Rattle.obligation_laws.specs.Following.{chosen_as, next_input, term_at}

@@ -5,7 +5,7 @@ use Rattle.cocoon_resolve.specs.Readers.{all_widths}
 use Rattle.cocoon_syntax.specs.TreeOf.{design_of, header_of}
 use Rattle.cocoon_types.specs.Design.{field_width}
 use Rattle.bv_terms.specs.Arenas.{inputs_in}
-use Rattle.expr_term_laws.specs.Shown.{HasWidth}
+use Rattle.obligation_laws.specs.Shown.{HasWidth}
 use Rattle.expr_terms.specs.Variables.{AreThere, terms_at}
 use Rattle.obligation_laws.specs.States.{choice_width, input_term, with_choice, with_field}
 use Rattle.obligation_laws.specs.Following.{next_input}

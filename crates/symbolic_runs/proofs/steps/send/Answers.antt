@@ -5,8 +5,8 @@ use Rattle.cocoon_syntax.specs.TreeOf.{design_of, expr_of, exprs_of, name_of}
 use Rattle.cocoon_types.specs.Design.{widths_of}
 use Rattle.bv_terms.specs.Arenas.{inputs_in}
 use Rattle.bv_terms.proofs.ReplaceFacts.{keeps-both}
-use Rattle.expr_term_laws.specs.Shown.{HasWidth}
-use Rattle.expr_term_laws.specs.TermOf.{term_context, terms_of}
+use Rattle.obligation_laws.specs.Shown.{HasWidth}
+use Rattle.obligation_laws.specs.TermOf.{term_context, terms_of}
 use Rattle.expr_terms.specs.Variables.{MakesAll, terms_at}
 use Rattle.obligation_laws.specs.States.{Place, guard_term, where_true}
 use Rattle.obligation_laws.specs.Following.{sends_to}

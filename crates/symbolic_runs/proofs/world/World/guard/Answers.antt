@@ -1,7 +1,7 @@
 use Rattle.std.proofs.Common.{◌≡◌, List, [], map, Some, None, rules, sym, ap, subst, ◌∙◌}
 use Rattle.cocoon_syntax.specs.TreeOf.{design_of, expr_of, param_of, role_of}
 use Rattle.cocoon_types.specs.Design.{role_at}
-use Rattle.expr_term_laws.specs.TermOf.{bind_terms, term_context, term_of}
+use Rattle.obligation_laws.specs.TermOf.{bind_terms, term_context, term_of}
 use Rattle.expr_terms.specs.Scopes.{IsTyped}
 use Rattle.expr_terms.specs.Variables.{terms_at, variables_of}
 use Rattle.obligation_laws.specs.States.{guard_term}

@@ -15,7 +15,7 @@ use Rattle.bv_terms.specs.TermValues.{Functions, Inputs, number_in, term_number,
 use Rattle.role_values.specs.Flat.{packet_of}
 use Rattle.sound_types.specs.Matching.{Binds, IsOfSort}
 use Rattle.sound_types.specs.WellTyped.{HasType, HaveWidths}
-use Rattle.expr_term_laws.specs.TermOf.{TermEnv, term_context, term_of, terms_of}
+use Rattle.obligation_laws.specs.TermOf.{TermEnv, term_context, term_of, terms_of}
 
 -- ---- widths
 

@@ -8,8 +8,8 @@ use Rattle.bv_terms.specs.TermTrees.{Term, width}
 use Rattle.bv_terms.specs.TermValues.{Functions, Inputs, number_in, operated, term_number, term_value}
 use Rattle.sound_types.specs.Matching.{IsOfSort}
 use Rattle.sound_types.proofs.Options.{if_there}
-use Rattle.expr_term_laws.specs.TermOf.{binary_term}
-use Rattle.expr_term_laws.specs.Shown.{HasWidth, WidthsFit, sort_width}
+use Rattle.obligation_laws.specs.TermOf.{binary_term}
+use Rattle.obligation_laws.specs.Shown.{HasWidth, WidthsFit, sort_width}
 
 -- ---- widths
 

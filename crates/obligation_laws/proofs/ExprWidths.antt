@@ -14,13 +14,13 @@ use Rattle.sound_types.specs.WellTyped.{scope_in}
 use Rattle.sound_types.proofs.Declared.{names_differ, typed_bodies}
 use Rattle.sound_types.proofs.Functions.{AreTypedBodies, NamesDiffer, typed_at}
 use Rattle.sound_types.proofs.Members.{In, at_place, in_left, in_right}
-use Rattle.expr_term_laws.specs.TermOf.{TermContext, field_term, TermEnv, args_of, bind_terms, call_in, result_width, term_of, terms_of}
-use Rattle.expr_term_laws.specs.TypedExprs.{IsBefore, TypedAll, TypedAs}
-use Rattle.expr_term_laws.specs.Shown.{AreVariables, FitsScope, HasWidth, sort_width}
-use Rattle.expr_term_laws.proofs.InFunctions.{HoldsNext, HoldsOf, Steps, all_hold, first_hold, if_apply}
-use Rattle.expr_term_laws.proofs.Names.{field_has, variable_width}
-use Rattle.expr_term_laws.proofs.OperatorTerms.{binary_width, slice_width, unary_width}
-use Rattle.expr_term_laws.proofs.Typings.{typed_body}
+use Rattle.obligation_laws.specs.TermOf.{TermContext, field_term, TermEnv, args_of, bind_terms, call_in, result_width, term_of, terms_of}
+use Rattle.obligation_laws.specs.TypedExprs.{IsBefore, TypedAll, TypedAs}
+use Rattle.obligation_laws.specs.Shown.{AreVariables, FitsScope, HasWidth, sort_width}
+use Rattle.obligation_laws.proofs.InFunctions.{HoldsNext, HoldsOf, Steps, all_hold, first_hold, if_apply}
+use Rattle.obligation_laws.proofs.Names.{field_has, variable_width}
+use Rattle.obligation_laws.proofs.OperatorTerms.{binary_width, slice_width, unary_width}
+use Rattle.obligation_laws.proofs.Typings.{typed_body}
 
 -- ---- calls
 

@@ -8,8 +8,8 @@ use Rattle.cocoon_types.specs.Design.{functions}
 use Rattle.sound_types.specs.Matching.{HasValue}
 use Rattle.sound_types.specs.Soundness.{IsSound}
 use Rattle.sound_types.proofs.Functions.{NamesDiffer}
-use Rattle.expr_term_laws.proofs.Typings.{in_place}
-use Rattle.expr_term_laws.proofs.Values.{RowsFit, looked_up}
+use Rattle.obligation_laws.proofs.Typings.{in_place}
+use Rattle.obligation_laws.proofs.ExprValues.{RowsFit, looked_up}
 
 pub rows_fit : (d : Design) (defs : Defs) → NamesDiffer d → IsSound d (context d defs) → RowsFit d defs
 rows_fit d defs differ sound = λ g i none ns fit.

@@ -17,13 +17,13 @@ use Rattle.sound_types.specs.WellTyped.{scope_in}
 use Rattle.sound_types.proofs.Declared.{names_differ, typed_bodies}
 use Rattle.sound_types.proofs.Functions.{typed_at}
 use Rattle.sound_types.proofs.Members.{In, in_left}
-use Rattle.expr_term_laws.specs.TermOf.{TermEnv, call_in, term_context, terms_of}
-use Rattle.expr_term_laws.specs.TypedExprs.{TypedAs}
-use Rattle.expr_term_laws.specs.Shown.{TermsHaveValues, TermsHaveWidths, ValuesFit, env_of, functions_by, packet_in}
-use Rattle.expr_term_laws.proofs.InFunctions.{HoldsOf}
-use Rattle.expr_term_laws.proofs.Typings.{all_typed_everywhere, everywhere, typed_body, typed_everywhere}
-use Rattle.expr_term_laws.proofs.Values.{CallShown, RowsFit, SeesValues, both_in, calls_shown, numbers_are, value_shown, values_shown}
-use Rattle.expr_term_laws.proofs.Widths.{IsWide, calls_wide, term_width}
+use Rattle.obligation_laws.specs.TermOf.{TermEnv, call_in, term_context, terms_of}
+use Rattle.obligation_laws.specs.TypedExprs.{TypedAs}
+use Rattle.obligation_laws.specs.Shown.{TermsHaveValues, TermsHaveWidths, ValuesFit, env_of, functions_by, packet_in}
+use Rattle.obligation_laws.proofs.InFunctions.{HoldsOf}
+use Rattle.obligation_laws.proofs.Typings.{all_typed_everywhere, everywhere, typed_body, typed_everywhere}
+use Rattle.obligation_laws.proofs.ExprValues.{CallShown, RowsFit, SeesValues, both_in, calls_shown, numbers_are, value_shown, values_shown}
+use Rattle.obligation_laws.proofs.ExprWidths.{IsWide, calls_wide, term_width}
 
 pub body_is_typed : (d : Design) → WellFormed d → DesignLiteralsFit d → (n : ℕ) (f : FunctionDecl) (e : Expr) → slice_get (functions d) n ≡ Some f → f.body ≡ Some e → TypedAs (scope_in d n f.params) (result_sort f.result) e
 body_is_typed d w l n f e at is =

@@ -14,8 +14,8 @@ use Rattle.bv_terms.specs.TermValues.{Functions, Inputs, number_in, term_value}
 use Rattle.role_values.specs.Flat.{packet_of}
 use Rattle.sound_types.specs.Matching.{HasValue, IsOfSort}
 use Rattle.sound_types.proofs.Variables.{width_among}
-use Rattle.expr_term_laws.specs.TermOf.{TermEnv, bind_terms, field_term, term_in, variable_term}
-use Rattle.expr_term_laws.specs.Shown.{AreVariables, HasNumber, HasWidth, env_of, numbers_of, packet_in}
+use Rattle.obligation_laws.specs.TermOf.{TermEnv, bind_terms, field_term, term_in, variable_term}
+use Rattle.obligation_laws.specs.Shown.{AreVariables, HasNumber, HasWidth, env_of, numbers_of, packet_in}
 
 -- ---- variables
 

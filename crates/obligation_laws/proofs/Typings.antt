@@ -17,7 +17,7 @@ use Rattle.sound_types.proofs.Members.{In, all_at, at_place, in_left, in_right, 
 use Rattle.sound_types.proofs.Operators.{same_is}
 use Rattle.sound_types.proofs.Options.{all_there, both_there, both_true, if_there, map_there, then_there}
 use Rattle.sound_types.proofs.Values.{AllFine, has_sort_there}
-use Rattle.expr_term_laws.specs.TypedExprs.{IsBefore, TypedAll, TypedAs}
+use Rattle.obligation_laws.specs.TypedExprs.{IsBefore, TypedAll, TypedAs}
 
 -- a function of this name that is called is declared before
 abbrev pub AreBefore : (List ℕ → Type 0) → Scope → Type 0

@@ -23,13 +23,13 @@ use Rattle.sound_types.proofs.Members.{In, at_place, in_right}
 use Rattle.sound_types.proofs.Operators.{binary_value, slice_value, unary_value}
 use Rattle.sound_types.proofs.Values.{value_there}
 use Rattle.sound_types.proofs.Variables.{variable_value}
-use Rattle.expr_term_laws.specs.TermOf.{TermContext, TermEnv, args_of, binary_term, bind_terms, call_in, field_term, result_width, term_of, terms_of, truth_term, variable_term}
-use Rattle.expr_term_laws.specs.TypedExprs.{TypedAll, TypedAs}
-use Rattle.expr_term_laws.specs.Shown.{HasNumber, ValuesFit, env_of, functions_by, numbers_of, packet_in}
-use Rattle.expr_term_laws.proofs.InFunctions.{HoldsNext, HoldsOf, Steps, all_hold, if_apply, if_both}
-use Rattle.expr_term_laws.proofs.Names.{field_has, field_shown, variable_shown}
-use Rattle.expr_term_laws.proofs.OperatorTerms.{binary_shown, pick_shown, shown, slice_shown, unary_shown}
-use Rattle.expr_term_laws.proofs.Widths.{Call, StandsAfter, called, own_call, stands_after}
+use Rattle.obligation_laws.specs.TermOf.{TermContext, TermEnv, args_of, binary_term, bind_terms, call_in, field_term, result_width, term_of, terms_of, truth_term, variable_term}
+use Rattle.obligation_laws.specs.TypedExprs.{TypedAll, TypedAs}
+use Rattle.obligation_laws.specs.Shown.{HasNumber, ValuesFit, env_of, functions_by, numbers_of, packet_in}
+use Rattle.obligation_laws.proofs.InFunctions.{HoldsNext, HoldsOf, Steps, all_hold, if_apply, if_both}
+use Rattle.obligation_laws.proofs.Names.{field_has, field_shown, variable_shown}
+use Rattle.obligation_laws.proofs.OperatorTerms.{binary_shown, pick_shown, shown, slice_shown, unary_shown}
+use Rattle.obligation_laws.proofs.ExprWidths.{Call, StandsAfter, called, own_call, stands_after}
 
 -- there is a value of the type, and the term has it
 pub record ShownAs (F : Functions) (ins : Inputs) (t : Sort) (o : Option Value) (u : Term) : Type 0 where

@@ -10,9 +10,9 @@ ghost use Rattle.cocoon_types.specs.Typing.{Scope, result_sort};
 ghost use Rattle.sound_types.specs.Defined.{HasDefinitions};
 ghost use Rattle.sound_types.specs.Literals.{DesignLiteralsFit};
 ghost use Rattle.sound_types.specs.WellTyped.{scope_in};
-ghost use Rattle.expr_term_laws.specs.Shown.{TermsHaveValues, TermsHaveWidths, ValuesFit, functions_by};
-ghost use Rattle.expr_term_laws.specs.TermOf.{TermEnv};
-ghost use Rattle.expr_term_laws.specs.TypedExprs.{TypedAs};
+ghost use Rattle.obligation_laws.specs.Shown.{TermsHaveValues, TermsHaveWidths, ValuesFit, functions_by};
+ghost use Rattle.obligation_laws.specs.TermOf.{TermEnv};
+ghost use Rattle.obligation_laws.specs.TypedExprs.{TypedAs};
 
 use sound_types::laws::expressions_have_values;
 

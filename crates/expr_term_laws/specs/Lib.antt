@@ -1,3 +1,0 @@
-pub mod TermOf
-pub mod TypedExprs
-pub mod Shown
