@@ -33,8 +33,8 @@ use Rattle.formula_functions.specs.LeafTerms.{Stands, any_input}
 use Rattle.fun_instances.specs.AssumptionTerms.{value_term}
 use Rattle.fun_instances.specs.Taking.{NumbersFit, OfAssumption}
 use Rattle.literal_tables.proofs.FirstRows.{all-append, first-all, first-few, first-found}
-use Rattle.pattern_laws.specs.Tuples.{pattern_terms}
-use Rattle.pattern_laws.proofs.OverParts.{OverHere, applied-at, each-over, mentioned-is, over-others}
+use Rattle.query_laws.specs.Tuples.{pattern_terms}
+use Rattle.query_laws.proofs.OverParts.{OverHere, applied-at, each-over, mentioned-is, over-others}
 use Rattle.query_laws.specs.OwnNames.{in_own_arena, input_count, inputs_of, own_name}
 use Rattle.query_laws.specs.Queries.{Fits, added, asked, instance_term, query}
 use Rattle.query_laws.proofs.InputNumbers.{are_inputs}

@@ -10,7 +10,7 @@ use Rattle.cocoon_num.specs.declared.fun_table.FunTable.{FunTable}
 use Rattle.bv_terms.specs.Inputs.{InputsFit}
 use Rattle.bv_terms.specs.TermTrees.{Term}
 use Rattle.bv_terms.specs.TermValues.{Functions, Inputs, term_value}
-use Rattle.pattern_laws.specs.Tuples.{pattern_terms}
+use Rattle.query_laws.specs.Tuples.{pattern_terms}
 use Rattle.query_laws.specs.OwnNames.{in_own_arena}
 use Rattle.query_laws.specs.Queries.{asked, instance_term}
 use Rattle.runtime_defs.specs.Fitting.{FitsDesign, all_ones}

@@ -35,7 +35,7 @@ use Rattle.flat_laws.proofs.Reduced.{reduced-term, reduced-width}
 use Rattle.formula_functions.specs.LeafTerms.{any_input}
 use Rattle.literal_tables.specs.Tables.{AreOfDesign, IsOfDesign}
 use Rattle.literal_tables.specs.declared.lookups.Lookup.{Lookup}
-use Rattle.pattern_laws.proofs.OverParts.{applied-at}
+use Rattle.query_laws.proofs.OverParts.{applied-at}
 use Rattle.candidates.specs.Applying.{CanEvaluate, CanLook, IsArgument, IsLookup}
 use Rattle.candidates.specs.Assigned.{row_value}
 use Rattle.candidates.proofs.Inputs.{all-nodes, covered, input-there}

@@ -26,8 +26,8 @@ use lower_p4::laws::one_lowering;
 use net_wiring::laws::one_first_difference;
 use packet_runs::laws::one_report;
 use parsing::text_laws::{one_definitions_tree, one_tree};
-use pattern_laws::laws::earlier_levels_come_first;
 use proof_check::laws::licensed_logs_are_short;
+use query_laws::instance_laws::earlier_levels_come_first;
 use step_cases::laws::one_step;
 use verdicts::laws::failing_obligations_fail;
 

@@ -14,7 +14,7 @@ use cnf_core::Log;
 use cocoon_num::{List, NoMemory};
 use cocoon_resolve::Checked;
 use expr_terms::CallSizes;
-use pattern_laws::laws::earlier_levels_come_first;
+use query_laws::instance_laws::earlier_levels_come_first;
 use runtime_defs::Defs;
 use std::alloc::Global;
 

@@ -8,8 +8,8 @@ use Rattle.std.specs.declared.alloc.Global.{Global}
 use Rattle.cocoon_num.specs.Names.{same_name}
 use Rattle.bv_terms.specs.declared.node.Node.{Node}
 use Rattle.numbering.specs.KeyPlaces.{first_place}
-use Rattle.pattern_laws.specs.Patterns.{Pattern}
-use Rattle.pattern_laws.specs.Tuples.{most_instances}
+use Rattle.query_laws.specs.Patterns.{Pattern}
+use Rattle.query_laws.specs.Tuples.{most_instances}
 use Rattle.pattern_instances.specs.Found.{HasTuples, all_found, distinct_ids, found_pattern, tuple_found, tuple_ids, with_ids}
 use Rattle.pattern_instances.specs.declared.patterns.Pattern.{Pattern as Found}
 use Rattle.pattern_instances.specs.declared.tuples.Tuples.{Tuples}

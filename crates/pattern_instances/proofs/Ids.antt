@@ -12,9 +12,9 @@ use Rattle.bv_terms.specs.Arenas.{IsArena, args_of, made_of, parts, term_at}
 use Rattle.bv_terms.specs.TermTrees.{Term}
 use Rattle.bv_terms.specs.Walks.{same_term}
 use Rattle.expr_terms.specs.Variables.{terms_at}
-use Rattle.pattern_laws.specs.Patterns.{Pattern, arg_count}
-use Rattle.pattern_laws.specs.Tuples as spec
-use Rattle.pattern_laws.specs.Tuples.{arg_at, same_tuple, tuple_of, with_tuple}
+use Rattle.query_laws.specs.Patterns.{Pattern, arg_count}
+use Rattle.query_laws.specs.Tuples as spec
+use Rattle.query_laws.specs.Tuples.{arg_at, same_tuple, tuple_of, with_tuple}
 use Rattle.pattern_instances.specs.Found.{HasPlaces, HavePlaces, all_found, args_at, tuple_found, tuple_in, with_ids}
 
 pub all-both : {A : Type 0} (P : A → Type 0) (xs ys : List A) → AllByRecursion P xs → AllByRecursion P ys → AllByRecursion P (xs ++ ys)

@@ -10,7 +10,7 @@ use Rattle.bv_terms.specs.declared.node.Node.TheVariants.{Apply}
 use Rattle.bv_terms.specs.Arenas.{IsArena, args_of, made_of, parts}
 use Rattle.bv_terms.specs.TermTrees.{Term, Args, apply}
 use Rattle.expr_terms.specs.Variables.{AreThere}
-use Rattle.pattern_laws.specs.Patterns.{Pattern, is_input, pattern_of, place_of, places_from}
+use Rattle.query_laws.specs.Patterns.{Pattern, is_input, pattern_of, place_of, places_from}
 
 -- ---- the first place
 

@@ -14,10 +14,10 @@ use Rattle.bv_terms.specs.Walks.{AreNumbersOf, applications}
 use Rattle.obligation_laws.specs.Shown.{HasWidth}
 use Rattle.expr_terms.specs.Scopes.{Takes}
 use Rattle.expr_terms.specs.Variables.{terms_at}
-use Rattle.pattern_laws.specs.Patterns.{Pattern, patterns}
-use Rattle.pattern_laws.specs.TupleFits as law
-use Rattle.pattern_laws.specs.Tuples as spec
-use Rattle.pattern_laws.specs.Tuples.{distinct_tuples, most_instances, tuples_of}
+use Rattle.query_laws.specs.Patterns.{Pattern, patterns}
+use Rattle.query_laws.specs.TupleFits as law
+use Rattle.query_laws.specs.Tuples as spec
+use Rattle.query_laws.specs.Tuples.{distinct_tuples, most_instances, tuples_of}
 use Rattle.pattern_instances.specs.Found.{HasPlaces, HavePlaces, all_found, distinct_ids, tuple_ids}
 use Rattle.pattern_instances.specs.Goals.{AreTuples}
 use Rattle.pattern_instances.proofs.Firsts.{taken-all, taken-map}

@@ -6,7 +6,7 @@ use Rattle.cocoon_num.specs.Names.{same_name}
 use Rattle.bv_terms.specs.declared.node.Node.{Node}
 use Rattle.bv_terms.specs.declared.node.Node.TheVariants.{Apply}
 use Rattle.numbering.specs.KeyPlaces.{Holds}
-use Rattle.pattern_laws.specs.Patterns.{Pattern}
+use Rattle.query_laws.specs.Patterns.{Pattern}
 use Rattle.pattern_instances.specs.declared.patterns.Pattern.{Pattern as Found}
 use Rattle.pattern_instances.specs.declared.tuples.Tuples.{Tuples}
 

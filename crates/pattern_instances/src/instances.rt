@@ -12,8 +12,8 @@ ghost use Rattle.expr_terms.specs.Variables.{AreThere, Keeps, MakesAll, terms_at
 ghost use Rattle.fun_instances.specs.AssumptionTerms as term;
 ghost use Rattle.fun_instances.specs.Taking.{OfAssumption};
 ghost use Rattle.application_laws.specs.Over.{IsOver};
-ghost use Rattle.pattern_laws.specs.Tuples as spec;
-ghost use Rattle.pattern_laws.specs.Tuples.{most_instances, pattern_terms};
+ghost use Rattle.query_laws.specs.Tuples as spec;
+ghost use Rattle.query_laws.specs.Tuples.{most_instances, pattern_terms};
 ghost use Rattle.pattern_instances.specs.Found.{tuple_ids};
 ghost use Rattle.pattern_instances.specs.Goals.{AreTuples, IsGoal};
 
@@ -25,7 +25,7 @@ use cocoon_num::NoMemory;
 use cocoon_resolve::Checked;
 use expr_terms::CallSizes;
 use fun_instances::assumption_term;
-use pattern_laws::laws::{earlier_levels_come_first, tuples_fit};
+use query_laws::instance_laws::{earlier_levels_come_first, tuples_fit};
 use sound_types::laws::code_literals_fit;
 use std::alloc::Global;
 

@@ -7,7 +7,7 @@ ghost use Rattle.bv_terms.specs.TermTrees.{apply};
 ghost use Rattle.expr_terms.specs.Sizes.{AreSizes};
 ghost use Rattle.expr_terms.specs.Variables.{AreThere};
 ghost use Rattle.fun_instances.specs.Taking.{OfAssumption};
-ghost use Rattle.pattern_laws.specs.Patterns as spec;
+ghost use Rattle.query_laws.specs.Patterns as spec;
 ghost use Rattle.pattern_instances.specs.Found.{found_pattern, found_patterns};
 
 use bv_terms::{FunId, InputId, Node, TermId, Terms, applications};

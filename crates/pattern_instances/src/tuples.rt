@@ -2,7 +2,7 @@
 ghost use Rattle.std.specs.Prelude.{◌≡◌, ◌<◌, [], ℕ, All, IfOk, List, OnOk, filter_map, fold};
 ghost use Rattle.std.specs.Prelude.{length, option_map, take};
 ghost use Rattle.std.specs.List.{AllByRecursion};
-ghost use Rattle.pattern_laws.specs.Tuples.{most_instances};
+ghost use Rattle.query_laws.specs.Tuples.{most_instances};
 ghost use Rattle.pattern_instances.specs.Found.{HasPlaces, HasTuples, HavePlaces, all_found};
 ghost use Rattle.pattern_instances.specs.Found.{args_at, distinct_ids, found_pattern};
 ghost use Rattle.pattern_instances.specs.Found.{found_patterns, tuple_found, tuple_ids, with_ids};

@@ -13,7 +13,7 @@ use Rattle.expr_terms.specs.Variables.{Keeps, Makes, MakesAll, terms_at}
 use Rattle.expr_terms.proofs.Making.{makes_on}
 use Rattle.flat_goals.specs.Applied.{AreApplied}
 use Rattle.flat_laws.specs.Flat.{flattened}
-use Rattle.pattern_laws.specs.Tuples.{pattern_terms}
+use Rattle.query_laws.specs.Tuples.{pattern_terms}
 use Rattle.bv_terms.specs.Chains.{chain}
 use Rattle.bv_terms.specs.Copies.{new_name}
 use Rattle.query_laws.specs.OwnNames.{in_own_arena, input_count, inputs_of}

@@ -35,7 +35,7 @@ use Rattle.fun_instances.specs.AssumptionTerms.{value_term}
 use Rattle.fun_instances.specs.Saying.{IsTrueUnder}
 use Rattle.fun_instances.specs.Taking.{NumbersFit, OfAssumption}
 use Rattle.obligation_laws.specs.Failing.{NeverTrue}
-use Rattle.pattern_laws.specs.Tuples.{pattern_terms}
+use Rattle.query_laws.specs.Tuples.{pattern_terms}
 use Rattle.bv_terms.proofs.InputLists.{names-apart}
 use Rattle.query_laws.specs.Certified.{DerivesFrom}
 use Rattle.query_laws.specs.OwnNames.{in_own_arena, input_count, inputs_of, own_name}

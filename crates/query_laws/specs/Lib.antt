@@ -1,3 +1,6 @@
+pub mod Patterns
+pub mod Tuples
+pub mod TupleFits
 pub mod OwnNames
 pub mod Queries
 pub mod Certified

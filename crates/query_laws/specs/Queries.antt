@@ -9,7 +9,7 @@ use Rattle.cnf_core.specs.declared.certificates.Instance.{Instance}
 use Rattle.flat_laws.specs.Flat.{flattened}
 use Rattle.fun_instances.specs.AssumptionTerms.{value_term}
 use Rattle.fun_instances.specs.Taking.{NumbersFit, OfAssumption}
-use Rattle.pattern_laws.specs.Tuples.{pattern_terms}
+use Rattle.query_laws.specs.Tuples.{pattern_terms}
 use Rattle.bv_terms.specs.Chains.{chain}
 use Rattle.query_laws.specs.OwnNames.{in_own_arena, input_count}
 

@@ -1,5 +1,10 @@
 //! What is asked of an obligation, as one goal without functions, and what a log that refutes it
 //! shows: no run fails along the obligation's leaf. There is no code here.
+//! Assumptions taken at the terms that a goal applies functions to: which terms these are, and that
+//! what the assumptions say of them holds. There is no code here.
 #![tactic(auto)]
 
+pub mod examples;
+pub mod instance_laws;
 pub mod laws;
+pub mod over;

@@ -23,7 +23,7 @@ use cnf_core::{Cert, Instance};
 use cocoon_num::{Bits, List, NoMemory};
 use cocoon_resolve::Checked;
 use discharge::{Budget, Met};
-use pattern_laws::laws::earlier_levels_come_first;
+use query_laws::instance_laws::earlier_levels_come_first;
 use runtime_defs::Defs;
 use sound_types::laws::code_literals_fit;
 use std::alloc::Global;

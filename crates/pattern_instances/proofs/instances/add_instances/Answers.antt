@@ -5,7 +5,7 @@ use Rattle.expr_terms.specs.Scopes.{Takes}
 use Rattle.expr_terms.specs.Variables.{Keeps, MakesAll, terms_at}
 use Rattle.expr_terms.proofs.Making.{keeps_on, keeps_self, terms_on}
 use Rattle.fun_instances.specs.AssumptionTerms.{assumption_term}
-use Rattle.pattern_laws.specs.Tuples.{most_instances}
+use Rattle.query_laws.specs.Tuples.{most_instances}
 use Rattle.pattern_instances.specs.Found.{tuple_ids}
 use Rattle.pattern_instances.proofs.Making.{all-made, enough-made, first-made, more-made, said_after, takes-at, takes-on}
 use Rattle.pattern_instances.proofs.instances.add_instances.Goals as goal

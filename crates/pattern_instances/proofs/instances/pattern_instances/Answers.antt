@@ -7,7 +7,7 @@ use Rattle.bv_terms.specs.Arenas.{term_at}
 use Rattle.expr_terms.specs.Scopes.{Takes}
 use Rattle.expr_terms.specs.Variables.{MakesAll, terms_at}
 use Rattle.expr_terms.proofs.Making.{keeps_on}
-use Rattle.pattern_laws.specs.Tuples.{most_instances, tuples_of}
+use Rattle.query_laws.specs.Tuples.{most_instances, tuples_of}
 use Rattle.pattern_instances.specs.Found.{tuple_ids}
 use Rattle.pattern_instances.proofs.Firsts.{short}
 use Rattle.pattern_instances.proofs.Ids.{there-at}

@@ -2,7 +2,7 @@ use Rattle.std.proofs.Common.{take}
 use Rattle.bv_terms.specs.Arenas.{term_at}
 use Rattle.cocoon_resolve.specs.Readers.{assumptions_to}
 use Rattle.cocoon_syntax.specs.TreeOf.{design_of}
-use Rattle.pattern_laws.specs.Tuples.{most_instances}
+use Rattle.query_laws.specs.Tuples.{most_instances}
 use Rattle.pattern_instances.proofs.Making.{IsMade, said}
 use Rattle.pattern_instances.proofs.instances.pattern_instances.Given as goal
 

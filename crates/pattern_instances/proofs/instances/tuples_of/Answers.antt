@@ -7,8 +7,8 @@ use Rattle.cocoon_num.specs.Tree.{AssumeDecl}
 use Rattle.cocoon_syntax.specs.TreeOf.{assume_of, design_of, param_of}
 use Rattle.bv_terms.specs.Arenas.{term_at}
 use Rattle.bv_terms.specs.Walks.{AreNumbersOf, applications}
-use Rattle.pattern_laws.specs.TupleFits.{HasAllPlaces}
-use Rattle.pattern_laws.specs.Patterns.{patterns}
+use Rattle.query_laws.specs.TupleFits.{HasAllPlaces}
+use Rattle.query_laws.specs.Patterns.{patterns}
 use Rattle.pattern_instances.specs.Found.{HavePlaces, found_patterns}
 use Rattle.pattern_instances.proofs.Taking.{all-places, one-tuple, tuples-are}
 use Rattle.pattern_instances.proofs.instances.tuples_of.Goals as goal

@@ -1,7 +1,7 @@
 use Rattle.std.proofs.Common.{◌≡◌, ℕ, Some, Vec, option_map, sym, ap, ◌∙◌}
 use Rattle.std.specs.declared.alloc.Global.{Global}
 use Rattle.bv_terms.specs.Arenas.{args_of, term_at}
-use Rattle.pattern_laws.specs.Patterns.{arg_count, places_from}
+use Rattle.query_laws.specs.Patterns.{arg_count, places_from}
 use Rattle.pattern_instances.proofs.Ids.{as-many}
 use Rattle.pattern_instances.proofs.Places.{other-count, same-count}
 use Rattle.pattern_instances.proofs.patterns.pattern_at.Goals as goal

@@ -1,7 +1,7 @@
 use Rattle.std.proofs.Common.{sym, ap, ◌∙◌}
 use Rattle.std.proofs.lemmas.Result.{IfOk-weaker}
 use Rattle.bv_terms.specs.Arenas.{parts, term_at}
-use Rattle.pattern_laws.specs.Patterns.{pattern_of}
+use Rattle.query_laws.specs.Patterns.{pattern_of}
 use Rattle.pattern_instances.proofs.Places.{parts-there, same-pattern}
 use Rattle.pattern_instances.proofs.patterns.pattern_of.Goals as goal
 

@@ -6,7 +6,7 @@ use Rattle.cocoon_syntax.specs.TreeOf.{design_of}
 use Rattle.bv_terms.specs.Arenas.{term_at}
 use Rattle.bv_terms.specs.Walks.{applications}
 use Rattle.fun_instances.specs.AssumptionTerms.{own_term}
-use Rattle.pattern_laws.specs.Patterns.{pattern_of}
+use Rattle.query_laws.specs.Patterns.{pattern_of}
 use Rattle.pattern_instances.proofs.patterns.patterns.Goals as goal
 
 pub returns : goal.returns

@@ -1,7 +1,7 @@
 use Rattle.std.proofs.Common.{◌∷◌, [], filter_map, map, option_map, slice_index, take, Some, None, sym, ap, ◌∙◌}
 use Rattle.std.proofs.lemmas.List.{map-append}
 use Rattle.bv_terms.specs.Arenas.{term_at}
-use Rattle.pattern_laws.specs.Patterns.{pattern_of}
+use Rattle.query_laws.specs.Patterns.{pattern_of}
 use Rattle.pattern_instances.specs.Found.{found_pattern, found_patterns}
 use Rattle.pattern_instances.proofs.Places.{next-patterns, next-term}
 use Rattle.pattern_instances.proofs.patterns.patterns_among.Goals.{in-Some+in_ok-push, in_default}

@@ -1,6 +1,6 @@
 use Rattle.std.proofs.Common.{◌≡◌, filter_map, map, take}
 use Rattle.bv_terms.specs.Arenas.{term_at}
-use Rattle.pattern_laws.specs.Patterns.{pattern_of}
+use Rattle.query_laws.specs.Patterns.{pattern_of}
 use Rattle.pattern_instances.specs.Found.{found_patterns}
 use Rattle.pattern_instances.proofs.patterns.patterns_among.Given as goal
 

@@ -1,6 +1,6 @@
 use Rattle.std.proofs.Common.{◌≡◌, ◌<◌, ℕ, false, get_or}
 use Rattle.bv_terms.specs.Arenas.{term_at}
-use Rattle.pattern_laws.specs.Patterns.{is_input}
+use Rattle.query_laws.specs.Patterns.{is_input}
 use Rattle.pattern_instances.proofs.patterns.place_of.Given as goal
 
 abbrev pub invariant-loop-place : goal.invariant-loop-place

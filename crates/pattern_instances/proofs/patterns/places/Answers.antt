@@ -1,6 +1,6 @@
 use Rattle.std.proofs.Common.{◌++◌, ◌+◌, ◌-◌, option_map, sym, ap, ◌∙◌}
 use Rattle.bv_terms.specs.Arenas.{args_of, term_at}
-use Rattle.pattern_laws.specs.Patterns.{places_from}
+use Rattle.query_laws.specs.Patterns.{places_from}
 use Rattle.pattern_instances.proofs.Places.{none-place, one-place}
 use Rattle.pattern_instances.proofs.patterns.places.Goals as goal
 

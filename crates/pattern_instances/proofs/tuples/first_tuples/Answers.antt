@@ -1,6 +1,6 @@
 use Rattle.std.proofs.Common.{ℕ, ◌⊎◌, ◌≤◌, Vec, length, inl, inr, take, sym, ap, subst, ◌∙◌, arith}
 use Rattle.std.specs.declared.alloc.Global.{Global}
-use Rattle.pattern_laws.specs.Tuples.{most_instances}
+use Rattle.query_laws.specs.Tuples.{most_instances}
 use Rattle.pattern_instances.specs.Found.{HasTuples, all_found, distinct_ids, found_patterns, tuple_ids}
 use Rattle.pattern_instances.proofs.Adding.{first-found, next-application}
 use Rattle.pattern_instances.proofs.Firsts.{taken-map}

@@ -1,7 +1,7 @@
 use Rattle.cocoon_types.specs.Design.{last_level, widths_of}
-use Rattle.pattern_laws.proofs.Instances.{own-term-over}
-use Rattle.pattern_laws.proofs.PatternFits.{own_inputs}
-use Rattle.pattern_laws.proofs.laws.own_terms_are_over_the_design.Goals as goal
+use Rattle.query_laws.proofs.Instances.{own-term-over}
+use Rattle.query_laws.proofs.PatternFits.{own_inputs}
+use Rattle.query_laws.proofs.instance_laws.own_terms_are_over_the_design.Goals as goal
 
 pub returns : goal.returns
 returns c = λ d w l i a is. (

@@ -16,9 +16,9 @@ ghost use Rattle.fun_instances.specs.AssumptionTerms.{own_term, value_term};
 ghost use Rattle.fun_instances.specs.Saying.{IsTrueUnder};
 ghost use Rattle.fun_instances.specs.Taking.{NumbersFit, OfAssumption};
 ghost use Rattle.bv_terms.specs.Walks.{applications};
-ghost use Rattle.pattern_laws.specs.Patterns.{patterns};
-ghost use Rattle.pattern_laws.specs.TupleFits.{FitsParams, HasAllPlaces};
-ghost use Rattle.pattern_laws.specs.Tuples.{pattern_terms, tuples_of};
+ghost use Rattle.query_laws.specs.Patterns.{patterns};
+ghost use Rattle.query_laws.specs.TupleFits.{FitsParams, HasAllPlaces};
+ghost use Rattle.query_laws.specs.Tuples.{pattern_terms, tuples_of};
 
 use crate::over::definitions_fit_design_terms;
 use application_laws::laws::terms_apply_declared_functions;

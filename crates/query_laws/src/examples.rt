@@ -3,8 +3,8 @@ ghost use Rattle.std.specs.Prelude.{[], ◌∷◌, ◌≡◌, filter_map};
 ghost use Rattle.bv_terms.specs.TermTrees.{apply, arg, binary, constant, input, no_args};
 ghost use Rattle.bv_terms.specs.Walks.{applications};
 ghost use Rattle.bv_terms.specs.declared.node.TermOp.TheVariants.{Equal};
-ghost use Rattle.pattern_laws.specs.Patterns.{pattern_of};
-ghost use Rattle.pattern_laws.specs.Tuples.{distinct_tuples, tuples_at};
+ghost use Rattle.query_laws.specs.Patterns.{pattern_of};
+ghost use Rattle.query_laws.specs.Tuples.{distinct_tuples, tuples_at};
 
 /// A term stands where its parameter does, whatever its place in the application is.
 pub fn parameters_in_another_order()

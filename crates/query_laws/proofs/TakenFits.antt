@@ -12,11 +12,11 @@ use Rattle.bv_terms.specs.Walks.{applications, is_application, walk}
 use Rattle.bv_terms.proofs.Subterms.{Each, EachArg, each-itself, walk-all}
 use Rattle.fun_instances.specs.AssumptionTerms.{own_term}
 use Rattle.application_laws.specs.Over.{IsOver}
-use Rattle.pattern_laws.specs.Patterns.{pattern_of, patterns}
-use Rattle.pattern_laws.specs.Tuples.{Taken, distinct_tuples, pattern_tuples, same_tuple, taken_of, tuple_of, tuples_at, tuples_of, with_tuple, most_instances}
-use Rattle.pattern_laws.proofs.Lists.{all-flat, all-if, all-kept, all-mapped, all-places, all-taken, all-weaker}
-use Rattle.pattern_laws.proofs.OverParts.{OverHere, over-parts}
-use Rattle.pattern_laws.proofs.PatternFits.{AppliedAre, ArgsAre, PatternFits, own_inputs, pattern-fits, tuple-fits}
+use Rattle.query_laws.specs.Patterns.{pattern_of, patterns}
+use Rattle.query_laws.specs.Tuples.{Taken, distinct_tuples, pattern_tuples, same_tuple, taken_of, tuple_of, tuples_at, tuples_of, with_tuple, most_instances}
+use Rattle.query_laws.proofs.Lists.{all-flat, all-if, all-kept, all-mapped, all-places, all-taken, all-weaker}
+use Rattle.query_laws.proofs.OverParts.{OverHere, over-parts}
+use Rattle.query_laws.proofs.PatternFits.{AppliedAre, ArgsAre, PatternFits, own_inputs, pattern-fits, tuple-fits}
 
 -- ---- applications of a walk
 

@@ -5,7 +5,7 @@ use Rattle.cocoon_num.specs.Tree.{AssumeDecl}
 use Rattle.cocoon_types.specs.Design.{widths_of}
 use Rattle.bv_terms.specs.TermTrees.{Term, apply}
 use Rattle.obligation_laws.specs.Shown.{HasWidth}
-use Rattle.pattern_laws.specs.Patterns.{Pattern, arg_count}
+use Rattle.query_laws.specs.Patterns.{Pattern, arg_count}
 
 -- if the term applies the pattern's function, it has arguments at the places
 abbrev pub HasPlaces : Term → Pattern → Type 0

@@ -19,12 +19,12 @@ use Rattle.obligation_laws.specs.Shown.{HasNumber, functions_by}
 use Rattle.application_laws.specs.Over.{IsOver, fit_input}
 use Rattle.fun_instances.specs.AssumptionTerms.{value_term}
 use Rattle.fun_instances.specs.Saying.{IsTrueUnder}
-use Rattle.pattern_laws.specs.Tuples.{instance_term, pattern_terms, pattern_tuples}
-use Rattle.pattern_laws.proofs.Instances.{among-all, each-joined, each-term, own-term-over}
-use Rattle.pattern_laws.proofs.Lists.{all-mapped, at-place, has-place}
-use Rattle.pattern_laws.proofs.OverParts.{OverHere, each-over, mentioned-is, over-others, over-parts}
-use Rattle.pattern_laws.proofs.TakenFits.{TakenFits, taken-fit}
-use Rattle.pattern_laws.proofs.laws.instances_hold.Goals as goal
+use Rattle.query_laws.specs.Tuples.{instance_term, pattern_terms, pattern_tuples}
+use Rattle.query_laws.proofs.Instances.{among-all, each-joined, each-term, own-term-over}
+use Rattle.query_laws.proofs.Lists.{all-mapped, at-place, has-place}
+use Rattle.query_laws.proofs.OverParts.{OverHere, each-over, mentioned-is, over-others, over-parts}
+use Rattle.query_laws.proofs.TakenFits.{TakenFits, taken-fit}
+use Rattle.query_laws.proofs.instance_laws.instances_hold.Goals as goal
 
 definitions : (d : Design) (defs : Defs) → WellFormed d → DesignLiteralsFit d → (are : AreDefinitions d defs) → HasDefinitions d are.entries
 definitions d defs w l are = record { rules = w; literals = l; fits = are.fit; values_fit = are.values_fit }

@@ -1,5 +1,5 @@
-use Rattle.pattern_laws.proofs.OverParts.{applies-alike, mentioned-is, over-others}
-use Rattle.pattern_laws.proofs.over.design_terms_apply_alike.Goals as goal
+use Rattle.query_laws.proofs.OverParts.{applies-alike, mentioned-is, over-others}
+use Rattle.query_laws.proofs.over.design_terms_apply_alike.Goals as goal
 
 pub returns-clause-alike : goal.returns-clause-alike
 returns-clause-alike c = applies-alike

@@ -5,14 +5,14 @@ use Rattle.bv_terms.specs.Walks.{applications}
 use Rattle.bv_terms.proofs.Subterms.{Each, each-itself, each-weaker}
 use Rattle.obligation_laws.specs.Shown.{HasWidth}
 use Rattle.application_laws.specs.Over.{IsOver}
-use Rattle.pattern_laws.specs.Patterns.{patterns}
-use Rattle.pattern_laws.specs.TupleFits.{HasAllPlaces, HasPlaces}
-use Rattle.pattern_laws.proofs.Instances.{own-term-over}
-use Rattle.pattern_laws.proofs.Lists.{all-weaker}
-use Rattle.pattern_laws.proofs.OverParts.{OverHere, each-over, over-parts}
-use Rattle.pattern_laws.proofs.PatternFits.{PatternFits, has-places}
-use Rattle.pattern_laws.proofs.TakenFits.{each-applied, patterns-fit, tuples-fit}
-use Rattle.pattern_laws.proofs.laws.tuples_fit.Goals as goal
+use Rattle.query_laws.specs.Patterns.{patterns}
+use Rattle.query_laws.specs.TupleFits.{HasAllPlaces, HasPlaces}
+use Rattle.query_laws.proofs.Instances.{own-term-over}
+use Rattle.query_laws.proofs.Lists.{all-weaker}
+use Rattle.query_laws.proofs.OverParts.{OverHere, each-over, over-parts}
+use Rattle.query_laws.proofs.PatternFits.{PatternFits, has-places}
+use Rattle.query_laws.proofs.TakenFits.{each-applied, patterns-fit, tuples-fit}
+use Rattle.query_laws.proofs.instance_laws.tuples_fit.Goals as goal
 
 pub returns-clause-places : goal.returns-clause-places
 returns-clause-places c = λ d w l i a is inputs goal over.

@@ -10,9 +10,9 @@ use Rattle.bv_terms.specs.TermTrees.{Term, Args, constant, input, apply, not_, b
 use Rattle.fun_instances.specs.AssumptionTerms.{inputs_from}
 use Rattle.obligation_laws.specs.Shown.{HasWidth}
 use Rattle.application_laws.specs.Over.{AllOver, AreOver, IsOver, IsRuntimeAt}
-use Rattle.pattern_laws.specs.Patterns.{Pattern, arg_count, is_input, pattern_of, place_of, places_from}
-use Rattle.pattern_laws.specs.TupleFits.{HasPlaces}
-use Rattle.pattern_laws.specs.Tuples.{arg_at, tuple_of}
+use Rattle.query_laws.specs.Patterns.{Pattern, arg_count, is_input, pattern_of, place_of, places_from}
+use Rattle.query_laws.specs.TupleFits.{HasPlaces}
+use Rattle.query_laws.specs.Tuples.{arg_at, tuple_of}
 
 -- ---- the parameters as inputs
 

@@ -6,12 +6,12 @@ use Rattle.bv_terms.proofs.Subterms.{Each}
 use Rattle.obligation_laws.specs.Shown.{HasWidth}
 use Rattle.application_laws.specs.Over.{IsOver}
 use Rattle.fun_instances.specs.AssumptionTerms.{number_terms}
-use Rattle.pattern_laws.specs.Tuples.{instance_term, pattern_tuples}
-use Rattle.pattern_laws.proofs.Instances.{all-wide, among-all, assumption-over, each-joined, numbers-over, numbers-wide, own-term-over}
-use Rattle.pattern_laws.proofs.Lists.{all-mapped}
-use Rattle.pattern_laws.proofs.OverParts.{OverHere, each-over, over-parts}
-use Rattle.pattern_laws.proofs.TakenFits.{TakenFits, taken-fit}
-use Rattle.pattern_laws.proofs.laws.instances_fit.Goals as goal
+use Rattle.query_laws.specs.Tuples.{instance_term, pattern_tuples}
+use Rattle.query_laws.proofs.Instances.{all-wide, among-all, assumption-over, each-joined, numbers-over, numbers-wide, own-term-over}
+use Rattle.query_laws.proofs.Lists.{all-mapped}
+use Rattle.query_laws.proofs.OverParts.{OverHere, each-over, over-parts}
+use Rattle.query_laws.proofs.TakenFits.{TakenFits, taken-fit}
+use Rattle.query_laws.proofs.instance_laws.instances_fit.Goals as goal
 
 -- an argument at its width, over the same inputs
 abbrev IsArg : Design → (ℕ → ℕ → Bool) → ℕ → Term → Type 0

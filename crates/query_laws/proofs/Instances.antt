@@ -19,8 +19,8 @@ use Rattle.obligation_laws.specs.TermOf.{bind_terms}
 use Rattle.obligation_laws.proofs.ExprWidths.{params_are}
 use Rattle.application_laws.specs.Over.{AllOver, IsOver, TermsAreOver, VariablesOver}
 use Rattle.fun_instances.specs.AssumptionTerms.{assumption_term, inputs_from, number_terms, own_term}
-use Rattle.pattern_laws.proofs.Lists.{in-front}
-use Rattle.pattern_laws.proofs.PatternFits.{own-over, own-wide, own_inputs}
+use Rattle.query_laws.proofs.Lists.{in-front}
+use Rattle.query_laws.proofs.PatternFits.{own-over, own-wide, own_inputs}
 
 -- ---- two facts of each part
 

@@ -7,7 +7,7 @@ use Rattle.cocoon_resolve.specs.Readers.{assumptions_to}
 use Rattle.bv_terms.specs.TermTrees.{Term, Args, constant, apply, no_args, arg}
 use Rattle.bv_terms.specs.Walks.{applications, same_term}
 use Rattle.fun_instances.specs.AssumptionTerms.{assumption_term}
-use Rattle.pattern_laws.specs.Patterns.{Pattern, patterns}
+use Rattle.query_laws.specs.Patterns.{Pattern, patterns}
 
 -- ---- at one application
 

@@ -4,8 +4,8 @@ use Rattle.cocoon_types.specs.Tables.{Defs, defs_of}
 use Rattle.obligation_laws.specs.Shown.{functions_by}
 use Rattle.sound_types.proofs.Declared.{names_differ}
 use Rattle.obligation_laws.proofs.Rows.{rows_fit}
-use Rattle.pattern_laws.proofs.OverParts.{functions-fit}
-use Rattle.pattern_laws.proofs.over.definitions_fit_design_terms.Goals as goal
+use Rattle.query_laws.proofs.OverParts.{functions-fit}
+use Rattle.query_laws.proofs.over.definitions_fit_design_terms.Goals as goal
 
 pub returns : goal.returns
 returns c = λ d w l defs are inputs t h.
