@@ -29,7 +29,7 @@ use Rattle.flat_laws.specs.Rows as flat
 use Rattle.flat_laws.specs.Rows.{HasRows, IsRowOf, is_of}
 use Rattle.flat_laws.proofs.Places.{all-filtered}
 use Rattle.flat_laws.proofs.Values.{bit, each-one}
-use Rattle.formula_functions.specs.LeafTerms.{Stands, any_input}
+use Rattle.query_laws.specs.LeafTerms.{Stands, any_input}
 use Rattle.fun_instances.specs.AssumptionTerms.{value_term}
 use Rattle.fun_instances.specs.Taking.{NumbersFit, OfAssumption}
 use Rattle.literal_tables.proofs.FirstRows.{all-append, first-all, first-few, first-found}

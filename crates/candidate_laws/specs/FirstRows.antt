@@ -12,7 +12,7 @@ use Rattle.bv_terms.specs.TermValues.{Functions, Inputs, term_value}
 use Rattle.bv_terms.specs.Walks.{applications}
 use Rattle.flat_laws.specs.Rows as flat
 use Rattle.flat_laws.specs.Rows.{IsRowOf, is_of}
-use Rattle.formula_functions.specs.LeafTerms.{Stands}
+use Rattle.query_laws.specs.LeafTerms.{Stands}
 use Rattle.literal_tables.specs.FirstRows.{first_rows}
 use Rattle.query_laws.specs.Certified.{AllFit}
 use Rattle.query_laws.specs.OwnNames.{input_count}

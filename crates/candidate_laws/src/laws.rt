@@ -7,7 +7,7 @@ ghost use Rattle.cnf_core.specs.declared.certificates.Instance.{Instance};
 ghost use Rattle.cocoon_num.specs.Tree.{Design};
 ghost use Rattle.cocoon_types.specs.Rules.{WellFormed};
 ghost use Rattle.fun_instances.specs.Taking.{NumbersFit, OfAssumption};
-ghost use Rattle.formula_functions.specs.LeafTerms.{AppliesDeclared, Stands};
+ghost use Rattle.query_laws.specs.LeafTerms.{AppliesDeclared, Stands};
 ghost use Rattle.query_laws.specs.Certified.{AllFit};
 ghost use Rattle.query_laws.specs.OwnNames.{own_name};
 ghost use Rattle.query_laws.specs.Queries.{asked, Fits, instance_term};

@@ -32,7 +32,7 @@ use Rattle.flat_laws.specs.Meant.{CanFlatten}
 use Rattle.flat_laws.proofs.Kept.{all-in, is-term}
 use Rattle.flat_laws.proofs.Places.{Applied}
 use Rattle.flat_laws.proofs.Reduced.{reduced-term, reduced-width}
-use Rattle.formula_functions.specs.LeafTerms.{any_input}
+use Rattle.query_laws.specs.LeafTerms.{any_input}
 use Rattle.literal_tables.specs.Tables.{AreOfDesign, IsOfDesign}
 use Rattle.literal_tables.specs.declared.lookups.Lookup.{Lookup}
 use Rattle.query_laws.proofs.OverParts.{applied-at}

@@ -13,7 +13,7 @@ use Rattle.flat_goals.specs.Applied.{AreApplied}
 use Rattle.flat_goals.specs.declared.applied.Applied.{Applied}
 use Rattle.flat_laws.specs.Flat.{flattened}
 use Rattle.flat_laws.specs.Meant.{CanFlatten}
-use Rattle.formula_functions.specs.LeafTerms.{AppliesDeclared, Stands}
+use Rattle.query_laws.specs.LeafTerms.{AppliesDeclared, Stands}
 use Rattle.query_laws.specs.Certified.{AllFit}
 use Rattle.query_laws.specs.OwnNames.{input_count, own_name}
 use Rattle.query_laws.specs.Queries.{asked, query}

@@ -24,7 +24,7 @@ use Rattle.obligation_laws.specs.Shown.{functions_by}
 use Rattle.failures.specs.Failures.{Failure}
 use Rattle.failures.specs.Found.{BeginFits, BeginsSo, CanFail, NoneBegins, defined}
 use Rattle.obligation_laws.proofs.Fitting.{new_role}
-use Rattle.formula_functions.specs.LeafTerms as applies
+use Rattle.query_laws.specs.LeafTerms as applies
 use Rattle.obligation_gen.specs.ShownTrees.{HasInput, ShowsInputs, ShowsLeaves}
 use Rattle.obligation_gen.specs.declared.tree.Leaf.{Leaf as CodeLeaf}
 use Rattle.obligation_laws.specs.LeafShown.{LeafShown}

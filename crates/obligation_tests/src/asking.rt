@@ -13,9 +13,9 @@ use bv_terms::Terms;
 use case_files::Printer;
 use cnf_core::{Clause, Cnf, Instance};
 use cocoon_resolve::Checked;
-use formula_functions::laws::{formulas_apply_declared_functions, obligations_have_levels};
 use obligation_gen::Obligation;
 use queries::{RecheckFault, all_fit, query, recheck_one};
+use query_laws::formula_laws::{formulas_apply_declared_functions, obligations_have_levels};
 use sound_types::laws::code_literals_fit;
 use std::alloc::Global;
 

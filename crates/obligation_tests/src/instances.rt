@@ -7,9 +7,9 @@ use case_files::Printer;
 use cocoon_num::NoMemory;
 use cocoon_resolve::Checked;
 use expr_terms::CallSizes;
-use formula_functions::laws::{formulas_apply_declared_functions, obligations_have_levels};
 use obligation_gen::Obligation;
 use pattern_instances::pattern_instances;
+use query_laws::formula_laws::{formulas_apply_declared_functions, obligations_have_levels};
 use sound_types::laws::code_literals_fit;
 use std::alloc::Global;
 

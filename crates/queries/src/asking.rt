@@ -3,7 +3,7 @@ ghost use Rattle.std.specs.Prelude.{◌≤◌, ◌<◌, IfOk, length};
 ghost use Rattle.cocoon_syntax.specs.TreeOf.{design_of};
 ghost use Rattle.cocoon_types.specs.Design.{last_level};
 ghost use Rattle.bv_terms.specs.Arenas.{term_at};
-ghost use Rattle.formula_functions.specs.LeafTerms.{Stands};
+ghost use Rattle.query_laws.specs.LeafTerms.{Stands};
 ghost use Rattle.query_laws.specs.Certified.{AllFit};
 ghost use Rattle.queries.specs.Asked.{IsQuery};
 

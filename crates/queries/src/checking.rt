@@ -5,7 +5,7 @@ ghost use Rattle.cocoon_types.specs.Design.{last_level};
 ghost use Rattle.bit_blast.specs.Blasting.{most_clauses};
 ghost use Rattle.bit_blast.specs.Clauses.{count_of};
 ghost use Rattle.bv_terms.specs.Arenas.{term_at};
-ghost use Rattle.formula_functions.specs.LeafTerms.{Stands};
+ghost use Rattle.query_laws.specs.LeafTerms.{Stands};
 ghost use Rattle.obligation_laws.specs.Failing.{NeverTrue};
 ghost use Rattle.query_laws.specs.Certified.{AllFit, IsCert};
 ghost use Rattle.query_laws.specs.Queries as spec;

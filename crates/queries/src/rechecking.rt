@@ -13,9 +13,9 @@ use crate::checking::{RecheckFault, check_cert};
 use bv_terms::Terms;
 use cnf_core::Cert;
 use cocoon_resolve::Checked;
-use formula_functions::laws::{formulas_apply_declared_functions, obligations_have_levels};
 use obligation_gen::Obligation;
 use obligation_laws::laws::untrue_formulas_never_fail;
+use query_laws::formula_laws::{formulas_apply_declared_functions, obligations_have_levels};
 use sound_types::laws::code_literals_fit;
 use std::alloc::Global;
 

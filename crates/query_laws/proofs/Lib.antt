@@ -1,3 +1,5 @@
+pub mod LeavesOver
+pub mod FormulasOver
 pub mod Lists
 pub mod OverParts
 pub mod PatternFits

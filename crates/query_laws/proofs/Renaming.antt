@@ -10,7 +10,7 @@ use Rattle.bv_terms.specs.TermValues.{Functions, Inputs, arg_numbers, number_in,
 use Rattle.bv_terms.specs.Walks.{is_among, same_term, walk}
 use Rattle.bv_terms.proofs.Subterms.{Each, EachArg}
 use Rattle.application_laws.specs.Over.{AreOver, IsOver, IsRuntimeAt}
-use Rattle.formula_functions.specs.LeafTerms.{any_input}
+use Rattle.query_laws.specs.LeafTerms.{any_input}
 use Rattle.sound_types.proofs.Members.{In}
 use Rattle.bv_terms.specs.Copies.{index_in, new_name}
 

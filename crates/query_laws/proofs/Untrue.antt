@@ -30,7 +30,7 @@ use Rattle.application_laws.specs.Over.{AllOver, IsOver, fit_input}
 use Rattle.flat_laws.specs.Flat.{flattened}
 use Rattle.flat_laws.specs.Meant.{AppliesAlike, CanFlatten, HasInputsBelow, with_results}
 use Rattle.flat_laws.specs.Rows.{AllFit}
-use Rattle.formula_functions.specs.LeafTerms.{Stands, any_input}
+use Rattle.query_laws.specs.LeafTerms.{Stands, any_input}
 use Rattle.fun_instances.specs.AssumptionTerms.{value_term}
 use Rattle.fun_instances.specs.Saying.{IsTrueUnder}
 use Rattle.fun_instances.specs.Taking.{NumbersFit, OfAssumption}

@@ -13,7 +13,7 @@ ghost use Rattle.cocoon_num.specs.Tree.{Design};
 ghost use Rattle.cocoon_types.specs.Rules.{WellFormed};
 ghost use Rattle.obligation_laws.specs.Shown.{HasWidth};
 ghost use Rattle.flat_laws.specs.Meant.{CanFlatten};
-ghost use Rattle.formula_functions.specs.LeafTerms.{Stands};
+ghost use Rattle.query_laws.specs.LeafTerms.{Stands};
 ghost use Rattle.obligation_laws.specs.Failing.{NeverFails, NeverTrue};
 ghost use Rattle.obligation_laws.specs.Obligations.{all_obligations, Obligation};
 ghost use Rattle.sound_types.specs.Literals.{DesignLiteralsFit};
@@ -22,13 +22,13 @@ ghost use Rattle.query_laws.specs.Certified.{AllFit, IsCert};
 ghost use Rattle.query_laws.specs.OwnNames.{in_own_arena, input_count, inputs_of};
 ghost use Rattle.query_laws.specs.Queries.{added, asked, query};
 
+use crate::formula_laws::formulas_apply_declared_functions;
 use crate::instance_laws::{instances_fit, instances_hold};
 use crate::over::{definitions_fit_design_terms, design_terms_apply_alike};
 use bit_blast::laws::{clauses_mean_the_goal, satisfying_is_making_hold};
 use cnf_core::laws::derived_clauses_have_no_model;
 use flat_laws::laws::{flat_goals_are_goals, flat_goals_stay_true, flat_inputs_fit};
 use flat_laws::names::{names_keep_the_walk, names_keep_values};
-use formula_functions::laws::formulas_apply_declared_functions;
 use obligation_laws::laws::untrue_formulas_never_fail;
 
 /// The only ascending list of a term's inputs is the one that names them in an arena of its own.

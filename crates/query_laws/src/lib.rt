@@ -2,9 +2,12 @@
 //! shows: no run fails along the obligation's leaf. There is no code here.
 //! Assumptions taken at the terms that a goal applies functions to: which terms these are, and that
 //! what the assumptions say of them holds. There is no code here.
+//! What the formulas of obligations apply: run-time functions of the design alone, at the widths
+//! that these are declared with. There is no code here.
 #![tactic(auto)]
 
 pub mod examples;
+pub mod formula_laws;
 pub mod instance_laws;
 pub mod laws;
 pub mod over;

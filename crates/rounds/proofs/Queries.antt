@@ -16,7 +16,7 @@ use Rattle.cnf_core.specs.Satisfying.{WellNamed}
 use Rattle.cnf_core.specs.declared.clauses.Cnf.{Cnf}
 use Rattle.cocoon_num.specs.Tree.{Design}
 use Rattle.flat_laws.specs.Meant.{CanFlatten}
-use Rattle.formula_functions.specs.LeafTerms.{AppliesDeclared, Stands}
+use Rattle.query_laws.specs.LeafTerms.{AppliesDeclared, Stands}
 use Rattle.obligation_laws.specs.Failing.{NeverTrue}
 use Rattle.queries.specs.Asked.{IsQuery}
 use Rattle.queries.specs.declared.asking.OwnGoal.{OwnGoal}

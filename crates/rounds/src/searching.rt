@@ -7,7 +7,7 @@ ghost use Rattle.cnf_core.specs.Satisfying.{makes_true};
 ghost use Rattle.cocoon_num.specs.BitsOf.{value_of};
 ghost use Rattle.candidates.specs.Assigned.{row_value};
 ghost use Rattle.candidate_laws.specs.Rounds.{IsWithin, of_goal};
-ghost use Rattle.formula_functions.specs.LeafTerms.{Stands};
+ghost use Rattle.query_laws.specs.LeafTerms.{Stands};
 ghost use Rattle.rounds.specs.Outcomes.{Tells};
 ghost use Rattle.rounds.specs.Steps.{ComesTo, IsFoundBy, IsSolved};
 

@@ -1,5 +1,5 @@
 use Rattle.cocoon_syntax.specs.TreeOf.{design_of}
-use Rattle.formula_functions.specs.LeafTerms.{Stands, any_input}
+use Rattle.query_laws.specs.LeafTerms.{Stands, any_input}
 use Rattle.obligation_gen.proofs.OwedFormulas.{can_ask}
 use Rattle.obligation_tests.proofs.instances.taken.Goals as goal
 

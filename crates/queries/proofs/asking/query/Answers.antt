@@ -5,7 +5,7 @@ use Rattle.application_laws.specs.Over.{IsOver}
 use Rattle.bv_terms.specs.Arenas.{inputs_in, term_at}
 use Rattle.bv_terms.specs.TermTrees.{width}
 use Rattle.flat_laws.specs.Meant.{AppliesAlike}
-use Rattle.formula_functions.specs.LeafTerms.{any_input}
+use Rattle.query_laws.specs.LeafTerms.{any_input}
 use Rattle.queries.proofs.Instances.{of_assumptions}
 use Rattle.queries.proofs.Queries.{IsAdded, all_added, all_asked, asked_term, copied, is_query}
 use Rattle.queries.proofs.asking.query.Goals as goal

@@ -1,5 +1,5 @@
 use Rattle.cocoon_syntax.specs.TreeOf.{design_of}
-use Rattle.formula_functions.specs.LeafTerms.{Stands}
+use Rattle.query_laws.specs.LeafTerms.{Stands}
 use Rattle.obligation_gen.proofs.OwedFormulas.{can_ask, never_fails}
 use Rattle.queries.proofs.rechecking.recheck_one.Goals as goal
 

@@ -1,7 +1,7 @@
 use Rattle.std.proofs.Common.{subst}
 use Rattle.std.proofs.lemmas.Result.{IfOk-weaker}
 use Rattle.cocoon_syntax.specs.TreeOf.{design_of}
-use Rattle.formula_functions.specs.LeafTerms.{Stands}
+use Rattle.query_laws.specs.LeafTerms.{Stands}
 use Rattle.obligation_gen.proofs.OwedFormulas.{can_ask}
 use Rattle.rounds.specs.Outcomes.{Tells}
 use Rattle.verdicts.specs.Deciding.{formula_in}

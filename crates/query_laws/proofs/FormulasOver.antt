@@ -32,7 +32,7 @@ use Rattle.obligation_laws.proofs.Parts.{sent_wide, widths_kept}
 use Rattle.obligation_laws.proofs.RunsFound.{params_there}
 use Rattle.obligation_laws.proofs.Untrue.{role_of}
 use Rattle.obligation_laws.proofs.Fitting.{formula_fits, new_role}
-use Rattle.formula_functions.specs.LeafTerms.{AppliesDeclared, LeafApplies, Stands, any_input}
+use Rattle.query_laws.specs.LeafTerms.{AppliesDeclared, LeafApplies, Stands, any_input}
 
 -- ---- lists
 

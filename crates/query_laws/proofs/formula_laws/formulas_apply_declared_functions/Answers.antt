@@ -1,5 +1,5 @@
-use Rattle.formula_functions.proofs.FormulasOver.{obligation_stands}
-use Rattle.formula_functions.proofs.laws.formulas_apply_declared_functions.Goals as goal
+use Rattle.query_laws.proofs.FormulasOver.{obligation_stands}
+use Rattle.query_laws.proofs.formula_laws.formulas_apply_declared_functions.Goals as goal
 
 pub returns : goal.returns
 returns c = λ d w l n o is.

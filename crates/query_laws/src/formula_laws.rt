@@ -6,7 +6,7 @@ ghost use Rattle.cocoon_types.specs.Rules.{WellFormed};
 ghost use Rattle.sound_types.specs.Literals.{DesignLiteralsFit};
 ghost use Rattle.obligation_laws.specs.Leaves.{body_tree, inlined, Leaf};
 ghost use Rattle.obligation_laws.specs.Obligations.{Obligation, all_obligations};
-ghost use Rattle.formula_functions.specs.LeafTerms.{LeafApplies, Stands};
+ghost use Rattle.query_laws.specs.LeafTerms.{LeafApplies, Stands};
 
 use application_laws::laws::terms_apply_declared_functions;
 use obligation_laws::expr_laws::terms_have_widths;

@@ -1,7 +1,7 @@
 use Rattle.std.proofs.Common.{suc, false}
 use Rattle.refinement.specs.Segments.{is_new}
-use Rattle.formula_functions.proofs.LeavesOver.{tree_applies}
-use Rattle.formula_functions.proofs.laws.leaves_apply_declared_functions.Goals as goal
+use Rattle.query_laws.proofs.LeavesOver.{tree_applies}
+use Rattle.query_laws.proofs.formula_laws.leaves_apply_declared_functions.Goals as goal
 
 pub returns : goal.returns
 returns c = record {

@@ -20,7 +20,7 @@ use Rattle.obligation_laws.specs.Following.{Followed, chosen_as, each, follow, f
 use Rattle.obligation_laws.specs.Leaves.{Leaf, at_new, begins, end_at, entered, entry_of, follow_body, hops, leaf_of, onward, params_of, tree_of}
 use Rattle.application_laws.specs.Over.{AllOver, TermsAreOver, VariablesOver}
 use Rattle.application_laws.proofs.Applied.{bound_over}
-use Rattle.formula_functions.specs.LeafTerms.{LeafApplies, Stands, any_input}
+use Rattle.query_laws.specs.LeafTerms.{LeafApplies, Stands, any_input}
 use Rattle.obligation_laws.proofs.FieldTerms.{set_fits}
 use Rattle.obligation_laws.proofs.Followings.{each_in, passed, some_place, unless_in}
 use Rattle.obligation_laws.proofs.Statements.{block_vars}

@@ -1,2 +1,0 @@
-pub mod LeavesOver
-pub mod FormulasOver
