@@ -19,7 +19,7 @@ use Rattle.cnf_core.specs.declared.certificates.Instance.{Instance}
 use Rattle.defs_text.specs.Fitting.{AreMasked, FitsDesign, FitsFunction, FitsPlace, FitsRow, IsMasked, all_fit_widths, all_ones, result_width}
 use Rattle.defs_text.specs.Places.{entries_of_places}
 use Rattle.obligation_laws.specs.Shown.{functions_by}
-use Rattle.application_laws.specs.Over.{IsOver, fit_input}
+use Rattle.query_laws.specs.Over.{IsOver, fit_input}
 use Rattle.fun_instances.specs.AssumptionTerms.{assumption_term, number_terms, value_term}
 use Rattle.fun_instances.specs.Saying.{SaysOf}
 use Rattle.fun_instances.specs.Taking.{NumbersFit, OfAssumption, TermsFit}

@@ -21,8 +21,8 @@ use Rattle.bv_terms.proofs.Subterms.{Each, each-itself, each-weaker, walk-all, w
 use Rattle.cnf_core.specs.declared.certificates.Instance.{Instance}
 use Rattle.defs_text.specs.Fitting.{FitsDesign, all_ones}
 use Rattle.obligation_laws.specs.Shown.{HasWidth}
-use Rattle.application_laws.specs.Over.{AllOver, IsOver, fit_input}
-use Rattle.application_laws.proofs.Places.{fits-in, has-table}
+use Rattle.query_laws.specs.Over.{AllOver, IsOver, fit_input}
+use Rattle.query_laws.proofs.Places.{fits-in, has-table}
 use Rattle.flat_laws.specs.Flat.{args_in, flattened}
 use Rattle.flat_laws.specs.Meant.{CanFlatten}
 use Rattle.flat_laws.specs.Rows as flat

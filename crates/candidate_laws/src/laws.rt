@@ -19,10 +19,10 @@ ghost use Rattle.candidate_laws.specs.Candidates.{IsCandidate, IsFalseBy, MakeTr
 ghost use Rattle.candidate_laws.specs.FirstRows.{AreOfTrueQuery};
 ghost use Rattle.candidate_laws.specs.Rounds.{Progress, tuples_to};
 
-use application_laws::laws::{tables_keep_values, tables_take_the_place};
 use bv_terms::table_laws::rows_keep_values;
 use flat_laws::laws::flat_goals_have_tables;
 use fun_instances::laws::assumptions_have_values;
+use query_laws::applied_laws::{tables_keep_values, tables_take_the_place};
 use query_laws::instance_laws::{earlier_levels_come_first, instances_fit};
 use query_laws::laws::queries_are_goals;
 use refinement::table_laws::tables_are_definitions;

@@ -24,7 +24,7 @@ use Rattle.bv_terms.proofs.ValueFacts.{value-width}
 use Rattle.defs_text.specs.Fitting as fitting
 use Rattle.defs_text.specs.Fitting.{all_fit_widths}
 use Rattle.obligation_laws.specs.TermOf.{result_width}
-use Rattle.application_laws.specs.Over.{IsOver}
+use Rattle.query_laws.specs.Over.{IsOver}
 use Rattle.flat_goals.specs.Applied.{AreApplied, IsApplied}
 use Rattle.flat_goals.specs.declared.applied.Applied.{Applied as Code}
 use Rattle.flat_laws.specs.Flat.{reduced, reduced_args}

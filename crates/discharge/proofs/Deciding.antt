@@ -37,8 +37,8 @@ use Rattle.obligation_laws.proofs.ExprValues.{ShownAs}
 use Rattle.obligation_laws.proofs.ExprWidths.{params_are}
 use Rattle.bv_terms.specs.WithRows.{Tables, with_rows}
 use Rattle.fun_instances.proofs.AssumptionValues.{bound_are, bound_fit, value_is}
-use Rattle.application_laws.specs.Over.{AllOver, IsOver, TermsAreOver, VariablesOver, fit_input}
-use Rattle.application_laws.proofs.Applied.{bound_over}
+use Rattle.query_laws.specs.Over.{AllOver, IsOver, TermsAreOver, VariablesOver, fit_input}
+use Rattle.query_laws.proofs.Applied.{bound_over}
 use Rattle.discharge.specs.Meeting.{IsFalseAt}
 use Rattle.discharge.specs.Queries.{CanBeAsked, assumption_query, inputs_from, inputs_read, own_term, values_read}
 use Rattle.discharge.proofs.Ranges.{HaveBits, at_index, fits_at, from_zero, have_numbers, inputs_over, inputs_wide, number_at, own, own_there, read_at, read_fits, there_own}

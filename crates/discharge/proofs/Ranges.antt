@@ -14,7 +14,7 @@ use Rattle.bv_terms.specs.TermTrees.{Term, input}
 use Rattle.bv_terms.specs.TermValues.{Functions, Inputs}
 use Rattle.bv_terms.specs.Walks.{is_among, walk}
 use Rattle.obligation_laws.specs.Shown.{HasNumber, HasWidth, numbers_of}
-use Rattle.application_laws.specs.Over.{AllOver}
+use Rattle.query_laws.specs.Over.{AllOver}
 use Rattle.discharge.specs.Queries.{inputs_from, inputs_read}
 
 -- ---- which inputs

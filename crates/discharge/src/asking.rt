@@ -15,7 +15,6 @@ ghost use Rattle.discharge.specs.Asked.{IsQuery, Refuses, Says};
 
 use crate::laws::queries_decide_assumptions;
 use crate::meeting::Met;
-use application_laws::laws::{tables_take_the_place, terms_apply_declared_functions};
 use bit_blast::{BlastFault, InputMap, blast};
 use bv_terms::table_laws::rows_keep_values;
 use bv_terms::{InputId, TermId, Terms, with_defs};
@@ -27,6 +26,7 @@ use cocoon_resolve::Checked;
 use expr_terms::CallSizes;
 use fun_instances::laws::{assumptions_have_width_1, inputs_stay};
 use fun_instances::own_term;
+use query_laws::applied_laws::{tables_take_the_place, terms_apply_declared_functions};
 use runtime_defs::Defs;
 use sound_types::laws::{code_literals_fit, declarations_are_typed};
 use std::alloc::Global;

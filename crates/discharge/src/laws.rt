@@ -14,10 +14,10 @@ ghost use Rattle.sound_types.specs.Literals.{DesignLiteralsFit};
 ghost use Rattle.discharge.specs.Meeting.{IsFalseAt, OfTables};
 ghost use Rattle.discharge.specs.Queries.{CanBeAsked, assumption_query, values_read};
 
-use application_laws::laws::{
+use bit_blast::laws::{clauses_mean_the_goal, inputs_have_their_bits, satisfying_is_making_hold};
+use query_laws::applied_laws::{
     tables_keep_values, tables_take_the_place, terms_apply_declared_functions,
 };
-use bit_blast::laws::{clauses_mean_the_goal, inputs_have_their_bits, satisfying_is_making_hold};
 use sound_types::laws::{declarations_are_typed, expressions_have_values};
 
 /// An assignment that satisfies the clauses of an assumption's query has values of the parameters at which the assumption is

@@ -18,7 +18,7 @@ use Rattle.expr_terms.specs.Variables.{AreThere, Keeps, MakesAll, terms_at}
 use Rattle.expr_terms.proofs.Making.{longer, there_on, terms_on, there_more}
 use Rattle.fun_instances.specs.AssumptionTerms.{assumption_term}
 use Rattle.fun_instances.specs.Taking.{OfAssumption}
-use Rattle.application_laws.specs.Over.{IsOver}
+use Rattle.query_laws.specs.Over.{IsOver}
 use Rattle.query_laws.specs.Tuples.{instance_term, most_instances, pattern_terms, taken_of, tuples_of}
 use Rattle.pattern_instances.specs.Found.{tuple_ids}
 use Rattle.pattern_instances.specs.Goals.{IsGoal}

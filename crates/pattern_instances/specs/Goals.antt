@@ -8,7 +8,7 @@ use Rattle.bv_terms.specs.Arenas.{term_at}
 use Rattle.bv_terms.specs.Walks.{AreNumbersOf, applications}
 use Rattle.expr_terms.specs.Scopes.{Takes}
 use Rattle.expr_terms.specs.Variables.{terms_at}
-use Rattle.application_laws.specs.Over.{IsOver}
+use Rattle.query_laws.specs.Over.{IsOver}
 use Rattle.query_laws.specs.Tuples.{most_instances, tuples_of}
 use Rattle.pattern_instances.specs.Found.{tuple_ids}
 use Rattle.pattern_instances.specs.declared.instances.Goal.{Goal}

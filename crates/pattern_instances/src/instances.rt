@@ -11,7 +11,7 @@ ghost use Rattle.expr_terms.specs.Sizes.{AreSizes};
 ghost use Rattle.expr_terms.specs.Variables.{AreThere, Keeps, MakesAll, terms_at};
 ghost use Rattle.fun_instances.specs.AssumptionTerms as term;
 ghost use Rattle.fun_instances.specs.Taking.{OfAssumption};
-ghost use Rattle.application_laws.specs.Over.{IsOver};
+ghost use Rattle.query_laws.specs.Over.{IsOver};
 ghost use Rattle.query_laws.specs.Tuples as spec;
 ghost use Rattle.query_laws.specs.Tuples.{most_instances, pattern_terms};
 ghost use Rattle.pattern_instances.specs.Found.{tuple_ids};

@@ -18,7 +18,7 @@ use Rattle.sound_types.proofs.Members.{In, at_place, in_either, map_in}
 use Rattle.sound_types.proofs.Options.{same_text}
 use Rattle.obligation_laws.specs.Shown.{HasWidth}
 use Rattle.obligation_laws.proofs.Typings.{in_place}
-use Rattle.application_laws.specs.Over.{AllOver, AreOver, IsRuntimeAt}
+use Rattle.query_laws.specs.Over.{AllOver, AreOver, IsRuntimeAt}
 use Rattle.obligation_laws.specs.Leaves.{End, sent_to, inside, Leaf, Tree, body_tree, end_fields, end_role, end_values, inlined, params_of}
 use Rattle.obligation_laws.specs.States.{NewInput, input_term, inputs_from, term_world}
 use Rattle.obligation_laws.proofs.Ascending.{tree_ascends}

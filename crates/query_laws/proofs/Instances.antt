@@ -17,7 +17,7 @@ use Rattle.sound_types.specs.WellTyped.{HasType, scope_at}
 use Rattle.obligation_laws.specs.Shown.{HasWidth}
 use Rattle.obligation_laws.specs.TermOf.{bind_terms}
 use Rattle.obligation_laws.proofs.ExprWidths.{params_are}
-use Rattle.application_laws.specs.Over.{AllOver, IsOver, TermsAreOver, VariablesOver}
+use Rattle.query_laws.specs.Over.{AllOver, IsOver, TermsAreOver, VariablesOver}
 use Rattle.fun_instances.specs.AssumptionTerms.{assumption_term, inputs_from, number_terms, own_term}
 use Rattle.query_laws.proofs.Lists.{in-front}
 use Rattle.query_laws.proofs.PatternFits.{own-over, own-wide, own_inputs}

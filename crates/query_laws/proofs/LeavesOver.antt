@@ -18,8 +18,8 @@ use Rattle.obligation_laws.specs.States as states
 use Rattle.obligation_laws.specs.States.{NewInput, Place, State, TermWorld, and_with, choice_width, guard_term, input_term, inputs_from, term_world, where_true}
 use Rattle.obligation_laws.specs.Following.{Followed, chosen_as, each, follow, follow_all, has_sent, in_branch, next_input, one, sends_to, term_at, those_sent, unless_sent}
 use Rattle.obligation_laws.specs.Leaves.{Leaf, at_new, begins, end_at, entered, entry_of, follow_body, hops, leaf_of, onward, params_of, tree_of}
-use Rattle.application_laws.specs.Over.{AllOver, TermsAreOver, VariablesOver}
-use Rattle.application_laws.proofs.Applied.{bound_over}
+use Rattle.query_laws.specs.Over.{AllOver, TermsAreOver, VariablesOver}
+use Rattle.query_laws.proofs.Applied.{bound_over}
 use Rattle.query_laws.specs.LeafTerms.{LeafApplies, Stands, any_input}
 use Rattle.obligation_laws.proofs.FieldTerms.{set_fits}
 use Rattle.obligation_laws.proofs.Followings.{each_in, passed, some_place, unless_in}

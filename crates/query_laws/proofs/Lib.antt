@@ -1,3 +1,7 @@
+pub mod Applied
+pub mod Places
+pub mod Plain
+pub mod Agreeing
 pub mod LeavesOver
 pub mod FormulasOver
 pub mod Lists

@@ -18,7 +18,7 @@ use Rattle.sound_types.proofs.Members.{at_place}
 use Rattle.obligation_laws.specs.Shown.{functions_by}
 use Rattle.obligation_laws.specs.TermOf.{result_width}
 use Rattle.obligation_laws.proofs.ExprValues.{RowsFit}
-use Rattle.application_laws.specs.Over.{AreOver, IsOver, IsRuntimeAt}
+use Rattle.query_laws.specs.Over.{AreOver, IsOver, IsRuntimeAt}
 use Rattle.flat_laws.specs.Meant.{AppliesAlike}
 
 module _ (d : Design) where

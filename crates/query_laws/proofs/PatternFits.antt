@@ -9,7 +9,7 @@ use Rattle.cocoon_types.specs.Design.{widths_of}
 use Rattle.bv_terms.specs.TermTrees.{Term, Args, constant, input, apply, not_, binary, slice, pick, no_args, arg, arg_widths, width}
 use Rattle.fun_instances.specs.AssumptionTerms.{inputs_from}
 use Rattle.obligation_laws.specs.Shown.{HasWidth}
-use Rattle.application_laws.specs.Over.{AllOver, AreOver, IsOver, IsRuntimeAt}
+use Rattle.query_laws.specs.Over.{AllOver, AreOver, IsOver, IsRuntimeAt}
 use Rattle.query_laws.specs.Patterns.{Pattern, arg_count, is_input, pattern_of, place_of, places_from}
 use Rattle.query_laws.specs.TupleFits.{HasPlaces}
 use Rattle.query_laws.specs.Tuples.{arg_at, tuple_of}

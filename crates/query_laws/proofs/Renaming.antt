@@ -9,7 +9,7 @@ use Rattle.bv_terms.specs.TermTrees.{Term, Args, constant, input, apply, not_, b
 use Rattle.bv_terms.specs.TermValues.{Functions, Inputs, arg_numbers, number_in, operated, term_number, term_value}
 use Rattle.bv_terms.specs.Walks.{is_among, same_term, walk}
 use Rattle.bv_terms.proofs.Subterms.{Each, EachArg}
-use Rattle.application_laws.specs.Over.{AreOver, IsOver, IsRuntimeAt}
+use Rattle.query_laws.specs.Over.{AreOver, IsOver, IsRuntimeAt}
 use Rattle.query_laws.specs.LeafTerms.{any_input}
 use Rattle.sound_types.proofs.Members.{In}
 use Rattle.bv_terms.specs.Copies.{index_in, new_name}

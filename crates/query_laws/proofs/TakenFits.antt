@@ -11,7 +11,7 @@ use Rattle.bv_terms.specs.TermTrees.{Term, Args, constant, input, apply, not_, b
 use Rattle.bv_terms.specs.Walks.{applications, is_application, walk}
 use Rattle.bv_terms.proofs.Subterms.{Each, EachArg, each-itself, walk-all}
 use Rattle.fun_instances.specs.AssumptionTerms.{own_term}
-use Rattle.application_laws.specs.Over.{IsOver}
+use Rattle.query_laws.specs.Over.{IsOver}
 use Rattle.query_laws.specs.Patterns.{pattern_of, patterns}
 use Rattle.query_laws.specs.Tuples.{Taken, distinct_tuples, pattern_tuples, same_tuple, taken_of, tuple_of, tuples_at, tuples_of, with_tuple, most_instances}
 use Rattle.query_laws.proofs.Lists.{all-flat, all-if, all-kept, all-mapped, all-places, all-taken, all-weaker}

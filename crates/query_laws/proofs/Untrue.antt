@@ -26,7 +26,7 @@ use Rattle.bv_terms.proofs.Subterms.{walk-has}
 use Rattle.cnf_core.specs.declared.certificates.Instance.{Instance}
 use Rattle.refinement.specs.Assumptions.{AreDefinitions, Meets}
 use Rattle.obligation_laws.specs.Shown.{HasWidth, functions_by}
-use Rattle.application_laws.specs.Over.{AllOver, IsOver, fit_input}
+use Rattle.query_laws.specs.Over.{AllOver, IsOver, fit_input}
 use Rattle.flat_laws.specs.Flat.{flattened}
 use Rattle.flat_laws.specs.Meant.{AppliesAlike, CanFlatten, HasInputsBelow, with_results}
 use Rattle.flat_laws.specs.Rows.{AllFit}

@@ -7,7 +7,7 @@ use Rattle.cocoon_resolve.specs.Readers.{all_widths}
 use Rattle.cocoon_types.specs.Design.{role_at, widths_of}
 use Rattle.bv_terms.specs.TermTrees.{Term}
 use Rattle.obligation_laws.specs.Shown.{HasWidth}
-use Rattle.application_laws.specs.Over.{IsOver}
+use Rattle.query_laws.specs.Over.{IsOver}
 use Rattle.obligation_laws.specs.Leaves.{Leaf, end_fields, end_role, end_values}
 
 -- no input is ruled out

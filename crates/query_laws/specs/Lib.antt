@@ -1,3 +1,4 @@
+pub mod Over
 pub mod LeafTerms
 pub mod Patterns
 pub mod Tuples

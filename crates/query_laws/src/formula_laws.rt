@@ -8,7 +8,7 @@ ghost use Rattle.obligation_laws.specs.Leaves.{body_tree, inlined, Leaf};
 ghost use Rattle.obligation_laws.specs.Obligations.{Obligation, all_obligations};
 ghost use Rattle.query_laws.specs.LeafTerms.{LeafApplies, Stands};
 
-use application_laws::laws::terms_apply_declared_functions;
+use crate::applied_laws::terms_apply_declared_functions;
 use obligation_laws::expr_laws::terms_have_widths;
 use sound_types::laws::declarations_are_typed;
 

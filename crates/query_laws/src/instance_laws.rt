@@ -11,7 +11,7 @@ ghost use Rattle.bv_terms.specs.TermValues.{Inputs};
 ghost use Rattle.refinement.specs.Assumptions.{AreDefinitions, Meets};
 ghost use Rattle.sound_types.specs.Literals.{DesignLiteralsFit};
 ghost use Rattle.obligation_laws.specs.Shown.{HasWidth};
-ghost use Rattle.application_laws.specs.Over.{AllOver, IsOver};
+ghost use Rattle.query_laws.specs.Over.{AllOver, IsOver};
 ghost use Rattle.fun_instances.specs.AssumptionTerms.{own_term, value_term};
 ghost use Rattle.fun_instances.specs.Saying.{IsTrueUnder};
 ghost use Rattle.fun_instances.specs.Taking.{NumbersFit, OfAssumption};
@@ -20,8 +20,8 @@ ghost use Rattle.query_laws.specs.Patterns.{patterns};
 ghost use Rattle.query_laws.specs.TupleFits.{FitsParams, HasAllPlaces};
 ghost use Rattle.query_laws.specs.Tuples.{pattern_terms, tuples_of};
 
+use crate::applied_laws::terms_apply_declared_functions;
 use crate::over::definitions_fit_design_terms;
-use application_laws::laws::terms_apply_declared_functions;
 use flat_laws::fitting::values_fit;
 use fun_instances::laws::{assumptions_have_width_1, met_assumptions_are_true};
 use sound_types::laws::declarations_are_typed;

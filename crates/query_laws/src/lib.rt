@@ -4,8 +4,11 @@
 //! what the assumptions say of them holds. There is no code here.
 //! What the formulas of obligations apply: run-time functions of the design alone, at the widths
 //! that these are declared with. There is no code here.
+//! What terms of a design apply: its run-time functions, at their widths; and what becomes of them with tables in the place of
+//! these functions.
 #![tactic(auto)]
 
+pub mod applied_laws;
 pub mod examples;
 pub mod formula_laws;
 pub mod instance_laws;

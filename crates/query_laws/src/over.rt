@@ -9,7 +9,7 @@ ghost use Rattle.bv_terms.specs.TermTrees.{Term};
 ghost use Rattle.obligation_laws.specs.Shown.{functions_by};
 ghost use Rattle.refinement.specs.Assumptions.{AreDefinitions};
 ghost use Rattle.sound_types.specs.Literals.{DesignLiteralsFit};
-ghost use Rattle.application_laws.specs.Over.{IsOver};
+ghost use Rattle.query_laws.specs.Over.{IsOver};
 ghost use Rattle.flat_laws.specs.Meant.{AppliesAlike};
 
 use sound_types::laws::expressions_have_values;

@@ -2,7 +2,7 @@ use Rattle.std.proofs.Common.{◌^◌, sym, ◌∙◌}
 use Rattle.std.proofs.lemmas.Bool.{lt-ltb}
 use Rattle.cocoon_types.specs.Tables.{defs_of}
 use Rattle.bv_terms.specs.TermValues.{Functions}
-use Rattle.application_laws.specs.Over.{fit_input}
+use Rattle.query_laws.specs.Over.{fit_input}
 use Rattle.query_laws.specs.LeafTerms.{any_input}
 use Rattle.query_laws.proofs.OverParts.{over-others}
 use Rattle.candidate_laws.proofs.laws.formulas_stay_true.Goals as goal

@@ -6,7 +6,7 @@ use Rattle.bv_terms.specs.Arenas.{term_at}
 use Rattle.bv_terms.specs.TermTrees.{not_}
 use Rattle.expr_terms.specs.Variables.{Keeps}
 use Rattle.expr_terms.proofs.Making.{keeps_on}
-use Rattle.application_laws.specs.Over.{IsOver}
+use Rattle.query_laws.specs.Over.{IsOver}
 use Rattle.bv_terms.specs.Fitting.{TablesFit}
 use Rattle.bv_terms.specs.WithRows.{with_rows}
 use Rattle.discharge.specs.Asked.{IsQuery}

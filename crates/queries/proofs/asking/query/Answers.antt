@@ -1,7 +1,7 @@
 use Rattle.std.proofs.Common.{◌≡◌, sym, ap, subst, ◌∙◌}
 use Rattle.std.specs.List.{AllByRecursion}
 use Rattle.cocoon_syntax.specs.TreeOf.{design_of}
-use Rattle.application_laws.specs.Over.{IsOver}
+use Rattle.query_laws.specs.Over.{IsOver}
 use Rattle.bv_terms.specs.Arenas.{inputs_in, term_at}
 use Rattle.bv_terms.specs.TermTrees.{width}
 use Rattle.flat_laws.specs.Meant.{AppliesAlike}

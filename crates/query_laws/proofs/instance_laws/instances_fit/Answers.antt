@@ -4,7 +4,7 @@ use Rattle.cocoon_types.specs.Design.{last_level, widths_of}
 use Rattle.bv_terms.specs.TermTrees.{Term, width}
 use Rattle.bv_terms.proofs.Subterms.{Each}
 use Rattle.obligation_laws.specs.Shown.{HasWidth}
-use Rattle.application_laws.specs.Over.{IsOver}
+use Rattle.query_laws.specs.Over.{IsOver}
 use Rattle.fun_instances.specs.AssumptionTerms.{number_terms}
 use Rattle.query_laws.specs.Tuples.{instance_term, pattern_tuples}
 use Rattle.query_laws.proofs.Instances.{all-wide, among-all, assumption-over, each-joined, numbers-over, numbers-wide, own-term-over}

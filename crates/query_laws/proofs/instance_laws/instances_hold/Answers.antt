@@ -16,7 +16,7 @@ use Rattle.sound_types.specs.Defined.{HasDefinitions}
 use Rattle.sound_types.specs.Literals.{DesignLiteralsFit}
 use Rattle.sound_types.specs.Matching.{IsOfSort}
 use Rattle.obligation_laws.specs.Shown.{HasNumber, functions_by}
-use Rattle.application_laws.specs.Over.{IsOver, fit_input}
+use Rattle.query_laws.specs.Over.{IsOver, fit_input}
 use Rattle.fun_instances.specs.AssumptionTerms.{value_term}
 use Rattle.fun_instances.specs.Saying.{IsTrueUnder}
 use Rattle.query_laws.specs.Tuples.{instance_term, pattern_terms, pattern_tuples}

@@ -4,7 +4,7 @@ use Rattle.bv_terms.specs.TermTrees.{width}
 use Rattle.bv_terms.specs.Walks.{applications}
 use Rattle.bv_terms.proofs.Subterms.{Each, each-itself, each-weaker}
 use Rattle.obligation_laws.specs.Shown.{HasWidth}
-use Rattle.application_laws.specs.Over.{IsOver}
+use Rattle.query_laws.specs.Over.{IsOver}
 use Rattle.query_laws.specs.Patterns.{patterns}
 use Rattle.query_laws.specs.TupleFits.{HasAllPlaces, HasPlaces}
 use Rattle.query_laws.proofs.Instances.{own-term-over}

@@ -1,7 +1,7 @@
 use Rattle.bv_terms.specs.WithRows.{with_rows}
-use Rattle.application_laws.proofs.Places.{tables-fit}
-use Rattle.application_laws.proofs.Plain.{plain-inputs, plain-unapplied, rows-plain}
-use Rattle.application_laws.proofs.laws.tables_take_the_place.Goals as goal
+use Rattle.query_laws.proofs.Places.{tables-fit}
+use Rattle.query_laws.proofs.Plain.{plain-inputs, plain-unapplied, rows-plain}
+use Rattle.query_laws.proofs.applied_laws.tables_take_the_place.Goals as goal
 
 pub returns-clause-fit : goal.returns-clause-fit
 returns-clause-fit c = tables-fit

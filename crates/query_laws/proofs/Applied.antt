@@ -22,7 +22,7 @@ use Rattle.obligation_laws.specs.Shown.{HasWidth}
 use Rattle.obligation_laws.proofs.InFunctions.{HoldsNext, HoldsOf, all_hold}
 use Rattle.obligation_laws.proofs.Typings.{everywhere, typed_everywhere}
 use Rattle.obligation_laws.proofs.ExprWidths.{Call, IsWide, SeesWidths, StandsAfter, call_steps, called, calls_wide, first_calls_wide, own_call, params_are, stands_after, term_widths}
-use Rattle.application_laws.specs.Over.{AllOver, AreOver, IsOver, TermsAreOver, VariablesOver}
+use Rattle.query_laws.specs.Over.{AllOver, AreOver, IsOver, TermsAreOver, VariablesOver}
 
 module _ (d : Design) (inputs : ℕ → ℕ → Bool) where
   -- ---- variables and fields

@@ -14,7 +14,7 @@ ghost use Rattle.runtime_defs.specs.Stands.{Stands};
 ghost use Rattle.sound_types.specs.Literals.{DesignLiteralsFit};
 ghost use Rattle.bv_terms.specs.Fitting.{TablesFit};
 ghost use Rattle.bv_terms.specs.WithRows.{with_rows};
-ghost use Rattle.application_laws.specs.Over.{IsOver, TermsAreOver, fit_input};
+ghost use Rattle.query_laws.specs.Over.{IsOver, TermsAreOver, fit_input};
 
 /// The term of a typed expression applies run-time functions of the design alone, each at the widths that it is declared
 /// with, and has the inputs of its variables and fields alone.

@@ -11,8 +11,8 @@ use Rattle.bit_blast.specs.Goals.{IsUnapplied}
 use Rattle.defs_text.specs.Fitting.{FitsDesign}
 use Rattle.bv_terms.specs.Chains.{chain}
 use Rattle.bv_terms.specs.WithRows.{Tables, args_with_rows, looked_up, picks, position_tests, with_rows}
-use Rattle.application_laws.specs.Over.{AreOver, IsOver}
-use Rattle.application_laws.proofs.Places.{has-table}
+use Rattle.query_laws.specs.Over.{AreOver, IsOver}
+use Rattle.query_laws.proofs.Places.{has-table}
 
 module _ (inputs : ℕ → ℕ → Bool) where
   -- no application, and one of these inputs

@@ -19,7 +19,7 @@ use Rattle.runtime_defs.proofs.Looking.{both-true}
 use Rattle.runtime_defs.proofs.Zips.{paired}
 use Rattle.bv_terms.specs.Fitting.{CanStand, MasksFit, TablesFit, TablesFitArgs}
 use Rattle.bv_terms.specs.WithRows.{Tables, table_of}
-use Rattle.application_laws.specs.Over.{AreOver, IsOver, IsRuntimeAt}
+use Rattle.query_laws.specs.Over.{AreOver, IsOver, IsRuntimeAt}
 
 pub fits-in : (w n : ℕ) → fits_width w n ≡ true → FitsWidth w n
 fits-in w n h = ltb-true n (2 ^ w) h

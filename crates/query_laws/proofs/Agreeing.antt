@@ -25,8 +25,8 @@ use Rattle.bv_terms.specs.ByTables.{by_tables}
 use Rattle.bv_terms.specs.WithRows.{Tables, table_of, with_rows}
 use Rattle.bv_terms.proofs.Values.{rows-keep}
 use Rattle.flat_laws.proofs.FittingValues.{values-fit}
-use Rattle.application_laws.specs.Over.{AreOver, IsOver, IsRuntimeAt, fit_input}
-use Rattle.application_laws.proofs.Places.{fits-in, has-table, tables-fit}
+use Rattle.query_laws.specs.Over.{AreOver, IsOver, IsRuntimeAt, fit_input}
+use Rattle.query_laws.proofs.Places.{fits-in, has-table, tables-fit}
 
 -- ---- what is looked up
 

@@ -1,4 +1,0 @@
-pub mod Applied
-pub mod Places
-pub mod Plain
-pub mod Agreeing

@@ -1,5 +1,0 @@
-use Rattle.application_laws.proofs.Agreeing.{rows-agree}
-use Rattle.application_laws.proofs.laws.tables_keep_values.Goals as goal
-
-pub returns : goal.returns
-returns c = λ d tables defs z s ins t i h others. rows-agree d tables z others defs s ins t i h
