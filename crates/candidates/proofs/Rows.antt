@@ -28,8 +28,8 @@ use Rattle.literal_tables.specs.LookupRows.{row_of, rows_for}
 use Rattle.literal_tables.specs.Tables as made
 use Rattle.literal_tables.specs.declared.lookups.Lookup.{Lookup}
 use Rattle.bv_terms.specs.WithRows.{Tables, table_of}
-use Rattle.candidate_laws.specs.FirstRows.{HaveFirstRows, applications_of}
-use Rattle.candidate_laws.proofs.Candidate.{all-wide}
+use Rattle.query_laws.specs.FirstRows.{HaveFirstRows, applications_of}
+use Rattle.query_laws.proofs.Candidate.{all-wide}
 use Rattle.candidates.specs.Applying.{IsLookup}
 use Rattle.candidates.specs.Assigned.{row_value}
 use Rattle.candidates.specs.Flat.{IsFlat}

@@ -30,7 +30,7 @@ use Rattle.literal_tables.specs.declared.lookups.Lookup.{Lookup}
 use Rattle.query_laws.specs.OwnNames.{input_count}
 use Rattle.query_laws.specs.Queries.{asked, query}
 use Rattle.bv_terms.specs.WithRows.{Tables}
-use Rattle.candidate_laws.specs.FirstRows.{AreOfTrueQuery}
+use Rattle.query_laws.specs.FirstRows.{AreOfTrueQuery}
 use Rattle.candidates.specs.Applying.{IsLookup}
 use Rattle.candidates.specs.Assigned.{assigned, row_value}
 use Rattle.candidates.specs.Flat.{IsSatisfied}

@@ -18,7 +18,7 @@ use Rattle.query_laws.specs.Certified.{AllFit}
 use Rattle.query_laws.specs.OwnNames.{input_count, own_name}
 use Rattle.query_laws.specs.Queries.{asked, query}
 use Rattle.bv_terms.specs.WithRows.{Tables}
-use Rattle.candidate_laws.specs.Candidates.{IsCandidate, MakeTrue}
+use Rattle.query_laws.specs.Candidates.{IsCandidate, MakeTrue}
 use Rattle.candidates.specs.Assigned.{assigned}
 
 -- the arena has this term

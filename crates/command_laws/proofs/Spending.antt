@@ -7,7 +7,7 @@ use Rattle.std.proofs.lemmas.List.Sums.{sum-map, sum_by-cons}
 use Rattle.bit_blast.specs.Clauses.{vars_of}
 use Rattle.bv_terms.specs.TermTrees.{Term}
 use Rattle.bv_terms.specs.declared.node.Node.{Node}
-use Rattle.candidate_laws.specs.Rounds.{Progress, tuples_of, tuples_to}
+use Rattle.query_laws.specs.Rounds.{Progress, tuples_of, tuples_to}
 use Rattle.cnf_core.specs.declared.certificates.Instance.{Instance}
 use Rattle.cnf_core.specs.Licensing.{Licensed}
 use Rattle.cnf_core.specs.declared.clauses.Cnf.{Cnf}

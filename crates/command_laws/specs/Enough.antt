@@ -4,7 +4,7 @@ use Rattle.std.specs.Prelude.{◌≡◌, ◌<◌, ◌≤◌, ◌^◌, ℕ, List,
 use Rattle.std.specs.List.{AllByRecursion}
 use Rattle.bit_blast.specs.Clauses.{vars_of}
 use Rattle.bv_terms.specs.TermTrees.{Term}
-use Rattle.candidate_laws.specs.Rounds.{IsAllowed, tuples_to}
+use Rattle.query_laws.specs.Rounds.{IsAllowed, tuples_to}
 use Rattle.cocoon_num.specs.Reads.{Reads, ReadsDefs}
 use Rattle.cocoon_num.specs.Tree as tree
 use Rattle.cocoon_resolve.specs.Readers.{all_assumptions}

@@ -17,7 +17,6 @@ ghost use Rattle.command_laws.specs.Enough.{AreEnoughConflicts, AreEnoughOn, Are
 ghost use Rattle.command_laws.specs.Sound.{Sound};
 
 use bundle_reader::laws::{one_reading, one_wiring};
-use candidate_laws::laws::progress_is_short;
 use cocoon_cli::laws::calls_keep_more;
 use cocoon_text::laws::{one_fault, trees_have_no_fault};
 use cocoon_types::first_faults::{first_or_well_formed, one_first_fault};
@@ -28,6 +27,7 @@ use packet_runs::laws::one_report;
 use parsing::text_laws::{one_definitions_tree, one_tree};
 use proof_check::laws::licensed_logs_are_short;
 use query_laws::instance_laws::earlier_levels_come_first;
+use query_laws::search_laws::progress_is_short;
 use step_cases::laws::one_step;
 use verdicts::laws::failing_obligations_fail;
 

@@ -7,8 +7,8 @@ use Rattle.bv_terms.specs.Arenas.{term_at}
 use Rattle.bv_terms.specs.TermTrees.{IsTerm, Term}
 use Rattle.bv_terms.specs.TermValues.{Inputs}
 use Rattle.bv_terms.specs.declared.node.Node.{Node}
-use Rattle.candidate_laws.specs.Broken.{IsMeantTrue}
-use Rattle.candidate_laws.specs.Candidates.{MakeTrue}
+use Rattle.query_laws.specs.Broken.{IsMeantTrue}
+use Rattle.query_laws.specs.Candidates.{MakeTrue}
 use Rattle.cocoon_num.specs.PacketForms.{FieldsFit}
 use Rattle.cocoon_num.specs.Tree.{DefsText, Design, Refine, Role}
 use Rattle.cocoon_num.specs.declared.fun_table.FunTable.{FunTable}

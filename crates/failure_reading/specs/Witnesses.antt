@@ -6,7 +6,7 @@ use Rattle.bv_terms.specs.Arenas.{IsArena, term_at}
 use Rattle.bv_terms.specs.Inputs.{Mentions}
 use Rattle.bv_terms.specs.TermTrees.{Term}
 use Rattle.bv_terms.specs.TermValues.{Inputs}
-use Rattle.candidate_laws.specs.Candidates.{MakeTrue}
+use Rattle.query_laws.specs.Candidates.{MakeTrue}
 use Rattle.cocoon_num.specs.Tree.{Design, Refine}
 pub use Rattle.failure_reading.specs.OfObligation.{AreShort, begin_of, choices_of, Fails}
 use Rattle.failures.specs.Failures as laws

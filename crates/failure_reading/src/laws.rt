@@ -10,11 +10,11 @@ ghost use Rattle.sound_types.specs.Literals.{DesignLiteralsFit};
 ghost use Rattle.bv_terms.specs.WithRows.{Tables};
 ghost use Rattle.failure_reading.specs.Witnesses.{AreShort, begin_of, Fails, HasFailure, IsTrueFor};
 
-use candidate_laws::laws::formulas_stay_true;
 use obligation_laws::exactness_laws::formulas_are_failures;
 use obligation_laws::leaf_laws::leaves_have_values;
 use obligation_laws::tree_laws::leaves_end_by_role;
 use query_laws::formula_laws::formulas_apply_declared_functions;
+use query_laws::search_laws::formulas_stay_true;
 use refinement::laws::{levels_keep_roles, segments_are_hops};
 use refinement::table_laws::tables_are_definitions;
 use sound_types::laws::declarations_are_typed;

@@ -15,10 +15,10 @@ use Rattle.cocoon_types.specs.Design.{functions, widths_of}
 use Rattle.cnf_core.specs.declared.certificates.Instance.{Instance}
 use Rattle.defs_text.specs.Fitting.{FitsFunction, FitsPlace, FitsRow, IsLiteral, all_fit_widths, all_ones, literal_functions, result_width, table_at}
 use Rattle.query_laws.specs.Queries.{Fits, asked}
-use Rattle.candidate_laws.specs.Candidates as laws
-use Rattle.candidate_laws.specs.Candidates.{IsCandidate}
-use Rattle.candidate_laws.specs.FirstRows.{applications_of}
-use Rattle.candidate_laws.specs.Rounds.{Breaks, Progress}
+use Rattle.query_laws.specs.Candidates as laws
+use Rattle.query_laws.specs.Candidates.{IsCandidate}
+use Rattle.query_laws.specs.FirstRows.{applications_of}
+use Rattle.query_laws.specs.Rounds.{Breaks, Progress}
 use Rattle.obligation_examples.specs.DesignQ.{q_design}
 use Rattle.obligation_examples.specs.ExpectedOfQ.{q_formula, zero_and_one}
 

@@ -1,7 +1,7 @@
 //! One round of the design q. The functions do nothing; their contracts are the laws.
 ghost use Rattle.std.specs.Prelude.{[], ◌∷◌, ◌≡◌, map};
 ghost use Rattle.obligation_laws.specs.Obligations.{all_obligations, Obligation};
-ghost use Rattle.candidate_laws.specs.Rounds.{Progress};
+ghost use Rattle.query_laws.specs.Rounds.{Progress};
 ghost use Rattle.obligation_examples.specs.DesignQ.{q_design};
 ghost use Rattle.obligation_examples.specs.ExpectedOfQ.{q_formula, zero_and_one};
 

@@ -12,3 +12,9 @@ pub mod Instances
 pub mod InputNumbers
 pub mod Renaming
 pub mod Untrue
+pub mod SameFunctions
+pub mod FullTables
+pub mod Candidate
+pub mod Counting
+pub mod Kept
+pub mod Broken

@@ -6,3 +6,7 @@ pub mod TupleFits
 pub mod OwnNames
 pub mod Queries
 pub mod Certified
+pub mod FirstRows
+pub mod Candidates
+pub mod Rounds
+pub mod Broken

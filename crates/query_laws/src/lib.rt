@@ -6,6 +6,7 @@
 //! that these are declared with. There is no code here.
 //! What terms of a design apply: its run-time functions, at their widths; and what becomes of them with tables in the place of
 //! these functions.
+//! Definitions that a search finds: candidates, and the progress that rounds make over them. There is no code here.
 #![tactic(auto)]
 
 pub mod applied_laws;
@@ -14,3 +15,4 @@ pub mod formula_laws;
 pub mod instance_laws;
 pub mod laws;
 pub mod over;
+pub mod search_laws;

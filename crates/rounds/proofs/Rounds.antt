@@ -3,9 +3,9 @@ use Rattle.std.proofs.Common.{◌≡◌, ◌⊎◌, ℕ, ◌+◌, ◌<◌, ◌�
 use Rattle.std.specs.Prelude.{slice_get}
 use Rattle.std.proofs.lemmas.List.{length-append}
 use Rattle.bv_terms.specs.TermTrees.{IsTerm, Term, constant}
-use Rattle.candidate_laws.specs.Broken.{IsBroken as Breaks}
-use Rattle.candidate_laws.specs.Candidates.{IsCandidate, IsFalseBy}
-use Rattle.candidate_laws.specs.Rounds.{IsWithin, of_goal, Progress}
+use Rattle.query_laws.specs.Broken.{IsBroken as Breaks}
+use Rattle.query_laws.specs.Candidates.{IsCandidate, IsFalseBy}
+use Rattle.query_laws.specs.Rounds.{IsWithin, of_goal, Progress}
 use Rattle.cnf_core.specs.declared.certificates.Instance.{Instance}
 use Rattle.cnf_core.specs.declared.log.Log.{Log}
 use Rattle.cocoon_num.specs.Tree.{AssumeDecl, Design}

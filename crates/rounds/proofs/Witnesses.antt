@@ -21,8 +21,8 @@ use Rattle.cocoon_num.specs.BitsOf.{value_of}
 use Rattle.cocoon_num.specs.Tree.{Design}
 use Rattle.cocoon_num.specs.Values.{FitsWidth}
 use Rattle.cocoon_num.specs.declared.bits.Bits.{Bits}
-use Rattle.candidate_laws.specs.Candidates.{MakeTrue, given}
-use Rattle.candidate_laws.proofs.Candidate.{mentioned-there}
+use Rattle.query_laws.specs.Candidates.{MakeTrue, given}
+use Rattle.query_laws.proofs.Candidate.{mentioned-there}
 use Rattle.candidates.specs.Assigned.{assigned, row_value}
 use Rattle.candidates.specs.Flat.{MakesFormulaTrue}
 use Rattle.candidates.proofs.Inputs.{IsNode, has-nodes}

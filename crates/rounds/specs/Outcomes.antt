@@ -1,8 +1,8 @@
 -- Cited by the clause of `search`: when each answer comes.
 use Rattle.std.specs.Prelude.{◌≡◌, ℕ, List, length}
 use Rattle.bv_terms.specs.TermTrees.{Term}
-use Rattle.candidate_laws.specs.Candidates.{IsCandidate, MakeTrue}
-use Rattle.candidate_laws.specs.Rounds.{Asked, of_goal, of_assumption, IsAllowed, IsWithin, Progress}
+use Rattle.query_laws.specs.Candidates.{IsCandidate, MakeTrue}
+use Rattle.query_laws.specs.Rounds.{Asked, of_goal, of_assumption, IsAllowed, IsWithin, Progress}
 use Rattle.cdcl.specs.Answering.{Refutation}
 use Rattle.cnf_core.specs.declared.certificates.Cert.{Cert}
 use Rattle.cnf_core.specs.declared.certificates.Instance.{Instance}

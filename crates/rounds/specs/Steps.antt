@@ -1,7 +1,7 @@
 -- Cited by private clauses: what one query comes to, one candidate, and one round.
 use Rattle.std.specs.Prelude.{◌≡◌, ℕ, List, [], ◌∷◌, ◌++◌, length, map, take}
 use Rattle.bv_terms.specs.TermTrees.{IsTerm, Term}
-use Rattle.candidate_laws.specs.Rounds.{Progress}
+use Rattle.query_laws.specs.Rounds.{Progress}
 use Rattle.candidates.specs.Assigned.{row_value}
 use Rattle.candidates.specs.Flat as flat
 use Rattle.candidates.specs.Flat.{IsCandidateOf, MakesFormulaTrue}

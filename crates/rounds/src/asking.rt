@@ -9,13 +9,13 @@ ghost use Rattle.rounds.specs.Steps.{IsSearched, Refuses, Says};
 
 use bit_blast::{BlastFault, InputMap, blast};
 use bv_terms::{TermId, Terms};
-use candidate_laws::laws::asked_goals_apply_declared_functions;
 use cdcl::{Answer, solve};
 use cnf_core::{Assignment, Instance, Log};
 use cocoon_num::NoMemory;
 use cocoon_resolve::Checked;
 use queries::{OwnGoal, query};
 use query_laws::laws::{queries_are_goals, refuted_formulas_are_never_true};
+use query_laws::search_laws::asked_goals_apply_declared_functions;
 use sound_types::laws::code_literals_fit;
 use std::alloc::Global;
 

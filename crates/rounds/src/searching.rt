@@ -6,7 +6,7 @@ ghost use Rattle.bv_terms.specs.Arenas.{term_at};
 ghost use Rattle.cnf_core.specs.Satisfying.{makes_true};
 ghost use Rattle.cocoon_num.specs.BitsOf.{value_of};
 ghost use Rattle.candidates.specs.Assigned.{row_value};
-ghost use Rattle.candidate_laws.specs.Rounds.{IsWithin, of_goal};
+ghost use Rattle.query_laws.specs.Rounds.{IsWithin, of_goal};
 ghost use Rattle.query_laws.specs.LeafTerms.{Stands};
 ghost use Rattle.rounds.specs.Outcomes.{Tells};
 ghost use Rattle.rounds.specs.Steps.{ComesTo, IsFoundBy, IsSolved};
@@ -16,14 +16,14 @@ use crate::breaking::broken;
 use crate::judging::{Judged, judge};
 use crate::outcome::{Outcome, Query, Witness};
 use bv_terms::{TermId, Terms};
-use candidate_laws::laws::{
-    broken_assumptions_are_false_instances, broken_instances_keep_progress,
-};
 use cnf_core::{Cert, Instance};
 use cocoon_num::{Bits, List, NoMemory};
 use cocoon_resolve::Checked;
 use discharge::{Budget, Met};
 use query_laws::instance_laws::earlier_levels_come_first;
+use query_laws::search_laws::{
+    broken_assumptions_are_false_instances, broken_instances_keep_progress,
+};
 use runtime_defs::Defs;
 use sound_types::laws::code_literals_fit;
 use std::alloc::Global;

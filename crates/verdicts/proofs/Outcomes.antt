@@ -3,7 +3,7 @@ use Rattle.std.proofs.Common.{◌≡◌, ℕ, List, Some}
 use Rattle.std.specs.Prelude.{slice_get}
 use Rattle.bv_terms.specs.TermTrees.{Term}
 use Rattle.bv_terms.specs.declared.node.Node.{Node}
-use Rattle.candidate_laws.proofs.Broken.{all-masked}
+use Rattle.query_laws.proofs.Broken.{all-masked}
 use Rattle.cnf_core.specs.declared.certificates.Cert.{Cert}
 use Rattle.cocoon_num.specs.Tree.{Design}
 use Rattle.failures.specs.Found.{CanFail}

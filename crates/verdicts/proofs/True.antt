@@ -7,7 +7,7 @@ use Rattle.bv_terms.specs.Needed.{IsAmong}
 use Rattle.bv_terms.specs.TermTrees.{Term}
 use Rattle.bv_terms.specs.TermValues.{Inputs}
 use Rattle.bv_terms.specs.declared.node.Node.{Node}
-use Rattle.candidate_laws.specs.Candidates.{MakeTrue}
+use Rattle.query_laws.specs.Candidates.{MakeTrue}
 use Rattle.cocoon_num.specs.Tree.{Design}
 use Rattle.cocoon_num.specs.declared.bits.Bits.{Bits}
 use Rattle.failure_reading.specs.Witnesses.{HasFailure, IsTrueFor, OthersAreZero}

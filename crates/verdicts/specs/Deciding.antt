@@ -4,7 +4,7 @@ use Rattle.cocoon_num.specs.Tree.{Design}
 use Rattle.bv_terms.specs.Arenas.{term_at}
 use Rattle.bv_terms.specs.TermTrees.{Term}
 use Rattle.bv_terms.specs.declared.node.Node.{Node}
-use Rattle.candidate_laws.specs.Rounds.{IsWithin, of_goal}
+use Rattle.query_laws.specs.Rounds.{IsWithin, of_goal}
 use Rattle.cnf_core.specs.declared.certificates.Cert.{Cert}
 use Rattle.discharge.specs.Answering.{IsSpentOn}
 use Rattle.obligation_gen.specs.Owed.{NeverFailsHere}

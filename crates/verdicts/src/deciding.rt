@@ -1,7 +1,7 @@
 //! Whether an obligation of a design holds.
 ghost use Rattle.std.specs.Prelude.{◌^◌, ◌<◌, ◌≤◌, IfOk};
 ghost use Rattle.bv_terms.specs.Arenas.{term_at};
-ghost use Rattle.candidate_laws.specs.Candidates.{MakeTrue};
+ghost use Rattle.query_laws.specs.Candidates.{MakeTrue};
 ghost use Rattle.cocoon_syntax.specs.TreeOf.{design_of};
 ghost use Rattle.failure_reading.specs.Witnesses.{OthersAreZero};
 ghost use Rattle.failures.specs.Found.{CanFail};

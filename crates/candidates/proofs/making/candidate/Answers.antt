@@ -6,7 +6,7 @@ use Rattle.cocoon_syntax.specs.TreeOf.{design_of}
 use Rattle.flat_laws.specs.Flat.{flattened}
 use Rattle.literal_tables.specs.Tables.{AreOfDesign, HaveFirstRows}
 use Rattle.query_laws.specs.OwnNames.{own_name}
-use Rattle.candidate_laws.specs.Candidates.{IsCandidate, MakeTrue}
+use Rattle.query_laws.specs.Candidates.{IsCandidate, MakeTrue}
 use Rattle.candidates.specs.Assigned.{assigned}
 use Rattle.candidates.proofs.Applications.{are-of-design, can-all}
 use Rattle.candidates.proofs.TrueQueries.{Laws, numbers-are, of-true-query}

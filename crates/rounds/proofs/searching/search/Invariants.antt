@@ -1,6 +1,6 @@
 use Rattle.std.proofs.Common.{◌≡◌, length}
 use Rattle.bv_terms.specs.Arenas.{term_at}
-use Rattle.candidate_laws.specs.Rounds.{Progress}
+use Rattle.query_laws.specs.Rounds.{Progress}
 use Rattle.cocoon_syntax.specs.TreeOf.{design_of}
 use Rattle.rounds.proofs.searching.search.Given as goal
 

@@ -10,7 +10,7 @@ use Rattle.bv_terms.specs.TermTrees.{Term}
 use Rattle.query_laws.specs.Certified.{AllFit}
 use Rattle.query_laws.specs.Queries.{instance_term}
 use Rattle.bv_terms.specs.WithRows.{Tables}
-use Rattle.candidate_laws.specs.Candidates.{IsCandidate, IsFalseBy}
+use Rattle.query_laws.specs.Candidates.{IsCandidate, IsFalseBy}
 
 -- ---- progress
 

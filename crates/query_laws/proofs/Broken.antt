@@ -33,8 +33,8 @@ use Rattle.sound_types.specs.Literals.{DesignLiteralsFit}
 use Rattle.bv_terms.specs.ByTables.{by_tables}
 use Rattle.bv_terms.specs.Fitting.{TablesFit}
 use Rattle.bv_terms.specs.WithRows.{Tables, table_of, with_rows}
-use Rattle.candidate_laws.specs.Broken.{IsBroken}
-use Rattle.candidate_laws.specs.Candidates.{HasLiteralRows, IsFalseBy}
+use Rattle.query_laws.specs.Broken.{IsBroken}
+use Rattle.query_laws.specs.Candidates.{HasLiteralRows, IsFalseBy}
 
 -- ---- literal rows are masked
 

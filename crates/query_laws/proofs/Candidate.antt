@@ -45,10 +45,10 @@ use Rattle.bv_terms.specs.WithRows.{Tables, table_of}
 use Rattle.bv_terms.proofs.InputLists.{names-apart}
 use Rattle.flat_laws.proofs.FittingValues.{values-fit}
 use Rattle.flat_laws.proofs.RenamedTerms.{among-renamed, value-renamed, walk-kept}
-use Rattle.candidate_laws.specs.Candidates.{IsCandidate, IsTrueBy, MakeTrue, given}
-use Rattle.candidate_laws.specs.FirstRows.{HaveFirstRows, applications_of}
-use Rattle.candidate_laws.proofs.FullTables.{full, full-at, with-rows}
-use Rattle.candidate_laws.proofs.SameFunctions.{Agree, same-value}
+use Rattle.query_laws.specs.Candidates.{IsCandidate, IsTrueBy, MakeTrue, given}
+use Rattle.query_laws.specs.FirstRows.{HaveFirstRows, applications_of}
+use Rattle.query_laws.proofs.FullTables.{full, full-at, with-rows}
+use Rattle.query_laws.proofs.SameFunctions.{Agree, same-value}
 
 -- ---- conjunctions
 

@@ -1,5 +1,5 @@
-use Rattle.candidate_laws.proofs.Broken.{all-masked, false-instance, numbers-fit}
-use Rattle.candidate_laws.proofs.laws.broken_assumptions_are_false_instances.Goals as goal
+use Rattle.query_laws.proofs.Broken.{all-masked, false-instance, numbers-fit}
+use Rattle.query_laws.proofs.search_laws.broken_assumptions_are_false_instances.Goals as goal
 
 pub returns-clause-fits : goal.returns-clause-fits
 returns-clause-fits c = λ d w l level formula is tables k i a at b.

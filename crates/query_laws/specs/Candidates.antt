@@ -16,7 +16,7 @@ use Rattle.query_laws.specs.Queries.{asked, instance_term}
 use Rattle.runtime_defs.specs.Fitting.{FitsDesign, all_ones}
 use Rattle.bv_terms.specs.ByTables.{by_tables}
 use Rattle.bv_terms.specs.WithRows.{Tables, table_of}
-use Rattle.candidate_laws.specs.FirstRows.{applications_of}
+use Rattle.query_laws.specs.FirstRows.{applications_of}
 
 -- ---- truth under tables
 

@@ -1,5 +1,5 @@
-use Rattle.candidate_laws.proofs.Candidate.{asked-over}
-use Rattle.candidate_laws.proofs.laws.asked_goals_apply_declared_functions.Goals as goal
+use Rattle.query_laws.proofs.Candidate.{asked-over}
+use Rattle.query_laws.proofs.search_laws.asked_goals_apply_declared_functions.Goals as goal
 
 pub returns : goal.returns
 returns c = λ d w l level formula stands is fits.

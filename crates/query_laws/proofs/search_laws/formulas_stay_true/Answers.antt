@@ -5,7 +5,7 @@ use Rattle.bv_terms.specs.TermValues.{Functions}
 use Rattle.query_laws.specs.Over.{fit_input}
 use Rattle.query_laws.specs.LeafTerms.{any_input}
 use Rattle.query_laws.proofs.OverParts.{over-others}
-use Rattle.candidate_laws.proofs.laws.formulas_stay_true.Goals as goal
+use Rattle.query_laws.proofs.search_laws.formulas_stay_true.Goals as goal
 
 pub returns : goal.returns
 returns c = λ d tables z formula stands t ins h es has of.

@@ -11,7 +11,7 @@ use Rattle.cocoon_resolve.specs.Readers.{all_assumptions, assumptions_to}
 use Rattle.cocoon_types.specs.Design.{widths_of}
 use Rattle.cnf_core.specs.declared.certificates.Instance.{Instance}
 use Rattle.query_laws.specs.Queries.{Fits}
-use Rattle.candidate_laws.specs.Rounds.{AreDifferent, tuples_of, tuples_of_widths, tuples_to}
+use Rattle.query_laws.specs.Rounds.{AreDifferent, tuples_of, tuples_of_widths, tuples_to}
 
 -- ---- a number and a rest
 

@@ -1,5 +1,5 @@
-use Rattle.candidate_laws.proofs.Candidate.{candidate, formula-true}
-use Rattle.candidate_laws.proofs.laws.true_queries_have_candidates.Goals as goal
+use Rattle.query_laws.proofs.Candidate.{candidate, formula-true}
+use Rattle.query_laws.proofs.search_laws.true_queries_have_candidates.Goals as goal
 
 pub returns-clause-candidate : goal.returns-clause-candidate
 returns-clause-candidate c = λ d w l level formula is none ins tables z.

@@ -14,17 +14,17 @@ ghost use Rattle.query_laws.specs.Queries.{asked, Fits, instance_term};
 ghost use Rattle.runtime_defs.specs.Fitting.{FitsDesign};
 ghost use Rattle.sound_types.specs.Literals.{DesignLiteralsFit};
 ghost use Rattle.bv_terms.specs.WithRows.{Tables};
-ghost use Rattle.candidate_laws.specs.Broken.{IsBroken, IsMeantTrue};
-ghost use Rattle.candidate_laws.specs.Candidates.{IsCandidate, IsFalseBy, MakeTrue};
-ghost use Rattle.candidate_laws.specs.FirstRows.{AreOfTrueQuery};
-ghost use Rattle.candidate_laws.specs.Rounds.{Progress, tuples_to};
+ghost use Rattle.query_laws.specs.Broken.{IsBroken, IsMeantTrue};
+ghost use Rattle.query_laws.specs.Candidates.{IsCandidate, IsFalseBy, MakeTrue};
+ghost use Rattle.query_laws.specs.FirstRows.{AreOfTrueQuery};
+ghost use Rattle.query_laws.specs.Rounds.{Progress, tuples_to};
 
+use crate::applied_laws::{tables_keep_values, tables_take_the_place};
+use crate::instance_laws::{earlier_levels_come_first, instances_fit};
+use crate::laws::queries_are_goals;
 use bv_terms::table_laws::rows_keep_values;
 use flat_laws::laws::flat_goals_have_tables;
 use fun_instances::laws::assumptions_have_values;
-use query_laws::applied_laws::{tables_keep_values, tables_take_the_place};
-use query_laws::instance_laws::{earlier_levels_come_first, instances_fit};
-use query_laws::laws::queries_are_goals;
 use refinement::table_laws::tables_are_definitions;
 
 /// What is asked of a formula with instances applies run-time functions of the design alone, each

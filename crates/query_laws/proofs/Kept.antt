@@ -8,8 +8,8 @@ use Rattle.cnf_core.specs.declared.certificates.Instance.{Instance}
 use Rattle.literal_tables.proofs.FirstRows.{all-append}
 use Rattle.query_laws.specs.Queries.{Fits, instance_term}
 use Rattle.bv_terms.specs.WithRows.{Tables}
-use Rattle.candidate_laws.specs.Candidates.{IsCandidate, IsFalseBy, IsTrueBy}
-use Rattle.candidate_laws.specs.Rounds.{AreDifferent, Breaks, Progress}
+use Rattle.query_laws.specs.Candidates.{IsCandidate, IsFalseBy, IsTrueBy}
+use Rattle.query_laws.specs.Rounds.{AreDifferent, Breaks, Progress}
 
 -- ---- a new instance differs
 

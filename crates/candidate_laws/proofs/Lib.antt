@@ -1,6 +1,0 @@
-pub mod SameFunctions
-pub mod FullTables
-pub mod Candidate
-pub mod Counting
-pub mod Kept
-pub mod Broken

@@ -1,4 +1,0 @@
-pub mod FirstRows
-pub mod Candidates
-pub mod Rounds
-pub mod Broken
