@@ -21,8 +21,8 @@ use Rattle.bv_terms.specs.declared.eval.Env.{Env}
 use Rattle.bv_terms.specs.declared.node.Node.{Node}
 use Rattle.bv_terms.proofs.Subterms.{Each}
 use Rattle.bv_terms.proofs.ValueFacts.{value-width}
-use Rattle.defs_text.specs.Fitting as fitting
-use Rattle.defs_text.specs.Fitting.{all_fit_widths}
+use Rattle.runtime_defs.specs.Printable as fitting
+use Rattle.runtime_defs.specs.Printable.{all_fit_widths}
 use Rattle.obligation_laws.specs.TermOf.{result_width}
 use Rattle.query_laws.specs.Over.{IsOver}
 use Rattle.flat_goals.specs.Applied.{AreApplied, IsApplied}

@@ -17,7 +17,7 @@ use Rattle.bv_terms.specs.TermValues.{Functions, Inputs, arg_numbers}
 use Rattle.bv_terms.specs.Walks.{applications, walk}
 use Rattle.bv_terms.specs.declared.eval.Env.{Env}
 use Rattle.bv_terms.specs.declared.node.Node.{Node}
-use Rattle.defs_text.specs.Fitting.{FitsDesign, all_ones}
+use Rattle.runtime_defs.specs.Printable.{FitsDesign, all_ones}
 use Rattle.flat_goals.specs.Applied.{IsApplied}
 use Rattle.flat_goals.specs.declared.applied.Applied.{Applied as Code}
 use Rattle.flat_laws.specs.Flat.{args_in, flattened}

@@ -21,7 +21,7 @@ use Rattle.cocoon_num.specs.BitsOf.{value_of}
 use Rattle.cocoon_num.specs.Tree.{Design}
 use Rattle.cocoon_num.specs.Values.{number}
 use Rattle.cocoon_num.specs.declared.bits.Bits.{Bits}
-use Rattle.defs_text.specs.Fitting.{FitsDesign}
+use Rattle.runtime_defs.specs.Printable.{FitsDesign}
 use Rattle.flat_goals.specs.declared.applied.Applied.{Applied}
 use Rattle.flat_laws.specs.Flat.{flattened}
 use Rattle.flat_laws.specs.Meant.{CanFlatten}

@@ -2,7 +2,7 @@
 ghost use Rattle.std.specs.Prelude.{IfOk, map};
 ghost use Rattle.cnf_core.specs.CertsOf.{instance_of, log_of};
 ghost use Rattle.cocoon_syntax.specs.TreeOf.{design_of};
-ghost use Rattle.defs_text.specs.Places.{defs_text};
+ghost use Rattle.runtime_defs.specs.EntryPlaces.{defs_text};
 ghost use Rattle.runtime_defs.specs.Fitting.{FitsDesign};
 ghost use Rattle.cert_text.specs.BudgetJson.{IsBudgetFile};
 ghost use Rattle.cert_text.specs.Spent as spent;

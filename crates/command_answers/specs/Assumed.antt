@@ -7,7 +7,7 @@ use Rattle.cnf_core.specs.declared.log.Log.{Log}
 use Rattle.cocoon_num.specs.Tree.{AssumeDecl, DefsText, Design}
 use Rattle.cocoon_resolve.specs.Readers.{all_assumptions}
 use Rattle.cocoon_types.specs.Tables.{Defs, defs_of}
-use Rattle.defs_text.specs.Places.{defs_text}
+use Rattle.runtime_defs.specs.EntryPlaces.{defs_text}
 use Rattle.refinement.specs.Assumptions.{IsMet}
 use Rattle.runtime_defs.specs.Places.{Places}
 use Rattle.lower_p4.specs.Lowering.{AreOfText}

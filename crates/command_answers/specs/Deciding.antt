@@ -5,7 +5,7 @@ use Rattle.cnf_core.specs.CertsOf.{log_of}
 use Rattle.cnf_core.specs.declared.log.Log.{Log}
 use Rattle.cocoon_num.specs.Tree.{Design}
 use Rattle.cocoon_num.specs.declared.limit_name.LimitName.TheVariants.{Clauses}
-use Rattle.defs_text.specs.Places.{defs_text}
+use Rattle.runtime_defs.specs.EntryPlaces.{defs_text}
 use Rattle.runtime_defs.specs.Places.{Places}
 use Rattle.cert_text.specs.Spent.{given}
 use Rattle.discharge.specs.Answering.{Answers}

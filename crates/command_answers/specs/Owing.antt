@@ -7,7 +7,7 @@ use Rattle.cnf_core.specs.CertsOf.{instance_of, log_of}
 use Rattle.cnf_core.specs.declared.certificates.Instance.{Instance}
 use Rattle.cnf_core.specs.declared.log.Log.{Log}
 use Rattle.cocoon_num.specs.Tree.{Design}
-use Rattle.defs_text.specs.Places.{defs_text}
+use Rattle.runtime_defs.specs.EntryPlaces.{defs_text}
 use Rattle.failures.specs.Failures.{Failure}
 use Rattle.failures.specs.Told.{Tells}
 use Rattle.obligation_laws.specs.Failing.{NeverFails}

@@ -18,7 +18,7 @@ use Rattle.cocoon_types.specs.RuleParts.{has_name}
 use Rattle.cocoon_types.specs.Rules.{WellFormed}
 use Rattle.cocoon_types.specs.Tables.{Defs, defs_of}
 use Rattle.declarations.specs.Declares.{role_number}
-use Rattle.defs_text.specs.Fitting.{FitsDesign, IsMasked}
+use Rattle.runtime_defs.specs.Printable.{FitsDesign, IsMasked}
 use Rattle.obligation_laws.specs.FailingRuns as exact
 use Rattle.obligation_laws.specs.Shown.{functions_by}
 use Rattle.failures.specs.Failures.{Failure}

@@ -5,8 +5,8 @@ use Rattle.cocoon_num.specs.Tree.{DefsText, Design, Refine}
 use Rattle.cocoon_num.specs.declared.fun_table.FunTable.{FunTable}
 use Rattle.cocoon_resolve.specs.Readers.{field_widths, HasRole}
 use Rattle.cocoon_types.specs.Tables.{Defs, defs_of}
-use Rattle.defs_text.specs.Fitting.{FitsDesign, IsMasked}
-use Rattle.defs_text.specs.Places.{entries_of_places}
+use Rattle.runtime_defs.specs.Printable.{FitsDesign, IsMasked}
+use Rattle.runtime_defs.specs.EntryPlaces.{entries_of_places}
 use Rattle.refinement.specs.Assumptions.{Meets}
 use Rattle.refinement.specs.Segments.{IsRefined}
 use Rattle.role_meaning.specs.Located.{loc_of, sent_of}

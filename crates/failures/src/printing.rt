@@ -1,7 +1,7 @@
 //! Whole reports of failures.
 ghost use Rattle.std.specs.Prelude.{◌≡◌, codes, IfOk};
 ghost use Rattle.cocoon_syntax.specs.TreeOf.{design_of};
-ghost use Rattle.defs_text.specs.Places.{defs_text};
+ghost use Rattle.runtime_defs.specs.EntryPlaces.{defs_text};
 ghost use Rattle.text_printer.specs.Printing.{Prints};
 ghost use Rattle.failures.specs.Found.{FailureFits, failure_of};
 ghost use Rattle.failures.specs.FailureTexts as spec;

@@ -5,7 +5,7 @@ ghost use Rattle.cocoon_resolve.specs.Readers.{field_widths, HasRole};
 ghost use Rattle.cocoon_syntax.specs.TreeOf.{design_of};
 ghost use Rattle.cocoon_types.specs.Design.{last_level};
 ghost use Rattle.cocoon_types.specs.Runs.{world};
-ghost use Rattle.defs_text.specs.Fitting.{FitsDesign};
+ghost use Rattle.runtime_defs.specs.Printable.{FitsDesign};
 ghost use Rattle.refinement.specs.Segments.{IsOld};
 ghost use Rattle.role_meaning.specs.Located.{loc_of, sent_of};
 ghost use Rattle.refinement.specs.Sending.{CanSend};

@@ -8,7 +8,7 @@ use Rattle.cocoon_syntax.specs.TreeOf.{block_of, stmt_of}
 use Rattle.cocoon_syntax.specs.declared.stmt.Stmt.{Stmt as Statement}
 use Rattle.cocoon_types.specs.DefsRules.{fork_calls, guard_calls}
 use Rattle.cocoon_types.specs.LastLevel.{called}
-use Rattle.defs_text.specs.Fitting.{literal_functions}
+use Rattle.runtime_defs.specs.Printable.{literal_functions}
 use Rattle.runtime_defs.specs.Sets.{entry_role, forks_in, forks_of, role_guard, switch_forks, switch_guards}
 use Rattle.runtime_defs.proofs.Calls.{either-order, forks-alike, guards-alike}
 

@@ -15,8 +15,8 @@ use Rattle.cocoon_num.specs.declared.fun_table.FunRow.{FunRow}
 use Rattle.cocoon_num.specs.declared.fun_table.FunTable.{FunTable}
 use Rattle.cocoon_resolve.specs.Resolved.{Resolves}
 use Rattle.cocoon_types.specs.Design.{functions, widths_of}
-use Rattle.defs_text.specs.Fitting.{FitsDesign, FitsFunction, FitsPlace, FitsRow, all_fit_widths, all_ones, result_width, table_at}
-use Rattle.defs_text.proofs.Widths.{AreWidths, IsDeclared, IsResult, functions_declared}
+use Rattle.runtime_defs.specs.Printable.{FitsDesign, FitsFunction, FitsPlace, FitsRow, all_fit_widths, all_ones, result_width, table_at}
+use Rattle.runtime_defs.proofs.DeclaredWidths.{AreWidths, IsDeclared, IsResult, functions_declared}
 use Rattle.runtime_defs.specs.Places.{AllDeclared}
 use Rattle.runtime_defs.proofs.Looking.{both-true}
 use Rattle.literal_tables.specs.FirstRows.{first_rows}

@@ -1,7 +1,7 @@
 -- Cited by the clauses of `tables_of`: the rows of what functions gave.
 use Rattle.std.specs.Prelude.{ℕ, ◌==◌, List, [], ◌∷◌, if◌then◌else◌}
 use Rattle.cocoon_num.specs.declared.fun_table.FunRow.{FunRow}
-use Rattle.defs_text.specs.Fitting.{all_ones}
+use Rattle.runtime_defs.specs.Printable.{all_ones}
 use Rattle.literal_tables.specs.declared.lookups.Lookup.{Lookup}
 
 -- all bits of these arguments give the result

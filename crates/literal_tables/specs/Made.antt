@@ -5,8 +5,8 @@ use Rattle.cocoon_num.specs.Tree.{FunctionDecl, Design}
 use Rattle.cocoon_num.specs.Values.{truth}
 use Rattle.cocoon_num.specs.declared.fun_table.FunTable.{FunTable}
 use Rattle.cocoon_types.specs.Design.{widths_of}
-use Rattle.defs_text.specs.Fitting.{literal_functions, result_width}
-use Rattle.defs_text.specs.Places.{result_value}
+use Rattle.runtime_defs.specs.Printable.{literal_functions, result_width}
+use Rattle.runtime_defs.specs.EntryPlaces.{result_value}
 use Rattle.runtime_defs.specs.Places.{AllDeclared}
 use Rattle.literal_tables.specs.FirstRows.{first_rows}
 use Rattle.literal_tables.specs.LookupRows.{rows_for}

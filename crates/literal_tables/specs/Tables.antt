@@ -4,7 +4,7 @@ use Rattle.std.specs.List.{AllByRecursion}
 use Rattle.cocoon_num.specs.Tree.{FunctionDecl, Design}
 use Rattle.cocoon_num.specs.declared.fun_table.FunTable.{FunTable}
 use Rattle.cocoon_types.specs.Design.{functions, widths_of}
-use Rattle.defs_text.specs.Fitting.{all_fit_widths, result_width, table_at}
+use Rattle.runtime_defs.specs.Printable.{all_fit_widths, result_width, table_at}
 use Rattle.literal_tables.specs.FirstRows.{first_rows}
 use Rattle.literal_tables.specs.LookupRows.{rows_for}
 use Rattle.literal_tables.specs.declared.lookups.Lookup.{Lookup}

@@ -5,7 +5,7 @@ ghost use Rattle.cocoon_num.specs.Names.{same_name};
 ghost use Rattle.cocoon_syntax.specs.TreeOf.{block_of, design_of, expr_of, role_of, stmt_of};
 ghost use Rattle.cocoon_types.specs.DefsRules as rules;
 ghost use Rattle.cocoon_types.specs.LastLevel as last;
-ghost use Rattle.defs_text.specs.Fitting as spec;
+ghost use Rattle.runtime_defs.specs.Printable as spec;
 ghost use Rattle.runtime_defs.specs.Sets as sets;
 ghost use Rattle.runtime_defs.specs.Sets.{forks_in, forks_of, role_forks, role_guard};
 

@@ -1,7 +1,7 @@
 //! The rows of a function: of those at equal arguments the first.
 ghost use Rattle.std.specs.Prelude.{◌≡◌, ◌≤◌, ◌-◌, ◌^◌, IfOk, List as Items, OnOk, not};
 ghost use Rattle.cocoon_num.specs.declared.fun_table.FunRow.{FunRow as Row};
-ghost use Rattle.defs_text.specs.Fitting.{all_ones};
+ghost use Rattle.runtime_defs.specs.Printable.{all_ones};
 ghost use Rattle.numbering.specs.KeyPlaces.{Holds};
 ghost use Rattle.runtime_defs.specs.Places.{AllDeclared};
 ghost use Rattle.runtime_defs.specs.RowKeys.{row_keys};

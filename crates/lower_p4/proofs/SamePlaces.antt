@@ -9,7 +9,7 @@ use Rattle.cocoon_num.specs.declared.bits.Bits.{Bits}
 use Rattle.cocoon_num.specs.declared.fun_table.FunRow.{FunRow}
 use Rattle.cocoon_num.specs.declared.fun_table.FunTable.{FunTable}
 use Rattle.cocoon_types.specs.Tables.{Row, Table, runtime_table}
-use Rattle.defs_text.specs.Tabled.{IsPlace, IsRow, IsTable}
+use Rattle.runtime_defs.specs.Tabled.{IsPlace, IsRow, IsTable}
 
 -- a number of a width is known by its value
 one_number : (a b : Bits) → value_of a ≡ value_of b → a ≡ b

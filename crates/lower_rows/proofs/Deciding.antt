@@ -14,8 +14,8 @@ use Rattle.cocoon_num.specs.declared.fun_table.FunRow.{FunRow}
 use Rattle.cocoon_num.specs.declared.fun_table.FunTable.{FunTable}
 use Rattle.cocoon_types.specs.DefsRules.{fork_calls, guard_calls}
 use Rattle.cocoon_types.specs.Design.{functions}
-use Rattle.defs_text.specs.Fitting.{all_fit_widths, all_ones, FitsDesign, FitsPlace, FitsRow, IsLiteral, result_width, table_at}
-use Rattle.defs_text.specs.Places.{result_value}
+use Rattle.runtime_defs.specs.Printable.{all_fit_widths, all_ones, FitsDesign, FitsPlace, FitsRow, IsLiteral, result_width, table_at}
+use Rattle.runtime_defs.specs.EntryPlaces.{result_value}
 use Rattle.runtime_defs.proofs.Looking.{both-true, kept}
 use Rattle.runtime_defs.proofs.Zips.{paired}
 use Rattle.lower_rows.specs.AllGroups.{IsDecidedAt}

@@ -2,7 +2,7 @@
 ghost use Rattle.std.specs.Prelude.{◌≡◌, ◌++◌, ◌-◌, ◌^◌, IfOk, flat_map, map, OnOk, option_map};
 ghost use Rattle.cocoon_syntax.specs.TreeOf.{design_of, param_of};
 ghost use Rattle.cocoon_types.specs.Design.{widths_of};
-ghost use Rattle.defs_text.specs.Fitting as fitting;
+ghost use Rattle.runtime_defs.specs.Printable as fitting;
 ghost use Rattle.lower_code.specs.Growth.{made_in, made_of, params_at, text_at};
 ghost use Rattle.lowering.specs.Lower as lower;
 ghost use Rattle.lowering_correct.specs.Groups.{fork_groups};

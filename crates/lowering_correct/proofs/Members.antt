@@ -19,7 +19,7 @@ use Rattle.cocoon_types.specs.Design.{widths_of}
 use Rattle.cocoon_types.specs.Rules.{WellFormed}
 use Rattle.cocoon_types.specs.Tables.{Defs}
 use Rattle.declarations.proofs.NameFacts.{same-refl, same-true}
-use Rattle.defs_text.specs.Fitting.{literal_functions}
+use Rattle.runtime_defs.specs.Printable.{literal_functions}
 use Rattle.lowering.specs.Lower.{Made}
 use Rattle.lowering_correct.specs.Groups.{ascending, before_last, last_of, members_at, put_in, true_choice}
 use Rattle.lowering.specs.Serving.{GroupsServe, is_true, MembersFit}

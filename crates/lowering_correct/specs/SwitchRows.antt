@@ -6,7 +6,7 @@ use Rattle.cocoon_num.specs.Tree.{Design}
 use Rattle.cocoon_num.specs.declared.fun_table.FunRow.{FunRow}
 use Rattle.cocoon_num.specs.declared.fun_table.FunTable.{FunTable}
 use Rattle.cocoon_types.specs.Design.{widths_of}
-use Rattle.defs_text.specs.Fitting.{all_ones}
+use Rattle.runtime_defs.specs.Printable.{all_ones}
 use Rattle.p4_ir.specs.P4Tree.{Group, KeyRow, RowsFile, TableRows}
 use Rattle.lowering.specs.Lower.{Made, a_field, a_table, a_group}
 use Rattle.runtime_defs.specs.Guards.{table_named}

@@ -13,7 +13,7 @@ use Rattle.cocoon_num.specs.declared.fun_table.FunTable.{FunTable}
 use Rattle.cocoon_resolve.specs.Readers.{assumptions_to}
 use Rattle.cocoon_types.specs.Design.{functions, widths_of}
 use Rattle.cnf_core.specs.declared.certificates.Instance.{Instance}
-use Rattle.defs_text.specs.Fitting.{FitsFunction, FitsPlace, FitsRow, IsLiteral, all_fit_widths, all_ones, literal_functions, result_width, table_at}
+use Rattle.runtime_defs.specs.Printable.{FitsFunction, FitsPlace, FitsRow, IsLiteral, all_fit_widths, all_ones, literal_functions, result_width, table_at}
 use Rattle.query_laws.specs.Queries.{Fits, asked}
 use Rattle.query_laws.specs.Candidates as laws
 use Rattle.query_laws.specs.Candidates.{IsCandidate}

@@ -9,7 +9,7 @@ use Rattle.cocoon_types.specs.Limits.{as_assumption}
 use Rattle.cnf_core.specs.declared.certificates.Instance.{Instance}
 use Rattle.std.proofs.lemmas.List.{length-append}
 use Rattle.std.proofs.lemmas.List.Elements.{filter_map-append}
-use Rattle.defs_text.specs.Fitting.{all_fit_widths}
+use Rattle.runtime_defs.specs.Printable.{all_fit_widths}
 use Rattle.expr_terms.proofs.Lists.{from}
 use Rattle.fun_instances.specs.Taking.{NumbersFit}
 use Rattle.bv_terms.specs.Arenas.{term_at}

@@ -6,7 +6,7 @@ use Rattle.std.proofs.lemmas.Bool.{and_parts, lt-ltb, ltb-true}
 use Rattle.std.proofs.lemmas.Bool.Decides.{nat_tests}
 use Rattle.cocoon_num.specs.PacketForms.{FieldsFit}
 use Rattle.cocoon_num.specs.Values.{fits_width}
-use Rattle.defs_text.specs.Fitting.{all_fit_widths}
+use Rattle.runtime_defs.specs.Printable.{all_fit_widths}
 
 -- one, shifted by a width
 pub shifted_one : (w : ℕ) → w < 64 → 1 * 2 ^ w % 2 ^ 64 ≡ 2 ^ w

@@ -3,7 +3,7 @@ ghost use Rattle.std.specs.Prelude.{◌≡◌, ◌≤◌, ◌↔◌, IsTrue, map
 ghost use Rattle.cocoon_num.specs.Values.{fits_width};
 ghost use Rattle.cocoon_syntax.specs.TreeOf.{design_of, param_of};
 ghost use Rattle.cocoon_types.specs.Design.{last_level, widths_of};
-ghost use Rattle.defs_text.specs.Fitting.{all_fit_widths};
+ghost use Rattle.runtime_defs.specs.Printable.{all_fit_widths};
 ghost use Rattle.query_laws.specs.Certified.{AllFit};
 ghost use Rattle.query_laws.specs.Queries.{Fits};
 

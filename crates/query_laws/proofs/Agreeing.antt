@@ -16,8 +16,8 @@ use Rattle.bv_terms.specs.Environments.{RowFits, TableFits}
 use Rattle.bv_terms.specs.TermTrees.{Term, Args, constant, input, apply, not_, binary, slice, pick, no_args, arg, width, arg_widths, IsTerm, AreArgs}
 use Rattle.bv_terms.specs.TermValues.{Functions, Inputs, arg_numbers, number_in, operated, term_number, term_value}
 use Rattle.bv_terms.proofs.Subterms.{Each, EachArg, in-walk}
-use Rattle.defs_text.specs.Fitting.{FitsDesign, all_fit_widths}
-use Rattle.defs_text.specs.Places.{result_value}
+use Rattle.runtime_defs.specs.Printable.{FitsDesign, all_fit_widths}
+use Rattle.runtime_defs.specs.EntryPlaces.{result_value}
 use Rattle.obligation_laws.specs.Shown.{functions_by}
 use Rattle.obligation_laws.specs.TermOf.{result_width}
 use Rattle.runtime_defs.specs.Stands.{Stands}

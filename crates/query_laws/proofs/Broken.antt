@@ -16,8 +16,8 @@ use Rattle.cocoon_types.specs.Val.{bind}
 use Rattle.bv_terms.specs.TermTrees.{IsTerm, Term, constant}
 use Rattle.bv_terms.specs.TermValues.{Functions, Inputs, term_number, term_value}
 use Rattle.cnf_core.specs.declared.certificates.Instance.{Instance}
-use Rattle.defs_text.specs.Fitting.{AreMasked, FitsDesign, FitsFunction, FitsPlace, FitsRow, IsMasked, all_fit_widths, all_ones, result_width}
-use Rattle.defs_text.specs.Places.{entries_of_places}
+use Rattle.runtime_defs.specs.Printable.{AreMasked, FitsDesign, FitsFunction, FitsPlace, FitsRow, IsMasked, all_fit_widths, all_ones, result_width}
+use Rattle.runtime_defs.specs.EntryPlaces.{entries_of_places}
 use Rattle.obligation_laws.specs.Shown.{functions_by}
 use Rattle.query_laws.specs.Over.{IsOver, fit_input}
 use Rattle.fun_instances.specs.AssumptionTerms.{assumption_term, number_terms, value_term}

@@ -19,7 +19,7 @@ use Rattle.bv_terms.specs.TermValues.{Functions, Inputs, term_value}
 use Rattle.bv_terms.specs.Walks.{applications, is_among, is_application, walk}
 use Rattle.bv_terms.proofs.Subterms.{Each, each-itself, each-weaker, walk-all, walk-has}
 use Rattle.cnf_core.specs.declared.certificates.Instance.{Instance}
-use Rattle.defs_text.specs.Fitting.{FitsDesign, all_ones}
+use Rattle.runtime_defs.specs.Printable.{FitsDesign, all_ones}
 use Rattle.obligation_laws.specs.Shown.{HasWidth}
 use Rattle.query_laws.specs.Over.{AllOver, IsOver, fit_input}
 use Rattle.query_laws.proofs.Places.{fits-in, has-table}

@@ -11,8 +11,8 @@ use Rattle.cocoon_num.specs.declared.fun_table.FunTable.{FunTable}
 use Rattle.cocoon_types.specs.Design.{functions, widths_of}
 use Rattle.bv_terms.specs.Environments.{RowFits}
 use Rattle.bv_terms.specs.TermTrees.{Term, Args, constant, input, apply, not_, binary, slice, pick, no_args, arg, arg_widths}
-use Rattle.defs_text.specs.Fitting as fitting
-use Rattle.defs_text.specs.Fitting.{FitsDesign, FitsFunction, FitsPlace, FitsRow, all_fit_widths}
+use Rattle.runtime_defs.specs.Printable as fitting
+use Rattle.runtime_defs.specs.Printable.{FitsDesign, FitsFunction, FitsPlace, FitsRow, all_fit_widths}
 use Rattle.obligation_laws.specs.TermOf.{result_width}
 use Rattle.runtime_defs.proofs.Fitted.{no-body}
 use Rattle.runtime_defs.proofs.Looking.{both-true}

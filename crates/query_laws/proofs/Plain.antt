@@ -8,7 +8,7 @@ use Rattle.bv_terms.specs.Inputs.{Mentions}
 use Rattle.bv_terms.specs.TermTrees.{Term, Args, constant, input, apply, not_, binary, slice, pick, no_args, arg, arg_widths}
 use Rattle.bv_terms.proofs.Subterms.{Each, EachArg, in-walk}
 use Rattle.bit_blast.specs.Goals.{IsUnapplied}
-use Rattle.defs_text.specs.Fitting.{FitsDesign}
+use Rattle.runtime_defs.specs.Printable.{FitsDesign}
 use Rattle.bv_terms.specs.Chains.{chain}
 use Rattle.bv_terms.specs.WithRows.{Tables, args_with_rows, looked_up, picks, position_tests, with_rows}
 use Rattle.query_laws.specs.Over.{AreOver, IsOver}

@@ -10,8 +10,8 @@ use Rattle.cocoon_num.specs.Values.{fits_width}
 use Rattle.cocoon_num.specs.declared.bits.Bits.{Bits}
 use Rattle.cocoon_num.specs.declared.fun_table.FunRow.{FunRow}
 use Rattle.cocoon_num.specs.declared.fun_table.FunTable.{FunTable}
-use Rattle.defs_text.specs.Fitting.{all_fit_widths, FitsPlace, FitsRow, result_width}
-use Rattle.defs_text.specs.Places.{all_entries, entries_from, entry_at, entry_size, key_pattern, key_patterns, place_entries, result_value, row_entry}
+use Rattle.runtime_defs.specs.Printable.{all_fit_widths, FitsPlace, FitsRow, result_width}
+use Rattle.runtime_defs.specs.EntryPlaces.{all_entries, entries_from, entry_at, entry_size, key_pattern, key_patterns, place_entries, result_value, row_entry}
 use Rattle.runtime_defs.proofs.Chosen.{AllOwn, EntriesOwn, EntryOwn, OwnFits}
 use Rattle.sound_types.specs.Literals.{EntriesFit, entry_value, value_within}
 

@@ -7,9 +7,9 @@ use Rattle.cocoon_types.specs.DefsRules.{DefsFit}
 use Rattle.cocoon_types.specs.Design.{functions}
 use Rattle.cocoon_types.specs.Rules.{WellFormed}
 use Rattle.cocoon_types.specs.Tables.{defs_of}
-use Rattle.defs_text.specs.Fitting.{FitsDesign, FitsPlace, IsMasked}
-use Rattle.defs_text.specs.Places.{entries_of_places}
-use Rattle.defs_text.specs.Tabled.{IsPlace}
+use Rattle.runtime_defs.specs.Printable.{FitsDesign, FitsPlace, IsMasked}
+use Rattle.runtime_defs.specs.EntryPlaces.{entries_of_places}
+use Rattle.runtime_defs.specs.Tabled.{IsPlace}
 use Rattle.refinement.specs.Assumptions.{AreDefinitions}
 use Rattle.runtime_defs.specs.Stands.{Stands}
 use Rattle.runtime_defs.proofs.Fitted.{right-of, right-stands}

@@ -5,12 +5,12 @@ ghost use Rattle.cocoon_num.specs.Tree.{Design};
 ghost use Rattle.cocoon_num.specs.declared.fun_table.FunTable.{FunTable};
 ghost use Rattle.cocoon_types.specs.Rules.{WellFormed};
 ghost use Rattle.cocoon_types.specs.Tables.{defs_of};
-ghost use Rattle.defs_text.specs.Fitting.{FitsDesign, IsMasked};
-ghost use Rattle.defs_text.specs.Places.{entries_of_places};
+ghost use Rattle.runtime_defs.specs.Printable.{FitsDesign, IsMasked};
+ghost use Rattle.runtime_defs.specs.EntryPlaces.{entries_of_places};
 ghost use Rattle.refinement.specs.Assumptions.{AreDefinitions};
 ghost use Rattle.runtime_defs.specs.Stands.{Stands};
 
-use defs_text::laws::{definitions_fit, tables_come_back};
+use runtime_defs::text_laws::{definitions_fit, tables_come_back};
 
 /// The text of tables that fit a design has definitions of it, and the tables stand for these, if
 /// their values are masked. No other tables have the same entries.

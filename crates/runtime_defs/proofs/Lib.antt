@@ -1,3 +1,13 @@
+pub mod Seamed
+pub mod Spelled
+pub mod Printing
+pub mod Derived
+pub mod Fits
+pub mod OwnNames
+pub mod EntryTables
+pub mod Faultless
+pub mod DeclaredWidths
+pub mod Example
 pub mod Firsts
 pub mod Numbers
 pub mod Members

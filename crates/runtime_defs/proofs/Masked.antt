@@ -10,8 +10,8 @@ use Rattle.cocoon_num.specs.Tree.{FunctionDecl, Pattern, literal, masked, any, E
 use Rattle.cocoon_num.specs.declared.fun_table.FunRow.{FunRow}
 use Rattle.cocoon_num.specs.declared.fun_table.FunTable.{FunTable}
 use Rattle.cocoon_types.specs.Tables.{Row, row_of}
-use Rattle.defs_text.specs.Fitting.{AreMasked, IsMasked}
-use Rattle.defs_text.specs.Tabled.{IsPlace, IsRow, pattern_mask, pattern_value}
+use Rattle.runtime_defs.specs.Printable.{AreMasked, IsMasked}
+use Rattle.runtime_defs.specs.Tabled.{IsPlace, IsRow, pattern_mask, pattern_value}
 use Rattle.runtime_defs.proofs.Chosen.{AllOwn, chosen-step, EntriesOwn, EntryOwn, if-row, OwnFits}
 use Rattle.runtime_defs.proofs.Fitted.{parts-of}
 use Rattle.runtime_defs.proofs.Looking.{masked-twice}

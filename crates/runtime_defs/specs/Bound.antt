@@ -5,7 +5,7 @@ use Rattle.std.specs.List.{AllZip}
 use Rattle.cocoon_num.specs.Tree.{a_default, a_row, DefsText, Design}
 use Rattle.cocoon_types.specs.DefsRules.{DefsFit}
 use Rattle.cocoon_types.specs.Design.{functions}
-pub use Rattle.defs_text.specs.Tabled.{as_bits, IsPlace, IsRow, IsTable, pattern_mask, pattern_value}
+pub use Rattle.runtime_defs.specs.Tabled.{as_bits, IsPlace, IsRow, IsTable, pattern_mask, pattern_value}
 use Rattle.runtime_defs.specs.declared.fault.DefsFault.{DefsFault}
 use Rattle.runtime_defs.specs.declared.fault.DefsFault.TheVariants.{Limit, NoMemory}
 use Rattle.runtime_defs.specs.Faults.{FirstFault}

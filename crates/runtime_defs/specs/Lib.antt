@@ -1,3 +1,8 @@
+pub mod EntryTexts
+pub mod EntryPlaces
+pub mod Printable
+pub mod Keys
+pub mod Tabled
 pub mod Bound
 pub mod Faults
 pub mod Fitting

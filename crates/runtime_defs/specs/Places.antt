@@ -3,8 +3,8 @@
 use Rattle.std.specs.Prelude.{◌≡◌, ℕ, ◌≤◌, List, [], ◌∷◌, All, length, Option, Some, None}
 use Rattle.cocoon_num.specs.FunTables.{HasKeys}
 use Rattle.cocoon_num.specs.declared.fun_table.FunTable.{FunTable}
-pub use Rattle.defs_text.specs.Fitting.{all_fit_widths, table_at}
-pub use Rattle.defs_text.specs.Places.{result_value}
+pub use Rattle.runtime_defs.specs.Printable.{all_fit_widths, table_at}
+pub use Rattle.runtime_defs.specs.EntryPlaces.{result_value}
 
 -- what stands for definitions: a table for each function, none for one with a body
 abbrev pub Places : Type 0

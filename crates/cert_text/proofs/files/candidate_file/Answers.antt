@@ -1,7 +1,7 @@
 use Rattle.std.proofs.Common.{codes, map}
 use Rattle.cnf_core.specs.CertsOf.{instance_of, log_of}
 use Rattle.cocoon_syntax.specs.TreeOf.{design_of}
-use Rattle.defs_text.specs.Places.{defs_text}
+use Rattle.runtime_defs.specs.EntryPlaces.{defs_text}
 use Rattle.json_forms.specs.Values.{number_data}
 use Rattle.cert_text.specs.LogsJson.{instances_data, log_data}
 use Rattle.serde_json.specs.Data.{Members, member, no_members, string}

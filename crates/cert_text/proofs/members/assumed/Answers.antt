@@ -1,6 +1,6 @@
 use Rattle.std.proofs.Common.{ap, codes}
 use Rattle.cocoon_syntax.specs.TreeOf.{design_of}
-use Rattle.defs_text.specs.Places.{defs_text}
+use Rattle.runtime_defs.specs.EntryPlaces.{defs_text}
 use Rattle.json_forms.specs.Values.{number_data}
 use Rattle.serde_json.specs.Data.{member, no_members, string}
 use Rattle.serde_json.specs.View.{members_view}

@@ -1,7 +1,7 @@
 use Rattle.std.proofs.Common.{List, ℕ, refl, ap, ◌∙◌}
 use Rattle.std.proofs.lemmas.Result.{IfOk-weaker}
 use Rattle.cocoon_syntax.specs.TreeOf.{design_of}
-use Rattle.defs_text.specs.Places.{entries_of_places}
+use Rattle.runtime_defs.specs.EntryPlaces.{entries_of_places}
 use Rattle.failures.specs.Found.{failure_of}
 use Rattle.failures.specs.FailureTexts.{failure_text}
 use Rattle.failures.proofs.Whole.{whole_is}

@@ -1,7 +1,7 @@
 use Rattle.cocoon_num.specs.Lists.{is_one_of}
 use Rattle.cocoon_syntax.specs.TreeOf.{design_of}
 use Rattle.cocoon_types.specs.DefsRules.{guard_calls}
-use Rattle.defs_text.specs.Fitting.{literal_functions}
+use Rattle.runtime_defs.specs.Printable.{literal_functions}
 use Rattle.runtime_defs.specs.Sets.{switch_forks}
 use Rattle.literal_tables.proofs.Calls.{literal_parts, one-false}
 use Rattle.literal_tables.proofs.literal_functions.is_literal.Goals as goal

@@ -1,5 +1,5 @@
 use Rattle.std.proofs.Common.{◌≡◌, ◌++◌, drop}
-use Rattle.defs_text.specs.Fitting.{all_ones}
+use Rattle.runtime_defs.specs.Printable.{all_ones}
 use Rattle.literal_tables.proofs.rows.masks.Given as goal
 
 abbrev pub invariant-loop-width : goal.invariant-loop-width

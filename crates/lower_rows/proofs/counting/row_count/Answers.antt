@@ -2,7 +2,7 @@ use Rattle.std.proofs.Common.{List, [], ◌∷◌, length, sym, ap, ◌∙◌, c
 use Rattle.cocoon_num.specs.Names.{same_name}
 use Rattle.cocoon_syntax.specs.TreeOf.{design_of}
 use Rattle.cocoon_types.specs.Design.{widths_of}
-use Rattle.defs_text.specs.Fitting.{all_ones}
+use Rattle.runtime_defs.specs.Printable.{all_ones}
 use Rattle.lowering.specs.Lower.{params_before_last}
 use Rattle.lower_code.specs.Growth.{made_of, params_at, text_at}
 use Rattle.lowering_correct.specs.Groups.{ForkGroup}

@@ -2,7 +2,7 @@ use Rattle.std.proofs.Common.{◌≡◌, ◌<◌, length, map, ◌∙◌, arith}
 use Rattle.cocoon_resolve.specs.Readers.{assumptions_to}
 use Rattle.cocoon_syntax.specs.TreeOf.{assume_of, design_of, param_of}
 use Rattle.cocoon_types.specs.Design.{widths_of}
-use Rattle.defs_text.specs.Fitting.{all_fit_widths}
+use Rattle.runtime_defs.specs.Printable.{all_fit_widths}
 use Rattle.queries.proofs.Instances.{fewer, is_fit}
 use Rattle.queries.proofs.fitting.fits.Goals as goal
 

@@ -1,7 +1,7 @@
 use Rattle.std.proofs.Common.{◌≡◌, drop, map}
 use Rattle.cocoon_syntax.specs.TreeOf.{param_of}
 use Rattle.cocoon_types.specs.Design.{widths_of}
-use Rattle.defs_text.specs.Fitting.{all_fit_widths}
+use Rattle.runtime_defs.specs.Printable.{all_fit_widths}
 use Rattle.queries.proofs.fitting.numbers_fit.Given as goal
 
 abbrev pub invariant-loop-at : goal.invariant-loop-at

@@ -1,9 +1,0 @@
-use Rattle.std.proofs.Common.{drop}
-use Rattle.defs_text.specs.EntryTexts.{more_patterns_text}
-use Rattle.defs_text.specs.Places.{key_patterns}
-use Rattle.text_printer.proofs.Printing.{Leads}
-use Rattle.defs_text.proofs.print.push_more_patterns.Given as goal
-
-abbrev pub invariant-loop-at : goal.invariant-loop-at
-invariant-loop-at l =
-    Leads l.fn.out l.out (more_patterns_text (drop l.at (key_patterns l.widths l.row.values l.row.masks))) (more_patterns_text (drop 1 (key_patterns l.widths l.row.values l.row.masks)))
