@@ -33,8 +33,8 @@ use Rattle.flat_laws.proofs.Kept.{all-in, is-term}
 use Rattle.flat_laws.proofs.Places.{Applied}
 use Rattle.flat_laws.proofs.Reduced.{reduced-term, reduced-width}
 use Rattle.query_laws.specs.LeafTerms.{any_input}
-use Rattle.literal_tables.specs.Tables.{AreOfDesign, IsOfDesign}
-use Rattle.literal_tables.specs.declared.lookups.Lookup.{Lookup}
+use Rattle.runtime_defs.specs.Tables.{AreOfDesign, IsOfDesign}
+use Rattle.runtime_defs.specs.declared.lookups.Lookup.{Lookup}
 use Rattle.query_laws.proofs.OverParts.{applied-at}
 use Rattle.candidates.specs.Applying.{CanEvaluate, CanLook, IsArgument, IsLookup}
 use Rattle.candidates.specs.Assigned.{row_value}

@@ -23,10 +23,10 @@ use Rattle.flat_goals.specs.declared.applied.Applied.{Applied as Code}
 use Rattle.flat_laws.specs.Flat.{args_in, flattened}
 use Rattle.flat_laws.specs.Rows.{AllFit, IsRowOf, is_of}
 use Rattle.flat_laws.proofs.Places.{still-among}
-use Rattle.literal_tables.specs.FirstRows.{first_rows}
-use Rattle.literal_tables.specs.LookupRows.{row_of, rows_for}
-use Rattle.literal_tables.specs.Tables as made
-use Rattle.literal_tables.specs.declared.lookups.Lookup.{Lookup}
+use Rattle.runtime_defs.specs.FirstRows.{first_rows}
+use Rattle.runtime_defs.specs.LookupRows.{row_of, rows_for}
+use Rattle.runtime_defs.specs.Tables as made
+use Rattle.runtime_defs.specs.declared.lookups.Lookup.{Lookup}
 use Rattle.bv_terms.specs.WithRows.{Tables, table_of}
 use Rattle.query_laws.specs.FirstRows.{HaveFirstRows, applications_of}
 use Rattle.query_laws.proofs.Candidate.{all-wide}

@@ -25,8 +25,8 @@ use Rattle.runtime_defs.specs.Printable.{FitsDesign}
 use Rattle.flat_goals.specs.declared.applied.Applied.{Applied}
 use Rattle.flat_laws.specs.Flat.{flattened}
 use Rattle.flat_laws.specs.Meant.{CanFlatten}
-use Rattle.literal_tables.specs.Tables as made
-use Rattle.literal_tables.specs.declared.lookups.Lookup.{Lookup}
+use Rattle.runtime_defs.specs.Tables as made
+use Rattle.runtime_defs.specs.declared.lookups.Lookup.{Lookup}
 use Rattle.query_laws.specs.OwnNames.{input_count}
 use Rattle.query_laws.specs.Queries.{asked, query}
 use Rattle.bv_terms.specs.WithRows.{Tables}

@@ -9,7 +9,7 @@ use Rattle.bv_terms.specs.declared.eval.Env.{Env}
 use Rattle.bv_terms.specs.declared.node.Node.{Node}
 use Rattle.cocoon_num.specs.Values.{FitsWidth}
 use Rattle.flat_goals.specs.declared.applied.Applied.{Applied}
-use Rattle.literal_tables.specs.declared.lookups.Lookup.{Lookup}
+use Rattle.runtime_defs.specs.declared.lookups.Lookup.{Lookup}
 
 -- ---- arguments
 

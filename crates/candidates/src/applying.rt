@@ -6,7 +6,7 @@ ghost use Rattle.candidates.specs.Applying.{CanEvaluate, CanLook, IsArgument, Is
 use bv_terms::{Env, TermId, Terms};
 use cocoon_num::{Bits, List, NoMemory};
 use flat_goals::Applied;
-use literal_tables::Lookup;
+use runtime_defs::Lookup;
 use std::alloc::Global;
 
 /// A number of at most 64 bits.

@@ -14,9 +14,8 @@ use cocoon_num::NoMemory;
 use cocoon_resolve::Checked;
 use flat_goals::Applied;
 use flat_laws::laws::flat_goals_are_goals;
-use literal_tables::{Defaults, tables_of};
 use query_laws::search_laws::true_queries_have_candidates;
-use runtime_defs::Defs;
+use runtime_defs::{Defaults, Defs, tables_of};
 use sound_types::laws::code_literals_fit;
 use std::alloc::Global;
 

@@ -32,7 +32,7 @@ use Rattle.flat_laws.proofs.Values.{bit, each-one}
 use Rattle.query_laws.specs.LeafTerms.{Stands, any_input}
 use Rattle.fun_instances.specs.AssumptionTerms.{value_term}
 use Rattle.fun_instances.specs.Taking.{NumbersFit, OfAssumption}
-use Rattle.literal_tables.proofs.FirstRows.{all-append, first-all, first-few, first-found}
+use Rattle.runtime_defs.proofs.FirstRows.{all-append, first-all, first-few, first-found}
 use Rattle.query_laws.specs.Tuples.{pattern_terms}
 use Rattle.query_laws.proofs.OverParts.{OverHere, applied-at, each-over, mentioned-is, over-others}
 use Rattle.query_laws.specs.OwnNames.{in_own_arena, input_count, inputs_of, own_name}

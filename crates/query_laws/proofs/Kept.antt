@@ -5,7 +5,7 @@ use Rattle.cocoon_num.specs.Tree.{Design}
 use Rattle.cocoon_num.specs.Values.{number}
 use Rattle.bv_terms.specs.TermTrees.{Term}
 use Rattle.cnf_core.specs.declared.certificates.Instance.{Instance}
-use Rattle.literal_tables.proofs.FirstRows.{all-append}
+use Rattle.runtime_defs.proofs.FirstRows.{all-append}
 use Rattle.query_laws.specs.Queries.{Fits, instance_term}
 use Rattle.bv_terms.specs.WithRows.{Tables}
 use Rattle.query_laws.specs.Candidates.{IsCandidate, IsFalseBy, IsTrueBy}

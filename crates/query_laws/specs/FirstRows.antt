@@ -13,7 +13,7 @@ use Rattle.bv_terms.specs.Walks.{applications}
 use Rattle.flat_laws.specs.Rows as flat
 use Rattle.flat_laws.specs.Rows.{IsRowOf, is_of}
 use Rattle.query_laws.specs.LeafTerms.{Stands}
-use Rattle.literal_tables.specs.FirstRows.{first_rows}
+use Rattle.runtime_defs.specs.FirstRows.{first_rows}
 use Rattle.query_laws.specs.Certified.{AllFit}
 use Rattle.query_laws.specs.OwnNames.{input_count}
 use Rattle.query_laws.specs.Queries.{asked, query}

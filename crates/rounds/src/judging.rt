@@ -10,8 +10,7 @@ use candidates::candidate;
 use cocoon_num::NoMemory;
 use cocoon_resolve::Checked;
 use discharge::{Budget, Met, meets_to};
-use literal_tables::Defaults;
-use runtime_defs::Defs;
+use runtime_defs::{Defaults, Defs};
 use std::alloc::Global;
 
 /// A candidate, and whether it meets the assumptions.

@@ -29,3 +29,8 @@ pub mod Defined
 pub mod SwitchWidth
 pub mod Masked
 pub mod Keyed
+pub mod LiteralCalls
+pub mod FirstRows
+pub mod Keys
+pub mod Places
+pub mod LiteralWidths

@@ -13,3 +13,7 @@ pub mod Stands
 pub mod Steps
 pub mod TrueRows
 pub mod RowKeys
+pub mod FirstRows
+pub mod LookupRows
+pub mod Tables
+pub mod Made

@@ -1,8 +1,11 @@
 //! Definitions of the functions that are defined at run time. [`bind`] makes tables of a text of definitions that fits
 //! its design, and says of any other what is wrong with it, and where.
 //! The text of definitions, of the tables of functions. It reads as definitions of which these are the tables.
+//! Tables of what functions gave at some arguments: a literal row for each list of arguments, and a default that is free but
+//! for the functions of guards and of forks.
 #![tactic(auto)]
 
+mod defaults;
 pub mod defs;
 mod entries;
 pub mod fault;
@@ -10,14 +13,21 @@ pub mod finding;
 mod function_set;
 mod guards;
 pub mod laws;
+mod literal_functions;
 mod literal_rows;
+pub mod lookup_tables;
+pub mod lookups;
 pub mod print;
 mod row_keys;
+mod rows;
 mod tables;
 pub mod text_laws;
 mod true_numbers;
 
+pub use defaults::Defaults;
 pub use defs::{Defs, MOST_ROWS, bind};
 pub use fault::DefsFault;
 pub use finding::first_fault;
+pub use lookup_tables::tables_of;
+pub use lookups::Lookup;
 pub use print::print_defs;

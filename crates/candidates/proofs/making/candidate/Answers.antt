@@ -4,7 +4,7 @@ use Rattle.bv_terms.specs.TermValues.{Inputs}
 use Rattle.cnf_core.specs.Satisfying.{makes_true}
 use Rattle.cocoon_syntax.specs.TreeOf.{design_of}
 use Rattle.flat_laws.specs.Flat.{flattened}
-use Rattle.literal_tables.specs.Tables.{AreOfDesign, HaveFirstRows}
+use Rattle.runtime_defs.specs.Tables.{AreOfDesign, HaveFirstRows}
 use Rattle.query_laws.specs.OwnNames.{own_name}
 use Rattle.query_laws.specs.Candidates.{IsCandidate, MakeTrue}
 use Rattle.candidates.specs.Assigned.{assigned}

@@ -1,4 +1,0 @@
-pub mod FirstRows
-pub mod LookupRows
-pub mod Tables
-pub mod Made
