@@ -14,7 +14,7 @@ use Rattle.cocoon_types.specs.ReadBack.{hidden_in}
 use Rattle.cocoon_types.specs.RuleParts.{roles_of}
 use Rattle.declarations.specs.Declares.{role_number, role_texts}
 use Rattle.declarations.specs.NameNumbers.{firsts, index_of}
-use Rattle.read_back.specs.Least.{IsLeast}
+use Rattle.form_rules.specs.Least.{IsLeast}
 use Rattle.std.specs.Prelude.{Vec}
 use Rattle.std.specs.declared.alloc.Global.{Global}
 use Rattle.cocoon_syntax.specs.declared.decl.Role as code_role

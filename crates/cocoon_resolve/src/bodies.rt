@@ -9,7 +9,7 @@ ghost use Rattle.cocoon_resolve.specs.Readers.{reads_back};
 use cocoon_num::NoMemory;
 use cocoon_syntax::{Decl, Design, Role};
 use declarations::Declarations;
-use read_back::first_hidden;
+use form_rules::first_hidden;
 use std::alloc::Global;
 
 /// For each level a row with a place for each role, by its number.

@@ -6,7 +6,7 @@ use Rattle.cocoon_types.specs.Rules.{hidden_choice}
 use Rattle.cocoon_types.specs.FirstFault.{Fault, rank, phase, phase_at}
 use Rattle.cocoon_types.specs.Noting.{Covers, Notes, same_fault}
 use Rattle.cocoon_types.specs.Among.{among}
-use Rattle.read_back.specs.Least.{IsLeast}
+use Rattle.form_rules.specs.Least.{IsLeast}
 
 abbrev hidden_at : ℕ → Fault
 hidden_at n = record { rule = hidden_choice; at = n }

@@ -1,3 +1,13 @@
+pub mod Lists
+pub mod Values
+pub mod Paths
+pub mod Unmade
+pub mod Tests
+pub mod Running
+pub mod Resolving
+pub mod LeastHidden
+pub mod Seen
+pub mod Found
 pub mod Membership
 pub mod SiteFacts
 pub mod RoleFacts

@@ -1,3 +1,7 @@
+pub mod Following
+pub mod Steps
+pub mod Places
+pub mod Least
 pub mod BodyFaults
 pub mod Stmts
 pub mod Tested

@@ -5,10 +5,10 @@ ghost use Rattle.cocoon_types.specs.FirstFault.{is_fault_of};
 ghost use Rattle.cocoon_types.specs.Noting.{Notes};
 ghost use Rattle.declarations.specs.Declares.{Declares};
 
+use crate::bodies::note_bodies;
 use crate::declared::all_roles;
 use crate::guards::note_guard_form;
 use crate::hidden::note_hidden_choice;
-use crate::note_bodies;
 use crate::refined::note_header_changed;
 use crate::roles::note_sink_form;
 use crate::switches::note_not_switch_form;

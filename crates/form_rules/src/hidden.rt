@@ -10,12 +10,12 @@ ghost use Rattle.declarations.specs.Declares.{Declares};
 ghost use Rattle.cocoon_types.specs.Among.{among};
 ghost use Rattle.form_rules.specs.Parts.{hidden_of, hidden_where};
 
+use crate::hidden_choice::first_hidden;
 use crate::refined::next_level;
 use cocoon_num::NoMemory;
 use cocoon_syntax::{Design, Name, Refine, Stmt};
 use cocoon_types::{Noted, TypeRule, among_laws};
 use declarations::Declarations;
-use read_back::first_hidden;
 use std::alloc::Global;
 
 /// Notes the first hidden choice of a body.

@@ -4,7 +4,7 @@ use Rattle.cocoon_types.specs.Noting.{Notes}
 use Rattle.cocoon_types.specs.ReadBack.{hidden_in}
 use Rattle.cocoon_types.specs.Rules.{hidden_choice}
 use Rattle.cocoon_types.specs.Among.{among}
-use Rattle.read_back.specs.Least.{IsLeast}
+use Rattle.form_rules.specs.Least.{IsLeast}
 use Rattle.form_rules.proofs.Least.{least_noted}
 use Rattle.form_rules.proofs.hidden.note_body.Goals as goal
 

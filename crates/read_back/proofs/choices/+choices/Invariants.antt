@@ -1,7 +1,0 @@
-use Rattle.std.proofs.Common.{◌≡◌, ◌++◌, drop, map}
-use Rattle.cocoon_syntax.specs.TreeOf.{block_of, stmt_of}
-use Rattle.read_back.specs.Following.{choices_in}
-use Rattle.read_back.proofs.choices.+choices.Given as goal
-
-abbrev pub invariant-note_block-loop-stmt : goal.invariant-note_block-loop-stmt
-invariant-note_block-loop-stmt l = l.choices.items ++ choices_in (block_of (map stmt_of (drop l.stmt-index l.stmts))) ≡ l.fn.choices.items ++ choices_in (block_of (map stmt_of l.stmts))

@@ -1,6 +1,0 @@
-use Rattle.std.proofs.Common.{drop}
-use Rattle.read_back.proofs.Running.{Followed}
-use Rattle.read_back.proofs.run.+run.Given as goal
-
-abbrev pub invariant-run_steps-loop-step : goal.invariant-run_steps-loop-step
-invariant-run_steps-loop-step l = Followed l.choice (drop l.step-index l.steps) l.steps l.fn.states.items l.reached

@@ -1,6 +1,0 @@
-use Rattle.std.proofs.Common.{◌≡◌, drop}
-use Rattle.read_back.specs.Steps.{any_alone, holding_of}
-use Rattle.read_back.proofs.state.any_alone.Given as goal
-
-abbrev pub invariant-loop-place : goal.invariant-loop-place
-invariant-loop-place l = any_alone l.choice (holding_of l.state) (drop l.place-index l.places) ≡ any_alone l.choice (holding_of l.state) l.places

@@ -1,6 +1,0 @@
-use Rattle.std.proofs.Common.{◌≡◌, drop}
-use Rattle.read_back.specs.Steps.{hides_in, some_holds}
-use Rattle.read_back.proofs.states.any_hides.Given as goal
-
-abbrev pub invariant-loop-state : goal.invariant-loop-state
-invariant-loop-state l = some_holds (hides_in l.choice l.sent) (drop l.state-index l.states) ≡ some_holds (hides_in l.choice l.sent) l.states

@@ -1,6 +1,0 @@
-use Rattle.std.proofs.Common.{◌≡◌, map, take}
-use Rattle.read_back.specs.Steps.{holding_of}
-use Rattle.read_back.proofs.states.copy_states.Given as goal
-
-abbrev pub invariant-loop-state : goal.invariant-loop-state
-invariant-loop-state l = map holding_of l.copies.items ≡ map holding_of (take l.state-index l.states)

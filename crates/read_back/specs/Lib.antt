@@ -1,4 +1,0 @@
-pub mod Following
-pub mod Steps
-pub mod Places
-pub mod Least
