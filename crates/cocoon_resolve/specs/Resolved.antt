@@ -7,7 +7,7 @@ use Rattle.cocoon_types.specs.Rules.{WellFormed}
 use Rattle.cocoon_types.specs.Limits.{WithinLimits}
 use Rattle.cocoon_types.specs.FirstFault.{FirstFault}
 use Rattle.cocoon_types.specs.RuleNames.{fault_at}
-use Rattle.design_limits.specs.First.{IsFirstOver}
+use Rattle.cocoon_resolve.specs.First.{IsFirstOver}
 use Rattle.cocoon_resolve.specs.declared.fault.TypeFault.{TypeFault}
 use Rattle.cocoon_resolve.specs.declared.fault.TypeFault.TheVariants.{Rule, Limit, NoMemory}
 

@@ -10,12 +10,12 @@ ghost use Rattle.cocoon_resolve.specs.Resolved.{IsRefused, Resolves, WasRead};
 
 use crate::checked::Checked;
 use crate::fault::TypeFault;
+use crate::first::first_limit;
 use cocoon_num::NoMemory;
 use cocoon_syntax::Design;
 use cocoon_types::Noted;
 use cocoon_types::first_faults::{earlier_phases, found_none, noting_laws};
 use declarations::Declarations;
-use design_limits::first_limit;
 use form_rules::note_forms;
 use name_rules::note_names;
 use std::alloc::Global;

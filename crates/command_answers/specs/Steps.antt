@@ -22,7 +22,7 @@ use Rattle.cocoon_types.specs.Limits.{WithinLimits, first_above, reported}
 use Rattle.cocoon_types.specs.RuleNames.{fault_at}
 use Rattle.cocoon_types.specs.Rules.{WellFormed}
 use Rattle.cocoon_types.specs.declared.fault.TypeRule.{TypeRule}
-use Rattle.design_limits.specs.First.{IsFirstOver}
+use Rattle.cocoon_resolve.specs.First.{IsFirstOver}
 use Rattle.cocoon_io.specs.Files.{Files}
 use Rattle.p4_ir.specs.NetTree.{NetData}
 use Rattle.p4_ir.specs.Wiring.{host_numbers}

@@ -15,7 +15,7 @@ use Rattle.cocoon_types.specs.DefsRules.{defs_faults, DefsFit}
 use Rattle.cocoon_types.specs.FirstFault as rules
 use Rattle.cocoon_types.specs.RuleNames.{fault_at}
 use Rattle.cocoon_types.specs.Rules.{WellFormed}
-use Rattle.design_limits.specs.First.{IsFirstOver}
+use Rattle.cocoon_resolve.specs.First.{IsFirstOver}
 use Rattle.runtime_defs.specs.Bound.{most_rows, row_count}
 use Rattle.runtime_defs.specs.Fitting.{FitsDesign}
 use Rattle.runtime_defs.specs.Places.{Places}

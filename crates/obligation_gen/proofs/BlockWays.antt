@@ -8,7 +8,7 @@ use Rattle.cocoon_types.specs.Limits.{Ways, either, followed_by, reported}
 use Rattle.obligation_gen.specs.declared.ways.Ways.{Ways as Counted}
 use Rattle.obligation_gen.specs.Weighed.{reported_ways, ways_of, weighed, weighed_in}
 use Rattle.obligation_gen.proofs.Saturation.{sum_left, sum_right, product_left, product_right}
-use Rattle.design_limits.proofs.Steps.{taken_more}
+use Rattle.cocoon_resolve.proofs.Steps.{taken_more}
 
 abbrev pair_of : ℕ → ℕ → Ways
 pair_of e g = record { ended = e; going = g }

@@ -1,2 +1,2 @@
 -- Sums and products that stop at a number: it is enough to stop at the end.
-pub use Rattle.design_limits.proofs.Saturation.{product_left, product_right, reported_again, sum_left, sum_right}
+pub use Rattle.cocoon_resolve.proofs.Saturation.{product_left, product_right, reported_again, sum_left, sum_right}

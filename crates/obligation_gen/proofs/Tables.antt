@@ -12,7 +12,7 @@ use Rattle.cocoon_types.specs.Limits.{reported}
 use Rattle.refinement.specs.Segments.{is_new}
 use Rattle.cocoon_syntax.specs.TreeOf.{decl_of}
 use Rattle.cocoon_syntax.specs.declared.decl.Decl.{Decl as CodeDecl}
-use Rattle.design_limits.proofs.Steps.{taken_more}
+use Rattle.cocoon_resolve.proofs.Steps.{taken_more}
 use Rattle.sound_types.proofs.Levels.{block_decls}
 use Rattle.sound_types.proofs.Members.{In, in_either, in_reverse, named_some, named_there, reverse_in}
 use Rattle.sound_types.proofs.Options.{same_text, text_self}

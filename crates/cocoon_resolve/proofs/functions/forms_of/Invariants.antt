@@ -1,0 +1,9 @@
+use Rattle.std.proofs.Common.{map, take, reverse}
+use Rattle.std.specs.Prelude.{filter_map}
+use Rattle.cocoon_syntax.specs.TreeOf.{decl_of}
+use Rattle.cocoon_types.specs.Design.{as_function}
+use Rattle.cocoon_resolve.specs.Forms.{Knows}
+use Rattle.cocoon_resolve.proofs.functions.forms_of.Given as goal
+
+abbrev pub invariant-loop-decl : goal.invariant-loop-decl
+invariant-loop-decl l = Knows (reverse (filter_map as_function (map (λ d. decl_of d.now) (take l.decl-index l.decls)))) (reverse l.known.items)

@@ -1,7 +1,0 @@
-use Rattle.std.proofs.Common.{take}
-use Rattle.cocoon_syntax.specs.TreeOf.{design_of}
-use Rattle.cocoon_types.specs.Limits.{AreWithin, limits}
-use Rattle.design_limits.proofs.first.first_limit.Given as goal
-
-abbrev pub invariant-loop-name : goal.invariant-loop-name
-invariant-loop-name l = AreWithin (design_of l.design) (take l.name-index limits)

@@ -1,7 +1,0 @@
-use Rattle.std.proofs.Common.{◌≡◌, map, drop}
-use Rattle.cocoon_syntax.specs.TreeOf.{param_of}
-use Rattle.design_limits.specs.Forms.{slot_weight}
-use Rattle.design_limits.proofs.forms.slot_count.Given as goal
-
-abbrev pub invariant-loop-param : goal.invariant-loop-param
-invariant-loop-param l = slot_weight (map param_of (drop l.param-index l.params)) l.left l.name ≡ slot_weight (map param_of l.params) l.fn.slot l.name

@@ -1,5 +1,0 @@
-use Rattle.design_limits.proofs.Steps.{total_step}
-use Rattle.design_limits.proofs.forms.total.Goals as goal
-
-pub loop-number-preserved : goal.loop-number-preserved
-loop-number-preserved c = total_step c.args.numbers.now c.loop-number.number-index _ _ c.loop-number-test.true c.loop-number.invariant c.saturating_add-sum.ensures

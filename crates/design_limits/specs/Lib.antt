@@ -1,4 +1,0 @@
-pub mod Saturated
-pub mod Forms
-pub mod Seen
-pub mod First
