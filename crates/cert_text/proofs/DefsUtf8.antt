@@ -15,7 +15,7 @@ use Rattle.cocoon_num.specs.Values.{Value, number, truth}
 use Rattle.cocoon_num.specs.declared.fun_table.FunRow.{FunRow}
 use Rattle.cocoon_num.specs.declared.fun_table.FunTable.{FunTable}
 use Rattle.cocoon_types.specs.Design.{functions}
-use Rattle.text_printer.specs.Printing.{each_text, literal_text}
+use Rattle.text_lines.specs.Printing.{each_text, literal_text}
 use Rattle.runtime_defs.specs.EntryTexts.{truth_text, const_text, pattern_text, more_patterns_text, patterns_text, entry_text}
 use Rattle.runtime_defs.specs.EntryPlaces.{default_entry, row_entry, place_entries, all_entries, defs_text}
 use Rattle.cocoon_types.specs.Names.{is_name, IsNamed}

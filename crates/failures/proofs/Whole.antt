@@ -1,7 +1,7 @@
 -- What a printer holds in the end that held nothing.
 use Rattle.std.proofs.Common.{◌≡◌, ℕ, List, [], ◌++◌, Option, Some, None, sym, ap, ◌∙◌}
 use Rattle.std.specs.Prelude.{option_map}
-use Rattle.text_printer.specs.Printing.{Prints}
+use Rattle.text_lines.specs.Printing.{Prints}
 
 abbrev or_none : Option (List ℕ) → List ℕ
 or_none None = []

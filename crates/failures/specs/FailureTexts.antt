@@ -2,7 +2,7 @@
 use Rattle.std.specs.Prelude.{ℕ, List, [], ◌∷◌, ◌++◌, codes, decimal}
 use Rattle.cocoon_types.specs.Runs.{Loc}
 use Rattle.refinement.specs.Sending.{flat}
-use Rattle.text_printer.specs.Printing.{each_text}
+use Rattle.text_lines.specs.Printing.{each_text}
 use Rattle.failures.specs.Failures.{Failure}
 
 -- ---- lists of numbers

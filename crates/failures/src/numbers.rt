@@ -1,12 +1,12 @@
 //! Numbers in lines.
 ghost use Rattle.std.specs.Prelude.{decimal};
-ghost use Rattle.text_printer.specs.Printing.{Prints};
+ghost use Rattle.text_lines.specs.Printing.{Prints};
 ghost use Rattle.failures.specs.FailureTexts.{list_text, number_text, spaced};
 
 use std::alloc::Global;
-use text_printer::Printer;
+use text_lines::Printer;
 
-#[tactic(auto, using(text_printer::proofs::Printing::lost))]
+#[tactic(auto, using(text_lines::proofs::Printing::lost))]
 fn push_number(alloc: Global, number: u64, out: &mut Printer)
     ensures { Prints out.old (decimal number) out.new }
 {

@@ -2,7 +2,7 @@
 ghost use Rattle.std.specs.Prelude.{◌≡◌, codes, IfOk};
 ghost use Rattle.cocoon_syntax.specs.TreeOf.{design_of};
 ghost use Rattle.runtime_defs.specs.EntryPlaces.{defs_text};
-ghost use Rattle.text_printer.specs.Printing.{Prints};
+ghost use Rattle.text_lines.specs.Printing.{Prints};
 ghost use Rattle.failures.specs.Found.{FailureFits, failure_of};
 ghost use Rattle.failures.specs.FailureTexts as spec;
 ghost use Rattle.failures.specs.Told.{Tells};
@@ -12,7 +12,7 @@ use crate::text_lines::{push_first, push_run};
 use cocoon_num::{NoMemory, Text};
 use cocoon_resolve::Checked;
 use std::alloc::Global;
-use text_printer::Printer;
+use text_lines::Printer;
 
 /// The lines of a failure, and this text of its definitions.
 fn push_all(

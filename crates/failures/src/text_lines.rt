@@ -5,7 +5,7 @@ ghost use Rattle.cocoon_resolve.specs.Readers.{field_widths, HasRole};
 ghost use Rattle.cocoon_syntax.specs.TreeOf.{design_of};
 ghost use Rattle.role_meaning.specs.Located.{loc_of, role_name, sent_of};
 ghost use Rattle.refinement.specs.Sending.{flat};
-ghost use Rattle.text_printer.specs.Printing.{Prints};
+ghost use Rattle.text_lines.specs.Printing.{Prints};
 ghost use Rattle.failures.specs.Found.{FailureFits, failure_of};
 ghost use Rattle.failures.specs.FailureTexts as spec;
 
@@ -15,7 +15,7 @@ use cocoon_resolve::Checked;
 use declarations::RoleId;
 use role_meaning::{Loc, Packet};
 use std::alloc::Global;
-use text_printer::Printer;
+use text_lines::Printer;
 
 /// The name of a role that is there at a level.
 fn role_text(checked: &Checked, level: u32, role: RoleId) -> &[u8]

@@ -1,11 +1,11 @@
 //! The definitions of the network that is generated.
 ghost use Rattle.std.specs.Prelude.{◌≡◌, ◌≤◌, ◌<◌, IfOk, length};
-ghost use Rattle.text_printer.specs.Printing.{Prints};
+ghost use Rattle.text_lines.specs.Printing.{Prints};
 ghost use Rattle.generator.specs.Definitions as spec;
 
 use cocoon_num::NoMemory;
 use std::alloc::Global;
-use text_printer::Printer;
+use text_lines::Printer;
 
 /// The address of a host.
 pub(crate) fn address(host: u32) -> u32

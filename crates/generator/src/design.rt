@@ -1,11 +1,11 @@
 //! The design of the network that is generated.
 ghost use Rattle.std.specs.Prelude.{◌≡◌, IfOk};
-ghost use Rattle.text_printer.specs.Printing.{Prints};
+ghost use Rattle.text_lines.specs.Printing.{Prints};
 ghost use Rattle.generator.specs.Design as spec;
 
 use cocoon_num::NoMemory;
 use std::alloc::Global;
-use text_printer::Printer;
+use text_lines::Printer;
 
 /// The topmost specification: which packets may reach which host.
 fn push_policy(out: &mut Printer)

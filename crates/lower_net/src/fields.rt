@@ -10,7 +10,7 @@ use cocoon_num::{NoMemory, Text};
 use lower_code::{FieldName, Made, MetaField};
 use p4_ir::P4Field;
 use std::alloc::Global;
-use text_printer::Printer;
+use text_lines::Printer;
 
 fn key_text(alloc: Global, app: u32, key: u32) -> Result<Vec<u8>, NoMemory>
     ensures { IfOk result (λ t. t.items ≡ spec.field_text (key_name app key)) }

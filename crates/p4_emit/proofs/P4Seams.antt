@@ -7,8 +7,8 @@ use Rattle.cocoon_num.specs.Names.{same_name}
 use Rattle.cocoon_num.specs.Lists.{is_one_of}
 use Rattle.cocoon_num.specs.Tokens.{Kind, a_name, mark, is_letter, is_run_byte, run_kind}
 use Rattle.p4_ir.specs.P4Text.{p4_lexicon}
-use Rattle.text_printer.proofs.Seams as seams
-use Rattle.text_printer.proofs.Seams.{Seams, all_word_bytes, is_name}
+use Rattle.text_lines.proofs.Seams as seams
+use Rattle.text_lines.proofs.Seams.{Seams, all_word_bytes, is_name}
 
 abbrev pub extends : ℕ → Bool
 extends b = (b == 61) || (b == 43) || (b == 38) || (b == 124)

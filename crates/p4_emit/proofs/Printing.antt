@@ -5,8 +5,8 @@ use Rattle.std.proofs.lemmas.Option.{slice_get-map, slice_get_past, slice_get_re
 use Rattle.p4_ir.specs.P4Tree.{Program}
 use Rattle.p4_ir.specs.Program.{stmt_of, block_of}
 use Rattle.p4_ir.specs.declared.program.P4Stmt.{P4Stmt}
-use Rattle.text_printer.specs.Printing.{Prints}
-pub use Rattle.text_printer.proofs.Printing.{followed, Leads, nothing, sets_out, walk_end, walk_step}
+use Rattle.text_lines.specs.Printing.{Prints}
+pub use Rattle.text_lines.proofs.Printing.{followed, Leads, nothing, sets_out, walk_end, walk_step}
 use Rattle.p4_emit.specs.Printed.{new_line, optional_text, stmt_text, block_text}
 
 -- of statements, each on a line of its own

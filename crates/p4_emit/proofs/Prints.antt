@@ -7,12 +7,12 @@ use Rattle.p4_ir.specs.P4Tree.{P4Expr, p_lit, p_truth, p_meta, p_field, p_port, 
 use Rattle.p4_ir.specs.P4Kinds.{is_implies}
 use Rattle.std.proofs.lemmas.List.{append-nil}
 use Rattle.p4_ir.specs.P4Text.{said, optional_tokens, table_name, action_name, meta_tokens, field_tokens, expr_tokens, stmt_tokens, block_tokens, unary_mark, binary_mark}
-use Rattle.text_printer.specs.Printing.{new_line, literal_text}
+use Rattle.text_lines.specs.Printing.{new_line, literal_text}
 use Rattle.p4_emit.specs.Printed.{optional_text, meta_text, field_text, unary_text, binary_text, expr_text, verdict_text, egress_port_text, group_text, if_text, else_text, end_text, stmt_text, block_text}
-use Rattle.text_printer.proofs.Joins as joins
+use Rattle.text_lines.proofs.Joins as joins
 use Rattle.p4_emit.proofs.P4Seams.{p4_seams, is_clear, word_spells}
-use Rattle.text_printer.proofs.Seams.{word_clear, all_word_bytes, is_name}
-use Rattle.text_printer.proofs.Numbers.{plain_spells, literal_spells, decimal_clear, decimal_word}
+use Rattle.text_lines.proofs.Seams.{word_clear, all_word_bytes, is_name}
+use Rattle.text_lines.proofs.DecimalNumbers.{plain_spells, literal_spells, decimal_clear, decimal_word}
 
 -- ---- P4 texts
 

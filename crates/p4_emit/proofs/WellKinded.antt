@@ -15,7 +15,7 @@ use Rattle.p4_ir.specs.P4Reads.{P4Reads}
 use Rattle.p4_ir.specs.WellKinded.{is_well_kinded}
 use Rattle.cocoon_num.specs.Packets.{total}
 use Rattle.p4_emit.specs.Printed.{printed}
-use Rattle.text_printer.proofs.Seams.{all_word_bytes, is_name}
+use Rattle.text_lines.proofs.Seams.{all_word_bytes, is_name}
 use Rattle.p4_emit.proofs.Prints.{Each, FieldFits, HeaderFits, MetaFits, IfThere, each_found, ExprFits, StmtFits, BlockFits}
 use Rattle.p4_emit.proofs.Whole.{TableFits, ProgramFits, printed_tokens}
 

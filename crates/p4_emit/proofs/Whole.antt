@@ -4,9 +4,9 @@ use Rattle.std.specs.Prelude.{codes, flat_map}
 use Rattle.cocoon_num.specs.Tokens.{Kind, a_name, plain, literal, mark, finish, Token, lex, kinds}
 use Rattle.p4_ir.specs.P4Tree.{P4Field, P4Header, P4Table, Control, Program, meta_width}
 use Rattle.p4_ir.specs.P4Text.{said, p4_lexicon, meta_tokens, action_name, table_name, architecture, header_tokens, member_tokens, meta_member_tokens, match_kind, table_tokens, program_tokens, declared, header_name, block_tokens}
-use Rattle.text_printer.specs.Printing.{each_text}
+use Rattle.text_lines.specs.Printing.{each_text}
 use Rattle.p4_emit.specs.Printed.{fixed as fixed_text, architecture_piece, header_field_text, header_text, member_text, meta_member_text, extract_text, deparse_text, kind_text, key_text, keys_text, action_text, default_text, table_text, heads_text, ingress_text, egress_text, printed}
-use Rattle.text_printer.proofs.Seams.{spells_lexes}
+use Rattle.text_lines.proofs.Seams.{spells_lexes}
 use Rattle.p4_emit.proofs.Prints.{Part, Lines, opens, follows, after, line, leads, ends, lines_as, no_lines, between, Each, FieldFits, HeaderFits, MetaFits, NamesFit, word_part, plain_part, literal_part, meta_part, table_part, action_part, semicolon, whole, BlockFits, block_lines}
 
 each_lines : {A : Type 0} (P : A → Type 0) (f : A → List ℕ) (g : A → List Kind) → ((x : A) → P x → Lines (f x) (g x)) → (xs : List A) → Each P xs → Lines (each_text f xs) (flat_map g xs)

@@ -3,7 +3,7 @@
 -- follows "The text" in docs/FORMATS.md. Optional headers, tags and versions of rows are absent.
 use Rattle.std.specs.Prelude.{ℕ, ◌+◌, Bool, true, false, List, [], ◌++◌, slice_get, Option, Some, None, decimal, codes}
 use Rattle.cocoon_num.specs.Values.{UnaryOp, flip, not_, BinaryOp, add, sub, bits_and, bits_or, bits_xor, concat, equal, unequal, less, less_equal, greater, greater_equal, and_, or_, implies}
-pub use Rattle.text_printer.specs.Printing.{each_text, literal_text, new_line}
+pub use Rattle.text_lines.specs.Printing.{each_text, literal_text, new_line}
 use Rattle.p4_ir.specs.P4Tree.{P4Expr, p_lit, p_truth, p_meta, p_field, p_port, p_rid, p_unary, p_binary, p_slice, p_pick, P4Stmt, set_meta, set_header, apply_table, p_if, p_if_else, verdict, egress_port, group, p_return, P4Block, p_done, p_then, P4Field, P4Header, P4Table, Program, meta_width}
 
 abbrev pub optional_text : {A : Type 0} → (A → List ℕ) → Option A → List ℕ

@@ -5,13 +5,13 @@ ghost use Rattle.p4_ir.specs.P4Tree.{meta_width};
 ghost use Rattle.p4_ir.specs.WellKinded.{WellKinded};
 ghost use Rattle.p4_emit.specs.Pieces.{piece_of};
 ghost use Rattle.p4_emit.specs.Printed as spec;
-ghost use Rattle.text_printer.specs.Printing.{Prints};
+ghost use Rattle.text_lines.specs.Printing.{Prints};
 ghost use Rattle.p4_ir.specs.Program.{expr_of, stmt_of, block_of, field_of, header_of, table_of, control_of, program_of, unary_of, binary_of};
 
 use cocoon_num::NoMemory;
 use p4_ir::{P4Binary, P4Expr, P4Field, P4Header, P4Stmt, P4Unary, Program, Table};
 use std::alloc::Global;
-use text_printer::Printer;
+use text_lines::Printer;
 
 /// The pieces that every program has.
 #[derive(Clone, Copy, Debug, Drop)]

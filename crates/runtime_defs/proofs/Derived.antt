@@ -6,8 +6,8 @@ use Rattle.cocoon_num.specs.Reads.{Is, Mark, Many, no_more, one_more, Commas, la
 use Rattle.cocoon_num.specs.Tokens.{Kind, a_name, literal, mark, finish, kinds, language_bounds, none_deep, is_shallow}
 use Rattle.cocoon_num.specs.Tree.{Pattern, literal as pattern_literal, masked, any, Entry, a_default, a_row}
 use Rattle.cocoon_num.specs.Values.{Value, number, truth}
-use Rattle.text_printer.specs.Printing.{each_text}
-use Rattle.text_printer.proofs.Seams.{spells_lexes}
+use Rattle.text_lines.specs.Printing.{each_text}
+use Rattle.text_lines.proofs.Seams.{spells_lexes}
 use Rattle.runtime_defs.specs.EntryTexts.{entry_text}
 use Rattle.runtime_defs.specs.EntryPlaces.{entries_from, entry_at, entry_size, pattern_size, patterns_size}
 use Rattle.runtime_defs.proofs.Spelled.{const_tokens, pattern_tokens, more_tokens, patterns_tokens, entry_tokens, entries_tokens, EntryFits, EntriesFit, entries_part}

@@ -5,7 +5,7 @@ use Rattle.std.specs.Prelude.{codes}
 use Rattle.cocoon_num.specs.Reads.{ReadsDefs}
 use Rattle.cocoon_num.specs.Tree.{Entry, a_default, a_row}
 use Rattle.cocoon_num.specs.Values.{number, truth}
-use Rattle.text_printer.specs.Printing.{each_text}
+use Rattle.text_lines.specs.Printing.{each_text}
 use Rattle.runtime_defs.specs.EntryTexts.{entry_text}
 use Rattle.runtime_defs.specs.EntryPlaces.{entries_from, key_patterns}
 use Rattle.runtime_defs.proofs.Derived.{entries_text_reads}

@@ -7,8 +7,8 @@ use Rattle.std.proofs.Math.Nat.{pow-le-pow_right}
 use Rattle.std.proofs.Math.Numerals.{add-one}
 use Rattle.cocoon_num.specs.Tree.{FunctionDecl, Pattern}
 use Rattle.cocoon_num.specs.declared.fun_table.FunTable.{FunTable}
-use Rattle.text_printer.specs.Printing.{each_text, Prints}
-use Rattle.text_printer.proofs.Printing.{arrives, Leads, step}
+use Rattle.text_lines.specs.Printing.{each_text, Prints}
+use Rattle.text_lines.proofs.Printing.{arrives, Leads, step}
 use Rattle.runtime_defs.specs.EntryTexts.{entry_text}
 use Rattle.runtime_defs.specs.EntryPlaces.{all_entries, key_pattern, key_patterns, place_entries}
 

@@ -3,7 +3,7 @@ use Rattle.std.proofs.Common.{◌≡◌, ℕ, Bool, true, not, ◌||◌, refl, a
 use Rattle.std.specs.Prelude.{◌==◌}
 use Rattle.std.proofs.lemmas.Bool.Decides.{nat_tests}
 use Rattle.cocoon_num.specs.Tokens.{is_run_byte, language}
-use Rattle.text_printer.proofs.Seams.{Seams}
+use Rattle.text_lines.proofs.Seams.{Seams}
 
 abbrev pub extends : ℕ → Bool
 extends b = (b == 61) || (b == 43) || (b == 38) || (b == 62)

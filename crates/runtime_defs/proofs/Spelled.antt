@@ -6,10 +6,10 @@ use Rattle.cocoon_num.specs.Lists.{each, is_one_of}
 use Rattle.cocoon_num.specs.Tokens.{Kind, a_name, keyword, literal, mark, is_letter, is_run_byte, language, run_kind}
 use Rattle.cocoon_num.specs.Tree.{Pattern, literal as pattern_literal, masked, any, Entry, a_default, a_row}
 use Rattle.cocoon_num.specs.Values.{Value, number, truth}
-use Rattle.text_printer.specs.Printing.{each_text, literal_text}
-use Rattle.text_printer.proofs.Joins.{Part, Lines, opens, follows, leads, ends, whole, no_lines, lines_part, clear_append}
-use Rattle.text_printer.proofs.Numbers.{literal_spells, decimal_clear}
-use Rattle.text_printer.proofs.Seams.{Spells, open_after, then_clear, word_clear, word_spells}
+use Rattle.text_lines.specs.Printing.{each_text, literal_text}
+use Rattle.text_lines.proofs.Joins.{Part, Lines, opens, follows, leads, ends, whole, no_lines, lines_part, clear_append}
+use Rattle.text_lines.proofs.DecimalNumbers.{literal_spells, decimal_clear}
+use Rattle.text_lines.proofs.Seams.{Spells, open_after, then_clear, word_clear, word_spells}
 use Rattle.runtime_defs.specs.EntryTexts.{const_text, pattern_text, more_patterns_text, patterns_text, entry_text}
 use Rattle.cocoon_types.specs.Names.{is_name}
 use Rattle.runtime_defs.proofs.Seamed.{language_seams}

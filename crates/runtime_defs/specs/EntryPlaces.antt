@@ -8,7 +8,7 @@ use Rattle.cocoon_num.specs.declared.bits.Bits.{Bits}
 use Rattle.cocoon_num.specs.declared.fun_table.FunRow.{FunRow}
 use Rattle.cocoon_num.specs.declared.fun_table.FunTable.{FunTable}
 use Rattle.cocoon_types.specs.Design.{functions}
-use Rattle.text_printer.specs.Printing.{each_text}
+use Rattle.text_lines.specs.Printing.{each_text}
 use Rattle.runtime_defs.specs.EntryTexts.{entry_text}
 
 -- ---- entries of tables

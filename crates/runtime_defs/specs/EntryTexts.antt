@@ -3,7 +3,7 @@
 use Rattle.std.specs.Prelude.{ℕ, Bool, true, false, List, [], ◌∷◌, ◌++◌, codes}
 use Rattle.cocoon_num.specs.Tree.{Pattern, literal, masked, any, Entry, a_default, a_row}
 use Rattle.cocoon_num.specs.Values.{Value, number, truth}
-use Rattle.text_printer.specs.Printing.{literal_text}
+use Rattle.text_lines.specs.Printing.{literal_text}
 
 -- true or false
 abbrev pub truth_text : Bool → List ℕ

@@ -7,7 +7,7 @@ ghost use Rattle.cocoon_num.specs.Tree.{masked};
 ghost use Rattle.cocoon_resolve.specs.Resolved.{Resolves};
 ghost use Rattle.cocoon_syntax.specs.TreeOf.{design_of, function_of, result_of};
 ghost use Rattle.cocoon_types.specs.Design.{functions};
-ghost use Rattle.text_printer.specs.Printing.{each_text, Prints};
+ghost use Rattle.text_lines.specs.Printing.{each_text, Prints};
 ghost use Rattle.runtime_defs.specs.EntryTexts.{const_text, entry_text, more_patterns_text, pattern_text, patterns_text, truth_text};
 ghost use Rattle.runtime_defs.specs.Printable.{FitsPlace};
 ghost use Rattle.runtime_defs.specs.Keys.{HasAllKeys, HasPlaceKeys};
@@ -18,7 +18,7 @@ use cocoon_num::{Bits, FunRow, FunTable, NoMemory, Text};
 use cocoon_resolve::Checked;
 use cocoon_syntax::{FunctionDecl, ResultKind};
 use std::alloc::Global;
-use text_printer::Printer;
+use text_lines::Printer;
 
 fn truth_text<'a>(truth: bool) -> &'a str
     ensures { result.now ≡ truth_text truth }

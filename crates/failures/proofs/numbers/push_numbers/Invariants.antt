@@ -1,5 +1,5 @@
 use Rattle.std.proofs.Common.{drop}
-use Rattle.text_printer.proofs.Printing.{Leads}
+use Rattle.text_lines.proofs.Printing.{Leads}
 use Rattle.failures.specs.FailureTexts.{spaced}
 use Rattle.failures.proofs.numbers.push_numbers.Given as goal
 

@@ -1,4 +1,4 @@
-use Rattle.text_printer.proofs.Printing.{followed}
+use Rattle.text_lines.proofs.Printing.{followed}
 use Rattle.failures.proofs.text_lines.push_first.Goals as goal
 
 pub returns : goal.returns

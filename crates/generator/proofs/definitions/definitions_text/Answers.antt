@@ -1,6 +1,6 @@
 use Rattle.std.proofs.Common.{◌≤◌, ℕ, List, length, subst, sym}
 use Rattle.std.proofs.lemmas.Result.{IfOk-weaker}
-use Rattle.text_printer.proofs.Printing.{followed}
+use Rattle.text_lines.proofs.Printing.{followed}
 use Rattle.generator.proofs.Lengths.{definitions_short}
 use Rattle.generator.proofs.Whole.{is_all}
 use Rattle.generator.proofs.definitions.definitions_text.Goals as goal

@@ -1,4 +1,4 @@
-use Rattle.text_printer.proofs.Printing.{followed}
+use Rattle.text_lines.proofs.Printing.{followed}
 use Rattle.generator.proofs.design.push_functions.Goals as goal
 
 pub returns : goal.returns

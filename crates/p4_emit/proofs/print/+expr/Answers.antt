@@ -3,7 +3,7 @@ use Rattle.p4_ir.specs.P4Tree.{p_pick}
 use Rattle.p4_ir.specs.Program.{expr_of, program_of}
 use Rattle.p4_ir.specs.declared.program.P4Expr as exprs
 use Rattle.p4_emit.specs.Printed.{expr_text}
-use Rattle.text_printer.specs.Printing.{Prints}
+use Rattle.text_lines.specs.Printing.{Prints}
 use Rattle.p4_emit.proofs.Printing.{followed}
 use Rattle.p4_emit.proofs.print.+expr.Goals as goal
 

@@ -1,7 +1,7 @@
 use Rattle.std.proofs.Common.{◌≡◌, ◌++◌, ◌<◌, refl, rules, length, get_or, arith, sym, append_assoc}
 use Rattle.std.specs.Prelude.{codes}
-use Rattle.text_printer.specs.Printing.{Prints}
-use Rattle.text_printer.proofs.Printing.{followed, walk_end, walk_step}
+use Rattle.text_lines.specs.Printing.{Prints}
+use Rattle.text_lines.proofs.Printing.{followed, walk_end, walk_step}
 use Rattle.runtime_defs.specs.EntryTexts.{more_patterns_text, pattern_text}
 use Rattle.runtime_defs.specs.EntryPlaces.{key_pattern, key_patterns}
 use Rattle.runtime_defs.proofs.Printing.{key_there, keys_long}

@@ -1,7 +1,7 @@
 use Rattle.std.proofs.Common.{drop}
 use Rattle.runtime_defs.specs.EntryTexts.{more_patterns_text}
 use Rattle.runtime_defs.specs.EntryPlaces.{key_patterns}
-use Rattle.text_printer.proofs.Printing.{Leads}
+use Rattle.text_lines.proofs.Printing.{Leads}
 use Rattle.runtime_defs.proofs.print.push_more_patterns.Given as goal
 
 abbrev pub invariant-loop-at : goal.invariant-loop-at

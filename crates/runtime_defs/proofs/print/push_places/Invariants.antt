@@ -3,8 +3,8 @@ use Rattle.cocoon_syntax.specs.TreeOf.{design_of}
 use Rattle.cocoon_types.specs.Design.{functions}
 use Rattle.runtime_defs.specs.EntryTexts.{entry_text}
 use Rattle.runtime_defs.specs.EntryPlaces.{all_entries}
-use Rattle.text_printer.specs.Printing.{each_text}
-use Rattle.text_printer.proofs.Printing.{Leads}
+use Rattle.text_lines.specs.Printing.{each_text}
+use Rattle.text_lines.proofs.Printing.{Leads}
 use Rattle.runtime_defs.proofs.print.push_places.Given as goal
 
 abbrev pub invariant-loop-number : goal.invariant-loop-number

@@ -2,8 +2,8 @@ use Rattle.std.proofs.Common.{drop, map}
 use Rattle.cocoon_syntax.specs.TreeOf.{function_of}
 use Rattle.runtime_defs.specs.EntryTexts.{entry_text}
 use Rattle.runtime_defs.specs.EntryPlaces.{row_entry}
-use Rattle.text_printer.specs.Printing.{each_text}
-use Rattle.text_printer.proofs.Printing.{Leads}
+use Rattle.text_lines.specs.Printing.{each_text}
+use Rattle.text_lines.proofs.Printing.{Leads}
 use Rattle.runtime_defs.proofs.print.push_rows.Given as goal
 
 abbrev pub invariant-loop-row : goal.invariant-loop-row

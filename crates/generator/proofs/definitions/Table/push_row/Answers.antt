@@ -1,6 +1,6 @@
 use Rattle.std.proofs.Common.{◌≡◌, ℕ, List, Option, codes, ap, sym, subst, ◌∙◌}
-use Rattle.text_printer.specs.Printing.{Prints}
-use Rattle.text_printer.proofs.Printing.{followed}
+use Rattle.text_lines.specs.Printing.{Prints}
+use Rattle.text_lines.proofs.Printing.{followed}
 use Rattle.generator.specs.Definitions.{address, numbered, row_of}
 use Rattle.generator.specs.declared.definitions.Table.{Table}
 use Rattle.generator.proofs.definitions.Table.push_row.Goals as goal

@@ -1,4 +1,4 @@
-use Rattle.text_printer.specs.Printing.{Prints}
+use Rattle.text_lines.specs.Printing.{Prints}
 use Rattle.generator.specs.Definitions.{rows_of}
 use Rattle.generator.proofs.definitions.Table.push_rows.Given as goal
 

@@ -2,7 +2,7 @@
 use Rattle.std.proofs.Common.{◌≡◌, ℕ, ◌+◌, ◌<◌, ◌≤◌, List, [], ◌∷◌, ◌++◌, length, drop, get_or, replicate, Option, Some, None, refl, ap, sym, subst, ◌∙◌, append-nil, append_assoc}
 use Rattle.std.specs.Prelude.{option_map}
 use Rattle.std.proofs.lemmas.List.{at_drop_more, at_drop_all, replicate_more}
-use Rattle.text_printer.specs.Printing.{Prints}
+use Rattle.text_lines.specs.Printing.{Prints}
 
 pub followed : {a b c : Option (List ℕ)} {s t : List ℕ} → Prints a s b → Prints b t c → Prints a (s ++ t) c
 followed {a} {b} {c} {s} {t} p q = record { whole = λ all h. joined a b (q.whole all h) p.whole }

@@ -7,7 +7,7 @@ use Rattle.std.proofs.lemmas.List.{append-nil}
 use Rattle.std.proofs.Math.Nat.{pow-le-pow_right}
 use Rattle.std.proofs.lemmas.Fmt.{decimal_by_steps_wide}
 use Rattle.cocoon_num.specs.Tokens.{Kind, plain, literal, is_digit, is_run_byte, begins, dec_digit, digits_after, decimal_value, literal_value, literal_of, kept_if, before_w, after_w, number_kind}
-use Rattle.text_printer.proofs.Seams.{Seams, leading_cons, Spells, number_spells, is_clear, all_word_bytes}
+use Rattle.text_lines.proofs.Seams.{Seams, leading_cons, Spells, number_spells, is_clear, all_word_bytes}
 
 abbrev all_digits : List ℕ → Bool
 all_digits [] = true

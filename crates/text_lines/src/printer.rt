@@ -1,6 +1,6 @@
 //! A printer that remembers whether there was memory for all.
 ghost use Rattle.std.specs.Prelude.{◌≡◌, [], IfOk, None, Some, decimal};
-ghost use Rattle.text_printer.specs.Printing.{Prints, literal_text, new_line};
+ghost use Rattle.text_lines.specs.Printing.{Prints, literal_text, new_line};
 
 use cocoon_num::{NoMemory, Text};
 use std::alloc::Global;

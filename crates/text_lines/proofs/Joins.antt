@@ -4,7 +4,7 @@ use Rattle.std.specs.Prelude.{replicate}
 use Rattle.std.proofs.lemmas.Bool.{and_parts}
 use Rattle.std.proofs.lemmas.List.{append-nil}
 use Rattle.cocoon_num.specs.Tokens.{Kind}
-use Rattle.text_printer.proofs.Seams.{Seams, bare, Spells, then_apart, then_clear, is_clear, is_apart, starts_open, ends_open, open_after}
+use Rattle.text_lines.proofs.Seams.{Seams, bare, Spells, then_apart, then_clear, is_clear, is_apart, starts_open, ends_open, open_after}
 
 -- ---- the ends x of texts
 

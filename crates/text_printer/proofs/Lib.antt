@@ -1,4 +1,0 @@
-pub mod Printing
-pub mod Seams
-pub mod Joins
-pub mod Numbers
