@@ -1,8 +1,7 @@
 //! Terms over numbers of fixed widths, their values, and terms in place of inputs. docs/CLAUSES.md says what they mean.
-//! Walks over terms. [`walk`] gives the distinct terms that a term is made of, in the order in which a walk leaves them
-//! (docs/CLAUSES.md says which order this is); [`copy`] copies terms into another arena, with other names for their inputs;
-//! [`input_values`] finds the values of inputs by the inputs' numbers.
-//! Terms in which tables stand for functions: each application is a chain of choices over the rows of a table. docs/CLAUSES.md says what it looks like.
+//! [`walk`] gives the distinct terms that a term is made of, in the order in which a walk leaves them; [`copy`] copies terms
+//! into another arena, with other names for their inputs; [`input_values`] finds the values of inputs by the inputs' numbers;
+//! and [`replacing`] puts tables in the place of functions: each application is a chain of choices over the rows of a table.
 #![tactic(auto)]
 
 pub mod arena;

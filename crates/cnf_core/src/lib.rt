@@ -1,7 +1,6 @@
 //! Clauses, assignments, and logs that derive clauses from clauses. Its `specs/` say what an assignment satisfies, and
-//! what a log derives; a log that derives the empty clause shows that no assignment satisfies.
-//! Certificates: what shows that an obligation of a design holds. The instances say at which values the assumptions were used,
-//! and the log derives the empty clause.
+//! what a log derives; a log that derives the empty clause shows that no assignment satisfies. And certificates, in
+//! [`certificates`]: what shows that an obligation of a design holds, a log with the values at which the assumptions were used.
 #![tactic(auto)]
 
 pub mod certificates;

@@ -1,7 +1,7 @@
 //! The rules of a design, whole: [`resolve`] says what is wrong with a design, and where; or it gives the design back as
-//! [`Checked`], which keeps all rules and limits, and which all that looks at designs afterwards reads.
-//! The first limit that a design is over. A count that does not fit 64 bits is reported as the greatest
-//! number of 64 bits. A function is counted once, however often it is called.
+//! [`Checked`], which keeps all rules and limits, and which all that looks at designs afterwards reads. [`first_limit`] is
+//! the first limit that a design is over. A count that does not fit 64 bits is reported as the greatest number of 64 bits,
+//! and a function is counted once, however often it is called.
 #![tactic(auto)]
 
 mod assumptions;

@@ -1,12 +1,12 @@
 //! Whole texts of designs and of definitions: the tree of a text, or its first fault with its line and column; and the
 //! positions of its tokens. This is where bytes become trees.
-//! The trees of texts of designs and of definitions, or the first fault of a text. A text is gone over once, from the left
-//! and with one token ahead; no more of it is read than up to the first token that is too deep. A phrase is read from a
-//! token index on: the answer is its tree with the index after it, or the index of the token that cannot be taken.
-//! [`source`] has tokens by their indices, [`exprs`] the expressions, [`decls`] declarations, refinements and headers, with
-//! the statements in their bodies, and [`defs`] the defaults and rows of definitions.
-//! The tokens of the texts of designs and definitions, with the offsets of their bytes. A text is read once, and no
-//! byte of it is copied: a name is the bytes from the start of its token to its end.
+//!
+//! Tokens come from [`lexer`]. A text is read once, and no byte of it is copied: a name is the bytes from the start of its
+//! token to its end. Trees come from [`whole_text`], which goes over the tokens once, from the left and with one token ahead,
+//! and no further than up to the first that is too deep. A phrase is read from a token index on: the answer is its tree with
+//! the index after it, or the index of the token that cannot be taken. [`source`] has tokens by their indices, [`exprs`] the
+//! expressions, [`decls`] declarations, refinements and headers, with the statements in their bodies, and [`defs`] the
+//! defaults and rows of definitions.
 #![tactic(auto)]
 
 mod byte_position;

@@ -4,10 +4,10 @@
 
 pub mod failure;
 pub mod laws;
+mod leading_lines;
 mod numbers;
 pub mod printing;
 pub mod testing;
-mod text_lines;
 
 pub use failure::{Begin, Failure};
 pub use printing::{over_text, refuted_text};

@@ -8,7 +8,7 @@ ghost use Rattle.failures.specs.FailureTexts as spec;
 ghost use Rattle.failures.specs.Told.{Tells};
 
 use crate::Failure;
-use crate::text_lines::{push_first, push_run};
+use crate::leading_lines::{push_first, push_run};
 use cocoon_num::{NoMemory, Text};
 use cocoon_resolve::Checked;
 use std::alloc::Global;

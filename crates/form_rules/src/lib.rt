@@ -1,9 +1,9 @@
 //! The rules on forms, the third phase of the rules of a design in docs/LANGUAGE.md: what notes their faults, rule by rule.
 //! [`note_bodies`] notes every fault of the bodies of the last level, each of which is walked once.
-//! The read-back rule of bodies: the first choice of a body that is hidden on one of its paths. A body
-//! may have more paths than can be followed one by one. So its names are resolved once, and then one
-//! choice is followed at a time, by what each value holds of it; paths that hold the same are followed
-//! together.
+//!
+//! [`first_hidden`] is the read-back rule of bodies: the first choice of a body that is hidden on one of its paths. A body
+//! may have more paths than can be followed one by one. So its names are resolved once, and then one choice is followed at a
+//! time, by what each value holds of it; paths that hold the same are followed together.
 #![tactic(auto)]
 
 pub mod bodies;

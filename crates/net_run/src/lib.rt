@@ -1,5 +1,6 @@
-//! All copies of a packet through a network: what is delivered at which host, and what still travels.
-//! Whole networks with the rows of their switches loaded: what is attached and linked where is found by halving.
+//! Whole networks. They are loaded once, with the rows of their switches, and what is attached and linked where is found
+//! by halving ([`loading`]); then all copies of a packet are followed through one: what is delivered at which host, and
+//! what still travels ([`delivering`]).
 #![tactic(auto)]
 
 pub mod delivering;

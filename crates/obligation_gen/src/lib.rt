@@ -1,10 +1,7 @@
 //! Obligations of refinements: for each leaf of a refined role the term that is true where the leaf
-//! fails.
-//! The formula of one leaf of a refined role over an arena: the term that is true where the leaf
-//! fails.
-//! Trees of bodies: the leaves of one body at a level, or of a refined role with the new roles behind it. Leaves are counted
-//! first, without a tree.
-//! How many leaves the tree of a role has, counted without a tree. A count stops at the last number of 64 bits.
+//! fails. The leaves of a role's tree are counted first, without a tree, in numbers that stop at the last of 64 bits
+//! ([`leaf_count`]); then the trees are made, of one body or of a refined role with the new roles behind it
+//! ([`inline`]), and of each leaf beside an old tree its formula ([`formula`]).
 #![tactic(auto)]
 
 mod comparing;

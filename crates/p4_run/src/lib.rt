@@ -1,9 +1,6 @@
-//! Visits of a switch: a program of the P4-16 subset with its rows, loaded once and run for packet after packet.
-//! A run takes no memory.
-//! Statements of a program of the P4-16 subset, resolved, and run over registers. Nothing but rows is looked up, and no memory
-//! is taken.
-//! Expressions of a program of the P4-16 subset, resolved: names are indices, and what widths decide is a mask or a
-//! shift. They are made once, and evaluated in registers for packet after packet, without a look-up of anything.
+//! Programs of the P4-16 subset, with their rows loaded once and run for packet after packet. Expressions and statements
+//! are resolved first: names are indices, and what widths decide is a mask or a shift ([`expr_codes`], [`stmt_codes`]).
+//! Then nothing but rows is looked up, and a run takes no memory ([`visits`]).
 #![tactic(auto)]
 
 pub mod applying;

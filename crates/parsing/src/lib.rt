@@ -1,7 +1,6 @@
 //! What the parsers of texts have in common, of whatever tokens: why a phrase is not read, which token is the first that
-//! is too deep, and which fault of a text is the first; and how what was read is put together.
-//! The parser as a plain program over tokens, which stands in `specs/`, and what its readings say of
-//! texts.
+//! is too deep, and which fault of a text is the first; and how what was read is put together. The parser of designs and
+//! definitions stands in `specs/` as a plain program over tokens; what its readings say of texts is in [`text_laws`].
 #![tactic(auto)]
 
 pub mod bytes;

@@ -1,6 +1,6 @@
 //! Queries of formulas: goals without functions, each in an arena of its own, that are satisfied
-//! where a formula may be true.
-//! Whether certificates show that obligations of a design never fail. Nothing is searched here.
+//! where a formula may be true; and whether a certificate shows that an obligation of a design never fails
+//! ([`rechecking`]). Nothing is searched here.
 #![tactic(auto)]
 
 mod asking;

@@ -1,8 +1,7 @@
 //! What a refinement owes, and that levels which owe nothing compose: what each level may do, the
 //! level above may do, if each block is contained and bounded. The definitions of both stand in
-//! `specs/`; how they are decided plays no part here.
-//! What a body can send, and with which choices: the law that those which a path wants are enough.
-//! Tables that fit a design stand for definitions of it: those of their own text.
+//! `specs/`; how they are decided plays no part here. [`sending_laws`] says which choices of a body are enough for a send,
+//! and [`table_laws`] that tables which fit a design stand for definitions of it. There is no code here.
 #![tactic(auto)]
 
 pub mod laws;

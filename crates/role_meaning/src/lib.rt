@@ -1,10 +1,9 @@
 //! One body's run, as the section "A body's run" of docs/LANGUAGE.md defines it, and packets that
 //! enter from bytes and leave as bytes. Functions that are defined at run time are evaluated by tables.
-//! Which segment some choices make: a body of a role that a block refines, and the bodies of the
-//! new roles that it leads through. How such choices were found plays no part here.
-//! What a body can send: whether some choices of a role's body give a send that is wanted. The paths
-//! of the body are followed by which choice each value is alone; so each path says with which choices
-//! it can give that send, if it can, and one run with these decides.
+//!
+//! What else is asked of bodies: [`follow`] runs those of a segment one after another, from a role that a block refines
+//! through new ones; [`can_send`] says whether some choices of a body give a send that is wanted, by the choices that each
+//! value is alone, and one run decides. How the choices of a segment were found plays no part here.
 #![tactic(auto)]
 
 pub mod bytes;

@@ -1,8 +1,7 @@
 //! Definitions of the functions that are defined at run time. [`bind`] makes tables of a text of definitions that fits
-//! its design, and says of any other what is wrong with it, and where.
-//! The text of definitions, of the tables of functions. It reads as definitions of which these are the tables.
-//! Tables of what functions gave at some arguments: a literal row for each list of arguments, and a default that is free but
-//! for the functions of guards and of forks.
+//! its design, and says of any other what is wrong with it, and where. [`print_defs`] is the way back: a text that reads as
+//! definitions of which given tables are the tables. [`tables_of`] makes tables of what functions gave at some arguments: a
+//! literal row for each list of arguments, and a default that is free but for the functions of guards and of forks.
 #![tactic(auto)]
 
 mod defaults;

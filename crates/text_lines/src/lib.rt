@@ -1,7 +1,7 @@
-//! The lines of a file, their parts, and the numbers among these, as files of cases have them and other files of lines. What
-//! a line has to say is the business of who reads the file.
-//! Texts that are printed piece by piece, and lexed again. The lemmas in `proofs/` say, for any lexicon, that pieces which
-//! may stand side by side have the tokens of each.
+//! Lines of texts, read and printed. The lines of a file, their parts, and the numbers among these, as files of cases have
+//! them and other files of lines: what a line has to say is the business of who reads the file. And [`Printer`], for texts
+//! that are printed piece by piece, and lexed again: the lemmas in `proofs/` say, for any lexicon, that pieces which may
+//! stand side by side have the tokens of each.
 #![tactic(auto)]
 
 pub mod line_parts;

@@ -1,5 +1,5 @@
 use Rattle.text_lines.proofs.Printing.{followed}
-use Rattle.failures.proofs.text_lines.push_first.Goals as goal
+use Rattle.failures.proofs.leading_lines.push_first.Goals as goal
 
 pub returns : goal.returns
 returns c =

@@ -3,7 +3,7 @@ use Rattle.cocoon_syntax.specs.TreeOf.{design_of}
 use Rattle.role_meaning.proofs.Sent.{flat_sent}
 use Rattle.text_lines.specs.Printing.{Prints}
 use Rattle.failures.specs.FailureTexts.{numbers_line}
-use Rattle.failures.proofs.text_lines.push_packet.Goals as goal
+use Rattle.failures.proofs.leading_lines.push_packet.Goals as goal
 
 pub returns : goal.returns
 returns c =
