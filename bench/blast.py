@@ -15,7 +15,7 @@ import tempfile
 
 from search import copied
 
-NEEDED = ["cocoon_num", "numbering", "cnf_core", "bv_terms", "term_walk", "bit_blast"]
+NEEDED = ["cocoon_num", "numbering", "cnf_core", "bv_terms", "bit_blast"]
 PROGRAM = """//! Takes the time of `blast`.
 #![tactic(auto)]
 

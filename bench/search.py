@@ -35,9 +35,9 @@ import tempfile
 TOP = pathlib.Path(__file__).resolve().parent.parent
 TESTS = TOP / "crates" / "solver_tests"
 DATA = TESTS / "data"
-NEEDED = ["cocoon_num", "numbering", "cnf_core", "proof_check", "cdcl", "case_files", "bv_terms", "term_walk", "bit_blast"]
-# The definitions of the tests name these.
-NEEDED += ["table_terms", "flat_laws"]
+NEEDED = ["cocoon_num", "numbering", "cnf_core", "proof_check", "cdcl", "case_files", "bv_terms", "bit_blast"]
+# The definitions of the tests name this.
+NEEDED += ["flat_laws"]
 # Each kind with growing sizes, up to the first that takes too long.
 FORMULAS = [
     ("exchanged", [2, 4, 6, 8, 10, 12, 14, 24, 32, 64]),

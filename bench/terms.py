@@ -17,7 +17,7 @@ import tempfile
 
 TOP = pathlib.Path(__file__).resolve().parent.parent
 RUNS = 9
-NEEDED = ["cocoon_num", "numbering", "bv_terms", "term_walk"]
+NEEDED = ["cocoon_num", "numbering", "bv_terms"]
 
 
 def laid_out(folder):

@@ -1,4 +1,4 @@
--- Cited by the clauses of `lex` and of cocoon_parse, and by private clauses of cocoon_text: the
+-- Cited by the clauses of `lex` and of the parser, and by private clauses of what reads whole texts: the
 -- tokens of the definitions that the tokens of the code stand for.
 use Rattle.std.specs.Prelude.{◌≡◌, ◌≤◌, ℕ, List, length, slice_range, Err, IsTrue, codes}
 use Rattle.cocoon_num.specs.Tokens as tokens

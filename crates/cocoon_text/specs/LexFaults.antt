@@ -1,4 +1,4 @@
--- The fault of this crate that is a first fault of the lexer's. Cited where the one is made of the other.
+-- The fault of the lexer here that is a first fault of `lexing`. Cited where the one is made of the other.
 use Rattle.lexing.specs.declared.lexer.FirstFault.{FirstFault}
 use Rattle.lexing.specs.declared.lexer.FirstFault.TheVariants as first
 use Rattle.cocoon_text.specs.declared.lexer.LexFault.{LexFault}

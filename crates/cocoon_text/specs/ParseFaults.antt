@@ -1,4 +1,4 @@
--- The first fault of a text of designs or definitions. Private clauses of cocoon_text cite it.
+-- The first fault of a text of designs or definitions. Private clauses of what reads whole texts cite it.
 use Rattle.std.specs.Prelude.{List}
 use Rattle.cocoon_num.specs.Tokens.{Kind, language_bounds}
 use Rattle.parsing.specs.Faults as faults

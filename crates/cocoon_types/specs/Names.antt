@@ -1,4 +1,4 @@
--- Cited by the clauses of the laws here, of `Checked::know_reading` (cocoon_resolve) and of defs_text: which names functions have in a
+-- Cited by the clauses of the laws here, of `Checked::know_reading` (cocoon_resolve) and of runtime_defs: which names functions have in a
 -- design that was read. It follows the section "Texts" of docs/LANGUAGE.md.
 use Rattle.std.specs.Prelude.{◌≡◌, ◌≤◌, ◌&&◌, ℕ, Bool, true, false, not, List, [], ◌∷◌, length}
 use Rattle.cocoon_num.specs.Lists.{each, is_one_of}

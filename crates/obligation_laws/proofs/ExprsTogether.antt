@@ -1,4 +1,4 @@
--- The laws, put together.
+-- The laws on terms of expressions, put together.
 use Rattle.std.proofs.Common.{◌≡◌, ℕ, List, [], take, drop, reverse, true, Some, sym, ap, subst, ◌∙◌}
 use Rattle.std.specs.Prelude.{slice_get}
 use Rattle.std.proofs.lemmas.List.{take-append-drop}

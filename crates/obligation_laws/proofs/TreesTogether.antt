@@ -1,4 +1,4 @@
--- The laws, put together.
+-- The laws of trees, put together.
 use Rattle.std.proofs.Common.{◌≡◌, ℕ, suc, ◌+◌, ◌≤◌, Bool, List, [], length, map, reverse, true, false, Some, refl, sym, subst, arith}
 use Rattle.cocoon_num.specs.Sorts.{truth_sort}
 use Rattle.cocoon_num.specs.Tree.{Role, Design}

@@ -1,4 +1,4 @@
--- Which declarations and statements of a P4 text break a kind rule, in the order of the text. The laws of p4_names cite
+-- Which declarations and statements of a P4 text break a kind rule, in the order of the text. The laws of `program_laws` cite
 -- it. The text is cut into pieces: one begins at each declaration and at each statement, and the others hold what is
 -- fixed. A piece that breaks a rule is a fault at its first token. It follows "Kind rules" in docs/FORMATS.md, and the
 -- rules of p4_ir where names are known; they are P4-16's, narrowed to the subset. Optional headers, tags and versions of

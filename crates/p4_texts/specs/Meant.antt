@@ -1,6 +1,6 @@
 -- The program that a P4 text stands for, where the text breaks no kind rule: each name that is used becomes the number
 -- of what it names, and the names of headers and fields lose what they begin with. A name that is not declared becomes
--- a number that nothing has. The laws of p4_names cite it. It follows "The text" in docs/FORMATS.md; the subset is one
+-- a number that nothing has. The laws of `program_laws` cite it. It follows "The text" in docs/FORMATS.md; the subset is one
 -- of P4-16. Optional headers, tags and versions of rows are absent.
 use Rattle.std.specs.Prelude.{ℕ, suc, Bool, false, List, [], ◌∷◌, length, drop, map, slice_get, if◌then◌else◌, Some, None, codes}
 use Rattle.cocoon_num.specs.Names.{same_name}

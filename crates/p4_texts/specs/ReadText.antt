@@ -1,4 +1,4 @@
--- When a text stands for a program. The laws of p4_names cite it. It follows "The text" and "Kind rules" in
+-- When a text stands for a program. The laws of `program_laws` cite it. It follows "The text" and "Kind rules" in
 -- docs/FORMATS.md; the subset is one of P4-16. Optional headers, tags and versions of rows are absent.
 use Rattle.std.specs.Prelude.{◌≡◌, ℕ, List, [], Ok, IsTrue}
 use Rattle.cocoon_num.specs.Tokens.{Token, is_shallow, lex, kinds}

@@ -1,4 +1,4 @@
--- The text of a program, before its tokens: the names and numbers that the printer writes. The laws of p4_names cite it.
+-- The text of a program, before its tokens: the names and numbers that the printer writes. The laws of `program_laws` cite it.
 -- It follows "The text" in docs/FORMATS.md; the subset is one of P4-16. Optional headers, tags and versions of rows are
 -- absent.
 use Rattle.std.specs.Prelude.{ℕ, Bool, List, [], ◌∷◌, ◌++◌, map, slice_get, Some, None, codes, decimal}

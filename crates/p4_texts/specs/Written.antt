@@ -1,4 +1,4 @@
--- Cited by the laws of `reader_laws` and of p4_names, and by the clauses of p4_parse.
+-- Cited by the laws of `reader_laws` and of `program_laws`, and by the clauses of p4_parse.
 -- P4 texts as they may be written: trees whose names are not yet looked up, one case for each production, and the
 -- tokens that each has, before those that follow it. Any name stands where the grammar has one. It follows "The text"
 -- in docs/FORMATS.md; the subset is one of P4-16. Optional headers, tags and versions of rows are absent.

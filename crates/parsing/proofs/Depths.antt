@@ -1,4 +1,4 @@
--- Depth goes token by token. plain_parser and p4_parse cite what it says of the first tokens of a text.
+-- Depth goes token by token. `text_laws` and p4_parse cite what it says of the first tokens of a text.
 use Rattle.std.specs.Prelude.{◌≡◌, ℕ, zero, suc, ◌+◌, ◌≤◌, ◌<◌, ◌&&◌, Bool, true, false, nat_le, IsTrue, List, [], ◌∷◌, ◌++◌, length, map, take, slice_get, Some, ◌⊎◌, refl}
 use Rattle.std.proofs.Common.{sym, ◌∙◌, ap, add-one, get_or, arith}
 use Rattle.std.proofs.lemmas.List.{append_assoc, append-nil}

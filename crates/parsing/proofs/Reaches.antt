@@ -1,4 +1,4 @@
--- What is read of a text is a part of its tokens, and the index of its first fault is one of them. cocoon_parse and p4_parse
+-- What is read of a text is a part of its tokens, and the index of its first fault is one of them. cocoon_text and p4_parse
 -- cite it.
 use Rattle.std.specs.Prelude.{◌≡◌, ℕ, ◌+◌, ◌≤◌, ◌^◌, List, length, map, Option, Some, None, refl}
 use Rattle.std.proofs.Common.{sym, arith}

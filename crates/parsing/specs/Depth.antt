@@ -1,4 +1,4 @@
--- The first deep token of a text: too many brackets are open, or too many operators have come. Clauses of plain_parser cite it,
+-- The first deep token of a text: too many brackets are open, or too many operators have come. Clauses of `text_laws` cite it,
 -- and private clauses of the parsers.
 use Rattle.std.specs.Prelude.{◌≡◌, ◌+◌, ◌<◌, ℕ, false, List, [], ◌∷◌, length, map, take, Option, Some, None, IsTrue, codes}
 use Rattle.cocoon_num.specs.Tokens.{Bounds, Kind, is_shallow, mark}

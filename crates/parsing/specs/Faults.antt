@@ -1,5 +1,5 @@
 -- The first fault of a text, by where a reading of its tokens up to the first deep one stops. Clauses of `fault_of` and of
--- p4_parse cite it, and private clauses of cocoon_parse.
+-- p4_parse cite it, and private clauses of cocoon_text.
 use Rattle.std.specs.Prelude.{◌<◌, ◌^◌, ℕ, nat_lt, List, Option, Some, None, if◌then◌else◌}
 use Rattle.cocoon_num.specs.FirstFaults as first
 use Rattle.cocoon_num.specs.Tokens.{Bounds, Kind}

@@ -1,4 +1,4 @@
--- The parser as a plain program, which the laws of `text_laws` cite, and clauses of cocoon_parse. It goes from
+-- The parser as a plain program, which the laws of `text_laws` cite, and clauses of cocoon_text. It goes from
 -- the left, with one token ahead. Each phrase has a function X_from, which reads it from a token index on. The number n bounds
 -- how deep the calls nest.
 use Rattle.std.specs.Prelude.{ℕ, zero, suc, ◌+◌, ◌&&◌, ◌||◌, Bool, true, false, List, [], ◌∷◌, slice_get, if◌then◌else◌, Option, Some, None, codes}

@@ -1,5 +1,5 @@
 -- What the reading of a text's tokens, up to the first deep one, says of the text. The laws of `text_laws` cite it, and private
--- clauses of cocoon_parse.
+-- clauses of cocoon_text.
 use Rattle.std.specs.Prelude.{◌≡◌, ◌+◌, ◌<◌, ◌≤◌, ℕ, Bool, false, List, [], ◌∷◌, length, take, Option, Some, None, IsTrue, nat_lt}
 use Rattle.cocoon_num.specs.Tokens.{Kind, Token, finish, is_shallow, kinds, language_bounds}
 use Rattle.cocoon_num.specs.FirstFaults.{TooDeep, Unexpected}

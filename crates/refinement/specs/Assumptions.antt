@@ -1,4 +1,4 @@
--- Cited by the clauses of the laws here and of `tables_stand`: which definitions a refinement
+-- Cited by the clauses of the laws here: which definitions a refinement
 -- speaks of. They are those of any text that fits the design, and of these the ones that meet the
 -- assumptions of some levels. It follows the section "Refinement" of docs/LANGUAGE.md.
 use Rattle.std.specs.Prelude.{◌≡◌, ℕ, true, List, [], Some, All}

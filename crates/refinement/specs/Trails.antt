@@ -1,4 +1,4 @@
--- Cited by the clause of the law `tried_choices_send`, and by the clauses of `role_sends`: what a path holds, by the choices that its values are,
+-- Cited by the clause of the law `tried_choices_send`, and by the clauses of `role_meaning`: what a path holds, by the choices that its values are,
 -- and the choices that are tried where it sends. A choice is known by the token index of its statement, and a value is a
 -- choice if it is that alone.
 use Rattle.std.specs.Prelude.{ℕ, ◌==◌, ◌&&◌, ◌||◌, Bool, false, List, [], ◌∷◌, ◌++◌, map, flat_map, length, if◌then◌else◌, Option, Some, None}
