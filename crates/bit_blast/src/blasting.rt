@@ -36,7 +36,7 @@ impl From<NoMemory> for BlastFault {
     }
 }
 
-/// The clauses of a goal in the order that the page says, and the bits of its inputs. A goal is a term of width 1 without
+/// The clauses of a goal in the order that docs/CLAUSES.md says, and the bits of its inputs. A goal is a term of width 1 without
 /// functions. They are counted before they are made. A goal with at most 4,000,000 clauses, but 2^31 variables or more, is out
 /// of memory.
 pub fn blast(alloc: Global, terms: &Terms, goal: TermId) -> Result<(Cnf, InputMap), BlastFault>

@@ -76,7 +76,7 @@ CompiledOf (Some (step design defs level file)) before after = Unit {0}
 CompiledOf (Some (forward out packets hops)) before after = Unit {0}
 CompiledOf (Some (gen hosts packets)) before after = Unit {0}
 
--- The words are a command, and where they are a `compile` or an `update` and the folder's content is known the files
--- are those of its design and definitions.
+-- The words are a command. If that is a `compile` or an `update`, and the folder's content is known, then the files
+-- are those of its design and definitions. Of any other command nothing is said.
 abbrev pub Headline : List (List ℕ) → Option Files → Option Files → Type 0
 Headline words before after = CompiledOf (command words) before after

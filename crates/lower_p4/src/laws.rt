@@ -1,4 +1,5 @@
-//! What the network of a design is. The functions do nothing; their contracts are the laws.
+//! What the network of a design is. The functions do nothing; their contracts are the laws. `Places` stand for
+//! definitions: a table for each function, and none for one with a body.
 ghost use Rattle.std.specs.Prelude.{◌<◌, ◌≡◌, ◌^◌, All, IsTrue, length, nat_lt, None, Some, true, ℕ};
 ghost use Rattle.cocoon_num.specs.Spelled.{is_spelled};
 ghost use Rattle.cocoon_num.specs.Tree.{DefsText, Design};

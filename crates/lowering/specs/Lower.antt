@@ -1,12 +1,14 @@
 -- Cited by all laws here and by the clauses of `lower_code`. Lowering of expressions and of function calls, as
--- functions on trees. The state is four counts: of table applications, of `v` fields, of meta fields, of forks.
--- Beside the code comes the list of what was made: meta fields by their numbers, and tables.
+-- functions on trees. The state is four counts: of table applications, of fields that hold a variable of the body (their
+-- names begin with `v`), of meta fields, and of forks, each of which is a site in egress. Beside the code comes the list of
+-- what was made: meta fields by their numbers, and tables.
 use Rattle.std.specs.Prelude.{ℕ, zero, suc, true, false, List, [], ◌∷◌, ◌++◌, if◌then◌else◌, Some, None}
 use Rattle.cocoon_num.specs.Values.{BinaryOp, implies, or_, not_, equal}
 use Rattle.cocoon_num.specs.Tree.{Param, Expr, name, Exprs, FunctionDecl, HeaderDecl, ResultKind, of_width, of_truth, field, lit, true_or_false, call, unary, binary, slice, pick, no_exprs, expr}
 use Rattle.cocoon_num.specs.Names.{same_name}
 use Rattle.p4_ir.specs.P4Tree.{P4Expr, p_lit, p_truth, p_meta, p_field, p_unary, p_binary, p_slice, p_pick, P4Stmt, P4Table, set_meta, apply_table}
 
+-- how many there are so far
 pub record Counts : Type 0 where
   pub app : ℕ
   pub var : ℕ

@@ -1,4 +1,5 @@
-//! All copies of a packet, followed to their ends.
+//! All copies of a packet, followed to their ends. A frame holds what a visit works in, so that it is made once for each switch
+//! and not for each visit; `Stations` are the switches that packets have visited, each with its frame.
 ghost use Rattle.std.specs.Prelude.{◌≡◌, ◌≤◌, IfErr, IfOk, map, true};
 ghost use Rattle.cocoon_num.specs.Lists.{has_number};
 ghost use Rattle.net_run.specs.Nets.{net_in};

@@ -1,6 +1,8 @@
 -- Cited by the clauses of the laws of levels: what a refinement owes. What its segments reach, the
 -- level above can reach too, and they have left the new roles after as many bodies as the block
 -- allows. Both are facts on single runs. They follow the section "Refinement" of docs/LANGUAGE.md.
+-- The roles that a block refines are old, and those that it declares are new; `Segments` beside this
+-- file says so, and what a segment is.
 use Rattle.std.specs.Prelude.{◌≡◌, ℕ, suc, ◌≤◌, List, Some, slice_get}
 use Rattle.cocoon_num.specs.PacketForms.{PacketFits}
 use Rattle.cocoon_num.specs.Packets.{Packet}
