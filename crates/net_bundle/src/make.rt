@@ -176,7 +176,7 @@ fn keep_switch<N: WritableNet>(
     requires shared { TextOfAll shared.now (N.net net.now).switches }
     ensures kept { OnOk result (OfSwitch (N.net net.now).switches index
         (λ s. map kept_of kept.new.items
-            ≡ map kept_of kept.old.items ++ map spec.kept_digest (spec.switch_files s))) }
+        ≡ map kept_of kept.old.items ++ map spec.kept_digest (spec.switch_files s))) }
     ensures fit { OnOk result (OfSwitch (N.net net.now).switches index
         (λ s. AllFit (spec.switch_files s))) }
     ensures program { OnOk result (OfSwitch (N.net net.now).switches index

@@ -27,5 +27,5 @@ pub returns-in_err-keep_file-clause-refused : goal.returns-in_err-keep_file-clau
 returns-in_err-keep_file-clause-refused c =
     let same : file_made (bundle_file.Program c.args.number) c.as_slice-text.result.now ≡ program_made c.args.number (program_of c.args.program.now) =
     ap (file_made (bundle_file.Program c.args.number)) (c.as_slice-text.ensures.value ∙ c.in_ok-bytes.ensures.text) in
-    passed _ _ c.in_err-keep_file.field-0.0 c.from_residual-in_err-keep_file.ensures.1
+    passed (program_made c.args.number (program_of c.args.program.now) ∷ []) _ c.in_err-keep_file.field-0.0 c.from_residual-in_err-keep_file.ensures.1
     (subst (λ f. NotMade (f ∷ []) c.in_err-keep_file.field-0.0) same c.in_err-keep_file.ensures.refused)

@@ -22,5 +22,5 @@ pub returns-in_err-keep_file-clause-refused : goal.returns-in_err-keep_file-clau
 returns-in_err-keep_file-clause-refused c =
     let same : file_made (bundle_file.Rows c.args.number) c.as_slice-bytes.result.now ≡ rows_made c.args.number c.args.text.now.bytes.items =
     ap (file_made (bundle_file.Rows c.args.number)) c.as_slice-bytes.ensures.value in
-    passed _ _ c.in_err-keep_file.field-0.0 c.from_residual-in_err-keep_file.ensures.1
+    passed (rows_made c.args.number c.args.text.now.bytes.items ∷ []) _ c.in_err-keep_file.field-0.0 c.from_residual-in_err-keep_file.ensures.1
     (subst (λ f. NotMade (f ∷ []) c.in_err-keep_file.field-0.0) same c.in_err-keep_file.ensures.refused)

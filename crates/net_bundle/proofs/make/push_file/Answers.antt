@@ -9,5 +9,5 @@ returns-clause-fit c = subst (λ b. AllFit (file_made c.args.made.file b ∷ [])
 
 pub returns-in_err-check_length-clause-refused : goal.returns-in_err-check_length-clause-refused
 returns-in_err-check_length-clause-refused c =
-    passed _ _ c.in_err-check_length.field-0.0 c.from_residual.ensures.1
+    passed (file_made c.args.made.file c.args.made.bytes.items ∷ []) _ c.in_err-check_length.field-0.0 c.from_residual.ensures.1
     (subst (λ b. NotMade (file_made c.args.made.file b ∷ []) c.in_err-check_length.field-0.0) c.deref.ensures.value c.in_err-check_length.ensures.refused)
