@@ -5,14 +5,11 @@ use Rattle.cocoon_num.specs.Lists.{each}
 use Rattle.p4_emit.specs.Printed.{printed}
 use Rattle.p4_ir.specs.Loading.{rows_file_fits, rows_load}
 use Rattle.p4_ir.specs.NetFits.{net_fits, switch_fits, wiring_of}
-use Rattle.p4_ir.specs.NetOf.{switch_of}
 use Rattle.p4_ir.specs.NetTree as net
 use Rattle.p4_ir.specs.P4Reads.{P4Reads}
 use Rattle.p4_ir.specs.P4Tree as tree
-use Rattle.p4_ir.specs.Program.{program_of}
 use Rattle.p4_ir.specs.Wiring.{wiring_fits}
 use Rattle.p4_ir.specs.WellKinded.{is_well_kinded, WellKinded}
-use Rattle.p4_ir.specs.declared.network.SwitchFiles.{SwitchFiles}
 use Rattle.net_bundle.specs.Bundle.{kept_digest, rows_text, switch_files, all_switch_files}
 use Rattle.json_forms.specs.Values.{IsJson}
 use Rattle.net_bundle.specs.Readable.{AllReadable}
@@ -57,8 +54,8 @@ kept_on s all rest whole before after e p h =
 parts_fit : (p : tree.Program) (rows : tree.RowsFile) → IsTrue (is_well_kinded p && rows_file_fits rows && rows_load p rows) → WellKinded p
 parts_fit p rows h = left_of (is_well_kinded p) (rows_file_fits rows) (left_of (is_well_kinded p && rows_file_fits rows) (rows_load p rows) h)
 
-pub program_fits : (s : SwitchFiles) → IsTrue (switch_fits (switch_of s)) → WellKinded (program_of s.program)
-program_fits s h = parts_fit (program_of s.program) (switch_of s).rows h
+pub program_fits : (s : net.SwitchFiles) → IsTrue (switch_fits s) → WellKinded s.program
+program_fits s h = parts_fit s.program s.rows h
 
 pub switches_fit : (n : net.NetData) → IsTrue (net_fits n) → IsTrue (each switch_fits n.switches)
 switches_fit n h = right_of (wiring_fits (wiring_of n)) (each switch_fits n.switches) h

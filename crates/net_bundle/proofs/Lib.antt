@@ -5,6 +5,7 @@ mod InOrder
 mod InTurn
 mod InParts
 mod Fitting
+mod OneSwitch
 mod ReadingLists
 pub mod ReadingDigests
 mod ReadingNames

@@ -4,6 +4,7 @@ pub mod Network
 pub mod Bundle
 pub mod Writing
 pub mod NetFileOf
+pub mod SharedRows
 pub mod Readable
 pub mod RowsForm
 pub mod NetForm

@@ -1,28 +1,30 @@
-//! The files of a bundle. Each is tested against its limit as soon as it is made, and nothing more is made after the first that is
-//! too long. Those of a switch are let go once their digests are kept, and are made again when they are written.
-ghost use Rattle.std.specs.Prelude.{◌≡◌, [], ◌∷◌, ◌++◌, IfErr, IfOk, IsTrue, OnOk, map, option_map, string_bytes};
+//! The files of a bundle. Each is tested against its limit in its turn, and no other is made after the first that is too long. Those
+//! of a switch are let go once their digests are kept, and are made again when they are written. The text of rows that all switches
+//! have is not: it is made once, with its digest, and then is that of each switch.
+ghost use Rattle.std.specs.Prelude.{◌≡◌, ◌<◌, [], ◌∷◌, ◌++◌, IfErr, IfOk, IsTrue, OnOk, length, map, option_map, string_bytes};
 ghost use Rattle.cocoon_num.specs.Lists.{each};
 ghost use Rattle.p4_emit.specs.Printed.{printed};
 ghost use Rattle.p4_ir.specs.NetFits.{switch_fits};
-ghost use Rattle.p4_ir.specs.NetOf.{switch_of};
 ghost use Rattle.p4_ir.specs.P4Reads.{P4Reads};
+ghost use Rattle.p4_ir.specs.Program.{program_of};
+ghost use Rattle.p4_ir.specs.WellKinded.{WellKinded};
 ghost use Rattle.net_bundle.specs.Bundle as spec;
 ghost use Rattle.net_bundle.specs.BundleNames.{digest_of};
-ghost use Rattle.net_bundle.specs.NetFileOf.{kept_of, made_of, net_file_of};
+ghost use Rattle.net_bundle.specs.NetFileOf.{file_made, kept_of, made_of, net_file_of, program_made, rows_made};
 ghost use Rattle.net_bundle.specs.NetJson.{net_data, rows_data};
 ghost use Rattle.json_forms.specs.Values.{IsJson};
 ghost use Rattle.net_bundle.specs.Readable.{AllReadable};
+ghost use Rattle.net_bundle.specs.SharedRows.{OfSwitch, TextOfAll};
 ghost use Rattle.net_bundle.specs.Writing.{AllFit, NotMade};
 
 use crate::fault::BundleFault;
 use crate::file::BundleFile;
 use crate::net_json::{KeptDigest, NetFile, net_text};
-use crate::rows_json::rows_text;
+use crate::row_texts::{RowsText, copy_bytes, digest_of, text_at};
 use crate::writable::WritableNet;
 use cocoon_num::NoMemory;
 use p4_emit::emit;
-use p4_ir::SwitchFiles;
-use sha2::{Digest, Sha256};
+use p4_ir::Program;
 use std::alloc::Global;
 
 /// A file of a bundle, with its bytes.
@@ -32,12 +34,15 @@ pub struct MadeFile {
     pub bytes: Vec<u8>,
 }
 
-/// The SHA-256 digest in lower-case hexadecimal digits.
-fn digest_of(alloc: Global, bytes: &[u8]) -> Result<String, NoMemory>
-    ensures { IfOk result (λ text. string_bytes text ≡ digest_of bytes.now) }
+/// Refuses a file that has more bytes than it may have.
+fn check_length(file: BundleFile, bytes: &[u8]) -> Result<(), BundleFault>
+    ensures fit { OnOk result (AllFit (file_made file bytes.now ∷ [])) }
+    ensures refused { IfErr result (NotMade (file_made file bytes.now ∷ [])) }
 {
-    let digest = Sha256::digest(bytes);
-    Ok(hex::encode(alloc, digest.as_slice())?)
+    if bytes.len() as u64 > file.most() {
+        return Err(BundleFault::Limit(file));
+    }
+    Ok(())
 }
 
 /// Adds a file, where it has at most the bytes that it may have.
@@ -47,80 +52,156 @@ fn push_file(files: &mut Vec<MadeFile>, made: MadeFile) -> Result<(), BundleFaul
     ensures fit { OnOk result (AllFit (made_of made ∷ [])) }
     ensures refused { IfErr result (NotMade (made_of made ∷ [])) }
 {
-    if made.bytes.len() as u64 > made.file.most() {
-        return Err(BundleFault::Limit(made.file));
-    }
+    check_length(made.file, &made.bytes)?;
     files.push(made)?;
     Ok(())
 }
 
-/// The files of a switch: its program and its rows.
-fn switch_files(alloc: Global, switch: &SwitchFiles) -> Result<Vec<MadeFile>, BundleFault>
-    requires fits { IsTrue (switch_fits (switch_of switch.now)) }
-    ensures files { IfOk result (λ v. map made_of v.items
-        ≡ spec.switch_files (switch_of switch.now)) }
-    ensures fit { OnOk result (AllFit (spec.switch_files (switch_of switch.now))) }
-    ensures program { OnOk result (P4Reads
-        (printed (switch_of switch.now).program) (switch_of switch.now).program) }
-    ensures rows { OnOk result (IsJson
-        (spec.rows_text (switch_of switch.now).rows) (rows_data (switch_of switch.now).rows)) }
-    ensures refused { IfErr result (NotMade (spec.switch_files (switch_of switch.now))) }
+/// The files of the switch of this number, its program and its rows, of these bytes.
+fn two_files(
+    alloc: Global,
+    number: u16,
+    program: Vec<u8>,
+    rows: Vec<u8>,
+) -> Result<Vec<MadeFile>, NoMemory>
+    ensures { IfOk result (λ v. map made_of v.items
+        ≡ file_made (BundleFile.Program number) program.items
+        ∷ rows_made number rows.items ∷ []) }
 {
-    let mut files = Vec::new(alloc);
     let program = MadeFile {
-        file: BundleFile::Program(switch.number),
-        bytes: emit(alloc, &switch.program)?,
+        file: BundleFile::Program(number),
+        bytes: program,
     };
-    push_file(&mut files, program)?;
     let rows = MadeFile {
-        file: BundleFile::Rows(switch.number),
-        bytes: rows_text(alloc, &switch.rows)?,
+        file: BundleFile::Rows(number),
+        bytes: rows,
     };
-    push_file(&mut files, rows)?;
+    Ok(vec![in alloc; program, rows]?)
+}
+
+/// The files of the switch at this index, where they are known to be short enough.
+pub(crate) fn switch_files<N: WritableNet>(
+    alloc: Global,
+    net: &N,
+    index: usize,
+    shared: &Option<RowsText>,
+) -> Result<Vec<MadeFile>, NoMemory>
+    requires within { index < length (N.net net.now).switches }
+    requires fits { IsTrue (each switch_fits (N.net net.now).switches) }
+    requires shared { TextOfAll shared.now (N.net net.now).switches }
+    ensures { IfOk result (λ v. OfSwitch (N.net net.now).switches index
+        (λ s. map made_of v.items ≡ spec.switch_files s)) }
+{
+    let number = net.number(index);
+    let program = net.program(alloc, index)?;
+    let printed = emit(alloc, &program)?;
+    let rows = text_at(alloc, net, index, shared)?;
+    let bytes = copy_bytes(alloc, rows.text())?;
+    let files = two_files(alloc, number, printed, bytes)?;
     Ok(files)
 }
 
-/// The same files again, where they are known to be short enough.
-pub(crate) fn switch_files_again(
+/// Keeps the digest of a file, behind what is kept, where the file has at most the bytes that it may have.
+fn keep_file(
     alloc: Global,
-    switch: &SwitchFiles,
-) -> Result<Vec<MadeFile>, NoMemory>
-    requires fits { IsTrue (switch_fits (switch_of switch.now)) }
-    ensures { IfOk result (λ v. map made_of v.items ≡ spec.switch_files (switch_of switch.now)) }
+    kept: &mut Vec<KeptDigest>,
+    file: BundleFile,
+    bytes: &[u8],
+    digest: String,
+) -> Result<(), BundleFault>
+    requires { string_bytes digest ≡ digest_of bytes.now }
+    ensures kept { OnOk result (map kept_of kept.new.items
+        ≡ map kept_of kept.old.items ++ spec.kept_digest (file_made file bytes.now) ∷ []) }
+    ensures fit { OnOk result (AllFit (file_made file bytes.now ∷ [])) }
+    ensures refused { IfErr result (NotMade (file_made file bytes.now ∷ [])) }
 {
-    match switch_files(alloc, switch) {
-        Ok(files) => Ok(files),
-        Err(_) => Err(NoMemory),
-    }
-}
-
-/// What the file of the network keeps of another file.
-fn keep(alloc: Global, made: &MadeFile) -> Result<KeptDigest, NoMemory>
-    ensures { IfOk result (λ k. kept_of k ≡ spec.kept_digest (made_of made.now)) }
-{
-    Ok(KeptDigest {
-        name: made.file.name(alloc)?,
-        digest: digest_of(alloc, &made.bytes)?,
-    })
-}
-
-/// Keeps the same of all these files, behind what is kept.
-fn keep_all(alloc: Global, kept: &mut Vec<KeptDigest>, files: &[MadeFile]) -> Result<(), NoMemory>
-    ensures { OnOk result (map kept_of kept.new.items
-        ≡ map kept_of kept.old.items ++ map spec.kept_digest (map made_of files.now)) }
-{
-    for made in files {
-        kept.push(keep(alloc, made)?)?;
-    }
+    check_length(file, bytes)?;
+    let name = file.name(alloc)?;
+    kept.push(KeptDigest { name, digest })?;
     Ok(())
 }
 
-/// What is kept of the files of all switches, in the order of the switches. No more than those of one are held.
+/// Keeps the digest of the program of a switch.
+fn keep_program(
+    alloc: Global,
+    kept: &mut Vec<KeptDigest>,
+    number: u16,
+    program: &Program,
+) -> Result<(), BundleFault>
+    requires { WellKinded (program_of program.now) }
+    ensures kept { OnOk result (map kept_of kept.new.items ≡ map kept_of kept.old.items
+        ++ spec.kept_digest (program_made number (program_of program.now)) ∷ []) }
+    ensures fit { OnOk result (AllFit (program_made number (program_of program.now) ∷ [])) }
+    ensures reads { OnOk result
+        (P4Reads (printed (program_of program.now)) (program_of program.now)) }
+    ensures refused { IfErr result (NotMade
+        (program_made number (program_of program.now) ∷ [])) }
+{
+    let bytes = emit(alloc, program)?;
+    let text = bytes.as_slice();
+    let digest = digest_of(alloc, text)?;
+    keep_file(alloc, kept, BundleFile::Program(number), text, digest)?;
+    Ok(())
+}
+
+/// Keeps the digest of the rows of the switch of this number, of which this is the text.
+fn keep_rows(
+    alloc: Global,
+    kept: &mut Vec<KeptDigest>,
+    number: u16,
+    text: &RowsText,
+) -> Result<(), BundleFault>
+    requires { string_bytes text.now.digest ≡ digest_of text.now.bytes.items }
+    ensures kept { OnOk result (map kept_of kept.new.items ≡ map kept_of kept.old.items
+        ++ spec.kept_digest (rows_made number text.now.bytes.items) ∷ []) }
+    ensures fit { OnOk result (AllFit (rows_made number text.now.bytes.items ∷ [])) }
+    ensures refused { IfErr result (NotMade (rows_made number text.now.bytes.items ∷ [])) }
+{
+    let bytes = text.bytes.as_slice();
+    let digest = String::from_str(alloc, text.digest.as_str())?;
+    keep_file(alloc, kept, BundleFile::Rows(number), bytes, digest)?;
+    Ok(())
+}
+
+/// Keeps the digests of the files of the switch at this index. One of them is held at a time, beside the text that is shared.
+fn keep_switch<N: WritableNet>(
+    alloc: Global,
+    kept: &mut Vec<KeptDigest>,
+    net: &N,
+    index: usize,
+    shared: &Option<RowsText>,
+) -> Result<(), BundleFault>
+    requires within { index < length (N.net net.now).switches }
+    requires fits { IsTrue (each switch_fits (N.net net.now).switches) }
+    requires shared { TextOfAll shared.now (N.net net.now).switches }
+    ensures kept { OnOk result (OfSwitch (N.net net.now).switches index
+        (λ s. map kept_of kept.new.items
+        ≡ map kept_of kept.old.items ++ map spec.kept_digest (spec.switch_files s))) }
+    ensures fit { OnOk result (OfSwitch (N.net net.now).switches index
+        (λ s. AllFit (spec.switch_files s))) }
+    ensures program { OnOk result (OfSwitch (N.net net.now).switches index
+        (λ s. P4Reads (printed s.program) s.program)) }
+    ensures rows { OnOk result (OfSwitch (N.net net.now).switches index
+        (λ s. IsJson (spec.rows_text s.rows) (rows_data s.rows))) }
+    ensures refused { IfErr result (λ fault. OfSwitch (N.net net.now).switches index
+        (λ s. NotMade (spec.switch_files s) fault)) }
+{
+    let number = net.number(index);
+    let program = net.program(alloc, index)?;
+    keep_program(alloc, kept, number, &program)?;
+    let rows = text_at(alloc, net, index, shared)?;
+    keep_rows(alloc, kept, number, rows.text())?;
+    Ok(())
+}
+
+/// What is kept of the files of all switches, in the order of the switches.
 pub(crate) fn keep_switches<N: WritableNet>(
     alloc: Global,
     net: &N,
+    shared: &Option<RowsText>,
 ) -> Result<Vec<KeptDigest>, BundleFault>
     requires fits { IsTrue (each switch_fits (N.net net.now).switches) }
+    requires shared { TextOfAll shared.now (N.net net.now).switches }
     ensures kept { IfOk result (λ v. map kept_of v.items
         ≡ map spec.kept_digest (spec.all_switch_files (N.net net.now).switches)) }
     ensures fit { OnOk result (AllFit (spec.all_switch_files (N.net net.now).switches)) }
@@ -130,9 +211,7 @@ pub(crate) fn keep_switches<N: WritableNet>(
 {
     let mut kept = Vec::new(alloc);
     for index in 0..net.count() {
-        let switch = net.switch(alloc, index)?;
-        let files = switch_files(alloc, &switch)?;
-        keep_all(alloc, &mut kept, &files)?;
+        keep_switch(alloc, &mut kept, net, index, shared)?;
     }
     Ok(kept)
 }

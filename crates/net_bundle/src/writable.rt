@@ -1,16 +1,19 @@
 //! Networks that can be written.
-ghost use Rattle.std.specs.Prelude.{◌≡◌, ◌<◌, IfOk, length, map, slice_get, Some};
+ghost use Rattle.std.specs.Prelude.{◌≡◌, ◌<◌, IfOk, IfSome, length, map, slice_get, Some};
 ghost use Rattle.p4_ir.specs.NetFits.{switch_numbers};
-ghost use Rattle.p4_ir.specs.NetOf.{host_port_of, link_of, net_of, switch_of};
+ghost use Rattle.p4_ir.specs.NetOf.{host_port_of, link_of, net_of, rows_of, switch_of};
 ghost use Rattle.p4_ir.specs.NetTree as tree;
+ghost use Rattle.p4_ir.specs.Program.{program_of};
+ghost use Rattle.net_bundle.specs.SharedRows.{AllHave, OfSwitch};
 ghost use Rattle.shared_net.specs.Shared.{shared_of};
 
 use cocoon_num::NoMemory;
-use p4_ir::{HostPort, Link, NetData, SwitchFiles};
-use shared_net::SharedNet;
+use p4_ir::{HostPort, Link, NetData, Program, RowsFile, SwitchFiles};
+use shared_net::{SharedNet, merge};
 use std::alloc::Global;
 
-/// A network, switch by switch. What a switch has is made when it is asked for, so no more than one need be held.
+/// A network, switch by switch. The program of a switch is made when it is asked for, so no more than one need be held. Rows
+/// are lent: they may be many, and all switches may have the same.
 pub trait WritableNet {
     ghost net: { Self → tree.NetData };
 
@@ -32,11 +35,25 @@ pub trait WritableNet {
     fn numbers(&self, alloc: Global) -> Result<Vec<u16>, NoMemory>
         ensures { IfOk result (λ v. v.items ≡ switch_numbers (net self.now).switches) };
 
-    /// The switch at this index, in memory of its own.
-    fn switch(&self, alloc: Global, index: usize) -> Result<SwitchFiles, NoMemory>
+    /// The number of the switch at this index.
+    fn number(&self, index: usize) -> u16
         requires { index < length (net self.now).switches }
-        ensures { IfOk result
-            (λ s. slice_get (net self.now).switches index ≡ Some (switch_of s)) };
+        ensures { OfSwitch (net self.now).switches index (λ s. s.number ≡ result) };
+
+    /// Its program, in memory of its own.
+    fn program(&self, alloc: Global, index: usize) -> Result<Program, NoMemory>
+        requires { index < length (net self.now).switches }
+        ensures { IfOk result (λ program.
+            OfSwitch (net self.now).switches index (λ s. s.program ≡ program_of program)) };
+
+    /// Its rows.
+    fn rows(&self, index: usize) -> &RowsFile
+        requires { index < length (net self.now).switches }
+        ensures { OfSwitch (net self.now).switches index (λ s. s.rows ≡ rows_of result.now) };
+
+    /// The rows of each switch, where all are known to have the same.
+    fn shared_rows(&self) -> Option<&RowsFile>
+        ensures { IfSome result (λ rows. AllHave (rows_of rows.now) (net self.now).switches) };
 }
 
 impl WritableNet for NetData {
@@ -62,9 +79,27 @@ impl WritableNet for NetData {
         numbers_of(alloc, self.switches.items())
     }
 
-    fn switch(&self, alloc: Global, index: usize) -> Result<SwitchFiles, NoMemory> {
-        let switch = switch_at(self.switches.items(), index);
-        copy_switch(alloc, switch)
+    fn number(&self, index: usize) -> u16 {
+        let switches = self.switches.items();
+        let switch = switch_at(switches, index);
+        switch.number
+    }
+
+    fn program(&self, alloc: Global, index: usize) -> Result<Program, NoMemory> {
+        let switches = self.switches.items();
+        let switch = switch_at(switches, index);
+        let program = switch.program.copy(alloc)?;
+        Ok(program)
+    }
+
+    fn rows(&self, index: usize) -> &RowsFile {
+        let switches = self.switches.items();
+        let switch = switch_at(switches, index);
+        &switch.rows
+    }
+
+    fn shared_rows(&self) -> Option<&RowsFile> {
+        None
     }
 }
 
@@ -86,16 +121,11 @@ fn switch_at(switches: &[SwitchFiles], index: usize) -> &SwitchFiles
     &switches[index]
 }
 
-fn copy_switch(alloc: Global, switch: &SwitchFiles) -> Result<SwitchFiles, NoMemory>
-    ensures { IfOk result (λ s. switch_of s ≡ switch_of switch.now) }
+fn number_at(numbers: &[u16], index: usize) -> u16
+    requires { index < length numbers.now }
+    ensures { slice_get numbers.now index ≡ Some result }
 {
-    let program = switch.program.copy(alloc)?;
-    let rows = switch.rows.copy(alloc)?;
-    Ok(SwitchFiles {
-        number: switch.number,
-        program,
-        rows,
-    })
+    numbers[index]
 }
 
 impl WritableNet for SharedNet {
@@ -122,8 +152,23 @@ impl WritableNet for SharedNet {
         Ok(numbers)
     }
 
-    fn switch(&self, alloc: Global, index: usize) -> Result<SwitchFiles, NoMemory> {
-        self.switches
-            .switch(alloc, self.switches.numbers.items()[index])
+    fn number(&self, index: usize) -> u16 {
+        let numbers = self.switches.numbers.items();
+        number_at(numbers, index)
+    }
+
+    fn program(&self, alloc: Global, index: usize) -> Result<Program, NoMemory> {
+        let numbers = self.switches.numbers.items();
+        let number = number_at(numbers, index);
+        let program = merge(alloc, &self.switches.program, &self.switches.other, number)?;
+        Ok(program)
+    }
+
+    fn rows(&self, _index: usize) -> &RowsFile {
+        &self.switches.rows
+    }
+
+    fn shared_rows(&self) -> Option<&RowsFile> {
+        Some(&self.switches.rows)
     }
 }

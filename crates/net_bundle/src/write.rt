@@ -4,11 +4,13 @@ ghost use Rattle.cocoon_num.specs.Lists.{each};
 ghost use Rattle.p4_ir.specs.NetFits.{net_fits, switch_fits};
 ghost use Rattle.net_bundle.specs.Bundle.{all_switch_files, bundle};
 ghost use Rattle.net_bundle.specs.NetFileOf.{made_of};
+ghost use Rattle.net_bundle.specs.SharedRows.{TextOfAll};
 ghost use Rattle.net_bundle.specs.Writing.{AllFit, ContentHolds, NamesFailure, NotWritten, WriteFaultRose, with_files};
 
 use crate::fault::BundleFault;
 use crate::file::BundleFile;
-use crate::make::{MadeFile, keep_switches, last_files, switch_files_again};
+use crate::make::{MadeFile, keep_switches, last_files, switch_files};
+use crate::row_texts::{RowsText, shared_text};
 use crate::writable::WritableNet;
 use cocoon_io::{Folder, FolderFault};
 use std::alloc::Global;
@@ -76,14 +78,17 @@ fn write_files<F: Folder>(
     Ok(())
 }
 
-/// Writes the files of all switches, each switch in its turn: they are made again, written, and let go.
+/// Writes the files of all switches, each switch in its turn: they are made again, but for a text of rows that is shared, written,
+/// and let go.
 fn write_switches<F: Folder, N: WritableNet>(
     alloc: Global,
     folder: &mut F,
     out: &str,
     net: &N,
+    shared: &Option<RowsText>,
 ) -> Result<(), BundleFault>
     requires fits { IsTrue (each switch_fits (N.net net.now).switches) }
+    requires shared { TextOfAll shared.now (N.net net.now).switches }
     requires fit { AllFit (all_switch_files (N.net net.now).switches) }
     ensures written { OnOk result (F.content folder.new
         ≡ with_files out.now (all_switch_files (N.net net.now).switches) (F.content folder.old)) }
@@ -97,8 +102,7 @@ fn write_switches<F: Folder, N: WritableNet>(
     ensures writes { F.write_faults folder.old ≤ F.write_faults folder.new }
 {
     for index in 0..net.count() {
-        let switch = net.switch(alloc, index)?;
-        let files = switch_files_again(alloc, &switch)?;
+        let files = switch_files(alloc, net, index, shared)?;
         write_files(alloc, folder, out, &files)?;
     }
     Ok(())
@@ -109,8 +113,9 @@ fn write_switches<F: Folder, N: WritableNet>(
 ///
 /// All files are made before the first write, and none after the first that has too many bytes: `Limit` has that
 /// file, and then nothing is written. Those of a switch are let go then, and made again for their writes, so no more than
-/// those of one switch are held. `Folder` has the file at which the writes stopped: those before it in that order
-/// stand, and none after it was touched.
+/// those of one switch are held. Rows that all switches have are an exception: their text is made and hashed once, and held
+/// until the end. `Folder` has the file at which the writes stopped: those before it in that order stand, and none after it
+/// was touched.
 /// The network has to be one that can be read back: what that asks is `net_fits`, as docs/FORMATS.md has it under "How a bundle
 /// is read back".
 pub fn write_bundle<F: Folder, N: WritableNet>(
@@ -144,9 +149,10 @@ pub fn write_bundle<F: Folder, N: WritableNet>(
     ensures reads { F.read_faults folder.new ≡ F.read_faults folder.old }
     ensures writes { F.write_faults folder.old ≤ F.write_faults folder.new }
 {
-    let kept = keep_switches(alloc, net)?;
+    let shared = shared_text(alloc, net)?;
+    let kept = keep_switches(alloc, net, &shared)?;
     let last = last_files(alloc, net, design, kept, certificates)?;
-    write_switches(alloc, folder, out, net)?;
+    write_switches(alloc, folder, out, net, &shared)?;
     write_files(alloc, folder, out, &last)?;
     Ok(())
 }

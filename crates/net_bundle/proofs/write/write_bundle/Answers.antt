@@ -1,19 +1,23 @@
-use Rattle.std.proofs.Common.{◌≡◌, ◌∙◌, map, option_map, subst, sym, ap}
+use Rattle.std.proofs.Common.{◌≡◌, ◌∙◌, map, option_map, subst, sym, ap, inl, refl}
 use Rattle.net_bundle.specs.Bundle.{all_switch_files, last_files}
 use Rattle.net_bundle.specs.NetFileOf.{made_of}
 use Rattle.net_bundle.specs.Writing.{AllFit, NotWritten, with_files}
+use Rattle.net_bundle.specs.declared.fault.BundleFault.TheVariants.{NoMemory}
 use Rattle.net_bundle.proofs.Fitting.{switches_fit}
 use Rattle.net_bundle.proofs.Held.{held}
 use Rattle.net_bundle.proofs.InParts.{none_written, stops_first, stops_second, told, written_both}
 use Rattle.net_bundle.proofs.InTurn.{both_fit, last_stop, switches_stop}
 use Rattle.net_bundle.proofs.write.write_bundle.Goals as goal
 
+pub returns-in_err-shared-clause-refused : goal.returns-in_err-shared-clause-refused
+returns-in_err-shared-clause-refused g c = told _ _ NoMemory c.from_residual.ensures.1 (inl refl)
+
 pub keep_switches-requires : goal.keep_switches-requires
-keep_switches-requires g c = record { fits = switches_fit (g.N.WritableNet.net c.args.net.now) c.requires.fits }
+keep_switches-requires g c = record { fits = switches_fit (g.N.WritableNet.net c.args.net.now) c.requires.fits; shared = c.in_ok-shared.ensures }
 
 pub returns-in_err-kept-clause-refused : goal.returns-in_err-kept-clause-refused
 returns-in_err-kept-clause-refused g c =
-    told _ _ c.in_err-kept.field-0.0 c.from_residual.ensures.1
+    told _ _ c.in_err-kept.field-0.0 c.from_residual-in_err-kept.ensures.1
     (none_written c.args.out.now _ _ _ (switches_stop c.args.design.now (g.N.WritableNet.net c.args.net.now) _ _ c.in_err-kept.ensures.refused))
 
 pub returns-in_err-last-clause-refused : goal.returns-in_err-last-clause-refused
@@ -22,7 +26,7 @@ returns-in_err-last-clause-refused g c =
     (none_written c.args.out.now _ _ _ (last_stop c.args.design.now (g.N.WritableNet.net c.args.net.now) _ _ c.in_ok-kept.ensures.fit c.in_err-last.ensures.refused))
 
 pub write_switches-requires : goal.write_switches-requires
-write_switches-requires g c = record { fits = switches_fit (g.N.WritableNet.net c.args.net.now) c.requires.fits; fit = c.in_ok-kept.ensures.fit }
+write_switches-requires g c = record { fits = switches_fit (g.N.WritableNet.net c.args.net.now) c.requires.fits; shared = c.in_ok-shared.ensures; fit = c.in_ok-kept.ensures.fit }
 
 pub returns-in_err-write_switches-clause-refused : goal.returns-in_err-write_switches-clause-refused
 returns-in_err-write_switches-clause-refused g c =
