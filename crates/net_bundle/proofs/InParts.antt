@@ -1,5 +1,5 @@
 -- Files that are written in two parts, and switch by switch.
-use Rattle.std.proofs.Common.{◌≡◌, ℕ, zero, suc, ◌+◌, ◌<◌, ◌≤◌, List, [], ◌∷◌, ◌++◌, Option, Some, Result, Ok, Err, IfErr, length, take, drop, slice_get, refl, sym, ap, ◌∙◌, subst, inl, inr, arith, ◌⊎◌}
+use Rattle.std.proofs.Common.{◌≡◌, ℕ, zero, suc, ◌+◌, ◌<◌, List, [], ◌∷◌, ◌++◌, Option, Some, Result, Ok, Err, IfErr, length, take, drop, slice_get, refl, sym, ap, ◌∙◌, subst, inl, inr, arith}
 use Rattle.std.specs.Result.{IsErrAnd}
 use Rattle.cocoon_io.specs.Files.{Files}
 use Rattle.cocoon_io.specs.Calls.{with_file}
@@ -8,7 +8,7 @@ use Rattle.net_bundle.specs.declared.fault.BundleFault.{BundleFault}
 use Rattle.net_bundle.specs.declared.fault.BundleFault.TheVariants.{Folder, Limit, NoMemory}
 use Rattle.net_bundle.specs.declared.file.BundleFile.{BundleFile}
 use Rattle.net_bundle.specs.Bundle.{MadeFile, all_switch_files, switch_files, whole_name}
-use Rattle.net_bundle.specs.Writing.{with_files, StopsAt, most_of, AllFit, FirstOver, NotMade, NotWritten}
+use Rattle.net_bundle.specs.Writing.{with_files, StopsAt, AllFit, FirstOver, NotMade, NotWritten}
 
 -- ---- two parts
 

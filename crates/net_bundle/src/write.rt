@@ -98,7 +98,7 @@ fn write_switch<F: Folder, N: WritableNet>(
         (λ s. F.content folder.new ≡ with_files out.now (switch_files s) (F.content folder.old))) }
     ensures refused { IfErr result (λ fault. OfSwitch (N.net net.now).switches index
         (λ s. NotWritten out.now (switch_files s)
-            (F.content folder.old) (F.content folder.new) fault)) }
+        (F.content folder.old) (F.content folder.new) fault)) }
     ensures failed { IfErr result (WriteFaultRose F.last_write_fault
         (F.write_faults folder.old) (F.write_faults folder.new)) }
     ensures counted { OnOk result (F.write_faults folder.new ≡ F.write_faults folder.old) }
