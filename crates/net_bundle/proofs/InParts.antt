@@ -1,5 +1,5 @@
 -- Files that are written in two parts, and switch by switch.
-use Rattle.std.proofs.Common.{◌≡◌, ℕ, zero, suc, ◌+◌, ◌<◌, ◌≤◌, List, [], ◌∷◌, ◌++◌, Option, Some, Result, Ok, Err, IfErr, length, take, drop, slice_get, refl, sym, ap, ◌∙◌, subst, inl, inr, arith, ◌⊎◌}
+use Rattle.std.proofs.Common.{◌≡◌, ℕ, zero, suc, ◌+◌, ◌<◌, List, [], ◌∷◌, ◌++◌, Option, Some, Result, Ok, Err, IfErr, length, take, drop, slice_get, refl, sym, ap, ◌∙◌, subst, inl, inr, arith}
 use Rattle.std.specs.Result.{IsErrAnd}
 use Rattle.cocoon_io.specs.Files.{Files}
 use Rattle.cocoon_io.specs.Calls.{with_file}
@@ -8,7 +8,7 @@ use Rattle.net_bundle.specs.declared.fault.BundleFault.{BundleFault}
 use Rattle.net_bundle.specs.declared.fault.BundleFault.TheVariants.{Folder, Limit, NoMemory}
 use Rattle.net_bundle.specs.declared.file.BundleFile.{BundleFile}
 use Rattle.net_bundle.specs.Bundle.{MadeFile, all_switch_files, switch_files, whole_name}
-use Rattle.net_bundle.specs.Writing.{with_files, StopsAt, most_of, AllFit, FirstOver, NotMade, NotWritten}
+use Rattle.net_bundle.specs.Writing.{with_files, StopsAt, AllFit, FirstOver, NotMade, NotWritten}
 
 -- ---- two parts
 
@@ -164,17 +164,6 @@ switch_stops out ss i s was mid is r e a p h =
 
 pub switch_fit : (ss : List SwitchFiles) (i : ℕ) (s : SwitchFiles) → slice_get ss i ≡ Some s → AllFit (all_switch_files ss) → AllFit (switch_files s)
 switch_fit ss i s e a = fit_before (switch_files s) (all_switch_files (drop (i + 1) ss)) (fit_after (all_switch_files (take i ss)) _ (subst AllFit (files_split ss i s e) a))
-
-take_switches : (ss : List SwitchFiles) (i : ℕ) → (m : ℕ) × (take m (all_switch_files ss) ≡ all_switch_files (take i ss))
-take_switches [] zero = (0, refl)
-take_switches [] (suc i) = (0, refl)
-take_switches (s ∷ ss) zero = (0, refl)
-take_switches (s ∷ ss) (suc i) = let t = take_switches ss i in (suc (suc t.0), ap (λ xs. switch_files s ++ xs) t.1)
-
--- there was no memory between two switches
-pub no_memory : (out : List ℕ) (ss : List SwitchFiles) (i : ℕ) (was is : Option Files) → AllFit (all_switch_files ss) → is ≡ with_files out (all_switch_files (take i ss)) was
-    → NotWritten out (all_switch_files ss) was is NoMemory
-no_memory out ss i was is a p = let t = take_switches ss i in inr (a, (t.0, p ∙ ap (λ xs. with_files out xs was) (sym t.1)))
 
 -- ---- what is told
 

@@ -20,7 +20,7 @@ ghost use Rattle.net_bundle.specs.Writing.{AllFit, NotMade};
 use crate::fault::BundleFault;
 use crate::file::BundleFile;
 use crate::net_json::{KeptDigest, NetFile, net_text};
-use crate::row_texts::{RowsText, copy_bytes, digest_of, text_at};
+use crate::row_texts::{RowsText, digest_of, text_at};
 use crate::writable::WritableNet;
 use cocoon_num::NoMemory;
 use p4_emit::emit;
@@ -55,50 +55,6 @@ fn push_file(files: &mut Vec<MadeFile>, made: MadeFile) -> Result<(), BundleFaul
     check_length(made.file, &made.bytes)?;
     files.push(made)?;
     Ok(())
-}
-
-/// The files of the switch of this number, its program and its rows, of these bytes.
-fn two_files(
-    alloc: Global,
-    number: u16,
-    program: Vec<u8>,
-    rows: Vec<u8>,
-) -> Result<Vec<MadeFile>, NoMemory>
-    ensures { IfOk result (λ v. map made_of v.items
-        ≡ file_made (BundleFile.Program number) program.items
-        ∷ rows_made number rows.items ∷ []) }
-{
-    let program = MadeFile {
-        file: BundleFile::Program(number),
-        bytes: program,
-    };
-    let rows = MadeFile {
-        file: BundleFile::Rows(number),
-        bytes: rows,
-    };
-    Ok(vec![in alloc; program, rows]?)
-}
-
-/// The files of the switch at this index, where they are known to be short enough.
-pub(crate) fn switch_files<N: WritableNet>(
-    alloc: Global,
-    net: &N,
-    index: usize,
-    shared: &Option<RowsText>,
-) -> Result<Vec<MadeFile>, NoMemory>
-    requires within { index < length (N.net net.now).switches }
-    requires fits { IsTrue (each switch_fits (N.net net.now).switches) }
-    requires shared { TextOfAll shared.now (N.net net.now).switches }
-    ensures { IfOk result (λ v. OfSwitch (N.net net.now).switches index
-        (λ s. map made_of v.items ≡ spec.switch_files s)) }
-{
-    let number = net.number(index);
-    let program = net.program(alloc, index)?;
-    let printed = emit(alloc, &program)?;
-    let rows = text_at(alloc, net, index, shared)?;
-    let bytes = copy_bytes(alloc, rows.text())?;
-    let files = two_files(alloc, number, printed, bytes)?;
-    Ok(files)
 }
 
 /// Keeps the digest of a file, behind what is kept, where the file has at most the bytes that it may have.

@@ -38,14 +38,6 @@ impl<'t> RowsAt<'t> {
     }
 }
 
-/// The bytes of a text of rows, in memory of their own.
-pub(crate) fn copy_bytes(alloc: Global, text: &RowsText) -> Result<Vec<u8>, NoMemory>
-    ensures { IfOk result (λ bytes. bytes.items ≡ text.now.bytes.items) }
-{
-    let bytes = text.bytes.as_slice();
-    Ok(bytes.to_vec(alloc)?)
-}
-
 /// The SHA-256 digest in lower-case hexadecimal digits.
 pub(crate) fn digest_of(alloc: Global, bytes: &[u8]) -> Result<String, NoMemory>
     ensures { IfOk result (λ text. string_bytes text ≡ digest_of bytes.now) }

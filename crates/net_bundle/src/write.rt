@@ -1,18 +1,19 @@
 //! The writing of a bundle.
-ghost use Rattle.std.specs.Prelude.{◌≡◌, ◌≤◌, List, [], ◌∷◌, IfErr, IsTrue, OnOk, map, option_map};
+ghost use Rattle.std.specs.Prelude.{◌≡◌, ◌≤◌, ◌<◌, List, [], ◌∷◌, IfErr, IsTrue, OnOk, length, map, option_map};
 ghost use Rattle.cocoon_num.specs.Lists.{each};
 ghost use Rattle.p4_ir.specs.NetFits.{net_fits, switch_fits};
-ghost use Rattle.net_bundle.specs.Bundle.{all_switch_files, bundle};
-ghost use Rattle.net_bundle.specs.NetFileOf.{made_of};
-ghost use Rattle.net_bundle.specs.SharedRows.{TextOfAll};
+ghost use Rattle.net_bundle.specs.Bundle.{all_switch_files, bundle, switch_files};
+ghost use Rattle.net_bundle.specs.NetFileOf.{file_made, made_of};
+ghost use Rattle.net_bundle.specs.SharedRows.{OfSwitch, TextOfAll};
 ghost use Rattle.net_bundle.specs.Writing.{AllFit, ContentHolds, NamesFailure, NotWritten, WriteFaultRose, with_files};
 
 use crate::fault::BundleFault;
 use crate::file::BundleFile;
-use crate::make::{MadeFile, keep_switches, last_files, switch_files};
-use crate::row_texts::{RowsText, shared_text};
+use crate::make::{MadeFile, keep_switches, last_files};
+use crate::row_texts::{RowsText, shared_text, text_at};
 use crate::writable::WritableNet;
 use cocoon_io::{Folder, FolderFault};
+use p4_emit::emit;
 use std::alloc::Global;
 
 /// Why a bundle is not written, where this is the fault of the folder at this file.
@@ -32,13 +33,14 @@ fn write_file<F: Folder>(
     alloc: Global,
     folder: &mut F,
     out: &str,
-    made: &MadeFile,
+    file: BundleFile,
+    bytes: &[u8],
 ) -> Result<(), BundleFault>
-    requires fit { AllFit (made_of made.now ∷ []) }
+    requires fit { AllFit (file_made file bytes.now ∷ []) }
     ensures written { OnOk result (F.content folder.new
-        ≡ with_files out.now (made_of made.now ∷ []) (F.content folder.old)) }
+        ≡ with_files out.now (file_made file bytes.now ∷ []) (F.content folder.old)) }
     ensures refused { IfErr result (NotWritten out.now
-        (made_of made.now ∷ []) (F.content folder.old) (F.content folder.new)) }
+        (file_made file bytes.now ∷ []) (F.content folder.old) (F.content folder.new)) }
     ensures failed { IfErr result (WriteFaultRose F.last_write_fault
         (F.write_faults folder.old) (F.write_faults folder.new)) }
     ensures counted { OnOk result (F.write_faults folder.new ≡ F.write_faults folder.old) }
@@ -46,9 +48,9 @@ fn write_file<F: Folder>(
     ensures reads { F.read_faults folder.new ≡ F.read_faults folder.old }
     ensures writes { F.write_faults folder.old ≤ F.write_faults folder.new }
 {
-    let name = made.file.whole_name(alloc, out)?;
-    if let Err(fault) = folder.write(alloc, name.as_str(), &made.bytes) {
-        return Err(fault_at(made.file, fault));
+    let name = file.whole_name(alloc, out)?;
+    if let Err(fault) = folder.write(alloc, name.as_str(), bytes) {
+        return Err(fault_at(file, fault));
     }
     Ok(())
 }
@@ -73,13 +75,50 @@ fn write_files<F: Folder>(
     ensures writes { F.write_faults folder.old ≤ F.write_faults folder.new }
 {
     for made in files {
-        write_file(alloc, folder, out, made)?;
+        write_file(alloc, folder, out, made.file, &made.bytes)?;
     }
     Ok(())
 }
 
-/// Writes the files of all switches, each switch in its turn: they are made again, but for a text of rows that is shared, written,
-/// and let go.
+/// Writes the files of the switch at this index, its program and its rows. They are made again, but for a text that is shared, and
+/// let go.
+fn write_switch<F: Folder, N: WritableNet>(
+    alloc: Global,
+    folder: &mut F,
+    out: &str,
+    net: &N,
+    index: usize,
+    shared: &Option<RowsText>,
+) -> Result<(), BundleFault>
+    requires within { index < length (N.net net.now).switches }
+    requires fits { IsTrue (each switch_fits (N.net net.now).switches) }
+    requires shared { TextOfAll shared.now (N.net net.now).switches }
+    requires fit { AllFit (all_switch_files (N.net net.now).switches) }
+    ensures written { OnOk result (OfSwitch (N.net net.now).switches index
+        (λ s. F.content folder.new ≡ with_files out.now (switch_files s) (F.content folder.old))) }
+    ensures refused { IfErr result (λ fault. OfSwitch (N.net net.now).switches index
+        (λ s. NotWritten out.now (switch_files s)
+        (F.content folder.old) (F.content folder.new) fault)) }
+    ensures failed { IfErr result (WriteFaultRose F.last_write_fault
+        (F.write_faults folder.old) (F.write_faults folder.new)) }
+    ensures counted { OnOk result (F.write_faults folder.new ≡ F.write_faults folder.old) }
+    ensures named { IfErr result (NamesFailure (F.last_failure folder.new) out.now) }
+    ensures reads { F.read_faults folder.new ≡ F.read_faults folder.old }
+    ensures writes { F.write_faults folder.old ≤ F.write_faults folder.new }
+{
+    let number = net.number(index);
+    let program = net.program(alloc, index)?;
+    let printed = emit(alloc, &program)?;
+    let rows = text_at(alloc, net, index, shared)?;
+    let first = printed.as_slice();
+    write_file(alloc, folder, out, BundleFile::Program(number), first)?;
+    let text = rows.text();
+    let second = text.bytes.as_slice();
+    write_file(alloc, folder, out, BundleFile::Rows(number), second)?;
+    Ok(())
+}
+
+/// Writes the files of all switches, each switch in its turn.
 fn write_switches<F: Folder, N: WritableNet>(
     alloc: Global,
     folder: &mut F,
@@ -102,8 +141,7 @@ fn write_switches<F: Folder, N: WritableNet>(
     ensures writes { F.write_faults folder.old ≤ F.write_faults folder.new }
 {
     for index in 0..net.count() {
-        let files = switch_files(alloc, net, index, shared)?;
-        write_files(alloc, folder, out, &files)?;
+        write_switch(alloc, folder, out, net, index, shared)?;
     }
     Ok(())
 }

@@ -1,4 +1,4 @@
-use Rattle.std.proofs.Common.{◌≡◌, ◌∙◌, map, option_map, subst, sym, ap, inl, refl}
+use Rattle.std.proofs.Common.{◌∙◌, map, option_map, subst, sym, ap, inl, refl}
 use Rattle.net_bundle.specs.Bundle.{all_switch_files, last_files}
 use Rattle.net_bundle.specs.NetFileOf.{made_of}
 use Rattle.net_bundle.specs.Writing.{AllFit, NotWritten, with_files}
