@@ -201,13 +201,14 @@ pub fn generate<'w>(alloc: Global, asked: &Gen) -> Result<Answer<'w>, Refusal>
         rounds: USUAL_ROUNDS,
     };
     let compiled = compile(alloc, &usual, &design, &defs)?;
-    match compiled.writing {
+    let Answer { report, writing } = compiled;
+    match writing {
         Writing::Nothing => Ok(Answer {
-            report: compiled.report,
+            report,
             writing: Writing::Nothing,
         }),
         Writing::Own(file, bytes) => Ok(Answer {
-            report: compiled.report,
+            report,
             writing: Writing::Own(file, bytes),
         }),
         Writing::Bundle(_, net, certificates) => {
