@@ -5,6 +5,8 @@ pub mod finding;
 pub mod loading;
 pub mod lookups;
 pub mod net;
+pub mod switch;
 
 pub use loading::{NetFault, load};
 pub use net::Net;
+pub use switch::LoadedSwitch;
