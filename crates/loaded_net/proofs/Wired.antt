@@ -6,13 +6,15 @@ use Rattle.std.specs.List.{find}
 use Rattle.std.specs.Slice.{IsItemAt}
 use denote.Ref.{Bor}
 use Rattle.cocoon_num.specs.Lists.{ascend, has_number}
+use Rattle.p4_ir.specs.NetFits.{wiring_of}
 use Rattle.p4_ir.specs.NetOf.{end_of, host_port_of, link_of}
 use Rattle.p4_ir.specs.NetRuns.{attach_at, link_at, switch_at}
 use Rattle.p4_ir.specs.NetTree as tree
-use Rattle.p4_ir.specs.Wiring.{host_numbers, pairs_ascend}
+use Rattle.p4_ir.specs.Wiring.{host_numbers, pairs_ascend, wiring_fits}
 use Rattle.p4_ir.specs.declared.network.HostPort.{HostPort}
 use Rattle.p4_ir.specs.declared.network.Link.{Link}
 use Rattle.loaded_net.specs.Locations.{location_of}
+use Rattle.loaded_net.specs.Nets.{net_in}
 use Rattle.loaded_net.specs.Runs.{runs_in, runs_of}
 use Rattle.loaded_net.specs.Switches.{switch_in}
 use Rattle.loaded_net.specs.declared.net.Net.{Net}
@@ -32,13 +34,14 @@ pub record Rising (n : Net) : Type 0 where
 
 pub rising : (n : Net) → Rising n
 rising n =
-    let links = and_parts _ _ n.wired in
+    let fit : wiring_fits (wiring_of (net_in n)) ≡ true = n.wired in
+    let links = and_parts _ _ fit in
     let each_link = and_parts _ _ links.0 in
     let hosts = and_parts _ _ each_link.0 in
     let each_host = and_parts _ _ hosts.0 in
     let switches = and_parts _ _ each_host.0 in
     record {
-      switches = ap ascend (sym (mapped (λ (s : tree.SwitchFiles). s.number) switch_of n.switches)) ∙ switches.1;
+      switches = ap ascend (sym (mapped (λ (s : tree.SwitchFiles). s.number) switch_in n.switches.items)) ∙ switches.1;
       hosts = ap ascend (sym (mapped (λ (h : tree.HostPort). h.host) host_port_of n.hosts)) ∙ hosts.1;
       links = ap pairs_ascend (sym (mapped (λ (l : tree.Link). (l.switch, l.port)) link_of n.links)) ∙ links.1;
     }

@@ -1,6 +1,5 @@
 use Rattle.std.proofs.Common.{◌∙◌, ap, map}
 use Rattle.p4_ir.specs.NetOf.{host_port_of, link_of, switch_of}
-use Rattle.p4_ir.specs.NetTree.{NetData, SwitchFiles}
 use Rattle.loaded_net.proofs.net.Net.new.Goals as goal
 
 pub returns-clause-parts : goal.returns-clause-parts
