@@ -7,7 +7,6 @@ use Rattle.cocoon_io.specs.Calls.{AnswersFile, ReadAnswers}
 use Rattle.cocoon_io.specs.Files.{Files}
 use Rattle.cocoon_io.specs.declared.folder.FolderFault.{FolderFault}
 use Rattle.cocoon_io.specs.declared.folder.FolderFault.TheVariants.{TooLong}
-use Rattle.p4_ir.specs.NetOf.{rows_of}
 use Rattle.p4_ir.specs.P4Tree as tree
 use Rattle.p4_read.specs.FirstFault as p4
 use Rattle.p4_read.specs.declared.fault.P4Fault.{P4Fault}
@@ -25,17 +24,16 @@ use Rattle.net_bundle.specs.Writing.{most_of}
 use Rattle.net_bundle.specs.declared.file.BundleFile.{BundleFile}
 use Rattle.net_bundle.specs.declared.file.BundleFile.TheVariants.{Program, Rows, Network}
 use Rattle.net_bundle.specs.NetForm.{net_form}
-use Rattle.json_forms.specs.Reading.{Answered, Refused}
+use Rattle.json_forms.specs.Reading.{Refused}
 use Rattle.net_bundle.specs.RowsForm.{rows_form}
 use Rattle.json_forms.specs.declared.fault.FormFault.{FormFault}
 use Rattle.json_forms.specs.declared.fault.FormFault.TheVariants as form
 use Rattle.bundle_reader.specs.FolderCounts.{NamesFailure, ReadFaultRose}
-use Rattle.bundle_reader.specs.Parts.{BytesFault, FaultAt, formed_at, HoldsRows, IsOfBytes, loaded_at, program_at}
+use Rattle.bundle_reader.specs.Parts.{BytesFault, FaultAt, formed_at, IsOfBytes, loaded_at, program_at}
 use Rattle.bundle_reader.specs.Readings.{Held, IsFirstFault, ProgramReads, RowsRead, Turn, UpTo}
 use Rattle.bundle_reader.specs.Told.{IsTold}
 use Rattle.bundle_reader.specs.declared.fault.ReadFault.{ReadFault}
 use Rattle.bundle_reader.specs.declared.fault.ReadFault.TheVariants as read
-use Rattle.bundle_reader.specs.declared.last_rows.LastRows.{LastRows}
 
 -- ---- what `?` passes on
 
@@ -51,11 +49,6 @@ not_not false e = absurd cc
 
 pub same_bytes : (x y : List ℕ) → false ≡ not (bytes_eq x y) → x ≡ y
 same_bytes x y e = (bytes_eq-Decides x y).0 (not_not (bytes_eq x y) e)
-
--- ---- rows of bytes
-
-pub holds : (text bytes kept digest : List ℕ) (last : LastRows) → text ≡ bytes → digest_of text ≡ kept → digest ≡ kept → Answered rows_form text (Ok (rows_of last.rows)) → HoldsRows bytes digest last
-holds text bytes kept digest last e fresh same rows = subst (λ b. HoldsRows b digest last) e (fresh ∙ sym same, rows)
 
 -- ---- faults of bytes
 

@@ -1,11 +1,15 @@
 //! The file of rows that was read last. Bytes equal to its bytes are not read again, and its rows are not copied: the files of rows
 //! that a network's switches have are equal when they are written.
-ghost use Rattle.std.specs.Prelude.{IfErr, IfOk, IfSome, IsTrue};
+ghost use Rattle.std.specs.Prelude.{◌≡◌, IfErr, IfOk, IfSome, IsTrue, Ok};
+ghost use Rattle.json_forms.specs.Reading.{Answered};
+ghost use Rattle.net_bundle.specs.BundleNames.{digest_of};
+ghost use Rattle.net_bundle.specs.RowsForm.{rows_form};
+ghost use Rattle.p4_ir.specs.NetOf.{rows_of};
 ghost use Rattle.bundle_reader.specs.Parts.{BytesFault, HoldsRows, IsOfBytes, IsRead, LastIsRead};
 
 use crate::fault::ReadFault;
 use crate::files::{compare_digest, form_fault};
-use cocoon_num::Text;
+use cocoon_num::{NoMemory, Text};
 use net_bundle::{BundleFile, read_rows};
 use p4_ir::RowsFile;
 use std::alloc::Global;
@@ -19,6 +23,26 @@ pub(crate) struct LastRows {
 }
 
 impl LastRows {
+    /// What is kept of a file that was read.
+    fn of(
+        alloc: Global,
+        bytes: Vec<u8>,
+        digest: &str,
+        rows: RowsFile,
+    ) -> Result<LastRows, NoMemory>
+        requires digest { digest_of bytes.items ≡ digest.now }
+        requires rows { Answered rows_form bytes.items (Ok (rows_of rows)) }
+        ensures read { IfOk result IsRead }
+        ensures holds { IfOk result (HoldsRows bytes.items digest.now) }
+    {
+        let digest = Text::from(alloc, digest.as_bytes())?;
+        Ok(LastRows {
+            bytes,
+            digest,
+            rows,
+        })
+    }
+
     /// Whether the file has just these bytes and this digest.
     fn has(&self, bytes: &[u8], kept: &str) -> bool
         requires { IsRead self.now }
@@ -73,14 +97,7 @@ pub(crate) fn rows_of_bytes(
     let file = BundleFile::Rows(switch);
     compare_digest(alloc, file, text, kept)?;
     match read_rows(alloc, text) {
-        Ok(rows) => {
-            let digest = Text::from(alloc, kept.as_bytes())?;
-            Ok(LastRows {
-                bytes,
-                digest,
-                rows,
-            })
-        }
+        Ok(rows) => Ok(LastRows::of(alloc, bytes, kept, rows)?),
         Err(fault) => Err(form_fault(file, fault)),
     }
 }
