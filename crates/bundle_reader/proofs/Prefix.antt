@@ -8,13 +8,11 @@ use Rattle.serde_json.specs.Data.{Data}
 use Rattle.cocoon_io.specs.Files.{Files}
 use Rattle.p4_ir.specs.Loading.{rows_file_fits, rows_load}
 use Rattle.p4_ir.specs.NetFits.{switch_numbers}
-use Rattle.p4_ir.specs.NetOf.{switch_of}
 use Rattle.p4_ir.specs.NetTree.{SwitchFiles}
 use Rattle.p4_ir.specs.P4Tree as tree
-use Rattle.p4_ir.specs.declared.network.SwitchFiles as code
 use Rattle.p4_run.specs.Faults.{load_fault}
-use Rattle.p4_run.specs.declared.loaded.Loaded.{Loaded}
-use Rattle.net_run.specs.Runs.{runs_in, runs_of}
+use Rattle.net_run.specs.Switches.{switch_in}
+use Rattle.net_run.specs.declared.switch.LoadedSwitch.{LoadedSwitch}
 use Rattle.net_bundle.specs.BundleNames.{digest_of, program_name, rows_name}
 use Rattle.net_bundle.specs.NetFileOf.{kept_of}
 use Rattle.net_bundle.specs.NetJson.{KeptDigest, NetFile, rows_data}
@@ -181,24 +179,18 @@ numbers_end ns i all h e = e ∙ take_all i ns h
 pub numbers_from : (ns : List ℕ) (i : ℕ) (before : List ℕ) → i < length ns → before ≡ take i ns → ns ≡ before ++ get_or ns i 0 ∷ drop (i + 1) ns
 numbers_from ns i before h b = sym (take-append-drop i ns) ∙ ap (λ r. take i ns ++ r) (drop_more ns i 0 h) ∙ ap (λ t. t ++ get_or ns i 0 ∷ drop (i + 1) ns) (sym b)
 
-pub numbers_more : (ns : List ℕ) (i : ℕ) (ss now : List code.SwitchFiles) (s : code.SwitchFiles) → i < length ns → now ≡ ss ++ s ∷ [] → s.number ≡ get_or ns i 0
-    → switch_numbers (map switch_of ss) ≡ take i ns → switch_numbers (map switch_of now) ≡ take (i + 1) ns
+pub numbers_more : (ns : List ℕ) (i : ℕ) (ss now : List LoadedSwitch) (s : LoadedSwitch) → i < length ns → now ≡ ss ++ s ∷ [] → s.number ≡ get_or ns i 0
+    → switch_numbers (map switch_in ss) ≡ take i ns → switch_numbers (map switch_in now) ≡ take (i + 1) ns
 numbers_more ns i ss now s h p is b =
-    ap (λ x. switch_numbers (map switch_of x)) p ∙ ap switch_numbers (map_push switch_of ss s) ∙ map_push (λ (x : SwitchFiles). x.number) (map switch_of ss) (switch_of s)
+    ap (λ x. switch_numbers (map switch_in x)) p ∙ ap switch_numbers (map_push switch_in ss s) ∙ map_push (λ (x : SwitchFiles). x.number) (map switch_in ss) (switch_in s)
     ∙ ap (λ t. t ++ s.number ∷ []) b ∙ ap (λ (m : ℕ). take i ns ++ m ∷ []) is ∙ sym (take_more ns i 0 h)
-
-pub runs_more : (ls lnow : List Loaded) (l : Loaded) (ss now : List code.SwitchFiles) (s : code.SwitchFiles) → lnow ≡ ls ++ l ∷ [] → now ≡ ss ++ s ∷ [] → runs_in l ≡ runs_of (switch_of s)
-    → map runs_in ls ≡ map runs_of (map switch_of ss) → map runs_in lnow ≡ map runs_of (map switch_of now)
-runs_more ls lnow l ss now s e p is h =
-    ap (map runs_in) e ∙ map_push runs_in ls l ∙ ap (λ r. map runs_in ls ++ r ∷ []) is ∙ ap (λ t. t ++ runs_of (switch_of s) ∷ []) h
-    ∙ sym (ap (λ x. map runs_of (map switch_of x)) p ∙ ap (map runs_of) (map_push switch_of ss s) ∙ map_push runs_of (map switch_of ss) (switch_of s))
 
 pub two_kept : (rest others : List code-kept.KeptDigest) (k l : code-kept.KeptDigest) → rest ≡ k ∷ l ∷ others → map kept_of rest ≡ kept_of k ∷ kept_of l ∷ map kept_of others
 two_kept rest others k l e = ap (map kept_of) e
 
-pub well_pushed : (files : Files) (out : List ℕ) (all others : List KeptDigest) (ss now : List code.SwitchFiles) (s : code.SwitchFiles) → now ≡ ss ++ s ∷ []
-    → SoFar files out all others (map switch_of ss ++ switch_of s ∷ []) → SoFar files out all others (map switch_of now)
-well_pushed files out all others ss now s e h = subst (SoFar files out all others) (sym (ap (map switch_of) e ∙ map_push switch_of ss s)) h
+pub well_pushed : (files : Files) (out : List ℕ) (all others : List KeptDigest) (ss now : List LoadedSwitch) (s : LoadedSwitch) → now ≡ ss ++ s ∷ []
+    → SoFar files out all others (map switch_in ss ++ switch_in s ∷ []) → SoFar files out all others (map switch_in now)
+well_pushed files out all others ss now s e h = subst (SoFar files out all others) (sym (ap (map switch_in) e ∙ map_push switch_in ss s)) h
 
 -- the digests are those that were given
 pub well_given : (files : Files) (out : List ℕ) (n : ℕ) (p q x y : List ℕ) (s : SwitchFiles) → x ≡ p → y ≡ q → SwitchWell out n x y s files → SwitchWell out n p q s files

@@ -4,10 +4,12 @@ use Rattle.std.proofs.lemmas.Bool.{and_parts}
 use Rattle.serde_json.specs.Data.{Data}
 use Rattle.cocoon_num.specs.Lists.{each}
 use Rattle.cocoon_io.specs.Files.{Files}
+use Rattle.p4_ir.specs.NetFits.{switch_numbers, wiring_of}
 use Rattle.p4_ir.specs.NetTree.{HostPort, Link, NetData, SwitchFiles}
+use Rattle.p4_ir.specs.Wiring.{wiring_fits}
 use Rattle.net_bundle.specs.NetJson.{NetFile, net_data}
 use Rattle.json_forms.specs.Values.{IsJson}
-use Rattle.net_bundle.specs.Network.{net_file_fits}
+use Rattle.net_bundle.specs.Network.{file_wiring, is_digest, net_file_fits}
 use Rattle.net_bundle.specs.declared.file.BundleFile.TheVariants.{Network}
 use Rattle.net_bundle.specs.NetForm.{are_names, file_fits, file_names, kept_fits, net_form}
 use Rattle.bundle_reader.specs.Parts.{AllWell, OfFiles}
@@ -22,6 +24,13 @@ net_with ports switches links hosts = record { ports = ports; switches = switche
 
 pub wires_fit : (f : NetFile) → IsTrue (file_fits f) → IsTrue (net_file_fits f)
 wires_fit f h = (and_parts (net_file_fits f) (each kept_fits f.files) (and_parts _ (are_names (file_names f.switches) f.files) h).0).0
+
+-- so do those of switches that have the numbers of the file
+pub wires_of_file_fit : (f : NetFile) (ss : List SwitchFiles) → IsTrue (file_fits f) → switch_numbers ss ≡ f.switches → IsTrue (wiring_fits (wiring_of (net_with f.ports ss f.links f.hosts)))
+wires_of_file_fit f ss h e =
+    let fit : IsTrue (wiring_fits (file_wiring f)) = (and_parts (is_digest f.design) (wiring_fits (file_wiring f)) (wires_fit f h)).1 in
+    let same : wiring_of (net_with f.ports ss f.links f.hosts) ≡ file_wiring f = ap (λ ns. record { ports = f.ports; switches = ns; links = f.links; hosts = f.hosts }) e in
+    subst (λ w. IsTrue (wiring_fits w)) (sym same) fit
 
 reads_as : NetExact → (files : Files) (out : List ℕ) (f : NetFile) (ss : List SwitchFiles) → NetReads files out f → AllWell out f ss files → ReadsAs files out (net_with f.ports ss f.links f.hosts)
 reads_as exact files out f ss (text, held, answered) well =

@@ -59,9 +59,13 @@ IsOfBytes (P4 file fault) = ⊥
 IsOfBytes (Load file fault) = ⊥
 IsOfBytes _ = Unit {0}
 
--- the digest is that of the bytes, which read as the rows
+-- these bytes have this digest, and read as the rows
+abbrev pub HoldsRows : (bytes kept : List ℕ) → LastRows → Type 0
+HoldsRows bytes kept last = (digest_of bytes ≡ kept) × Answered rows_form bytes (Ok (rows_of last.rows))
+
+-- the bytes that are held do so, with the digest that is
 abbrev pub IsRead : LastRows → Type 0
-IsRead last = (digest_of last.bytes.items ≡ last.digest) × Answered rows_form last.bytes.items (Ok (rows_of last.rows))
+IsRead last = HoldsRows last.bytes.items last.digest last
 
 -- the same, if a file of rows was read
 abbrev pub LastIsRead : Option LastRows → Type 0

@@ -67,14 +67,10 @@ pub fn read_bundle<F: Folder>(alloc: Global, folder: &mut F, out: &str) -> Resul
 {
     net_form_is_exact();
     let file = read_network(alloc, folder, out)?;
-    let read = read_switches(alloc, folder, out, &file)?;
-    let parts = NetData {
-        ports: file.ports,
-        switches: List::from(read.switches),
-        links: List::from(file.links),
-        hosts: List::from(file.hosts),
-    };
-    Ok(Net::from_loaded(parts, read.loaded))
+    let switches = read_switches(alloc, folder, out, &file)?;
+    let links = List::from(file.links);
+    let hosts = List::from(file.hosts);
+    Ok(Net::from_loaded(file.ports, switches, links, hosts))
 }
 
 /// Reads the file of the network of the bundle `out` alone. The switches that it names have empty programs and no rows.

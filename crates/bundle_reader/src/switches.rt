@@ -1,14 +1,14 @@
 //! The files of the switches of a bundle.
 ghost use Rattle.std.specs.Prelude.{◌≡◌, ◌∷◌, ◌≤◌, IfErr, IfOk, IsTrue, Some, length, map};
 ghost use Rattle.net_bundle.specs.NetForm.{file_fits};
-ghost use Rattle.net_run.specs.Runs.{runs_in, runs_of};
+ghost use Rattle.net_run.specs.Switches.{switch_in};
 ghost use Rattle.net_bundle.specs.NetFileOf.{net_file_of};
 ghost use Rattle.p4_ir.specs.NetFits.{switch_numbers};
-ghost use Rattle.p4_ir.specs.NetOf.{rows_of, switch_of};
+ghost use Rattle.p4_ir.specs.NetOf.{rows_of};
 ghost use Rattle.p4_ir.specs.Program.{program_of};
 ghost use Rattle.p4_ir.specs.WellKinded.{WellKinded};
 ghost use Rattle.bundle_reader.specs.FolderCounts.{NamesFailure, ReadFaultRose};
-ghost use Rattle.bundle_reader.specs.Parts.{AllWell, FaultAt, LastIsRead, OfFiles, SwitchFault, SwitchWell, SwitchesFault, loaded_at};
+ghost use Rattle.bundle_reader.specs.Parts.{AllWell, FaultAt, IsRead, LastIsRead, OfFiles, SwitchFault, SwitchWell, SwitchesFault, loaded_at};
 ghost use Rattle.bundle_reader.specs.Readings.{ProgramReads, RowsRead};
 ghost use Rattle.bundle_reader.specs.Told.{IsTold};
 
@@ -16,12 +16,11 @@ use crate::fault::ReadFault;
 use crate::files::{program_fault, read_file, read_kept};
 use crate::last_rows::{LastRows, rows_of_bytes};
 use cocoon_io::Folder;
+use net_run::{LoadedSwitch, NetFault, load};
 use net_bundle::BundleFile;
 use net_bundle::form_laws::rows_form_is_exact;
 use net_bundle::net_json::{KeptDigest, NetFile};
-use net_run::{NetFault, load};
-use p4_ir::{Program, RowsFile, SwitchFiles};
-use p4_run::Loaded;
+use p4_ir::Program;
 use p4_run::laws::rows_without_fault_load;
 use std::alloc::Global;
 
@@ -55,19 +54,19 @@ fn read_program<F: Folder>(
     }
 }
 
-/// The rows of a switch, of whose file this digest is kept.
+/// The rows of a switch, of whose file this digest is kept, if it is not the one that was read last.
 fn read_switch_rows<F: Folder>(
     alloc: Global,
     folder: &mut F,
     out: &str,
     switch: u16,
     kept: &str,
-    last: &mut Option<LastRows>,
-) -> Result<RowsFile, ReadFault>
-    requires { LastIsRead last.old }
-    ensures last { IfOk result (λ _. LastIsRead last.new) }
-    ensures rows { IfOk result (λ rows. OfFiles (F.content folder.old)
-        (λ files. RowsRead files out.now switch kept.now (rows_of rows))) }
+    last: Option<LastRows>,
+) -> Result<LastRows, ReadFault>
+    requires { LastIsRead last }
+    ensures read { IfOk result IsRead }
+    ensures rows { IfOk result (λ read. OfFiles (F.content folder.old)
+        (λ files. RowsRead files out.now switch kept.now (rows_of read.rows))) }
     ensures refused { IfErr result (λ fault. OfFiles (F.content folder.old)
         (FaultAt out.now (BundleFile.Rows switch) (Some kept.now) fault)) }
     ensures told { IfErr result IsTold }
@@ -80,15 +79,15 @@ fn read_switch_rows<F: Folder>(
     ensures writes { F.write_faults folder.new ≡ F.write_faults folder.old }
 {
     let bytes = read_file(alloc, folder, out, BundleFile::Rows(switch))?;
-    let rows = rows_of_bytes(alloc, bytes, switch, kept, last)?;
-    Ok(rows)
+    let read = rows_of_bytes(alloc, bytes, switch, kept, last)?;
+    Ok(read)
 }
 
-/// A switch, and the same with its rows loaded.
+/// A switch with its rows loaded, and the file that they were read from.
 #[derive(Drop)]
 struct ReadSwitch {
-    files: SwitchFiles,
-    loaded: Loaded,
+    switch: LoadedSwitch,
+    rows: LastRows,
 }
 
 /// Why the rows of a switch are not loaded.
@@ -109,14 +108,13 @@ fn read_switch<F: Folder>(
     switch: u16,
     program: &str,
     rows: &str,
-    last: &mut Option<LastRows>,
+    last: Option<LastRows>,
 ) -> Result<ReadSwitch, ReadFault>
-    requires { LastIsRead last.old }
-    ensures last { IfOk result (λ _. LastIsRead last.new) }
-    ensures number { IfOk result (λ read. read.files.number ≡ switch) }
-    ensures runs { IfOk result (λ read. runs_in read.loaded ≡ runs_of (switch_of read.files)) }
+    requires { LastIsRead last }
+    ensures last { IfOk result (λ read. IsRead read.rows) }
+    ensures number { IfOk result (λ read. read.switch.number ≡ switch) }
     ensures well { IfOk result (λ read. OfFiles (F.content folder.old)
-        (SwitchWell out.now switch program.now rows.now (switch_of read.files))) }
+        (SwitchWell out.now switch program.now rows.now (switch_in read.switch))) }
     ensures refused { IfErr result (λ fault. OfFiles (F.content folder.old)
         (SwitchFault out.now switch program.now rows.now fault)) }
     ensures told { IfErr result IsTold }
@@ -130,13 +128,11 @@ fn read_switch<F: Folder>(
 {
     let program = read_program(alloc, folder, out, switch, program)?;
     let rows = read_switch_rows(alloc, folder, out, switch, rows, last)?;
-    let files = SwitchFiles {
-        number: switch,
-        program,
-        rows,
-    };
-    match load(alloc, &files) {
-        Ok(loaded) => Ok(ReadSwitch { files, loaded }),
+    match load(alloc, switch, &program, &rows.rows) {
+        Ok(loaded) => Ok(ReadSwitch {
+            switch: loaded,
+            rows,
+        }),
         Err(fault) => Err(load_fault(fault)),
     }
 }
@@ -149,27 +145,18 @@ fn next_two(kept: &[KeptDigest]) -> (&KeptDigest, &KeptDigest, &[KeptDigest])
     (&kept[0], &kept[1], &kept[2..])
 }
 
-/// The switches of a bundle, and the same with their rows loaded.
-#[derive(Drop)]
-pub(crate) struct ReadSwitches {
-    pub(crate) switches: Vec<SwitchFiles>,
-    pub(crate) loaded: Vec<Loaded>,
-}
-
-/// The switches that the file of a network names, in their order.
+/// The switches that the file of a network names, in their order, with their rows loaded.
 pub(crate) fn read_switches<F: Folder>(
     alloc: Global,
     folder: &mut F,
     out: &str,
     file: &NetFile,
-) -> Result<ReadSwitches, ReadFault>
+) -> Result<Vec<LoadedSwitch>, ReadFault>
     requires fits { IsTrue (file_fits (net_file_of file.now)) }
     ensures numbers { IfOk result (λ read.
-        switch_numbers (map switch_of read.switches.items) ≡ file.now.switches.items) }
-    ensures runs { IfOk result (λ read.
-        map runs_in read.loaded.items ≡ map runs_of (map switch_of read.switches.items)) }
+        switch_numbers (map switch_in read.items) ≡ file.now.switches.items) }
     ensures well { IfOk result (λ read. OfFiles (F.content folder.old)
-        (AllWell out.now (net_file_of file.now) (map switch_of read.switches.items))) }
+        (AllWell out.now (net_file_of file.now) (map switch_in read.items))) }
     ensures refused { IfErr result (λ fault. OfFiles (F.content folder.old)
         (SwitchesFault out.now (net_file_of file.now) fault)) }
     ensures told { IfErr result IsTold }
@@ -184,7 +171,6 @@ pub(crate) fn read_switches<F: Folder>(
     rows_form_is_exact();
     rows_without_fault_load();
     let mut switches = Vec::new(alloc);
-    let mut loaded = Vec::new(alloc);
     let mut last = None;
     let mut kept = file.files.as_slice();
     for switch in &file.switches {
@@ -196,11 +182,11 @@ pub(crate) fn read_switches<F: Folder>(
             *switch,
             &program.digest,
             &rows.digest,
-            &mut last,
+            last,
         )?;
-        switches.push(read.files)?;
-        loaded.push(read.loaded)?;
+        switches.push(read.switch)?;
+        last = Some(read.rows);
         kept = others;
     }
-    Ok(ReadSwitches { switches, loaded })
+    Ok(switches)
 }

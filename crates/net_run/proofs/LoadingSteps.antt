@@ -9,11 +9,11 @@ use Rattle.p4_run.specs.FaultOf.{fault_of, IsFault}
 use Rattle.p4_run.specs.Faults.{Fault, load_fault, or_else}
 use Rattle.p4_run.specs.declared.faults.LoadFault.{LoadFault}
 use Rattle.p4_run.specs.declared.faults.LoadFault.TheVariants.{MissingTable, UnknownTable, RowShape, GroupShape, NoMemory}
-use Rattle.p4_run.specs.declared.loaded.Loaded.{Loaded}
 use Rattle.net_run.specs.LoadFaults.{first_load_fault, TellsFirst, told_at}
-use Rattle.net_run.specs.Runs.{runs_in, runs_of}
+use Rattle.net_run.specs.Switches.{switch_in}
 use Rattle.net_run.specs.declared.loading.NetFault.{NetFault}
 use Rattle.net_run.specs.declared.loading.NetFault.TheVariants as faults
+use Rattle.net_run.specs.declared.switch.LoadedSwitch.{LoadedSwitch}
 
 -- a fault that is not out of memory is a fault of rows
 pub fault_is : (told : LoadFault) (number : ℕ) → (told ≢ NoMemory) → (first : Option Fault) → IsFault told first
@@ -35,12 +35,12 @@ pub passed : (f : tree.SwitchFiles) (rest all first : List tree.SwitchFiles) →
     → first_load_fault rest ≡ first_load_fault all
 passed f rest all first e h is = sym (ap first_load_fault e ∙ ap (λ o. or_else (told_at f.number o) (first_load_fault rest)) h) ∙ is
 
-pub run_pushed : (all now : List Loaded) (l : Loaded) (f : tree.SwitchFiles) (rest here whole : List tree.SwitchFiles) → now ≡ all ++ l ∷ [] → runs_in l ≡ runs_of f → here ≡ f ∷ rest
-    → map runs_in all ++ map runs_of here ≡ map runs_of whole → map runs_in now ++ map runs_of rest ≡ map runs_of whole
+pub run_pushed : (all now : List LoadedSwitch) (l : LoadedSwitch) (f : tree.SwitchFiles) (rest here whole : List tree.SwitchFiles) → now ≡ all ++ l ∷ [] → switch_in l ≡ f → here ≡ f ∷ rest
+    → map switch_in all ++ here ≡ whole → map switch_in now ++ rest ≡ whole
 run_pushed all now l f rest here whole e r h is =
-    ap (λ ls. map runs_in ls ++ map runs_of rest) e ∙ ap (λ xs. xs ++ map runs_of rest) (map_push runs_in all l)
-    ∙ append_assoc (map runs_in all) (runs_in l ∷ []) (map runs_of rest) ∙ ap (λ x. map runs_in all ++ x ∷ map runs_of rest) r
-    ∙ ap (λ fs. map runs_in all ++ map runs_of fs) (sym h) ∙ is
+    ap (λ ls. map switch_in ls ++ rest) e ∙ ap (λ xs. xs ++ rest) (map_push switch_in all l)
+    ∙ append_assoc (map switch_in all) (switch_in l ∷ []) rest ∙ ap (λ x. map switch_in all ++ x ∷ rest) r
+    ∙ ap (λ fs. map switch_in all ++ fs) (sym h) ∙ is
 
 -- the fault of a switch before the rest is the first
 pub tells : (told : NetFault) (number : ℕ) (fault : Option Fault) (more first : Option (ℕ × Fault)) → or_else (told_at number fault) more ≡ first → TellsFirst told (told_at number fault) → TellsFirst told first

@@ -1,17 +1,15 @@
 -- What becomes of a packet: the deliveries and the copies that travel, among its ends, are those that the network makes.
 use Rattle.std.proofs.Common.{◌≡◌, inl, inr, ℕ, suc, true, List, [], ◌∷◌, ◌++◌, length, map, refl, sym, subst, ap, ◌∙◌, arith}
-use Rattle.std.proofs.Math.Bool.{Bool-set}
-use Rattle.std.proofs.Math.Logic.{∥∥₁_elim}
 use Rattle.std.proofs.lemmas.Bool.{and_from}
 use Rattle.std.proofs.lemmas.List.{append-nil}
 use Rattle.cocoon_num.specs.Lists.{each}
 use Rattle.net_run.specs.Nets.{net_in}
-use Rattle.net_run.specs.Runs.{runs_in, runs_of}
+use Rattle.net_run.specs.Switches.{switch_in}
 use Rattle.net_run.specs.declared.net.Net.{Net}
+use Rattle.net_run.specs.declared.switch.LoadedSwitch.{LoadedSwitch}
 use Rattle.p4_ir.specs.Loading.{rows_load}
 use Rattle.p4_ir.specs.NetTree.{LinkEnd, to_switch, to_host, NetData, SwitchFiles}
-use Rattle.p4_ir.specs.P4Tree.{Program, RowsFile}
-use Rattle.p4_run.specs.declared.loaded.Loaded.{Loaded}
+use Rattle.p4_run.specs.Running.{program_in, rows_in}
 use Rattle.net_run.specs.Ascending.{Ahead, AheadOfAll, Ascending}
 use Rattle.net_run.specs.Deliveries.{count_at, deliver_at, deliveries, delivered, standing, travelling}
 use Rattle.net_run.specs.Delivering.{delivery_of}
@@ -26,21 +24,12 @@ use Rattle.net_run.proofs.Rising.{AllLoad, choices_of, EndsAscend, ends_ascend}
 
 -- ---- a network that is loaded
 
-first_same : (x y : Program × RowsFile) (xs ys : List (Program × RowsFile)) → x ∷ xs ≡ y ∷ ys → x ≡ y
-first_same x y xs ys h = cc
-
-rest_same : (x y : Program × RowsFile) (xs ys : List (Program × RowsFile)) → x ∷ xs ≡ y ∷ ys → xs ≡ ys
-rest_same x y xs ys h = cc
-
-each_loads : (ls : List Loaded) (fs : List SwitchFiles) → map runs_in ls ≡ map runs_of fs → each (λ (f : SwitchFiles). rows_load f.program f.rows) fs ≡ true
-each_loads ls [] h = refl
-each_loads [] (f ∷ fs) h = absurd (cc)
-each_loads (l ∷ ls) (f ∷ fs) h =
-    and_from (rows_load f.program f.rows) _ (subst (λ r. rows_load r.0 r.1 ≡ true) (first_same (runs_in l) (runs_of f) (map runs_in ls) (map runs_of fs) h) l.loads)
-    (each_loads ls fs (rest_same (runs_in l) (runs_of f) (map runs_in ls) (map runs_of fs) h))
+each_loads : (ss : List LoadedSwitch) → each (λ (f : SwitchFiles). rows_load f.program f.rows) (map switch_in ss) ≡ true
+each_loads [] = refl
+each_loads (s ∷ ss) = and_from (rows_load (program_in s.loaded) (rows_in s.loaded)) _ s.loaded.loads (each_loads ss)
 
 pub all_load : (net : Net) → AllLoad (net_in net)
-all_load net = ∥∥₁_elim net.loads (Bool-set _ _) (each_loads net.loaded.items (net_in net).switches)
+all_load net = each_loads net.switches.items
 
 -- ---- what is delivered
 

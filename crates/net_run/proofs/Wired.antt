@@ -7,17 +7,18 @@ use Rattle.std.specs.Slice.{IsItemAt}
 use denote.Ref.{Bor}
 use Rattle.cocoon_num.specs.Lists.{ascend, has_number}
 use Rattle.p4_ir.specs.NetFits.{wiring_of}
-use Rattle.p4_ir.specs.NetOf.{end_of, host_port_of, link_of, net_of, switch_of}
+use Rattle.p4_ir.specs.NetOf.{end_of, host_port_of, link_of}
 use Rattle.p4_ir.specs.NetRuns.{attach_at, link_at, switch_at}
 use Rattle.p4_ir.specs.NetTree as tree
 use Rattle.p4_ir.specs.Wiring.{host_numbers, pairs_ascend, wiring_fits}
 use Rattle.p4_ir.specs.declared.network.HostPort.{HostPort}
 use Rattle.p4_ir.specs.declared.network.Link.{Link}
-use Rattle.p4_ir.specs.declared.network.NetData.{NetData}
-use Rattle.p4_ir.specs.declared.network.SwitchFiles.{SwitchFiles}
-use Rattle.p4_run.specs.declared.loaded.Loaded.{Loaded}
 use Rattle.net_run.specs.Locations.{location_of}
+use Rattle.net_run.specs.Nets.{net_in}
 use Rattle.net_run.specs.Runs.{runs_in, runs_of}
+use Rattle.net_run.specs.Switches.{switch_in}
+use Rattle.net_run.specs.declared.net.Net.{Net}
+use Rattle.net_run.specs.declared.switch.LoadedSwitch.{LoadedSwitch}
 use Rattle.net_run.proofs.Searching.{indexed}
 
 mapped : {A B C : Type 0} (g : B → C) (f : A → B) (xs : List A) → map g (map f xs) ≡ map (λ x. g (f x)) xs
@@ -26,20 +27,21 @@ mapped g f (x ∷ xs) = ap (λ ys. g (f x) ∷ ys) (mapped g f xs)
 
 -- ---- what ascends
 
-pub record Rising (n : NetData) : Type 0 where
-  pub switches : ascend (map (λ (f : SwitchFiles). f.number) n.switches) ≡ true
+pub record Rising (n : Net) : Type 0 where
+  pub switches : ascend (map (λ (s : LoadedSwitch). s.number) n.switches.items) ≡ true
   pub hosts : ascend (map (λ (h : HostPort). h.host) n.hosts) ≡ true
   pub links : pairs_ascend (map location_of n.links) ≡ true
 
-pub rising : (n : NetData) → wiring_fits (wiring_of (net_of n)) ≡ true → Rising n
-rising n w =
-    let links = and_parts _ _ w in
+pub rising : (n : Net) → Rising n
+rising n =
+    let fit : wiring_fits (wiring_of (net_in n)) ≡ true = n.wired in
+    let links = and_parts _ _ fit in
     let each_link = and_parts _ _ links.0 in
     let hosts = and_parts _ _ each_link.0 in
     let each_host = and_parts _ _ hosts.0 in
     let switches = and_parts _ _ each_host.0 in
     record {
-      switches = ap ascend (sym (mapped (λ (s : tree.SwitchFiles). s.number) switch_of n.switches)) ∙ switches.1;
+      switches = ap ascend (sym (mapped (λ (s : tree.SwitchFiles). s.number) switch_in n.switches.items)) ∙ switches.1;
       hosts = ap ascend (sym (mapped (λ (h : tree.HostPort). h.host) host_port_of n.hosts)) ∙ hosts.1;
       links = ap pairs_ascend (sym (mapped (λ (l : tree.Link). (l.switch, l.port)) link_of n.links)) ∙ links.1;
     }
@@ -77,33 +79,24 @@ has_host (h ∷ hs) a =
     chosen true h o t e = refl
     chosen false h o t e = e
 
-found_mapped : (fs : List SwitchFiles) (s : ℕ) → switch_at (map switch_of fs) s ≡ option_map switch_of (find (λ (f : SwitchFiles). f.number == s) fs)
+found_mapped : (ss : List LoadedSwitch) (s : ℕ) → switch_at (map switch_in ss) s ≡ option_map switch_in (find (λ (l : LoadedSwitch). l.number == s) ss)
 found_mapped [] s = refl
-found_mapped (f ∷ fs) s = chosen (f.number == s) f (switch_at (map switch_of fs) s) (find (λ (k : SwitchFiles). k.number == s) fs) (found_mapped fs s)
+found_mapped (l ∷ ss) s = chosen (l.number == s) l (switch_at (map switch_in ss) s) (find (λ (k : LoadedSwitch). k.number == s) ss) (found_mapped ss s)
   where
-    chosen : (b : Bool) (f : SwitchFiles) (x : Option tree.SwitchFiles) (o : Option SwitchFiles) → x ≡ option_map switch_of o
-        → (if b then Some (switch_of f) else x) ≡ option_map switch_of (if b then Some f else o)
-    chosen true f x o e = refl
-    chosen false f x o e = e
+    chosen : (b : Bool) (l : LoadedSwitch) (x : Option tree.SwitchFiles) (o : Option LoadedSwitch) → x ≡ option_map switch_in o
+        → (if b then Some (switch_in l) else x) ≡ option_map switch_in (if b then Some l else o)
+    chosen true l x o e = refl
+    chosen false l x o e = e
 
-got_mapped : {A B : Type 0} (f : A → B) (xs : List A) (i : ℕ) → slice_get (map f xs) i ≡ option_map f (slice_get xs i)
-got_mapped f [] i = refl
-got_mapped f (x ∷ xs) zero = refl
-got_mapped f (x ∷ xs) (suc i) = got_mapped f xs i
-
-twice_mapped : (o : Option SwitchFiles) → option_map runs_of (option_map switch_of o) ≡ option_map (λ f. runs_of (switch_of f)) o
+twice_mapped : (o : Option LoadedSwitch) → option_map runs_of (option_map switch_in o) ≡ option_map (λ l. runs_in l.loaded) o
 twice_mapped None = refl
-twice_mapped (Some f) = refl
+twice_mapped (Some l) = refl
 
--- the loaded switch at the place of a switch
-pub loaded_at : (ls : List Loaded) (fs : List SwitchFiles) (i : ℕ) (s : ℕ) → map runs_in ls ≡ map runs_of (map switch_of fs) → slice_get fs i ≡ find (λ (f : SwitchFiles). f.number == s) fs
-    → option_map runs_in (slice_get ls i) ≡ option_map runs_of (switch_at (map switch_of fs) s)
-loaded_at ls fs i s e h =
-    sym (got_mapped runs_in ls i) ∙ ap (λ xs. slice_get xs i) (e ∙ mapped runs_of switch_of fs) ∙ got_mapped (λ f. runs_of (switch_of f)) fs i
-    ∙ ap (option_map (λ f. runs_of (switch_of f))) h ∙ sym (twice_mapped (find (λ (f : SwitchFiles). f.number == s) fs)) ∙ ap (option_map runs_of) (sym (found_mapped fs s))
-
-pub none_at : (fs : List SwitchFiles) (s : ℕ) → None ≡ find (λ (f : SwitchFiles). f.number == s) fs → None ≡ option_map runs_of (switch_at (map switch_of fs) s)
-none_at fs s h = ap (λ o. option_map runs_of (option_map switch_of o)) h ∙ ap (option_map runs_of) (sym (found_mapped fs s))
+-- what the switch runs that is found
+pub found_runs : (ss : List LoadedSwitch) (s : ℕ) (o : Option LoadedSwitch) → o ≡ find (λ (l : LoadedSwitch). l.number == s) ss
+    → option_map (λ l. runs_in l.loaded) o ≡ option_map runs_of (switch_at (map switch_in ss) s)
+found_runs ss s o h =
+    ap (option_map (λ l. runs_in l.loaded)) h ∙ sym (twice_mapped (find (λ (l : LoadedSwitch). l.number == s) ss)) ∙ ap (option_map runs_of) (sym (found_mapped ss s))
 
 pub is_some_mapped : {A B : Type 0} (f : A → B) (o : Option A) → is_some (option_map f o) ≡ is_some o
 is_some_mapped f None = refl
@@ -118,11 +111,3 @@ past (x ∷ xs) (suc i) l = past xs i (omega (arith, l))
 pub got : {A : Type 0} (xs : List A) (i : ℕ) (r : Option (Bor A)) → IsItemAt xs i r → option_map (λ (x : Bor A). x.now) r ≡ slice_get xs i
 got xs i None h = sym (past xs i (ltb-false i (length xs) (sym h.0)))
 got xs i (Some x) h = sym (indexed xs i x.now (ltb-true i (length xs) (sym h.0)) h.1)
-
-read_out : (r : Option (Bor Loaded)) → option_map (λ (l : Bor Loaded). runs_in l.now) r ≡ option_map runs_in (option_map (λ (l : Bor Loaded). l.now) r)
-read_out None = refl
-read_out (Some l) = refl
-
-pub lent : (ls : List Loaded) (fs : List SwitchFiles) (i s : ℕ) (r : Option (Bor Loaded)) → IsItemAt ls i r → map runs_in ls ≡ map runs_of (map switch_of fs)
-    → slice_get fs i ≡ find (λ (f : SwitchFiles). f.number == s) fs → option_map (λ (l : Bor Loaded). runs_in l.now) r ≡ option_map runs_of (switch_at (map switch_of fs) s)
-lent ls fs i s r g e h = read_out r ∙ ap (option_map runs_in) (got ls i r g) ∙ loaded_at ls fs i s e h

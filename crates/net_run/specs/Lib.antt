@@ -1,5 +1,6 @@
 pub mod Locations
 pub mod Runs
+pub mod Switches
 pub mod LoadFaults
 pub mod Nets
 pub mod Departures

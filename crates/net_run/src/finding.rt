@@ -5,7 +5,8 @@ ghost use Rattle.cocoon_num.specs.Lists.{ascend};
 ghost use Rattle.net_run.specs.Locations.{location_of};
 ghost use Rattle.p4_ir.specs.Wiring.{pairs_ascend};
 
-use p4_ir::{HostPort, Link, SwitchFiles};
+use crate::switch::LoadedSwitch;
+use p4_ir::{HostPort, Link};
 
 /// The host of this number, where they ascend.
 pub(crate) fn host_at(hosts: &[HostPort], host: u64) -> Option<&HostPort>
@@ -25,16 +26,28 @@ pub(crate) fn host_at(hosts: &[HostPort], host: u64) -> Option<&HostPort>
 }
 
 /// The place of the switch of this number, where they ascend.
-pub(crate) fn switch_place(switches: &[SwitchFiles], number: u16) -> Option<usize>
-    requires { IsTrue (ascend (map (λ (f : SwitchFiles). f.number) switches.now)) }
+fn switch_place(switches: &[LoadedSwitch], number: u16) -> Option<usize>
+    requires { IsTrue (ascend (map (λ (s : LoadedSwitch). s.number) switches.now)) }
     ensures { option_and_then (slice_get switches.now) result
-        ≡ find (λ (f : SwitchFiles). f.number == number) switches.now }
+        ≡ find (λ (s : LoadedSwitch). s.number == number) switches.now }
 {
     let at = switches.partition_point(|known| known.number < number);
     if at == switches.len() || switches[at].number != number {
         return None;
     }
     Some(at)
+}
+
+/// The switch of this number, where they ascend.
+pub(crate) fn switch_at(switches: &[LoadedSwitch], number: u16) -> Option<&LoadedSwitch>
+    requires { IsTrue (ascend (map (λ (s : LoadedSwitch). s.number) switches.now)) }
+    ensures { option_map (λ s. s.now) result
+        ≡ find (λ (s : LoadedSwitch). s.number == number) switches.now }
+{
+    match switch_place(switches, number) {
+        Some(place) => switches.get(place),
+        None => None,
+    }
 }
 
 /// What is linked to a port, where links ascend.

@@ -15,6 +15,7 @@ pub mod net;
 pub mod room;
 mod standing;
 pub mod stations;
+pub mod switch;
 pub mod visiting;
 
 pub use delivering::{Delivered, Delivery, Outcome, deliver, deliver_in};
@@ -24,3 +25,4 @@ pub use loading::{NetFault, load};
 pub use net::Net;
 pub use room::Room;
 pub use stations::Stations;
+pub use switch::LoadedSwitch;

@@ -2,7 +2,7 @@
 ghost use Rattle.std.specs.Prelude.{◌≡◌, IfErr, IfOk, IsTrue, None, map};
 ghost use Rattle.cocoon_num.specs.Lists.{each};
 ghost use Rattle.net_run.specs.LoadFaults.{first_load_fault, TellsFirst, told_at};
-ghost use Rattle.net_run.specs.Runs.{runs_in, runs_of};
+ghost use Rattle.net_run.specs.Switches.{switch_in, switch_with};
 ghost use Rattle.p4_ir.specs.NetOf.{rows_of, switch_of};
 ghost use Rattle.p4_ir.specs.NetTree as tree;
 ghost use Rattle.p4_ir.specs.Program.{program_of};
@@ -10,7 +10,8 @@ ghost use Rattle.p4_ir.specs.WellKinded.{is_well_kinded, WellKinded};
 ghost use Rattle.p4_run.specs.FaultOf.{IsFault};
 ghost use Rattle.p4_run.specs.Faults.{load_fault};
 
-use p4_ir::SwitchFiles;
+use crate::switch::LoadedSwitch;
+use p4_ir::{Program, RowsFile, SwitchFiles};
 use p4_run::{LoadFault, Loaded};
 use std::alloc::{AllocFailed, Global};
 
@@ -43,35 +44,42 @@ fn fault_at(number: u16, fault: LoadFault) -> NetFault
     }
 }
 
-/// Loads the rows of one switch into its program. A fault is that of this switch.
-pub fn load(alloc: Global, files: &SwitchFiles) -> Result<Loaded, NetFault>
-    requires { WellKinded (program_of files.now.program) }
-    ensures runs { IfOk result (λ loaded. runs_in loaded ≡ runs_of (switch_of files.now)) }
-    ensures loads { IfOk result (λ loaded.
-        load_fault (program_of files.now.program) (rows_of files.now.rows) ≡ None) }
-    ensures fault { IfErr result (λ fault.
-        TellsFirst fault (told_at files.now.number
-        (load_fault (program_of files.now.program) (rows_of files.now.rows)))) }
+/// Loads the rows of the switch of this number into its program. Neither is kept. A fault is that of this switch.
+pub fn load(
+    alloc: Global,
+    number: u16,
+    program: &Program,
+    rows: &RowsFile,
+) -> Result<LoadedSwitch, NetFault>
+    requires { WellKinded (program_of program.now) }
+    ensures runs { IfOk result (λ switch. switch_in switch
+        ≡ switch_with number (program_of program.now) (rows_of rows.now)) }
+    ensures loads { IfOk result (λ switch.
+        load_fault (program_of program.now) (rows_of rows.now) ≡ None) }
+    ensures fault { IfErr result (λ fault. TellsFirst fault
+        (told_at number (load_fault (program_of program.now) (rows_of rows.now)))) }
 {
-    match Loaded::new(alloc, &files.program, &files.rows) {
-        Ok(loaded) => Ok(loaded),
-        Err(fault) => Err(fault_at(files.number, fault)),
+    match Loaded::new(alloc, program, rows) {
+        Ok(loaded) => Ok(LoadedSwitch { number, loaded }),
+        Err(fault) => Err(fault_at(number, fault)),
     }
 }
 
 /// All switches, loaded in their order.
-pub(crate) fn load_all(alloc: Global, switches: &[SwitchFiles]) -> Result<Vec<Loaded>, NetFault>
+pub(crate) fn load_all(
+    alloc: Global,
+    switches: &[SwitchFiles],
+) -> Result<Vec<LoadedSwitch>, NetFault>
     requires kinds { IsTrue (each (λ (f : tree.SwitchFiles). is_well_kinded f.program)
         (map switch_of switches.now)) }
-    ensures runs { IfOk result (λ v.
-        map runs_in v.items ≡ map runs_of (map switch_of switches.now)) }
+    ensures runs { IfOk result (λ v. map switch_in v.items ≡ map switch_of switches.now) }
     ensures loads { IfOk result (λ v. first_load_fault (map switch_of switches.now) ≡ None) }
     ensures fault { IfErr result (λ fault.
         TellsFirst fault (first_load_fault (map switch_of switches.now))) }
 {
     let mut all = Vec::new(alloc);
     for files in switches {
-        all.push(load(alloc, files)?)?;
+        all.push(load(alloc, files.number, &files.program, &files.rows)?)?;
     }
     Ok(all)
 }

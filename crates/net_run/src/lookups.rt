@@ -1,9 +1,10 @@
 //! Networks are made, and their switches, hosts and links are looked up by halving.
-ghost use Rattle.std.specs.Prelude.{◌≡◌, IfErr, IfOk, IsTrue, None, map, option_map};
+ghost use Rattle.std.specs.Prelude.{◌≡◌, IfErr, IfOk, IsTrue, None, option_map};
 ghost use Rattle.cocoon_num.specs.Lists.{each, has_number};
 ghost use Rattle.net_run.specs.LoadFaults.{first_load_fault, TellsFirst};
 ghost use Rattle.net_run.specs.Nets.{net_in};
 ghost use Rattle.net_run.specs.Runs.{runs_in, runs_of};
+ghost use Rattle.net_run.specs.Switches.{net_with};
 ghost use Rattle.p4_ir.specs.NetFits.{wiring_of};
 ghost use Rattle.p4_ir.specs.NetOf.{end_of, net_of};
 ghost use Rattle.p4_ir.specs.NetRuns as runs;
@@ -11,10 +12,12 @@ ghost use Rattle.p4_ir.specs.NetTree as tree;
 ghost use Rattle.p4_ir.specs.WellKinded.{is_well_kinded};
 ghost use Rattle.p4_ir.specs.Wiring.{host_numbers, wiring_fits};
 
-use crate::finding::{host_at, link_at, switch_place};
+use crate::finding::{host_at, link_at, switch_at};
 use crate::loading::{NetFault, load_all};
 use crate::net::Net;
-use p4_ir::{LinkEnd, NetData};
+use crate::switch::LoadedSwitch;
+use cocoon_num::List;
+use p4_ir::{HostPort, Link, LinkEnd, NetData};
 use p4_run::Loaded;
 use std::alloc::Global;
 
@@ -29,24 +32,38 @@ impl Net {
         ensures fault { IfErr result (λ fault.
             TellsFirst fault (first_load_fault (net_of parts).switches)) }
     {
-        let loaded = load_all(alloc, parts.switches.items())?;
-        Ok(Net { parts, loaded })
+        let switches = load_all(alloc, parts.switches.items())?;
+        Ok(Net {
+            ports: parts.ports,
+            switches,
+            links: parts.links,
+            hosts: parts.hosts,
+        })
     }
 
-    /// A network of which each switch was loaded, in the order of the switches.
-    pub fn from_loaded(parts: NetData, loaded: Vec<Loaded>) -> Net
-        requires wired { IsTrue (wiring_fits (wiring_of (net_of parts))) }
-        requires loads { map runs_in loaded.items ≡ map runs_of (net_of parts).switches }
-        ensures { net_in result ≡ net_of parts }
+    /// A network of switches that were loaded one by one.
+    pub fn from_loaded(
+        ports: u16,
+        switches: Vec<LoadedSwitch>,
+        links: List<Link>,
+        hosts: List<HostPort>,
+    ) -> Net
+        requires { IsTrue (wiring_fits (wiring_of (net_with ports switches.items links hosts))) }
+        ensures { net_in result ≡ net_with ports switches.items links hosts }
     {
-        Net { parts, loaded }
+        Net {
+            ports,
+            switches,
+            links,
+            hosts,
+        }
     }
 
-    /// The network.
-    pub fn parts(&self) -> &NetData
-        ensures { net_of result.now ≡ net_in self.now }
+    /// How many ports each switch has, from 0.
+    pub fn ports(&self) -> u16
+        ensures { result ≡ (net_in self.now).ports }
     {
-        &self.parts
+        self.ports
     }
 
     /// The switch of this number, loaded.
@@ -54,8 +71,8 @@ impl Net {
         ensures { ∥ option_map (λ l. runs_in l.now) result
             ≡ option_map runs_of (runs.switch_at (net_in self.now).switches switch) ∥₁ }
     {
-        match switch_place(self.parts.switches.items(), switch) {
-            Some(place) => self.loaded.get(place),
+        match switch_at(&self.switches, switch) {
+            Some(known) => Some(&known.loaded),
             None => None,
         }
     }
@@ -64,14 +81,14 @@ impl Net {
     pub fn has_host(&self, host: u64) -> bool
         ensures { result ≡ has_number host (host_numbers (net_in self.now).hosts) }
     {
-        host_at(self.parts.hosts.items(), host).is_some()
+        host_at(self.hosts.items(), host).is_some()
     }
 
     /// The switch and the port to which a host is attached.
     pub fn attachment(&self, host: u64) -> Option<(u16, u16)>
         ensures { result ≡ runs.attach_at (net_in self.now).hosts host }
     {
-        match host_at(self.parts.hosts.items(), host) {
+        match host_at(self.hosts.items(), host) {
             Some(known) => known.attach,
             None => None,
         }
@@ -82,7 +99,7 @@ impl Net {
         ensures { option_map end_of result
             ≡ runs.link_at (net_in self.now).links switch port }
     {
-        match link_at(self.parts.links.items(), switch, port) {
+        match link_at(self.links.items(), switch, port) {
             Some(known) => Some(known.to),
             None => None,
         }

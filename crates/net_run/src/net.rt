@@ -1,19 +1,19 @@
 //! A network with its switches loaded.
-ghost use Rattle.std.specs.Prelude.{◌≡◌, IsTrue, map};
-ghost use Rattle.net_run.specs.Runs.{runs_in, runs_of};
+ghost use Rattle.std.specs.Prelude.{IsTrue};
+ghost use Rattle.net_run.specs.Switches.{net_with};
 ghost use Rattle.p4_ir.specs.NetFits.{wiring_of};
-ghost use Rattle.p4_ir.specs.NetOf.{net_of};
 ghost use Rattle.p4_ir.specs.Wiring.{wiring_fits};
 
-use p4_ir::NetData;
-use p4_run::Loaded;
+use crate::switch::LoadedSwitch;
+use cocoon_num::List;
+use p4_ir::{HostPort, Link};
 
 /// A network whose wires fit, with the rows of each switch loaded into its program.
 #[derive(Drop)]
 pub struct Net {
-    pub(crate) parts: NetData,
-    /// One for each switch, in their order.
-    pub(crate) loaded: Vec<Loaded>,
-    ghost wired: { IsTrue (wiring_fits (wiring_of (net_of parts))) },
-    ghost loads: { ∥ map runs_in loaded.items ≡ map runs_of (net_of parts).switches ∥₁ },
+    pub(crate) ports: u16,
+    pub(crate) switches: Vec<LoadedSwitch>,
+    pub(crate) links: List<Link>,
+    pub(crate) hosts: List<HostPort>,
+    ghost wired: { IsTrue (wiring_fits (wiring_of (net_with ports switches.items links hosts))) },
 }

@@ -1,7 +1,11 @@
-use Rattle.std.proofs.Common.{◌∙◌, ap, sym}
+use Rattle.std.proofs.Common.{◌∙◌, ap, subst, sym}
 use Rattle.net_bundle.specs.BundleNames.{digest_of}
+use Rattle.bundle_reader.specs.Parts.{HoldsRows}
 use Rattle.bundle_reader.proofs.Steps.{rows_refused}
 use Rattle.bundle_reader.proofs.last_rows.rows_of_bytes.Goals as goal
+
+pub returns-in-Some-clause-holds : goal.returns-in-Some-clause-holds
+returns-in-Some-clause-holds c = subst (λ b. HoldsRows b c.args.kept.now c.in-Some.known) c.as_slice-text.ensures.value c.in-Some.ensures.holds
 
 pub returns-in-Err-clause-refused : goal.returns-in-Err-clause-refused
 returns-in-Err-clause-refused c files out held turn =

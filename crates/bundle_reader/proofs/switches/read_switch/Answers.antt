@@ -1,7 +1,8 @@
-use Rattle.std.proofs.Common.{◌∙◌, refl}
+use Rattle.std.proofs.Common.{◌∙◌, ap, refl, subst, sym}
 use Rattle.p4_ir.specs.Program.{program_of}
 use Rattle.p4_ir.specs.NetOf.{rows_of}
-use Rattle.bundle_reader.specs.Parts.{OfFiles, SwitchFault}
+use Rattle.p4_ir.specs.NetTree.{SwitchFiles}
+use Rattle.bundle_reader.specs.Parts.{OfFiles, SwitchFault, SwitchWell}
 use Rattle.bundle_reader.proofs.Steps.{load_told, load_rose, load_refused, passed}
 use Rattle.bundle_reader.proofs.switches.read_switch.Goals as goal
 
@@ -14,7 +15,7 @@ returns-in_err-rows-clause-refused g c =
 
 pub returns-in-Err-clause-refused : goal.returns-in-Err-clause-refused
 returns-in-Err-clause-refused g c files e up =
-    load_refused files c.args.out.now c.args.switch c.args.program.now c.args.rows.now (program_of c.in_ok-program.program) (rows_of c.in_ok-rows.rows) c.in-Err.fault _ up
+    load_refused files c.args.out.now c.args.switch c.args.program.now c.args.rows.now (program_of c.in_ok-program.program) (rows_of c.in_ok-rows.rows.rows) c.in-Err.fault _ up
     (c.in_ok-program.ensures.program files e) (c.in_ok-rows.ensures.rows files (c.read_program.ensures.same ∙ e)) c.in-Err.ensures.fault c.load_fault.ensures
 
 pub returns-in-Err-clause-told : goal.returns-in-Err-clause-told
@@ -23,3 +24,11 @@ returns-in-Err-clause-told g c = load_told c.in-Err.fault _ _ c.in-Err.ensures.f
 pub returns-in-Err-clause-failed : goal.returns-in-Err-clause-failed
 returns-in-Err-clause-failed g c =
     load_rose _ _ _ c.in-Err.fault _ (c.in_ok-rows.ensures.counted ∙ c.in_ok-program.ensures.counted) c.load_fault.ensures
+
+pub returns-in-Ok-clause-number : goal.returns-in-Ok-clause-number
+returns-in-Ok-clause-number g c = ap (λ (s : SwitchFiles). s.number) c.in-Ok.ensures.runs
+
+pub returns-in-Ok-clause-well : goal.returns-in-Ok-clause-well
+returns-in-Ok-clause-well g c files e =
+    subst (λ s. SwitchWell c.args.out.now c.args.switch c.args.program.now c.args.rows.now s files) (sym c.in-Ok.ensures.runs)
+    (c.in_ok-program.ensures.program files e, c.in_ok-rows.ensures.rows files (c.read_program.ensures.same ∙ e), c.in-Ok.ensures.loads)

@@ -6,17 +6,22 @@ pub returns-in_err-bytes-clause-refused : goal.returns-in_err-bytes-clause-refus
 returns-in_err-bytes-clause-refused g c =
     passed _ c.in_err-bytes.field-0.0 _ c.from_residual.ensures.1 (λ files e. c.in_err-bytes.ensures.refused files e (Some c.args.kept.now))
 
-pub returns-in_err-rows-clause-refused : goal.returns-in_err-rows-clause-refused
-returns-in_err-rows-clause-refused g c =
-    passed _ c.in_err-rows.field-0.0 _ c.from_residual-in_err-rows.ensures.1
-    (λ files e turn. c.in_err-rows.ensures.refused files c.args.out.now (c.in_ok-bytes.ensures.held files e) turn)
+pub returns-in_err-read-clause-refused : goal.returns-in_err-read-clause-refused
+returns-in_err-read-clause-refused g c =
+    passed _ c.in_err-read.field-0.0 _ c.from_residual-in_err-read.ensures.1
+    (λ files e turn. c.in_err-read.ensures.refused files c.args.out.now (c.in_ok-bytes.ensures.held files e) turn)
 
-pub returns-in_err-rows-clause-told : goal.returns-in_err-rows-clause-told
-returns-in_err-rows-clause-told g c = passed _ _ _ c.from_residual-in_err-rows.ensures.1 (bytes_told _ c.in_err-rows.ensures.about)
+pub returns-in_err-read-clause-told : goal.returns-in_err-read-clause-told
+returns-in_err-read-clause-told g c = passed _ _ _ c.from_residual-in_err-read.ensures.1 (bytes_told _ c.in_err-read.ensures.about)
 
-pub returns-in_err-rows-clause-failed : goal.returns-in_err-rows-clause-failed
-returns-in_err-rows-clause-failed g c =
-    passed _ _ _ c.from_residual-in_err-rows.ensures.1 (bytes_rose _ _ _ _ c.in_ok-bytes.ensures.counted c.in_err-rows.ensures.about)
+pub returns-in_err-read-clause-failed : goal.returns-in_err-read-clause-failed
+returns-in_err-read-clause-failed g c =
+    passed _ _ _ c.from_residual-in_err-read.ensures.1 (bytes_rose _ _ _ _ c.in_ok-bytes.ensures.counted c.in_err-read.ensures.about)
 
-pub returns-in_err-rows-clause-named : goal.returns-in_err-rows-clause-named
-returns-in_err-rows-clause-named g c = passed _ _ _ c.from_residual-in_err-rows.ensures.1 (bytes_named (g.F.Folder.last_failure c.read_file.new.folder) c.args.out.now _ c.in_err-rows.ensures.about)
+pub returns-in_err-read-clause-named : goal.returns-in_err-read-clause-named
+returns-in_err-read-clause-named g c = passed _ _ _ c.from_residual-in_err-read.ensures.1 (bytes_named (g.F.Folder.last_failure c.read_file.new.folder) c.args.out.now _ c.in_err-read.ensures.about)
+
+pub returns-clause-rows : goal.returns-clause-rows
+returns-clause-rows g c files e =
+    let holds = c.in_ok-read.ensures.holds in
+    (c.in_ok-bytes.bytes.items, c.in_ok-bytes.ensures.held files e, holds.0, holds.1)

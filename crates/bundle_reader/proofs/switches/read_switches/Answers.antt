@@ -1,7 +1,7 @@
 use Rattle.std.proofs.Common.{◌∙◌, sym}
-use Rattle.p4_ir.specs.NetOf.{switch_of}
+use Rattle.net_run.specs.Switches.{switch_in}
 use Rattle.net_bundle.specs.NetFileOf.{net_file_of}
-use Rattle.bundle_reader.proofs.Prefix.{all_read, enough, named_end, named_from, numbers_end, numbers_from, numbers_more, one_more, others_named, runs_more, two_kept, up_given, up_to, well_given, well_pushed}
+use Rattle.bundle_reader.proofs.Prefix.{all_read, enough, named_end, named_from, numbers_end, numbers_from, numbers_more, one_more, others_named, two_kept, up_given, up_to, well_given, well_pushed}
 use Rattle.bundle_reader.proofs.Steps.{passed}
 use Rattle.bundle_reader.proofs.switches.read_switches.Goals as goal
 
@@ -24,9 +24,6 @@ returns-in_err-read-clause-refused g c =
 pub returns-in_err-push-clause-refused : goal.returns-in_err-push-clause-refused
 returns-in_err-push-clause-refused g c = passed _ _ _ c.from_residual-in_err-push.ensures.1 (λ files e reads. tt)
 
-pub returns-in_err-push-2-clause-refused : goal.returns-in_err-push-2-clause-refused
-returns-in_err-push-2-clause-refused g c = passed _ _ _ c.from_residual-in_err-push-2.ensures.1 (λ files e reads. tt)
-
 pub returns-in_err-push-clause-failed : goal.returns-in_err-push-clause-failed
 returns-in_err-push-clause-failed g c = passed _ _ _ c.from_residual-in_err-push.ensures.1 (c.in_ok-read.ensures.counted ∙ c.loop-switch.invariant.reads)
 
@@ -42,12 +39,11 @@ loop-switch-preserved g c =
       reads = c.in_ok-read.ensures.counted ∙ h.reads;
       writes = c.read_switch.ensures.writes ∙ h.writes;
       named = others_named _ _ _ _ _ _ two named;
-      numbers = numbers_more ns i _ _ c.in_ok-read.read.files c.loop-switch-test.true c.in_ok-push.ensures.items c.in_ok-read.ensures.number h.numbers;
+      numbers = numbers_more ns i _ _ c.in_ok-read.read.switch c.loop-switch-test.true c.in_ok-push.ensures.items c.in_ok-read.ensures.number h.numbers;
       last = c.in_ok-read.ensures.last;
-      runs = runs_more _ _ c.in_ok-read.read.loaded _ _ c.in_ok-read.read.files c.in_ok-push-2.ensures.items c.in_ok-push.ensures.items c.in_ok-read.ensures.runs h.runs;
-      well = λ files e. well_pushed files c.args.out.now _ _ _ _ c.in_ok-read.read.files c.in_ok-push.ensures.items
-          (one_more c.rows_form_is_exact.ensures c.rows_without_fault_load.ensures files c.args.out.now _ _ _ _ (switch_of c.in_ok-read.read.files) _ _ _ _ two named c.in_ok-read.ensures.number (h.well files e)
-          (well_given files c.args.out.now _ _ _ _ _ (switch_of c.in_ok-read.read.files) c.deref.ensures c.deref-in-loop-switch.ensures (c.in_ok-read.ensures.well files (h.content ∙ e))));
+      well = λ files e. well_pushed files c.args.out.now _ _ _ _ c.in_ok-read.read.switch c.in_ok-push.ensures.items
+          (one_more c.rows_form_is_exact.ensures c.rows_without_fault_load.ensures files c.args.out.now _ _ _ _ (switch_in c.in_ok-read.read.switch) _ _ _ _ two named c.in_ok-read.ensures.number (h.well files e)
+          (well_given files c.args.out.now _ _ _ _ _ (switch_in c.in_ok-read.read.switch) c.deref.ensures c.deref-in-loop-switch.ensures (c.in_ok-read.ensures.well files (h.content ∙ e))));
     }
 
 pub returns-clause-well : goal.returns-clause-well

@@ -7,11 +7,10 @@ use Rattle.net_run.proofs.net.Net.has_host.Goals as goal
 
 pub host_at-requires : goal.host_at-requires
 host_at-requires c =
-    let n = c.args.self.now in
-    ap (λ hs. ascend (map (λ (h : HostPort). h.host) hs)) c.items.ensures ∙ (rising n.parts n.wired).hosts
+    ap (λ hs. ascend (map (λ (h : HostPort). h.host) hs)) c.items.ensures ∙ (rising c.args.self.now).hosts
 
 pub returns : goal.returns
 returns c =
-    let hs = c.args.self.now.parts.hosts in
+    let hs = c.args.self.now.hosts in
     let e = c.host_at.ensures ∙ ap (find (λ (h : HostPort). h.host == c.args.host)) c.items.ensures in
     c.is_some.ensures ∙ sym (is_some_mapped (λ h. h.now) c.host_at.result) ∙ ap is_some e ∙ has_host hs c.args.host

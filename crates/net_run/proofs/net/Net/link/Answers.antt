@@ -9,19 +9,18 @@ use Rattle.net_run.proofs.net.Net.link.Goals as goal
 
 pub link_at-requires : goal.link_at-requires
 link_at-requires c =
-    let n = c.args.self.now in
-    ap (λ ls. pairs_ascend (map location_of ls)) c.items.ensures ∙ (rising n.parts n.wired).links
+    ap (λ ls. pairs_ascend (map location_of ls)) c.items.ensures ∙ (rising c.args.self.now).links
 
 pub returns-in-Some : goal.returns-in-Some
 returns-in-Some c =
-    let ls = c.args.self.now.parts.links in
+    let ls = c.args.self.now.links in
     let test = λ (l : Link). (l.switch == c.args.switch) && (l.port == c.args.port) in
     let e : Some c.in-Some.known.now ≡ find test ls = c.in-Some.ensures ∙ ap (find test) c.items.ensures in
     sym (linked ls c.args.switch c.args.port ∙ ap (option_map (λ (l : Link). end_of l.to)) (sym e))
 
 pub returns-in-None : goal.returns-in-None
 returns-in-None c =
-    let ls = c.args.self.now.parts.links in
+    let ls = c.args.self.now.links in
     let test = λ (l : Link). (l.switch == c.args.switch) && (l.port == c.args.port) in
     let e : None ≡ find test ls = c.in-None.ensures ∙ ap (find test) c.items.ensures in
     sym (linked ls c.args.switch c.args.port ∙ ap (option_map (λ (l : Link). end_of l.to)) (sym e))
