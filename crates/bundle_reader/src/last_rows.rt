@@ -24,12 +24,7 @@ pub(crate) struct LastRows {
 
 impl LastRows {
     /// What is kept of a file that was read.
-    fn of(
-        alloc: Global,
-        bytes: Vec<u8>,
-        digest: &str,
-        rows: RowsFile,
-    ) -> Result<LastRows, NoMemory>
+    fn of(alloc: Global, bytes: Vec<u8>, digest: &str, rows: RowsFile) -> Result<LastRows, NoMemory>
         requires digest { digest_of bytes.items ≡ digest.now }
         requires rows { Answered rows_form bytes.items (Ok (rows_of rows)) }
         ensures read { IfOk result IsRead }
