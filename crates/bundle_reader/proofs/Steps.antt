@@ -132,6 +132,10 @@ pub load_rose : (last : Option ℕ) (old new : ℕ) (fault : NetFault) (r : Read
 load_rose last old new (net.Load n fault) r e is = subst (ReadFaultRose last old new) (sym is) e
 load_rose last old new net.NoMemory r e is = subst (ReadFaultRose last old new) (sym is) e
 
+pub load_named : (last : List ℕ → Type 0) (out : List ℕ) (fault : NetFault) (r : ReadFault) → r ≡ loaded_at fault → NamesFailure last out r
+load_named last out (net.Load n fault) r is = subst (NamesFailure last out) (sym is) tt
+load_named last out net.NoMemory r is = subst (NamesFailure last out) (sym is) tt
+
 pair_same : (x y : ℕ × Fault) → ◌≡◌ {A = Option (ℕ × Fault)} (Some x) (Some y) → x ≡ y
 pair_same x y e = cc
 
