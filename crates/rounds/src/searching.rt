@@ -9,10 +9,11 @@ ghost use Rattle.candidates.specs.Assigned.{row_value};
 ghost use Rattle.candidate_laws.specs.Rounds.{IsWithin, of_goal};
 ghost use Rattle.formula_functions.specs.LeafTerms.{Stands};
 ghost use Rattle.rounds.specs.Outcomes.{Tells};
-ghost use Rattle.rounds.specs.Steps.{ComesTo, IsFoundBy, IsSolved};
+ghost use Rattle.rounds.specs.Steps.{ComesTo, GoesOn, IsFoundBy, IsSolved};
 
 use crate::asking::{Satisfied, Searched, ask};
 use crate::breaking::broken;
+use crate::guessing::guess;
 use crate::judging::{Judged, judge};
 use crate::outcome::{Outcome, Query, Witness};
 use bv_terms::{TermId, Terms};
@@ -72,7 +73,14 @@ fn found(
     }))
 }
 
-/// What the round comes to in which an assignment satisfies the query with these instances.
+/// From so many instances on an assignment is looked for with a shorter goal first: the pairs of their
+/// applications are most of a query then.
+const SHORT_FROM: usize = 16;
+
+/// At most so many conflicts are met with it.
+const SHORT_CONFLICTS: u64 = 1_000;
+
+/// What the round comes to in which the query with these instances is true at what an assignment gives.
 fn satisfied_round(
     alloc: Global,
     checked: &Checked,
@@ -90,7 +98,7 @@ fn satisfied_round(
         budget.now.rounds (of_goal instances.items) }
     requires some { 1 ≤ budget.now.conflicts }
     requires few { budget.now.conflicts < 2 ^ 31 }
-    ensures { IfOk result (ComesTo (design_of checked.now) level (term_at terms.now formula)
+    ensures { IfOk result (GoesOn (design_of checked.now) level (term_at terms.now formula)
         budget.now.conflicts budget.now.rounds instances.items) }
 {
     broken_assumptions_are_false_instances();
@@ -159,6 +167,38 @@ fn one_round(
     }
 }
 
+/// The same of a round that may be followed by others: the query need not be searched as a whole.
+fn next_round(
+    alloc: Global,
+    checked: &Checked,
+    terms: &Terms,
+    level: u32,
+    formula: TermId,
+    budget: &Budget,
+    instances: Vec<Instance>,
+) -> Result<Round, NoMemory>
+    requires level { level ≤ last_level (design_of checked.now) }
+    requires there { formula < length terms.now }
+    requires stands { Stands (design_of checked.now) 1 (term_at terms.now formula) }
+    requires within { IsWithin (design_of checked.now) level (term_at terms.now formula)
+        budget.now.rounds (of_goal instances.items) }
+    requires some { 1 ≤ budget.now.conflicts }
+    requires few { budget.now.conflicts < 2 ^ 31 }
+    ensures { IfOk result (GoesOn (design_of checked.now) level (term_at terms.now formula)
+        budget.now.conflicts budget.now.rounds instances.items) }
+{
+    if instances.len() >= SHORT_FROM {
+        let conflicts = budget.conflicts.min(SHORT_CONFLICTS);
+        let found = guess(alloc, checked, terms, level, formula, &instances, conflicts)?;
+        if let Some(satisfied) = found {
+            return satisfied_round(
+                alloc, checked, terms, level, formula, budget, satisfied, instances,
+            );
+        }
+    }
+    one_round(alloc, checked, terms, level, formula, budget, instances)
+}
+
 /// Whether a formula of this level is never true: a search in rounds, each of which but the last adds
 /// an instance of an assumption. After as many as the budget has, the query is searched once more.
 /// The arena holds the formula; each query stands in an arena of its own, and is counted before its
@@ -182,7 +222,7 @@ pub fn search(
     broken_instances_keep_progress();
     let mut instances = Vec::new(alloc);
     for _ in 0..budget.rounds {
-        match one_round(alloc, checked, terms, level, formula, budget, instances)? {
+        match next_round(alloc, checked, terms, level, formula, budget, instances)? {
             Round::Ended(outcome) => return Ok(outcome),
             Round::Broken(mut so_far, instance) => {
                 so_far.push(instance)?;
