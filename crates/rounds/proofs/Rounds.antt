@@ -22,12 +22,14 @@ use Rattle.refinement.specs.Assumptions.{Meets}
 use Rattle.table_terms.specs.WithRows.{Tables}
 use Rattle.candidates.specs.Flat.{MakesFormulaTrue}
 use Rattle.rounds.specs.Outcomes.{IsAsked, IsSpentAfter, ShowsNeverTrue, Tells}
-use Rattle.rounds.specs.Steps.{IsBroken, IsFoundBy, IsInstance, IsRefuted, IsSolved}
+use Rattle.rounds.specs.Steps.{ComesTo, GoesOn, IsBroken, IsFoundBy, IsInstance, IsMore, IsRefuted, IsSolved}
 use Rattle.rounds.specs.declared.asking.Satisfied.{Satisfied as Solved}
 use Rattle.rounds.specs.declared.judging.Judged.{Judged}
 use Rattle.rounds.specs.declared.outcome.Outcome.{Outcome}
 use Rattle.rounds.specs.declared.outcome.Outcome.TheVariants as outcome
 use Rattle.rounds.specs.declared.outcome.Query.TheVariants.{Assumption, Goal}
+use Rattle.rounds.specs.declared.searching.Round.{Round}
+use Rattle.rounds.specs.declared.searching.Round.TheVariants.{Ended, Broken}
 use Rattle.rounds.proofs.Witnesses.{as-many, formula-true, its-inputs}
 
 -- ---- which of two candidates it is
@@ -68,8 +70,17 @@ module _ (d : Design) (level : ℕ) (formula : Term) where
       let b = ap length same in
       omega (arith, a, b, count)
 
-  pub one_more : (given is pushed : List Instance) (i : Instance) → IsBroken d level formula given is i → pushed ≡ is ++ i ∷ [] → Progress d level formula pushed
+  pub one_more : (given is pushed : List Instance) (i : Instance) → IsMore d level formula given is i → pushed ≡ is ++ i ∷ [] → Progress d level formula pushed
   one_more given is pushed i h e = subst (Progress d level formula) (sym (e ∙ ap (λ xs. xs ++ i ∷ []) h.same)) h.progress
+
+  -- what may be told of a round, with what is known of its query and without
+  pub and_satisfiable : (conflicts rounds : ℕ) (given : List Instance) → IsSatisfiable (query d level formula given) → (r : Round) → GoesOn d level formula conflicts rounds given r → ComesTo d level formula conflicts rounds given r
+  and_satisfiable conflicts rounds given s (Ended o) h = h
+  and_satisfiable conflicts rounds given s (Broken is i) h = record { same = h.same; satisfiable = s; progress = h.progress }
+
+  pub goes_on : (conflicts rounds : ℕ) (given : List Instance) (r : Round) → ComesTo d level formula conflicts rounds given r → GoesOn d level formula conflicts rounds given r
+  goes_on conflicts rounds given (Ended o) h = h
+  goes_on conflicts rounds given (Broken is i) h = record { same = h.same; progress = h.progress }
 
   pub spent_rounds : (given is spent : List Instance) (i : Instance) (rounds : ℕ) → length given ≡ rounds → Progress d level formula given → IsBroken d level formula given is i → spent ≡ is → IsSpentAfter d level formula rounds spent
   spent_rounds given is spent i rounds all progress h e =
@@ -141,5 +152,5 @@ module _ (d : Design) (level : ℕ) (formula : Term) (instances : List Instance)
         let untrue = laws.untrue here a broken.1.is (breaks a broken.1.is) (subst (λ y. IsTerm (instance_term d y)) same term) in
         laws.more x (subst (Fits d level) (sym same) (record { among = broken.0; values = numbers_fit })) (subst (λ y. IsFalseBy tables (instance_term d y)) (sym same) untrue)
 
-    pub round : IsSatisfiable (query d level formula instances) → (is : List Instance) → is ≡ instances → (x : Instance) → IsInstance d i values x → IsBroken d level formula instances is x
-    round satisfiable is same x h = record { same = same; satisfiable = satisfiable; progress = progress x h.of h.term }
+    pub round : (is : List Instance) → is ≡ instances → (x : Instance) → IsInstance d i values x → IsMore d level formula instances is x
+    round is same x h = record { same = same; progress = progress x h.of h.term }

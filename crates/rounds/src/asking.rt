@@ -67,6 +67,7 @@ pub(crate) fn ask(
     code_literals_fit();
     let _design = checked.design();
     let own = query(alloc, checked, terms, level, formula, instances)?;
+    let _count = own.terms.count();
     let (cnf, inputs) = match blast(alloc, &own.terms, own.goal) {
         Ok(made) => made,
         Err(fault) => return refused(fault),

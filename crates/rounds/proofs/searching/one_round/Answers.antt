@@ -1,11 +1,12 @@
 use Rattle.std.proofs.Common.{◌≡◌, sym, subst, ◌∙◌}
+use Rattle.std.proofs.lemmas.Result.{IfOk-weaker}
 use Rattle.bv_terms.specs.Arenas.{term_at}
 use Rattle.cocoon_syntax.specs.TreeOf.{design_of}
 use Rattle.discharge.specs.Answering.{IsSpentOn}
 use Rattle.query_laws.specs.Certified.{AllFit, HasTooMany}
 use Rattle.rounds.specs.Steps.{Says}
 use Rattle.rounds.specs.declared.asking.Searched.TheVariants.{Refuted, Spent, Big}
-use Rattle.rounds.proofs.Rounds.{goal_asked, shows_never_true}
+use Rattle.rounds.proofs.Rounds.{and_satisfiable, goal_asked, shows_never_true}
 use Rattle.rounds.proofs.searching.one_round.Goals as goal
 
 pub ask-requires-clause-fit : goal.ask-requires-clause-fit
@@ -19,7 +20,17 @@ satisfied_round-requires-clause-solved c =
     let given = c.args.instances.items in
     let conflicts = c.args.budget.now.conflicts in
     let said = subst (λ is. Says d c.args.level formula is conflicts c.in_ok-satisfied.field-0) c.deref.ensures.value c.in_ok-satisfied.ensures in
-    subst (Says d c.args.level formula given conflicts) c.in-Satisfied.is said
+    (subst (Says d c.args.level formula given conflicts) c.in-Satisfied.is said).0
+
+pub returns-in-Satisfied : goal.returns-in-Satisfied
+returns-in-Satisfied c =
+    let d = design_of c.args.checked.now in
+    let formula = term_at c.args.terms.now c.args.formula in
+    let given = c.args.instances.items in
+    let conflicts = c.args.budget.now.conflicts in
+    let said = subst (λ is. Says d c.args.level formula is conflicts c.in_ok-satisfied.field-0) c.deref.ensures.value c.in_ok-satisfied.ensures in
+    let satisfiable = (subst (Says d c.args.level formula given conflicts) c.in-Satisfied.is said).1 in
+    IfOk-weaker c.satisfied_round.result _ _ (λ r h. and_satisfiable d c.args.level formula conflicts c.args.budget.now.rounds given satisfiable r h) c.satisfied_round.ensures
 
 pub returns-in-Refuted : goal.returns-in-Refuted
 returns-in-Refuted c =

@@ -2,7 +2,7 @@ use Rattle.std.proofs.Common.{◌≡◌, length, sym, ap, subst, arith}
 use Rattle.bv_terms.specs.Arenas.{term_at}
 use Rattle.candidate_laws.specs.Rounds.{Progress}
 use Rattle.cocoon_syntax.specs.TreeOf.{design_of}
-use Rattle.rounds.specs.Steps.{ComesTo}
+use Rattle.rounds.specs.Steps.{ComesTo, GoesOn}
 use Rattle.rounds.proofs.Rounds.{longer, one_more, spent_rounds, still_within}
 use Rattle.rounds.proofs.searching.search.Goals as goal
 
@@ -16,8 +16,8 @@ loop-init c =
       progress = subst (Progress d c.args.level formula) (sym none) (c.broken_instances_keep_progress.ensures.none d c.args.level formula);
     }
 
-pub one_round-requires-clause-within : goal.one_round-requires-clause-within
-one_round-requires-clause-within c =
+pub next_round-requires-clause-within : goal.next_round-requires-clause-within
+next_round-requires-clause-within c =
     let d = design_of c.args.checked.now in
     let formula = term_at c.args.terms.now c.args.formula in
     let so_far = c.loop.invariant in
@@ -30,15 +30,15 @@ loop-preserved c =
     let given = c.loop.instances.items in
     let is = c.in-Broken.so_far.items in
     let pushed = c.push.new.self.items in
-    let h = subst (ComesTo d c.args.level formula c.args.budget.now.conflicts c.args.budget.now.rounds given) c.in-Broken.is c.in_ok-outcome.ensures in
+    let h = subst (GoesOn d c.args.level formula c.args.budget.now.conflicts c.args.budget.now.rounds given) c.in-Broken.is c.in_ok-outcome.ensures in
     let e = c.in_ok-push-in-Broken.ensures.items in
     record {
       count = longer d c.args.level formula given is pushed c.in-Broken.instance c.loop.counter h.same e c.loop.invariant.count;
       progress = one_more d c.args.level formula given is pushed c.in-Broken.instance h e;
     }
 
-pub one_round-requires-2-clause-within : goal.one_round-requires-2-clause-within
-one_round-requires-2-clause-within c =
+pub one_round-requires-clause-within : goal.one_round-requires-clause-within
+one_round-requires-clause-within c =
     let d = design_of c.args.checked.now in
     let formula = term_at c.args.terms.now c.args.formula in
     let so_far = c.loop.invariant in
