@@ -78,9 +78,11 @@ pub(crate) fn shortened(alloc: Global, terms: &mut Terms, goal: TermId) -> Resul
 {
     let parts = parts(alloc, terms, goal)?;
     let mut all = terms.constant(Bits::new(1, 1))?;
-    for part in parts.iter().rev() {
-        if !is_idle(terms, *part) {
-            all = terms.binary(TermOp::And, all, *part)?;
+    let mut at = parts.len();
+    while at > 0 {
+        at -= 1;
+        if !is_idle(terms, parts[at]) {
+            all = terms.binary(TermOp::And, all, parts[at])?;
         }
     }
     Ok(all)
