@@ -1,5 +1,5 @@
 -- Parts of goals in an arena.
-use Rattle.std.proofs.Common.{◌≡◌, ℕ, ◌<◌, List, [], ◌∷◌, ◌++◌, All, length, Some, refl, ap, sym, subst, arith, ◌∙◌}
+use Rattle.std.proofs.Common.{◌≡◌, ℕ, zero, suc, ◌<◌, List, [], ◌∷◌, ◌++◌, All, length, Some, refl, ap, sym, subst, arith, ◌∙◌}
 use Rattle.std.specs.Prelude.{slice_get}
 use Rattle.std.specs.List.{AllByRecursion}
 use Rattle.std.proofs.lemmas.List.Elements.{recursion_from_All}
@@ -61,3 +61,17 @@ joined-part nodes id x y l e g h = record {
 
 pub true-part : (nodes : List Node) (id : ℕ) → id < length nodes → term_at nodes id ≡ constant 1 1 → IsPart nodes id
 true-part nodes id l e = record { there = l; goal = subst IsGoal (sym e) (record { term = ((omega arith, omega arith), omega arith); truth = refl; unapplied = tt }) }
+
+-- one part more
+pub more-parts : (nodes : List Node) (ids more : List ℕ) (id : ℕ) → AllByRecursion (IsPart nodes) ids → IsPart nodes id → more ≡ ids ++ id ∷ [] → AllByRecursion (IsPart nodes) more
+more-parts nodes ids more id h p e = subst (AllByRecursion (IsPart nodes)) (sym e) (add ids h)
+  where
+    add : (xs : List ℕ) → AllByRecursion (IsPart nodes) xs → AllByRecursion (IsPart nodes) (xs ++ id ∷ [])
+    add [] k = (p, tt)
+    add (x ∷ xs) k = (k.0, add xs k.1)
+
+-- the part at a place
+pub part-at : (nodes : List Node) (ids : List ℕ) (at : ℕ) → AllByRecursion (IsPart nodes) ids → (id : ℕ) → slice_get ids at ≡ Some id → IsPart nodes id
+part-at nodes [] at h id e = absurd cc
+part-at nodes (x ∷ xs) zero h id e = let same : x ≡ id = cc in subst (IsPart nodes) same h.0
+part-at nodes (x ∷ xs) (suc at) h id e = part-at nodes xs at h.1 id e

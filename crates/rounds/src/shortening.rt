@@ -1,5 +1,5 @@
 //! Goals without the parts that are true of themselves.
-ghost use Rattle.std.specs.Prelude.{◌<◌, IfOk, length};
+ghost use Rattle.std.specs.Prelude.{◌≡◌, ◌<◌, IfOk, IfSome, Some, length, slice_get};
 ghost use Rattle.std.specs.List.{AllByRecursion};
 ghost use Rattle.table_terms.specs.Growth.{OnlyGrows};
 ghost use Rattle.rounds.specs.Short.{IsPart};
@@ -8,19 +8,32 @@ use bv_terms::{Node, TermId, TermOp, Terms};
 use cocoon_num::{Bits, NoMemory};
 use std::alloc::Global;
 
+/// The operands of a term that says of both that they are true.
+fn operands(terms: &Terms, id: TermId) -> Option<(TermId, TermId)>
+    requires { id < length terms.now }
+    ensures { IfSome result (λ both.
+        slice_get terms.now id ≡ Some (Node.Binary TermOp.And both.0 both.1)) }
+{
+    match terms.node(id) {
+        Node::Binary(TermOp::And, before, last) => Some((*before, *last)),
+        _ => None,
+    }
+}
+
 /// The parts of a chain of operands that are all true, from the last to the first.
 fn parts(alloc: Global, terms: &Terms, goal: TermId) -> Result<Vec<TermId>, NoMemory>
     requires { IsPart terms.now goal }
     ensures { IfOk result (λ parts. AllByRecursion (IsPart terms.now) parts.items) }
 {
+    let _count = terms.count();
     let mut parts = Vec::new(alloc);
     let mut rest = goal;
     for _ in 0..goal {
-        let Node::Binary(TermOp::And, before, last) = terms.node(rest) else {
+        let Some((before, last)) = operands(terms, rest) else {
             break;
         };
-        parts.push(*last)?;
-        rest = *before;
+        parts.push(last)?;
+        rest = before;
     }
     parts.push(rest)?;
     Ok(parts)
@@ -43,15 +56,16 @@ fn are_unequal(terms: &Terms, test: TermId) -> bool
 fn has_unequal(terms: &Terms, chain: TermId) -> bool
     requires { chain < length terms.now }
 {
+    let _count = terms.count();
     let mut rest = chain;
     for _ in 0..chain {
-        let Node::Binary(TermOp::And, before, last) = terms.node(rest) else {
+        let Some((before, last)) = operands(terms, rest) else {
             break;
         };
-        if are_unequal(terms, *last) {
+        if are_unequal(terms, last) {
             return true;
         }
-        rest = *before;
+        rest = before;
     }
     are_unequal(terms, rest)
 }

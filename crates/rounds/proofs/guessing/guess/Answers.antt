@@ -17,7 +17,7 @@ shortened-requires c = record { there = c.in_ok-own.ensures.there; goal = subst 
 pub tried-requires : goal.tried-requires
 tried-requires c =
     let q = query-kept (design_of c.args.checked.now) c.args.level (term_at c.args.terms.now c.args.formula) c.args.instances.now c.in_ok-own.own c.shortened.new.terms
-            c.in_ok-short.ensures.grown.kept c.in_ok-own.ensures in
+    c.in_ok-short.ensures.grown.kept c.in_ok-own.ensures in
     record {
       part = record { there = q.there; goal = subst IsGoal (sym q.term) q.goal_ };
       searched = term_at c.shortened.new.terms c.in_ok-short.short;
