@@ -6,3 +6,5 @@ mod PushedBack
 mod Chains
 mod Pairing
 mod Gathering
+mod FixedTerms
+mod PreparedTerms

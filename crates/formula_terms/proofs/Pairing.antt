@@ -17,7 +17,7 @@ use Rattle.hop_inline.specs.declared.tree.End.{End}
 use Rattle.hop_inline.specs.declared.tree.End.TheVariants.{Sent, Inside}
 use Rattle.hop_inline.specs.declared.tree.Leaf.{Leaf}
 use Rattle.hop_inline.specs.declared.tree.Tree.{Tree}
-use Rattle.hop_inline.proofs.Growing.{inputs_on, makes_all_on}
+use Rattle.hop_inline.proofs.Growing.{inputs_on, leaf_on, makes_all_on}
 use Rattle.obligation_laws.specs.Formulas.{any_of, chain, equals, formula, leaf_inputs, part, parts, replacing, stand_ins}
 use Rattle.symbolic_laws.specs.Leaves as laws
 use Rattle.symbolic_laws.specs.Leaves.{sent_to, inside, end_fields, end_values}
@@ -53,6 +53,18 @@ ready d a b old_tree old tree leaf ot o t l r h k inputs made =
       values = makes_all_on a b (values_of leaf.end) (end_values l.end) k (values_made d a leaf.end l.end h.leaf_.end);
       fields = makes_all_on a b (fields_of leaf.end) (end_fields l.end) k (fields_made d a leaf.end l.end h.leaf_.end);
     }
+
+pub paired_on : (d : Design) (a b : List Node) (old_tree : Tree) (old : Leaf) (tree : Tree) (leaf : Leaf) (ot : laws.Tree) (o : laws.Leaf) (t : laws.Tree) (l : laws.Leaf) → KeepsTerms a b
+    → ArePaired d a old_tree old tree leaf ot o t l → ArePaired d b old_tree old tree leaf ot o t l
+paired_on d a b old_tree old tree leaf ot o t l k h = record {
+  old_args = inputs_on a b old_tree.args ot.args k h.old_args;
+  old_fields = inputs_on a b old_tree.fields ot.fields k h.old_fields;
+  old_ = leaf_on d a b old o k h.old_;
+  args = inputs_on a b tree.args t.args k h.args;
+  fields = inputs_on a b tree.fields t.fields k h.fields;
+  leaf_ = leaf_on d a b leaf l k h.leaf_;
+  fits = h.fits;
+}
 
 pub ready_on : (a b : List Node) (r : Replacing) (old leaf : Leaf) (R : formulas.Replacing) (o l : laws.Leaf) → KeepsTerms a b → Ready a r old leaf R o l → Ready b r old leaf R o l
 ready_on a b r old leaf R o l k h = record {

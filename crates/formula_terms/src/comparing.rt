@@ -6,10 +6,12 @@ ghost use Rattle.expr_terms.specs.Variables.{Keeps, Makes};
 ghost use Rattle.symbolic_laws.specs.Leaves as laws;
 ghost use Rattle.obligation_laws.specs.Formulas as formulas;
 ghost use Rattle.formula_terms.specs.Compared.{AreCompared, ArePaired, Compared, IsTruth, Paired};
+ghost use Rattle.formula_terms.specs.Fixing.{Prepared};
 ghost use Rattle.formula_terms.specs.Parts.{either};
 ghost use Rattle.formula_terms.specs.Replacing.{Ready};
 ghost use Rattle.formula_terms.specs.Sent.{role_in};
 
+use crate::fixed::Fixed;
 use crate::replacing::Replacing;
 use crate::standing::{leaf_inputs, stand_ins};
 use bv_terms::{TermId, TermOp, Terms};
@@ -56,13 +58,15 @@ fn replacing(
 /// An old leaf is true, and sends what the leaf sends.
 fn part(
     alloc: Global,
+    fixed: &Fixed,
     old_tree: &Tree,
     old: &Leaf,
     tree: &Tree,
     leaf: &Leaf,
     terms: &mut Terms,
 ) -> Result<TermId, NoMemory>
-    requires { Paired terms.old old_tree.now old.now tree.now leaf.now }
+    requires paired { Paired terms.old old_tree.now old.now tree.now leaf.now }
+    requires prepared { Prepared terms.old fixed.now old_tree.now tree.now }
     ensures made { (d : Design) (old_tree_of of : laws.Tree) (old_of leaf_of : laws.Leaf)
         → ArePaired d terms.old old_tree.now old.now tree.now leaf.now old_tree_of old_of of leaf_of
         → IfOk result (λ id. Makes terms.new id
@@ -71,7 +75,8 @@ fn part(
     ensures kept { Keeps terms.old terms.new }
 {
     let replacing = replacing(alloc, old_tree, old, tree, leaf, terms)?;
-    replacing.part(alloc, old, leaf, terms)
+    let _count = terms.count();
+    replacing.part(alloc, fixed, old, leaf, terms)
 }
 
 /// One of some parts is true.
@@ -92,12 +97,14 @@ fn either(any: Option<TermId>, part: TermId, terms: &mut Terms) -> Result<TermId
 /// One of the parts of the old leaves that send to the same role is true.
 fn any_part(
     alloc: Global,
+    fixed: &Fixed,
     old_tree: &Tree,
     tree: &Tree,
     leaf: &Leaf,
     terms: &mut Terms,
 ) -> Result<TermId, NoMemory>
-    requires { Compared terms.old old_tree.now tree.now leaf.now }
+    requires compared { Compared terms.old old_tree.now tree.now leaf.now }
+    requires prepared { Prepared terms.old fixed.now old_tree.now tree.now }
     ensures made { (d : Design) (old_of of : laws.Tree) (leaf_of : laws.Leaf)
         → AreCompared d terms.old old_tree.now tree.now leaf.now old_of of leaf_of
         → IfOk result (λ id. Makes terms.new id
@@ -108,7 +115,7 @@ fn any_part(
     let mut any = None;
     for old in old_tree.leaves.items() {
         if role(&old.end) == role(&leaf.end) {
-            let part = part(alloc, old_tree, old, tree, leaf, terms)?;
+            let part = part(alloc, fixed, old_tree, old, tree, leaf, terms)?;
             any = Some(either(any, part, terms)?);
         }
     }
@@ -118,17 +125,19 @@ fn any_part(
     }
 }
 
-/// The term that is true where a leaf of a tree fails beside an old tree. An old leaf that sends to
-/// the same role is rebuilt once, with all that it is made of, so time and memory are in proportion
-/// to these.
+/// The term that is true where a leaf of a tree fails beside an old tree. Of an old leaf that sends to
+/// the same role only that is rebuilt in which something is chosen, so time and memory are in
+/// proportion to this, and to what the old leaves send.
 pub fn formula(
     alloc: Global,
+    fixed: &Fixed,
     old_tree: &Tree,
     tree: &Tree,
     leaf: &Leaf,
     terms: &mut Terms,
 ) -> Result<TermId, NoMemory>
-    requires { Compared terms.old old_tree.now tree.now leaf.now }
+    requires compared { Compared terms.old old_tree.now tree.now leaf.now }
+    requires prepared { Prepared terms.old fixed.now old_tree.now tree.now }
     ensures made { (d : Design) (old_of of : laws.Tree) (leaf_of : laws.Leaf)
         → AreCompared d terms.old old_tree.now tree.now leaf.now old_of of leaf_of
         → IfOk result (λ id. Makes terms.new id (formulas.formula old_of of leaf_of)) }
@@ -136,7 +145,7 @@ pub fn formula(
 {
     match &leaf.end {
         End::Sent(_, _, _) => {
-            let any = any_part(alloc, old_tree, tree, leaf, terms)?;
+            let any = any_part(alloc, fixed, old_tree, tree, leaf, terms)?;
             let none = terms.not(any)?;
             terms.binary(TermOp::And, leaf.cond, none)
         }

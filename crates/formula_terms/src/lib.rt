@@ -3,7 +3,9 @@
 #![tactic(auto)]
 
 mod comparing;
+mod fixed;
 mod replacing;
 mod standing;
 
 pub use comparing::formula;
+pub use fixed::{Fixed, prepare};

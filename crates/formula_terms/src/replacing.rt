@@ -10,8 +10,10 @@ ghost use Rattle.obligation_laws.specs.FormulaForms.{SameWidths};
 ghost use Rattle.obligation_laws.specs.Formulas.{chain, equals};
 ghost use Rattle.symbolic_laws.specs.Leaves as laws;
 ghost use Rattle.symbolic_laws.specs.Leaves.{end_fields, end_values};
+ghost use Rattle.formula_terms.specs.Fixing.{FixesFor};
 ghost use Rattle.formula_terms.specs.Replacing.{CanJoin, Ready, StandFor, replacing_in};
 
+use crate::fixed::Fixed;
 use crate::standing::{fields, values};
 use bv_terms::{InputId, TermId, TermOp, Terms};
 use cocoon_num::NoMemory;
@@ -30,29 +32,32 @@ impl Replacing {
     pub(crate) fn replaced(
         &self,
         alloc: Global,
+        fixed: &Fixed,
         old: TermId,
         terms: &mut Terms,
     ) -> Result<TermId, NoMemory>
         requires there { old < length terms.old }
         requires stand { StandFor terms.old self.now }
+        requires fixes { FixesFor terms.old fixed.now self.now }
         ensures made { IfOk result (λ id. Makes terms.new id
             (replaced (replacing_in terms.old self.now) (term_at terms.old old))) }
         ensures kept { Keeps terms.old terms.new }
     {
-        let _count = terms.count();
-        terms.substitute(alloc, old, &self.inputs, &self.terms)
+        fixed.replaced(alloc, self, old, terms)
     }
 
     /// An old term, with its inputs replaced, equals one that is sent.
     fn equal(
         &self,
         alloc: Global,
+        fixed: &Fixed,
         old: TermId,
         sent: TermId,
         terms: &mut Terms,
     ) -> Result<TermId, NoMemory>
         requires there { (old < length terms.old) × (sent < length terms.old) }
         requires stand { StandFor terms.old self.now }
+        requires fixes { FixesFor terms.old fixed.now self.now }
         requires widths { width (replaced (replacing_in terms.old self.now) (term_at terms.old old))
             ≡ width_at terms.old sent }
         ensures made { IfOk result (λ id. Makes terms.new id (binary op.Equal
@@ -60,7 +65,7 @@ impl Replacing {
             (term_at terms.old sent))) }
         ensures kept { Keeps terms.old terms.new }
     {
-        let old = self.replaced(alloc, old, terms)?;
+        let old = self.replaced(alloc, fixed, old, terms)?;
         terms.binary(TermOp::Equal, old, sent)
     }
 
@@ -68,6 +73,7 @@ impl Replacing {
     pub(crate) fn and_equal(
         &self,
         alloc: Global,
+        fixed: &Fixed,
         condition: TermId,
         old: &[TermId],
         sent: &[TermId],
@@ -77,6 +83,7 @@ impl Replacing {
         requires truth { width_at terms.old condition ≡ 1 }
         requires there { AreThere terms.old old.now × AreThere terms.old sent.now }
         requires stand { StandFor terms.old self.now }
+        requires fixes { FixesFor terms.old fixed.now self.now }
         requires widths { SameWidths (replacing_in terms.old self.now) (terms_at terms.old old.now)
             (terms_at terms.old sent.now) }
         ensures made { IfOk result (λ id. Makes terms.new id (chain op.And
@@ -86,7 +93,7 @@ impl Replacing {
     {
         let mut all = condition;
         for at in 0..old.len() {
-            let equal = self.equal(alloc, old[at], sent[at], terms)?;
+            let equal = self.equal(alloc, fixed, old[at], sent[at], terms)?;
             all = terms.binary(TermOp::And, all, equal)?;
         }
         Ok(all)
@@ -96,11 +103,13 @@ impl Replacing {
     pub(crate) fn part(
         &self,
         alloc: Global,
+        fixed: &Fixed,
         old: &Leaf,
         leaf: &Leaf,
         terms: &mut Terms,
     ) -> Result<TermId, NoMemory>
-        requires { CanJoin terms.old self.now old.now leaf.now }
+        requires can { CanJoin terms.old self.now old.now leaf.now }
+        requires fixes { FixesFor terms.old fixed.now self.now }
         ensures made { (by_them : formulas.Replacing) (old_of leaf_of : laws.Leaf)
             → Ready terms.old self.now old.now leaf.now by_them old_of leaf_of
             → IfOk result (λ id. Makes terms.new id (chain op.And
@@ -109,10 +118,10 @@ impl Replacing {
             (equals by_them (end_fields old_of.end) (end_fields leaf_of.end)))) }
         ensures kept { Keeps terms.old terms.new }
     {
-        let condition = self.replaced(alloc, old.cond, terms)?;
+        let condition = self.replaced(alloc, fixed, old.cond, terms)?;
         let (from, to) = (values(&old.end), values(&leaf.end));
-        let with_values = self.and_equal(alloc, condition, from, to, terms)?;
+        let with_values = self.and_equal(alloc, fixed, condition, from, to, terms)?;
         let (from, to) = (fields(&old.end), fields(&leaf.end));
-        self.and_equal(alloc, with_values, from, to, terms)
+        self.and_equal(alloc, fixed, with_values, from, to, terms)
     }
 }

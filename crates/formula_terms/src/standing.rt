@@ -48,7 +48,7 @@ fn position(term: TermId, among: &[TermId]) -> Option<usize>
 }
 
 /// What is sent at the place that a choice has among old terms.
-fn sent_at(choice: TermId, old: &[TermId], sent: &[TermId]) -> Option<TermId>
+pub(crate) fn sent_at(choice: TermId, old: &[TermId], sent: &[TermId]) -> Option<TermId>
     ensures { result ≡ sent_at choice old.now sent.now }
 {
     sent.get(position(choice, old)?).copied()
@@ -108,6 +108,31 @@ fn push_read_back(
         into.push(term)?;
     }
     Ok(())
+}
+
+/// The parameters and the fields of a tree.
+pub(crate) fn first_inputs(alloc: Global, tree: &Tree) -> Result<Vec<InputId>, NoMemory>
+    ensures { IfOk result (λ all. all.items ≡ tree.now.args ++ tree.now.fields) }
+{
+    let mut all = Vec::new(alloc);
+    all.extend_from_slice(tree.args.items())?;
+    all.extend_from_slice(tree.fields.items())?;
+    Ok(all)
+}
+
+/// The terms of the parameters and the fields of a tree.
+pub(crate) fn first_terms(alloc: Global, tree: &Tree, terms: &Terms) -> Result<Vec<TermId>, NoMemory>
+    requires args { All (λ i. i < inputs_in terms.now) tree.now.args }
+    requires fields { All (λ i. i < inputs_in terms.now) tree.now.fields }
+    ensures { (of : laws.Tree) → ShowsInputs terms.now tree.now.args of.args
+        → ShowsInputs terms.now tree.now.fields of.fields
+        → IfOk result (λ to. MakesAll terms.now to.items
+        (map input_term of.args ++ map input_term of.fields)) }
+{
+    let mut all = Vec::new(alloc);
+    push_inputs(tree.args.items(), terms, &mut all)?;
+    push_inputs(tree.fields.items(), terms, &mut all)?;
+    Ok(all)
 }
 
 /// The inputs of a leaf of a tree: the parameters, the fields and its choices.

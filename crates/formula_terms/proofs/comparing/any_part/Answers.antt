@@ -7,21 +7,22 @@ use Rattle.hop_inline.specs.declared.tree.Leaf.{Leaf}
 use Rattle.expr_terms.proofs.Making.{keeps_on, keeps_self}
 use Rattle.formula_terms.specs.Sent.{role_in}
 use Rattle.formula_terms.proofs.Gathering.{Gathered, none_gathered, none_left, one_gathered, one_passed, paired_now, some_left, truth_on}
+use Rattle.formula_terms.proofs.PreparedTerms.{prepared_on}
 use Rattle.formula_terms.proofs.comparing.any_part.Goals.{then-role+in_ok-part+in_ok-either, else-role}
 use Rattle.formula_terms.proofs.comparing.any_part.Goals as goal
 
 pub loop-old-init : goal.loop-old-init
 loop-old-init c = none_gathered c.args.terms.now c.args.old_tree.now c.args.tree.now c.args.leaf.now (keeps_self c.args.terms.now)
 
-pub part-requires : goal.part-requires
-part-requires c =
+pub part-requires-clause-paired : goal.part-requires-clause-paired
+part-requires-clause-paired c =
     let leaves = c.args.old_tree.now.leaves in
     let i = c.loop-old.old-index in
     let old = c.old-item.result in
     let is : old ≡ get_or leaves i old = c.old-item.is ∙ ap (λ xs. get_or xs i old) c.items-old-items.ensures in
     let l : i < length leaves = subst (λ (xs : List Leaf). i < length xs) c.items-old-items.ensures c.loop-old-test.true in
     let same : role_in old.end ≡ role_in c.args.leaf.now.end = sym c.role.ensures ∙ c.if-role.true ∙ c.role-in-loop-old.ensures in
-    paired_now c.args.terms.now c.loop-old.terms c.args.old_tree.now c.args.tree.now c.args.leaf.now c.requires c.loop-old.invariant.kept.kept i old l is same
+    paired_now c.args.terms.now c.loop-old.terms c.args.old_tree.now c.args.tree.now c.args.leaf.now c.requires.compared c.loop-old.invariant.kept.kept i old l is same
 
 pub either-requires-clause-any : goal.either-requires-clause-any
 either-requires-clause-any c = truth_on c.loop-old.terms c.part.new.terms c.loop-old.any c.part.ensures.kept.kept c.loop-old.invariant.truth
@@ -73,3 +74,6 @@ returns-in-None-clause-truth c = IfOk-weaker c.constant.result _ _ (λ id p. (p.
 pub returns-in-None-clause-kept : goal.returns-in-None-clause-kept
 returns-in-None-clause-kept c =
     keeps_on c.args.terms.now c.loop-old.terms c.constant.new.self c.loop-old.invariant.kept (record { kept = c.constant.ensures.kept; inputs = c.constant.ensures.few.inputs })
+
+pub part-requires-clause-prepared : goal.part-requires-clause-prepared
+part-requires-clause-prepared c = prepared_on c.args.terms.now c.loop-old.terms c.args.fixed.now c.args.old_tree.now c.args.tree.now c.loop-old.invariant.kept.kept c.requires.prepared

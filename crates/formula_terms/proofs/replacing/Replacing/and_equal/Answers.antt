@@ -5,10 +5,14 @@ use Rattle.bv_terms.specs.TermTrees.{width}
 use Rattle.expr_terms.proofs.Making.{keeps_on}
 use Rattle.formula_terms.specs.Replacing.{replacing_in}
 use Rattle.formula_terms.proofs.Chains.{one_joined, replacing_on, same_count, stand_on, width_there}
+use Rattle.formula_terms.proofs.FixedTerms.{fixes_for_on}
 use Rattle.formula_terms.proofs.replacing.Replacing.and_equal.Goals as goal
 
 pub equal-requires-clause-stand : goal.equal-requires-clause-stand
 equal-requires-clause-stand c = stand_on c.args.terms.now c.loop-at.terms c.args.self.now c.loop-at.invariant.kept.kept c.requires.stand
+
+pub equal-requires-clause-fixes : goal.equal-requires-clause-fixes
+equal-requires-clause-fixes c = fixes_for_on c.args.terms.now c.loop-at.terms c.args.fixed.now c.args.self.now c.loop-at.invariant.kept.kept c.requires.stand c.requires.fixes
 
 pub equal-requires-clause-widths : goal.equal-requires-clause-widths
 equal-requires-clause-widths c =

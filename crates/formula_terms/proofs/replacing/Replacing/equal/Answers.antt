@@ -9,6 +9,9 @@ use Rattle.formula_terms.proofs.replacing.Replacing.equal.Goals as goal
 pub replaced-requires-clause-there : goal.replaced-requires-clause-there
 replaced-requires-clause-there c = c.requires.there.0
 
+pub replaced-requires-clause-fixes : goal.replaced-requires-clause-fixes
+replaced-requires-clause-fixes c = c.requires.fixes
+
 pub binary-requires-clause-operands : goal.binary-requires-clause-operands
 binary-requires-clause-operands c = (c.in_ok-old.ensures.made.there, longer c.args.terms.now c.replaced.new.terms c.in_ok-old.ensures.kept c.args.sent c.requires.there.1)
 

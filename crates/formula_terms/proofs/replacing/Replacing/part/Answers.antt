@@ -8,39 +8,40 @@ use Rattle.expr_terms.proofs.Making.{keeps_on}
 use Rattle.obligation_laws.specs.Formulas.{chain, equals}
 use Rattle.symbolic_laws.specs.Leaves.{end_fields, end_values}
 use Rattle.formula_terms.proofs.Pairing.{first_made, joined, ready_on, same_widths, values_width}
+use Rattle.formula_terms.proofs.FixedTerms.{fixes_for_on}
 use Rattle.formula_terms.proofs.replacing.Replacing.part.Goals as goal
 
 pub replaced-requires-clause-there : goal.replaced-requires-clause-there
-replaced-requires-clause-there c = c.requires.ready.cond.there
+replaced-requires-clause-there c = c.requires.can.ready.cond.there
 
 pub replaced-requires-clause-stand : goal.replaced-requires-clause-stand
-replaced-requires-clause-stand c = c.requires.ready.stand
+replaced-requires-clause-stand c = c.requires.can.ready.stand
 
 pub and_equal-requires-clause-condition : goal.and_equal-requires-clause-condition
 and_equal-requires-clause-condition c = c.in_ok-condition.ensures.made.there
 
 pub and_equal-requires-clause-truth : goal.and_equal-requires-clause-truth
 and_equal-requires-clause-truth c =
-    let p = c.requires in
+    let p = c.requires.can in
     let m = first_made c.args.terms.now c.replaced.new.terms c.args.self.now c.args.old.now c.args.leaf.now p.by_them p.old_of p.leaf_of c.in_ok-condition.condition p.ready c.in_ok-condition.ensures.made in
     ap width m.term ∙ p.cond
 
 pub and_equal-requires-clause-there : goal.and_equal-requires-clause-there
 and_equal-requires-clause-there c =
     let m = c.replaced.new.terms in
-    let p = c.requires in
+    let p = c.requires.can in
     let h = ready_on c.args.terms.now m c.args.self.now c.args.old.now c.args.leaf.now p.by_them p.old_of p.leaf_of c.replaced.ensures.kept.kept p.ready in
     (subst (AreThere m) (sym c.values-from.ensures) h.old_values.there, subst (AreThere m) (sym c.values-to.ensures) h.values.there)
 
 pub and_equal-requires-clause-stand : goal.and_equal-requires-clause-stand
 and_equal-requires-clause-stand c =
-    let p = c.requires in
+    let p = c.requires.can in
     (ready_on c.args.terms.now c.replaced.new.terms c.args.self.now c.args.old.now c.args.leaf.now p.by_them p.old_of p.leaf_of c.replaced.ensures.kept.kept p.ready).stand
 
 pub and_equal-requires-clause-widths : goal.and_equal-requires-clause-widths
 and_equal-requires-clause-widths c =
     let m = c.replaced.new.terms in
-    let p = c.requires in
+    let p = c.requires.can in
     let h = ready_on c.args.terms.now m c.args.self.now c.args.old.now c.args.leaf.now p.by_them p.old_of p.leaf_of c.replaced.ensures.kept.kept p.ready in
     same_widths m c.args.self.now p.by_them c.values-from.result.now c.values-to.result.now (end_values p.old_of.end) (end_values p.leaf_of.end) h.is
     (ap (terms_at m) c.values-from.ensures ∙ h.old_values.terms) (ap (terms_at m) c.values-to.ensures ∙ h.values.terms) p.values
@@ -51,7 +52,7 @@ and_equal-requires-2-clause-condition c = c.in_ok-with_values.ensures.made.there
 pub and_equal-requires-2-clause-truth : goal.and_equal-requires-2-clause-truth
 and_equal-requires-2-clause-truth c =
     let m = c.replaced.new.terms in
-    let p = c.requires in
+    let p = c.requires.can in
     let h = ready_on c.args.terms.now m c.args.self.now c.args.old.now c.args.leaf.now p.by_them p.old_of p.leaf_of c.replaced.ensures.kept.kept p.ready in
     let first = first_made c.args.terms.now m c.args.self.now c.args.old.now c.args.leaf.now p.by_them p.old_of p.leaf_of c.in_ok-condition.condition p.ready c.in_ok-condition.ensures.made in
     let second = joined m c.and_equal.new.terms c.args.self.now p.by_them c.in_ok-condition.condition c.in_ok-with_values.with_values c.values-from.result.now c.values-to.result.now (replaced p.by_them p.old_of.cond)
@@ -61,7 +62,7 @@ and_equal-requires-2-clause-truth c =
 pub and_equal-requires-2-clause-there : goal.and_equal-requires-2-clause-there
 and_equal-requires-2-clause-there c =
     let m = c.and_equal.new.terms in
-    let p = c.requires in
+    let p = c.requires.can in
     let k = keeps_on c.args.terms.now c.replaced.new.terms m c.replaced.ensures.kept c.and_equal.ensures.kept in
     let h = ready_on c.args.terms.now m c.args.self.now c.args.old.now c.args.leaf.now p.by_them p.old_of p.leaf_of k.kept p.ready in
     (subst (AreThere m) (sym c.fields-from.ensures) h.old_fields.there, subst (AreThere m) (sym c.fields-to.ensures) h.fields.there)
@@ -69,14 +70,14 @@ and_equal-requires-2-clause-there c =
 pub and_equal-requires-2-clause-stand : goal.and_equal-requires-2-clause-stand
 and_equal-requires-2-clause-stand c =
     let m = c.and_equal.new.terms in
-    let p = c.requires in
+    let p = c.requires.can in
     let k = keeps_on c.args.terms.now c.replaced.new.terms m c.replaced.ensures.kept c.and_equal.ensures.kept in
     (ready_on c.args.terms.now m c.args.self.now c.args.old.now c.args.leaf.now p.by_them p.old_of p.leaf_of k.kept p.ready).stand
 
 pub and_equal-requires-2-clause-widths : goal.and_equal-requires-2-clause-widths
 and_equal-requires-2-clause-widths c =
     let m = c.and_equal.new.terms in
-    let p = c.requires in
+    let p = c.requires.can in
     let k = keeps_on c.args.terms.now c.replaced.new.terms m c.replaced.ensures.kept c.and_equal.ensures.kept in
     let h = ready_on c.args.terms.now m c.args.self.now c.args.old.now c.args.leaf.now p.by_them p.old_of p.leaf_of k.kept p.ready in
     same_widths m c.args.self.now p.by_them c.fields-from.result.now c.fields-to.result.now (end_fields p.old_of.end) (end_fields p.leaf_of.end) h.is
@@ -106,3 +107,14 @@ returns-in_err-with_values-clause-kept c = keeps_on c.args.terms.now c.replaced.
 pub returns-clause-kept : goal.returns-clause-kept
 returns-clause-kept c =
     keeps_on c.args.terms.now c.and_equal.new.terms c.and_equal-2.new.terms (keeps_on c.args.terms.now c.replaced.new.terms c.and_equal.new.terms c.replaced.ensures.kept c.and_equal.ensures.kept) c.and_equal-2.ensures.kept
+
+pub replaced-requires-clause-fixes : goal.replaced-requires-clause-fixes
+replaced-requires-clause-fixes c = c.requires.fixes
+
+pub and_equal-requires-clause-fixes : goal.and_equal-requires-clause-fixes
+and_equal-requires-clause-fixes c = fixes_for_on c.args.terms.now c.replaced.new.terms c.args.fixed.now c.args.self.now c.replaced.ensures.kept.kept c.requires.can.ready.stand c.requires.fixes
+
+pub and_equal-requires-2-clause-fixes : goal.and_equal-requires-2-clause-fixes
+and_equal-requires-2-clause-fixes c =
+    let k = keeps_on c.args.terms.now c.replaced.new.terms c.and_equal.new.terms c.replaced.ensures.kept c.and_equal.ensures.kept in
+    fixes_for_on c.args.terms.now c.and_equal.new.terms c.args.fixed.now c.args.self.now k.kept c.requires.can.ready.stand c.requires.fixes

@@ -1,0 +1,12 @@
+use Rattle.std.proofs.Common.{◌≡◌, Some, sym, ap, subst, ◌∙◌}
+use Rattle.std.proofs.lemmas.Result.{IfOk-weaker}
+use Rattle.expr_terms.proofs.Making.{keeps_on}
+use Rattle.formula_terms.proofs.Chains.{stand_on}
+use Rattle.formula_terms.proofs.FixedTerms.{fixes_for_on, walk_down, walk_first, walk_last, walk_own, walk_up}
+use Rattle.formula_terms.proofs.fixed.Fixed.replaced.Goals as goal
+
+pub loop-init : goal.loop-init
+loop-init c = walk_first c.args.terms.now c.args.by.now c.in_ok-ids.ids c.args.old c.new-waiting.result.items c.push.new.self.items c.in_ok-ids.ensures c.requires.there c.new-waiting.ensures.items c.in_ok-push.ensures.items
+
+pub before-requires : goal.before-requires
+before-requires c = walk_own c.args.terms.now c.loop.terms c.args.by.now c.loop.ids c.loop.waiting.items c.pop.new.self.items c.in-Some.own c.loop.invariant c.in-Some.ensures.items
