@@ -7,4 +7,4 @@ mod Chains
 mod Pairing
 mod Gathering
 mod FixedTerms
-mod PreparedTerms
+pub mod PreparedTerms

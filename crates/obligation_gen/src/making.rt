@@ -19,6 +19,7 @@ use bv_terms::Terms;
 use cocoon_num::NoMemory;
 use cocoon_resolve::Checked;
 use cocoon_syntax::Refine;
+use formula_terms::prepare;
 use hop_inline::{InlineFault, Tree, body_tree, inline};
 use obligation_laws::form_laws::formulas_fit;
 use sound_types::laws::code_literals_fit;
@@ -69,15 +70,18 @@ fn of_role(
     let _names = checked.names();
     let role = checked.role_of(name).unwrap();
     let tree = made(inline(alloc, checked, level, role, block.within, terms))?;
+    let first = terms.count();
     let old = made(body_tree(alloc, checked, level - 1, role, terms))?;
     if joined_terms(&old, &tree) > MOST_JOINED {
         return Err(NoMemory);
     }
+    let fixed = prepare(alloc, &old, &tree, first, terms)?;
     let refined = Refined {
         level,
         role,
         old: &old,
         tree: &tree,
+        fixed: &fixed,
     };
     refined.obligations(alloc, terms)
 }
@@ -107,8 +111,8 @@ fn of_block(
 
 /// What the block behind the level before this one owes: role by role, in the order of its list,
 /// and leaf by leaf. Leaves are counted before anything is made. Time and memory are in proportion
-/// to the leaves of a role, times the leaves of its body above that send to the same roles, with
-/// all that these are made of.
+/// to all that trees are made of, and to the leaves of a role, times the leaves of its body above
+/// that send to the same roles, with what these send and what has a choice in it.
 pub fn obligations(
     alloc: Global,
     checked: &Checked,

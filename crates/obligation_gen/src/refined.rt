@@ -4,6 +4,7 @@ ghost use Rattle.cocoon_num.specs.Tree.{Design};
 ghost use Rattle.bv_terms.specs.declared.node.Node.{Node};
 ghost use Rattle.declarations.specs.Declares.{role_number};
 ghost use Rattle.expr_terms.specs.Variables.{Keeps};
+ghost use Rattle.formula_terms.specs.Fixing.{Prepared};
 ghost use Rattle.hop_inline.specs.Shown.{ShowsEnd};
 ghost use Rattle.symbolic_laws.specs.Leaves as laws;
 ghost use Rattle.obligation_laws.specs.Obligations as owed;
@@ -15,17 +16,19 @@ use crate::obligation::{Kind, Obligation};
 use bv_terms::Terms;
 use cocoon_num::NoMemory;
 use declarations::RoleId;
-use formula_terms::formula;
+use formula_terms::{Fixed, formula};
 use hop_inline::{End, Tree};
 use std::alloc::Global;
 
-/// A refined role: the level of its block, its tree there, and the tree of its body above.
+/// A refined role: the level of its block, its tree there, the tree of its body above, and what the
+/// terms of that become in which nothing is chosen.
 #[derive(Clone, Copy, Drop)]
 pub(crate) struct Refined<'a> {
     pub(crate) level: u32,
     pub(crate) role: RoleId,
     pub(crate) old: &'a Tree,
     pub(crate) tree: &'a Tree,
+    pub(crate) fixed: &'a Fixed,
 }
 
 /// What is owed of a leaf with this end.
@@ -49,6 +52,8 @@ impl Refined<'_> {
     ) -> Result<Obligation, NoMemory>
         requires number { number < length self.now.tree.now.leaves }
         requires comparable { Comparable terms.old self.now.old.now self.now.tree.now }
+        requires prepared { Prepared terms.old self.now.fixed.now self.now.old.now
+            self.now.tree.now }
         ensures owed { (d : Design) (role : List ℕ) (old of : laws.Tree) (leaf : laws.Leaf)
             → AreComparable d terms.old self.now.old.now self.now.tree.now old of
             → role_number d role ≡ Some self.now.role → slice_get of.leaves number ≡ Some leaf
@@ -57,7 +62,7 @@ impl Refined<'_> {
         ensures kept { Keeps terms.old terms.new }
     {
         let leaf = &self.tree.leaves.items()[number as usize];
-        let formula = formula(alloc, self.old, self.tree, leaf, terms)?;
+        let formula = formula(alloc, self.fixed, self.old, self.tree, leaf, terms)?;
         Ok(Obligation {
             level: self.level,
             role: self.role,
@@ -76,6 +81,8 @@ impl Refined<'_> {
     ) -> Result<Vec<Obligation>, NoMemory>
         requires few { length self.now.tree.now.leaves < 2 ^ 32 }
         requires comparable { Comparable terms.old self.now.old.now self.now.tree.now }
+        requires prepared { Prepared terms.old self.now.fixed.now self.now.old.now
+            self.now.tree.now }
         ensures owed { (d : Design) (role : List ℕ) (old of : laws.Tree)
             → AreComparable d terms.old self.now.old.now self.now.tree.now old of
             → role_number d role ≡ Some self.now.role

@@ -10,6 +10,7 @@ use Rattle.bv_terms.proofs.ReplaceFacts.{keeps-both}
 use Rattle.declarations.specs.Declares.{role_number}
 use Rattle.hop_inline.specs.Counted.{most_leaves}
 use Rattle.hop_inline.proofs.Ends.{numbered}
+use Rattle.hop_inline.proofs.Growing.{inputs_on}
 use Rattle.obligation_laws.specs.Obligations as owed
 use Rattle.obligation_laws.specs.Obligations.{old_tree, refined_tree}
 use Rattle.refinement.specs.Segments.{is_new}
@@ -18,6 +19,7 @@ use Rattle.symbolic_laws.specs.Leaves as laws
 use Rattle.symbolic_laws.specs.Leaves.{body_tree}
 use Rattle.obligation_gen.specs.Shown.{ShowsObligations}
 use Rattle.obligation_gen.proofs.Counts.{always}
+use Rattle.obligation_gen.proofs.Leaves.{tree_on}
 use Rattle.obligation_gen.proofs.Treed.{Treed, comparable, few_leaves, last_next, treed}
 use Rattle.obligation_gen.proofs.making.of_role.Goals as goal
 
@@ -47,6 +49,35 @@ returns-in_err-old-clause-kept c = keeps-both c.args.terms.now c.inline.new.term
 pub returns-then-joined_terms-gt-MOST_JOINED-clause-kept :
     goal.returns-then-joined_terms-gt-MOST_JOINED-clause-kept
 returns-then-joined_terms-gt-MOST_JOINED-clause-kept c = keeps-both c.args.terms.now c.inline.new.terms c.body_tree.new.terms c.inline.ensures.kept c.body_tree.ensures.kept
+
+pub returns-in_err-fixed-clause-kept : goal.returns-in_err-fixed-clause-kept
+returns-in_err-fixed-clause-kept c =
+    keeps-both c.args.terms.now c.inline.new.terms c.prepare.new.terms c.inline.ensures.kept
+    (keeps-both c.inline.new.terms c.body_tree.new.terms c.prepare.new.terms c.body_tree.ensures.kept c.prepare.ensures.kept.kept)
+
+pub prepare-requires : goal.prepare-requires
+prepare-requires c =
+    let d = design_of c.args.checked.now in
+    let name = c.args.name.now in
+    let above = c.args.level - 1 in
+    let block = refine_of c.args.block.now in
+    let first = inputs_in c.args.terms.now in
+    let number : role_number d name ≡ Some c.unwrap-role.result = sym c.role_of.ensures ∙ c.unwrap-role.ensures in
+    let made : Treed d above block name first c.inline.new.terms c.body_tree.new.terms c.in_ok-old.old c.in_ok-tree.tree =
+    treed d above block name first c.inline.new.terms c.body_tree.new.terms c.in_ok-tree.tree c.in_ok-old.old c.inline.result c.body_tree.result c.in_ok-tree.ensures (c.inline.ensures.tree name number) (c.inline.ensures.next name number)
+    c.in_ok-old.ensures (c.body_tree.ensures.tree name number) (c.body_tree.ensures.next name number) c.body_tree.ensures.kept in
+    let T = refined_tree above d block name first in
+    record {
+      old_of = body_tree above d name (inputs_in c.inline.new.terms);
+      of = T;
+      old_args = made.old_.args;
+      old_fields = made.old_.fields;
+      args = inputs_on c.inline.new.terms c.body_tree.new.terms c.in_ok-tree.tree.args T.args made.kept made.tree_.args;
+      fields = inputs_on c.inline.new.terms c.body_tree.new.terms c.in_ok-tree.tree.fields T.fields made.kept made.tree_.fields;
+    }
+
+pub obligations-requires-clause-prepared : goal.obligations-requires-clause-prepared
+obligations-requires-clause-prepared c = c.in_ok-fixed.ensures.prepared
 
 pub obligations-requires-clause-few : goal.obligations-requires-clause-few
 obligations-requires-clause-few c =
@@ -90,7 +121,9 @@ obligations-requires-clause-comparable c =
     let are = comparable d above block name first then now c.in_ok-old.old c.in_ok-tree.tree made
     (λ n leaf at. (c.leaves_have_widths.ensures.inlined d rules literals above name r is block.within first n leaf at).cond)
     (λ n m leaf o at there same. c.formulas_fit.ensures.parts d rules literals above block c.requires.block name first n m leaf o at there same) in
-    record { design = d; old_of = old_tree above d block name first; of = refined_tree above d block name first; are = are }
+    let O = old_tree above d block name first in
+    let T = refined_tree above d block name first in
+    record { design = d; old_of = O; of = T; are = tree_on d now c.prepare.new.terms c.in_ok-old.old c.in_ok-tree.tree O T c.prepare.ensures.kept.kept are }
 
 pub returns-clause-owed : goal.returns-clause-owed
 returns-clause-owed c =
@@ -116,7 +149,7 @@ returns-clause-owed c =
     (λ n m leaf o at there same. c.formulas_fit.ensures.parts d rules literals above block c.requires.block name first n m leaf o at there same) in
     let O = old_tree above d block name first in
     let T = refined_tree above d block name first in
-    IfOk-weaker c.obligations.result _ _ (λ all s. subst (λ n. ShowsObligations d c.obligations.new.terms all.items (owed.of_leaves n name O T 0 T.leaves)) up s) (c.obligations.ensures.owed d name O T are number)
+    IfOk-weaker c.obligations.result _ _ (λ all s. subst (λ n. ShowsObligations d c.obligations.new.terms all.items (owed.of_leaves n name O T 0 T.leaves)) up s) (c.obligations.ensures.owed d name O T (tree_on d now c.prepare.new.terms c.in_ok-old.old c.in_ok-tree.tree O T c.prepare.ensures.kept.kept are) number)
 
 pub returns-clause-next : goal.returns-clause-next
 returns-clause-next c =
@@ -133,9 +166,10 @@ returns-clause-next c =
     let made : Treed d above block name first then now c.in_ok-old.old c.in_ok-tree.tree =
     treed d above block name first then now c.in_ok-tree.tree c.in_ok-old.old c.inline.result c.body_tree.result c.in_ok-tree.ensures (c.inline.ensures.tree name number) (c.inline.ensures.next name number)
     c.in_ok-old.ensures (c.body_tree.ensures.tree name number) (c.body_tree.ensures.next name number) c.body_tree.ensures.kept in
-    always c.obligations.result _ (c.obligations.ensures.kept.inputs ∙ last_next d above block name first then now c.in_ok-old.old c.in_ok-tree.tree made)
+    always c.obligations.result _ (c.obligations.ensures.kept.inputs ∙ c.prepare.ensures.kept.inputs ∙ last_next d above block name first then now c.in_ok-old.old c.in_ok-tree.tree made)
 
 pub returns-clause-kept : goal.returns-clause-kept
 returns-clause-kept c =
     keeps-both c.args.terms.now c.inline.new.terms c.obligations.new.terms c.inline.ensures.kept
-    (keeps-both c.inline.new.terms c.body_tree.new.terms c.obligations.new.terms c.body_tree.ensures.kept c.obligations.ensures.kept.kept)
+    (keeps-both c.inline.new.terms c.body_tree.new.terms c.obligations.new.terms c.body_tree.ensures.kept
+    (keeps-both c.body_tree.new.terms c.prepare.new.terms c.obligations.new.terms c.prepare.ensures.kept.kept c.obligations.ensures.kept.kept))

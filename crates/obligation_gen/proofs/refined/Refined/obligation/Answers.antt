@@ -5,8 +5,11 @@ use Rattle.hop_inline.proofs.Growing.{leaf_on}
 use Rattle.obligation_gen.proofs.Leaves.{compared, some_leaf, tree_on}
 use Rattle.obligation_gen.proofs.refined.Refined.obligation.Goals as goal
 
-pub formula-requires : goal.formula-requires
-formula-requires c =
+pub formula-requires-clause-prepared : goal.formula-requires-clause-prepared
+formula-requires-clause-prepared c = c.requires.prepared
+
+pub formula-requires-clause-compared : goal.formula-requires-clause-compared
+formula-requires-clause-compared c =
     let p = c.requires.comparable in
     let s = c.args.self.now in
     let a = c.args.terms.now in

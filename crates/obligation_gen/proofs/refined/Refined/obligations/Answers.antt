@@ -1,6 +1,7 @@
 use Rattle.std.proofs.Common.{◌≡◌, ◌<◌, ◌≤◌, ◌+◌, List, length, sym, subst}
 use Rattle.expr_terms.proofs.Making.{keeps_on, keeps_self}
 use Rattle.hop_inline.specs.declared.tree.Leaf.{Leaf}
+use Rattle.formula_terms.proofs.PreparedTerms.{prepared_on}
 use Rattle.obligation_gen.proofs.Leaves.{Listed, all_listed, none_listed, one_listed, tree_on}
 use Rattle.obligation_gen.proofs.refined.Refined.obligations.Goals as goal
 
@@ -47,3 +48,8 @@ returns-clause-owed c = λ d role old of h r.
 
 pub returns-clause-kept : goal.returns-clause-kept
 returns-clause-kept c = c.loop-number.invariant.kept
+
+pub obligation-requires-clause-prepared : goal.obligation-requires-clause-prepared
+obligation-requires-clause-prepared c =
+    let s = c.args.self.now in
+    prepared_on c.args.terms.now c.loop-number.terms s.fixed.now s.old.now s.tree.now c.loop-number.invariant.kept.kept c.requires.prepared
