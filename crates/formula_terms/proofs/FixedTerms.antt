@@ -1,5 +1,5 @@
 -- Old terms in which nothing is chosen, while an arena grows.
-use Rattle.std.proofs.Common.{◌≡◌, ◌≢◌, ℕ, zero, suc, ◌<◌, ◌==◌, ◌⊎◌, Bool, true, false, List, [], ◌∷◌, ◌++◌, map, length, Option, Some, None, option_map, slice_get, refl, sym, ap, subst, ◌∙◌, arith, inl, inr}
+use Rattle.std.proofs.Common.{◌≡◌, ◌≢◌, ℕ, zero, suc, ◌<◌, ◌==◌, ◌⊎◌, Bool, true, false, List, [], ◌∷◌, ◌++◌, map, length, Option, Some, None, IfSome, option_map, slice_get, refl, sym, ap, subst, ◌∙◌, arith, inl, inr}
 use Rattle.std.specs.Prelude.{option_and_then, unwrap_or}
 use Rattle.std.specs.Option.{IsSome}
 use Rattle.std.specs.List.{AllByRecursion, AllZip}
@@ -7,9 +7,10 @@ use Rattle.std.proofs.lemmas.List.Elements.{recursion_from_All}
 use Rattle.std.proofs.lemmas.Bool.{cases_Bool, cases_eq, cond-true, cond-false, eqb-true, false≢true}
 use Rattle.std.proofs.lemmas.List.{append_assoc, map-append}
 use Rattle.std.proofs.lemmas.Option.{slice_get_within}
+use Rattle.cocoon_num.specs.declared.bits.Bits.{Bits}
 use Rattle.bv_terms.specs.declared.node.Node.{Node}
 use Rattle.bv_terms.specs.declared.node.Node.TheVariants.{Constant, Input, Apply, Not, Binary, Slice, Pick}
-use Rattle.bv_terms.specs.Arenas.{IsArena, IsPut, KeepsTerms, count_input, args_of, made_of, parts, term_at, width_at}
+use Rattle.bv_terms.specs.Arenas.{IsArena, IsInputTerm, IsPut, KeepsTerms, count_input, args_of, made_of, parts, term_at, width_at}
 use Rattle.bv_terms.specs.Rebuilt.{IsReplaced, Names, name_in, with_parts}
 use Rattle.bv_terms.specs.Replacements as formulas
 use Rattle.bv_terms.specs.Replacements.{HasWidthOf, beside, replaced, replaced_args}
@@ -21,7 +22,7 @@ use Rattle.bv_terms.proofs.ReplaceFacts.{beside-in, beside-map, beside-zip, widt
 use Rattle.expr_terms.specs.Variables.{Keeps, Makes}
 use Rattle.expr_terms.proofs.Making.{keeps_on, keeps_self}
 use Rattle.symbolic_runs.proofs.Growing.{longer}
-use Rattle.formula_terms.specs.Fixing.{AreKnown, Extends, Fixes, FixesFor, IsFixed, IsOther, Known}
+use Rattle.formula_terms.specs.Fixing.{AreKnown, Extends, HasParts, Fixes, FixesFor, IsFixed, IsOther, Known}
 use Rattle.formula_terms.specs.Replacing.{StandFor, replacing_in}
 use Rattle.formula_terms.specs.Sent.{position_of, sent_at}
 use Rattle.formula_terms.specs.declared.fixed.Fixed.{Fixed}
@@ -236,3 +237,65 @@ module _ (start now : List Node) (by : Replacing) (ids : Names) (waiting rest : 
         ∙ (λ j. replaced (replacing_on start now by h.kept.kept s j) (((keeps_on start now new h.kept k).kept.terms own both.1) j))
         ∙ ap (λ x. replaced (replacing_in start by) (term_at start x)) same;
   }
+
+-- ---- the terms that are fixed
+
+pub input_fixed : (a : List Node) → IsArena a → (r : Replacing) → StandFor a r → (i own t : ℕ) → IsInputTerm a i own → sent_at i r.inputs.items r.terms.items ≡ Some t → IsFixed a (replacing_in a r) own t
+input_fixed a arena r s i own t at is =
+    let w = at.0 in
+    let e : slice_get a own ≡ Some (Input i w) = at.1 in
+    let b = input_becomes a arena r s own i w t e (sym (ap (λ o. unwrap_or o own) is)) in
+    let g : replacing_in a r i ≡ Some (term_at a t) = sent_beside (term_at a) r.inputs.items r.terms.items i ∙ ap (option_map (term_at a)) is in
+    let made : term_at a own ≡ input i w = arena.made own (Input i w) e in
+    record {
+      here = slice_get_within a own (Input i w) e;
+      becomes = λ R x. record {
+        there = b.there;
+        width = b.width;
+        term = ap (λ o. unwrap_or o (input i w)) (sym (x i (term_at a t) g)) ∙ ap (replaced R) (sym made);
+      };
+    }
+
+pub constant_fixed : (a : List Node) → IsArena a → (base : formulas.Replacing) (k : ℕ) (b : Bits) → slice_get a k ≡ Some (Constant b) → IsFixed a base k k
+constant_fixed a arena base k b e =
+    let made = arena.made k (Constant b) e in
+    let here = slice_get_within a k (Constant b) e in
+    record { here = here; becomes = λ R x. record { there = here; width = refl; term = made ∙ ap (replaced R) (sym made) } }
+
+pub node_fixed : (a b : List Node) (f : Fixed) (own next : ℕ) (node : Node) → IsArena a → KeepsTerms a b → Fixes a f → slice_get a own ≡ Some node → IsOther node → AreKnown f.ids node
+    → IsPut a b (with_parts (name_in f.ids) node) next → IsFixed b (replacing_in b f.base) own next
+node_fixed a b f own next node arena k s e o known put = record {
+  here = longer a b k own (slice_get_within a own node e);
+  becomes = λ R x.
+      put_replaced a b R (name_in f.ids) own node next arena k e o
+      (from_places (λ p. IsReplaced a a R p (name_in f.ids p)) (parts node) (λ i p g.
+          let v = some_value (value_at f.ids p) (known i p g) in
+          subst (IsReplaced a a R p) (sym (ap (λ o. unwrap_or o p) v.1))
+          ((s.each_ p v.0 v.1).becomes R (λ i t h. x i t (ap (λ (q : formulas.Replacing). q i) (replacing_on a b f.base k s.stand) ∙ h))))) put;
+}
+
+-- one more
+pub fixes_more : (a : List Node) (old new : Fixed) (k id : ℕ) → Fixes a old → new.base ≡ old.base → IsSet old.ids new.ids k id → IsFixed a (replacing_in a old.base) k id → Fixes a new
+fixes_more a old new k id s same up is = record {
+  stand = subst (StandFor a) (sym same) s.stand;
+  each_ = λ q x e. subst (λ (r : Replacing). IsFixed a (replacing_in a r) q x) (sym same) (elim (cases_eq k q) [
+    | inl n ↦
+        let value : id ≡ x = (let p : Some id ≡ Some x = sym up.itself ∙ ap (value_at new.ids) n ∙ e in cc) in
+        subst (λ (p : ℕ × ℕ). IsFixed a (replacing_in a old.base) p.0 p.1) (λ j. (n j, value j)) is
+    | inr d ↦ s.each_ q x (sym (up.others q d) ∙ e)
+  ]);
+}
+
+-- the part at a place
+pub at_place : (P : ℕ → Type 0) (ps : List ℕ) (i p : ℕ) → AllByRecursion P ps → slice_get ps i ≡ Some p → P p
+at_place P [] i p h e = absurd cc
+at_place P (q ∷ qs) zero p h e = let same : q ≡ p = cc in subst P same h.0
+at_place P (q ∷ qs) (suc i) p h e = at_place P qs i p h.1 e
+
+pub part_below : (nodes : List Node) (k i p : ℕ) (node : Node) → IsArena nodes → slice_get nodes k ≡ Some node → slice_get (parts node) i ≡ Some p → p < k
+part_below nodes k i p node arena e at = at_place (λ q. q < k) (parts node) i p (recursion_from_All (λ q. q < k) (parts node) (arena.below k node e)) at
+
+-- the part that was found, if there is one
+pub below_all : (nodes : List Node) (k : ℕ) (node : Node) (o : Option ℕ) → IsArena nodes → slice_get nodes k ≡ Some node → IfSome o (HasParts node) → IfSome o (λ p. p < k)
+below_all nodes k node None arena e h = tt
+below_all nodes k node (Some p) arena e h = part_below nodes k h.0 p node arena e h.1

@@ -1,5 +1,5 @@
 -- Terms that are fixed, beside one old leaf.
-use Rattle.std.proofs.Common.{◌≡◌, ℕ, List, [], ◌∷◌, ◌++◌, map, All, Some, slice_get, refl, sym, ap, ◌∙◌, arith}
+use Rattle.std.proofs.Common.{◌≡◌, ℕ, List, [], ◌∷◌, ◌++◌, map, All, Some, slice_get, refl, sym, ap, subst, ◌∙◌, arith}
 use Rattle.std.proofs.lemmas.List.{append_assoc, map-append}
 use Rattle.cocoon_num.specs.Tree.{Design}
 use Rattle.bv_terms.specs.declared.node.Node.{Node}
@@ -8,7 +8,7 @@ use Rattle.bv_terms.specs.Arenas.{IsArena, KeepsTerms}
 use Rattle.bv_terms.specs.Replacements as formulas
 use Rattle.bv_terms.specs.Replacements.{beside}
 use Rattle.bv_terms.specs.TermTrees.{Term}
-use Rattle.expr_terms.specs.Variables.{terms_at}
+use Rattle.expr_terms.specs.Variables.{MakesAll, terms_at}
 use Rattle.hop_inline.specs.Shown.{HasInput, ShowsInputs}
 use Rattle.hop_inline.specs.declared.tree.Leaf.{Leaf}
 use Rattle.hop_inline.specs.declared.tree.Tree.{Tree}
@@ -18,7 +18,7 @@ use Rattle.symbolic_laws.specs.Leaves as laws
 use Rattle.symbolic_laws.specs.States.{NewInput, input_term}
 use Rattle.symbolic_runs.proofs.Growing.{head_all, tail_all}
 use Rattle.formula_terms.specs.Compared.{ArePaired}
-use Rattle.formula_terms.specs.Fixing.{Extends, FixesFor, Prepared}
+use Rattle.formula_terms.specs.Fixing.{Extends, Fixes, FixesFor, Prepared}
 use Rattle.formula_terms.specs.Replacing.{replacing_in}
 use Rattle.formula_terms.specs.declared.fixed.Fixed.{Fixed}
 use Rattle.formula_terms.specs.declared.replacing.Replacing.{Replacing}
@@ -33,6 +33,18 @@ prepared_on a b f old_tree tree h p = record {
   args = inputs_on a b tree.args p.of.args h p.args;
   fields = inputs_on a b tree.fields p.of.fields h p.fields;
   terms_ = makes_all_on a b f.base.terms.items (map input_term p.of.args ++ map input_term p.of.fields) h p.terms_;
+}
+
+-- more terms are fixed
+pub prepared_more : (a b : List Node) (f g : Fixed) (old_tree tree : Tree) → KeepsTerms a b → Fixes b g → g.base ≡ f.base → Prepared a f old_tree tree → Prepared b g old_tree tree
+prepared_more a b f g old_tree tree h s same p = record {
+  fixes = s;
+  inputs_ = ap (λ (r : Replacing). r.inputs.items) same ∙ p.inputs_;
+  of = p.of;
+  args = inputs_on a b tree.args p.of.args h p.args;
+  fields = inputs_on a b tree.fields p.of.fields h p.fields;
+  terms_ = subst (λ (r : Replacing). MakesAll b r.terms.items (map input_term p.of.args ++ map input_term p.of.fields)) (sym same)
+      (makes_all_on a b f.base.terms.items (map input_term p.of.args ++ map input_term p.of.fields) h p.terms_);
 }
 
 -- numbers are those of one list of inputs

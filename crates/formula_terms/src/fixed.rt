@@ -64,9 +64,9 @@ impl Fixed {
     {
         let _count = terms.count();
         for at in 0..self.base.inputs.len() {
-            let own = terms.input_term(self.base.inputs[at]);
-            if self.ids.get(own).is_none() {
-                self.ids.set(own, self.base.terms[at])?;
+            let input = self.base.inputs[at];
+            if let Some(term) = sent_at(input, &self.base.inputs, &self.base.terms) {
+                self.ids.set(terms.input_term(input), term)?;
             }
         }
         Ok(())
