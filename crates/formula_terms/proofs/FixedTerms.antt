@@ -19,15 +19,15 @@ use Rattle.bv_terms.specs.TermTrees.{Term, apply, input, not_, slice, width}
 use Rattle.bv_terms.proofs.Members.{each}
 use Rattle.bv_terms.proofs.NodeFacts.{node-width}
 use Rattle.bv_terms.proofs.ReplaceFacts.{beside-in, beside-map, beside-zip, width-with}
-use Rattle.expr_terms.specs.Variables.{Keeps, Makes}
+use Rattle.expr_terms.specs.Variables.{AreThere, Keeps, Makes}
 use Rattle.expr_terms.proofs.Making.{keeps_on, keeps_self}
-use Rattle.symbolic_runs.proofs.Growing.{longer}
+use Rattle.symbolic_runs.proofs.Growing.{longer, terms_on, there_on}
 use Rattle.formula_terms.specs.Fixing.{AreKnown, Extends, HasParts, Fixes, FixesFor, IsFixed, IsOther, Known}
 use Rattle.formula_terms.specs.Replacing.{StandFor, replacing_in}
 use Rattle.formula_terms.specs.Sent.{position_of, sent_at}
 use Rattle.formula_terms.specs.declared.fixed.Fixed.{Fixed}
 use Rattle.formula_terms.specs.declared.replacing.Replacing.{Replacing}
-use Rattle.formula_terms.proofs.Chains.{replacing_on, stand_on}
+use Rattle.formula_terms.proofs.Chains.{replacing_on}
 use Rattle.formula_terms.proofs.Inputs.{widths_of_both}
 
 -- ---- what stands beside inputs
@@ -76,14 +76,17 @@ replaced_on a b R k id h l s = record {
 pub known_on : (a b : List Node) (R : formulas.Replacing) (ids : Names) → KeepsTerms a b → Known a R ids → Known b R ids
 known_on a b R ids h all = λ k id e. let p = all k id e in (longer a b h k p.0, replaced_on a b R k id h p.0 p.1)
 
+base_on : (a b : List Node) (r : Replacing) → KeepsTerms a b → AreThere a r.terms.items → replacing_in b r ≡ replacing_in a r
+base_on a b r h there = ap (beside r.inputs.items) (terms_on a b r.terms.items h there)
+
 pub fixes_on : (a b : List Node) (f : Fixed) → KeepsTerms a b → Fixes a f → Fixes b f
 fixes_on a b f h s = record {
-  stand = stand_on a b f.base h s.stand;
+  there = there_on a b f.base.terms.items h s.there;
   each_ = λ k id e.
       let p = s.each_ k id e in
       record {
         here = longer a b h k p.here;
-        becomes = λ R x. replaced_on a b R k id h p.here (p.becomes R (λ i t g. x i t (ap (λ (q : formulas.Replacing). q i) (replacing_on a b f.base h s.stand) ∙ g)));
+        becomes = λ R x. replaced_on a b R k id h p.here (p.becomes R (λ i t g. x i t (ap (λ (q : formulas.Replacing). q i) (base_on a b f.base h s.there) ∙ g)));
       };
 }
 
@@ -92,7 +95,7 @@ fixes_for_on a b f r h st s = record {
   fixes = fixes_on a b f h s.fixes;
   extends = λ i t g.
       ap (λ (q : formulas.Replacing). q i) (replacing_on a b r h st)
-      ∙ s.extends i t (sym (ap (λ (q : formulas.Replacing). q i) (replacing_on a b f.base h s.fixes.stand)) ∙ g);
+      ∙ s.extends i t (sym (ap (λ (q : formulas.Replacing). q i) (base_on a b f.base h s.fixes.there)) ∙ g);
 }
 
 -- ---- nodes over other parts
@@ -240,18 +243,19 @@ module _ (start now : List Node) (by : Replacing) (ids : Names) (waiting rest : 
 
 -- ---- the terms that are fixed
 
-pub input_fixed : (a : List Node) → IsArena a → (r : Replacing) → StandFor a r → (i own t : ℕ) → IsInputTerm a i own → sent_at i r.inputs.items r.terms.items ≡ Some t → IsFixed a (replacing_in a r) own t
-input_fixed a arena r s i own t at is =
+pub input_fixed : (a : List Node) → IsArena a → (r : Replacing) → AreThere a r.terms.items → (i own t : ℕ) → IsInputTerm a i own → sent_at i r.inputs.items r.terms.items ≡ Some t → width_at a t ≡ width_at a own
+    → IsFixed a (replacing_in a r) own t
+input_fixed a arena r all i own t at is wide =
     let w = at.0 in
     let e : slice_get a own ≡ Some (Input i w) = at.1 in
-    let b = input_becomes a arena r s own i w t e (sym (ap (λ o. unwrap_or o own) is)) in
+    let there : t < length a = beside-in (λ x. x < length a) r.inputs.items r.terms.items i t (recursion_from_All (λ x. x < length a) r.terms.items all) (besides_of r.inputs.items r.terms.items i ∙ is) in
     let g : replacing_in a r i ≡ Some (term_at a t) = sent_beside (term_at a) r.inputs.items r.terms.items i ∙ ap (option_map (term_at a)) is in
     let made : term_at a own ≡ input i w = arena.made own (Input i w) e in
     record {
       here = slice_get_within a own (Input i w) e;
       becomes = λ R x. record {
-        there = b.there;
-        width = b.width;
+        there = there;
+        width = wide;
         term = ap (λ o. unwrap_or o (input i w)) (sym (x i (term_at a t) g)) ∙ ap (replaced R) (sym made);
       };
     }
@@ -271,13 +275,13 @@ node_fixed a b f own next node arena k s e o known put = record {
       (from_places (λ p. IsReplaced a a R p (name_in f.ids p)) (parts node) (λ i p g.
           let v = some_value (value_at f.ids p) (known i p g) in
           subst (IsReplaced a a R p) (sym (ap (λ o. unwrap_or o p) v.1))
-          ((s.each_ p v.0 v.1).becomes R (λ i t h. x i t (ap (λ (q : formulas.Replacing). q i) (replacing_on a b f.base k s.stand) ∙ h))))) put;
+          ((s.each_ p v.0 v.1).becomes R (λ i t h. x i t (ap (λ (q : formulas.Replacing). q i) (base_on a b f.base k s.there) ∙ h))))) put;
 }
 
 -- one more
 pub fixes_more : (a : List Node) (old new : Fixed) (k id : ℕ) → Fixes a old → new.base ≡ old.base → IsSet old.ids new.ids k id → IsFixed a (replacing_in a old.base) k id → Fixes a new
 fixes_more a old new k id s same up is = record {
-  stand = subst (StandFor a) (sym same) s.stand;
+  there = subst (λ (r : Replacing). AreThere a r.terms.items) (sym same) s.there;
   each_ = λ q x e. subst (λ (r : Replacing). IsFixed a (replacing_in a r) q x) (sym same) (elim (cases_eq k q) [
     | inl n ↦
         let value : id ≡ x = (let p : Some id ≡ Some x = sym up.itself ∙ ap (value_at new.ids) n ∙ e in cc) in

@@ -8,12 +8,12 @@ use Rattle.bv_terms.specs.Rebuilt.{Names, IsReplaced}
 use Rattle.bv_terms.specs.Replacements as formulas
 use Rattle.bv_terms.specs.TermMaps.{value_at}
 use Rattle.bv_terms.specs.TermTrees.{Term}
-use Rattle.expr_terms.specs.Variables.{MakesAll}
+use Rattle.expr_terms.specs.Variables.{AreThere, MakesAll}
 use Rattle.hop_inline.specs.Shown.{ShowsInputs}
 use Rattle.hop_inline.specs.declared.tree.Tree.{Tree}
 use Rattle.symbolic_laws.specs.Leaves as laws
 use Rattle.symbolic_laws.specs.States.{input_term}
-use Rattle.formula_terms.specs.Replacing.{StandFor, replacing_in}
+use Rattle.formula_terms.specs.Replacing.{replacing_in}
 use Rattle.formula_terms.specs.declared.fixed.Fixed.{Fixed}
 use Rattle.formula_terms.specs.declared.replacing.Replacing.{Replacing}
 
@@ -45,7 +45,7 @@ pub record IsFixed (nodes : List Node) (base : formulas.Replacing) (k id : ℕ) 
   pub becomes : (r : formulas.Replacing) → Extends base r → IsReplaced nodes nodes r k id
 
 pub record Fixes (nodes : List Node) (f : Fixed) : Type 0 where
-  pub stand : StandFor nodes f.base
+  pub there : AreThere nodes f.base.terms.items
   pub each_ : (k id : ℕ) → value_at f.ids k ≡ Some id → IsFixed nodes (replacing_in nodes f.base) k id
 
 -- and what stands for the inputs of an old leaf is of this kind

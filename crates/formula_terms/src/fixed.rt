@@ -1,7 +1,7 @@
 //! Old terms in which nothing is chosen. They become the same beside each leaf of a tree, so they are replaced once.
-ghost use Rattle.std.specs.Prelude.{◌≡◌, ◌<◌, ◌++◌, ℕ, IfOk, IfSome, None, OnOk, length, slice_get};
+ghost use Rattle.std.specs.Prelude.{◌≡◌, ◌<◌, ℕ, All, IfOk, IfSome, None, OnOk, length, slice_get};
 ghost use Rattle.bv_terms.specs.declared.node.Node.{Node as NodeOf};
-ghost use Rattle.bv_terms.specs.Arenas.{IsPut, parts, term_at};
+ghost use Rattle.bv_terms.specs.Arenas.{IsPut, inputs_in, parts, term_at};
 ghost use Rattle.bv_terms.specs.Rebuilt.{CanRebuild, IsReplaced, name_in, with_parts};
 ghost use Rattle.bv_terms.specs.Replacements.{replaced};
 ghost use Rattle.expr_terms.specs.Variables.{AreThere, Keeps, Makes};
@@ -10,7 +10,7 @@ ghost use Rattle.formula_terms.specs.Replacing.{StandFor, replacing_in};
 
 use crate::replacing::Replacing;
 use crate::standing::{first_inputs, first_terms, sent_at};
-use bv_terms::{Node, TermId, TermMap, Terms, with_parts};
+use bv_terms::{InputId, Node, TermId, TermMap, Terms, with_parts};
 use cocoon_num::NoMemory;
 use hop_inline::Tree;
 use std::alloc::Global;
@@ -56,18 +56,33 @@ fn rebuild(
 }
 
 impl Fixed {
-    /// What stands for the inputs is what they become.
-    fn note_inputs(&mut self, terms: &Terms) -> Result<(), NoMemory>
-        requires { Fixes terms.now self.old }
+    /// What stands for an input, if it is as wide, is what it becomes.
+    fn note_input(&mut self, input: InputId, terms: &Terms) -> Result<(), NoMemory>
+        requires fixes { Fixes terms.now self.old }
+        requires number { input < inputs_in terms.now }
         ensures fixes { OnOk result (Fixes terms.now self.new) }
         ensures base { self.new.base ≡ self.old.base }
     {
         let _count = terms.count();
+        let own = terms.input_term(input);
+        if let Some(term) = sent_at(input, &self.base.inputs, &self.base.terms) {
+            if terms.width(term) == terms.width(own) {
+                self.ids.set(own, term)?;
+            }
+        }
+        Ok(())
+    }
+
+    /// What stands for the inputs is what they become.
+    fn note_inputs(&mut self, terms: &Terms) -> Result<(), NoMemory>
+        requires fixes { Fixes terms.now self.old }
+        requires numbers { All (λ i. i < inputs_in terms.now) self.old.base.inputs.items }
+        ensures fixes { OnOk result (Fixes terms.now self.new) }
+        ensures base { self.new.base ≡ self.old.base }
+    {
         for at in 0..self.base.inputs.len() {
             let input = self.base.inputs[at];
-            if let Some(term) = sent_at(input, &self.base.inputs, &self.base.terms) {
-                self.ids.set(terms.input_term(input), term)?;
-            }
+            self.note_input(input, terms)?;
         }
         Ok(())
     }
