@@ -158,24 +158,21 @@ pub input_becomes : (a : List Node) → IsArena a → (r : Replacing) → StandF
     → IsReplaced a a (replacing_in a r) k next
 input_becomes a arena r s k i w next e is = by (sent_at i r.inputs.items r.terms.items) refl
   where
-    R : formulas.Replacing
-    R = replacing_in a r
-
     made : term_at a k ≡ input i w
     made = arena.made k (Input i w) e
 
-    by : (o : Option ℕ) → sent_at i r.inputs.items r.terms.items ≡ o → IsReplaced a a R k next
+    by : (o : Option ℕ) → sent_at i r.inputs.items r.terms.items ≡ o → IsReplaced a a (replacing_in a r) k next
     by None q =
         let own : next ≡ k = is ∙ ap (λ o. unwrap_or o k) q in
-        let none : R i ≡ None = sent_beside (term_at a) r.inputs.items r.terms.items i ∙ ap (option_map (term_at a)) q in
+        let none : replacing_in a r i ≡ None = sent_beside (term_at a) r.inputs.items r.terms.items i ∙ ap (option_map (term_at a)) q in
         record {
           there = subst (λ x. x < length a) (sym own) (slice_get_within a k (Input i w) e);
           width = ap (width_at a) own;
-          term = ap (term_at a) own ∙ made ∙ ap (λ o. unwrap_or o (input i w)) (sym none) ∙ ap (replaced R) (sym made);
+          term = ap (term_at a) own ∙ made ∙ ap (λ o. unwrap_or o (input i w)) (sym none) ∙ ap (replaced (replacing_in a r)) (sym made);
         }
     by (Some x) q =
         let same : next ≡ x = is ∙ ap (λ o. unwrap_or o k) q in
-        let some : R i ≡ Some (term_at a x) = sent_beside (term_at a) r.inputs.items r.terms.items i ∙ ap (option_map (term_at a)) q in
+        let some : replacing_in a r i ≡ Some (term_at a x) = sent_beside (term_at a) r.inputs.items r.terms.items i ∙ ap (option_map (term_at a)) q in
         let besides : beside r.inputs.items r.terms.items i ≡ Some x = besides_of r.inputs.items r.terms.items i ∙ q in
         let there : x < length a = beside-in (λ t. t < length a) r.inputs.items r.terms.items i x (recursion_from_All (λ t. t < length a) r.terms.items s.there) besides in
         let both : AllZip (HasWidthOf a) r.inputs.items r.terms.items =
@@ -184,7 +181,7 @@ input_becomes a arena r s k i w next e is = by (sent_at i r.inputs.items r.terms
         record {
           there = subst (λ y. y < length a) (sym same) there;
           width = ap (width_at a) same ∙ sym wide ∙ ap width (sym made);
-          term = ap (term_at a) same ∙ ap (λ o. unwrap_or o (input i w)) (sym some) ∙ ap (replaced R) (sym made);
+          term = ap (term_at a) same ∙ ap (λ o. unwrap_or o (input i w)) (sym some) ∙ ap (replaced (replacing_in a r)) (sym made);
         }
 
 -- ---- the terms that wait
@@ -221,7 +218,7 @@ module _ (start now : List Node) (by : Replacing) (ids : Names) (waiting rest : 
   walk_down part more less l f g = record {
     kept = h.kept;
     below = subst (AllByRecursion (λ k. k < length start)) (sym (g ∙ ap (λ xs. xs ++ part ∷ []) f))
-        (snoc_all (λ k. k < length start) (rest ++ own ∷ []) part (snoc_all (λ k. k < length start) rest own both.0 both.1) (let m = both.1 in omega arith));
+        (snoc_all (λ k. k < length start) (rest ++ own ∷ []) part (snoc_all (λ k. k < length start) rest own both.0 both.1) (omega (arith, l, both.1)));
     known = h.known;
   }
 

@@ -66,49 +66,25 @@ shown_once nodes arena ns is js h k = one_list nodes arena is js (sym h.numbers_
 
 pub extends_part : (d : Design) (nodes : List Node) (f : Fixed) (old_tree : Tree) (old : Leaf) (tree : Tree) (leaf : Leaf) (ot : laws.Tree) (o : laws.Leaf) (t : laws.Tree) (l : laws.Leaf) (r : Replacing) → IsArena nodes
     → Prepared nodes f old_tree tree → ArePaired d nodes old_tree old tree leaf ot o t l → replacing_in nodes r ≡ replacing ot o t l → FixesFor nodes f r
-extends_part d nodes f old_tree old tree leaf ot o t l r arena p h is = record {
-  fixes = p.fixes;
-  extends = λ i x g.
-      let front : beside (as ++ bs) (xs ++ ys) i ≡ Some x = ap (λ (q : formulas.Replacing). q i) (sym base) ∙ g in
-      ap (λ (q : formulas.Replacing). q i) (is ∙ whole) ∙ beside_front (as ++ bs) cs (xs ++ ys) zs i x front;
-}
-  where
-    as : List ℕ
-    as = map (λ (i : NewInput). i.number) ot.args
-
-    bs : List ℕ
-    bs = map (λ (i : NewInput). i.number) ot.fields
-
-    cs : List ℕ
-    cs = map (λ (i : NewInput). i.number) o.choices
-
-    xs : List Term
-    xs = map input_term t.args
-
-    ys : List Term
-    ys = map input_term t.fields
-
-    zs : List Term
-    zs = map (read_back o.end l.end) o.choices
-
-    args_are : p.of.args ≡ t.args
-    args_are = shown_once nodes arena tree.args p.of.args t.args p.args h.args
-
-    fields_are : p.of.fields ≡ t.fields
-    fields_are = shown_once nodes arena tree.fields p.of.fields t.fields p.fields h.fields
-
-    inputs_are : f.base.inputs.items ≡ as ++ bs
-    inputs_are = p.inputs_ ∙ (λ j. h.old_args.numbers_ j ++ h.old_fields.numbers_ j)
-
-    terms_are : terms_at nodes f.base.terms.items ≡ xs ++ ys
-    terms_are = p.terms_.terms ∙ (λ j. map input_term (args_are j) ++ map input_term (fields_are j))
-
-    base : replacing_in nodes f.base ≡ beside (as ++ bs) (xs ++ ys)
-    base = λ j. beside (inputs_are j) (terms_are j)
-
-    numbers_are : map (λ (i : NewInput). i.number) (ot.args ++ (ot.fields ++ o.choices)) ≡ (as ++ bs) ++ cs
-    numbers_are =
-        map-append (λ (i : NewInput). i.number) ot.args (ot.fields ++ o.choices) ∙ ap (λ ns. as ++ ns) (map-append (λ (i : NewInput). i.number) ot.fields o.choices) ∙ sym (append_assoc as bs cs)
-
-    whole : replacing ot o t l ≡ beside ((as ++ bs) ++ cs) ((xs ++ ys) ++ zs)
-    whole = λ j. beside (numbers_are j) (sym (append_assoc xs ys zs) j)
+extends_part d nodes f old_tree old tree leaf ot o t l r arena p h is =
+    let as : List ℕ = map (λ (i : NewInput). i.number) ot.args in
+    let bs : List ℕ = map (λ (i : NewInput). i.number) ot.fields in
+    let cs : List ℕ = map (λ (i : NewInput). i.number) o.choices in
+    let xs : List Term = map input_term t.args in
+    let ys : List Term = map input_term t.fields in
+    let zs : List Term = map (read_back o.end l.end) o.choices in
+    let args_are : p.of.args ≡ t.args = shown_once nodes arena tree.args p.of.args t.args p.args h.args in
+    let fields_are : p.of.fields ≡ t.fields = shown_once nodes arena tree.fields p.of.fields t.fields p.fields h.fields in
+    let inputs_are : f.base.inputs.items ≡ as ++ bs = p.inputs_ ∙ (λ j. h.old_args.numbers_ j ++ h.old_fields.numbers_ j) in
+    let terms_are : terms_at nodes f.base.terms.items ≡ xs ++ ys = p.terms_.terms ∙ (λ j. map input_term (args_are j) ++ map input_term (fields_are j)) in
+    let base : replacing_in nodes f.base ≡ beside (as ++ bs) (xs ++ ys) = λ j. beside (inputs_are j) (terms_are j) in
+    let numbers_are : map (λ (i : NewInput). i.number) (ot.args ++ (ot.fields ++ o.choices)) ≡ (as ++ bs) ++ cs =
+    map-append (λ (i : NewInput). i.number) ot.args (ot.fields ++ o.choices) ∙ ap (λ ns. as ++ ns) (map-append (λ (i : NewInput). i.number) ot.fields o.choices) ∙ sym (append_assoc as bs cs) in
+    let stand_ins_are : xs ++ (ys ++ zs) ≡ (xs ++ ys) ++ zs = sym (append_assoc xs ys zs) in
+    let whole : replacing ot o t l ≡ beside ((as ++ bs) ++ cs) ((xs ++ ys) ++ zs) = λ j. beside (numbers_are j) (stand_ins_are j) in
+    record {
+      fixes = p.fixes;
+      extends = λ i x g.
+          let front : beside (as ++ bs) (xs ++ ys) i ≡ Some x = ap (λ (q : formulas.Replacing). q i) (sym base) ∙ g in
+          ap (λ (q : formulas.Replacing). q i) (is ∙ whole) ∙ beside_front (as ++ bs) cs (xs ++ ys) zs i x front;
+    }
