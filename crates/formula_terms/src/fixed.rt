@@ -1,10 +1,10 @@
 //! Old terms in which nothing is chosen. They become the same beside each leaf of a tree, so they are replaced once.
-ghost use Rattle.std.specs.Prelude.{◌≡◌, ◌<◌, ℕ, All, IfOk, IfSome, None, OnOk, length, slice_get};
+ghost use Rattle.std.specs.Prelude.{◌≡◌, ◌<◌, ℕ, All, IfOk, IfSome, None, OnOk, Some, length, slice_get};
 ghost use Rattle.bv_terms.specs.declared.node.Node.{Node as NodeOf};
 ghost use Rattle.bv_terms.specs.Arenas.{IsPut, inputs_in, parts, term_at};
 ghost use Rattle.bv_terms.specs.Rebuilt.{CanRebuild, IsReplaced, name_in, with_parts};
 ghost use Rattle.bv_terms.specs.Replacements.{replaced};
-ghost use Rattle.expr_terms.specs.Variables.{AreThere, Keeps, Makes};
+ghost use Rattle.expr_terms.specs.Variables.{Keeps, Makes};
 ghost use Rattle.formula_terms.specs.Fixing.{AreKnown, Fixes, FixesFor, HasParts, IsOther, IsReady, Known, Prepared, ShowsBoth};
 ghost use Rattle.formula_terms.specs.Replacing.{StandFor, replacing_in};
 
@@ -65,11 +65,13 @@ impl Fixed {
     {
         let _count = terms.count();
         let own = terms.input_term(input);
-        if let Some(term) = sent_at(input, &self.base.inputs, &self.base.terms) {
-            if terms.width(term) == terms.width(own) {
-                self.ids.set(own, term)?;
-            }
+        let Some(term) = sent_at(input, &self.base.inputs, &self.base.terms) else {
+            return Ok(());
+        };
+        if terms.width(term) != terms.width(own) {
+            return Ok(());
         }
+        self.ids.set(own, term)?;
         Ok(())
     }
 
@@ -87,18 +89,29 @@ impl Fixed {
         Ok(())
     }
 
-    /// A part that is a constant stays.
+    /// A constant stays.
+    fn note_constant(&mut self, own: TermId, terms: &Terms) -> Result<(), NoMemory>
+        requires fixes { Fixes terms.now self.old }
+        requires there { own < length terms.now }
+        ensures fixes { OnOk result (Fixes terms.now self.new) }
+        ensures base { self.new.base ≡ self.old.base }
+    {
+        let Node::Constant(_) = terms.node(own) else {
+            return Ok(());
+        };
+        self.ids.set(own, own)?;
+        Ok(())
+    }
+
+    /// Parts that are constants stay.
     fn note_constants(&mut self, node: &Node, terms: &Terms) -> Result<(), NoMemory>
         requires fixes { Fixes terms.now self.old }
-        requires there { AreThere terms.now (parts node.now) }
+        requires there { (k p : ℕ) → slice_get (parts node.now) k ≡ Some p → p < length terms.now }
         ensures fixes { OnOk result (Fixes terms.now self.new) }
         ensures base { self.new.base ≡ self.old.base }
     {
         for place in 0..node.part_count() {
-            let part = node.part(place);
-            if let Node::Constant(_) = terms.node(part) {
-                self.ids.set(part, part)?;
-            }
+            self.note_constant(node.part(place), terms)?;
         }
         Ok(())
     }
@@ -115,10 +128,11 @@ impl Fixed {
         if let Node::Input(_, _) = terms.node(own) {
             return Ok(());
         }
-        if unknown(&self.ids, terms.node(own)).is_none() {
-            let id = rebuild(alloc, &self.ids, own, terms)?;
-            self.ids.set(own, id)?;
+        if unknown(&self.ids, terms.node(own)).is_some() {
+            return Ok(());
         }
+        let id = rebuild(alloc, &self.ids, own, terms)?;
+        self.ids.set(own, id)?;
         Ok(())
     }
 
