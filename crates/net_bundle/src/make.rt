@@ -6,7 +6,6 @@ ghost use Rattle.cocoon_num.specs.Lists.{each};
 ghost use Rattle.p4_emit.specs.Printed.{printed};
 ghost use Rattle.p4_ir.specs.NetFits.{switch_fits};
 ghost use Rattle.p4_ir.specs.P4Reads.{P4Reads};
-ghost use Rattle.p4_ir.specs.Program.{program_of};
 ghost use Rattle.p4_ir.specs.WellKinded.{WellKinded};
 ghost use Rattle.net_bundle.specs.Bundle as spec;
 ghost use Rattle.net_bundle.specs.BundleNames.{digest_of};
@@ -16,6 +15,7 @@ ghost use Rattle.json_forms.specs.Values.{IsJson};
 ghost use Rattle.net_bundle.specs.Readable.{AllReadable};
 ghost use Rattle.net_bundle.specs.SharedRows.{OfSwitch, TextOfAll};
 ghost use Rattle.net_bundle.specs.Writing.{AllFit, NotMade};
+ghost use Rattle.shared_net.specs.Shared.{switch_program};
 
 use crate::fault::BundleFault;
 use crate::file::BundleFile;
@@ -23,8 +23,8 @@ use crate::net_json::{KeptDigest, NetFile, net_text};
 use crate::row_texts::{RowsText, digest_of, text_at};
 use crate::writable::WritableNet;
 use cocoon_num::NoMemory;
-use p4_emit::emit;
-use p4_ir::Program;
+use p4_emit::emit_switch;
+use shared_net::SwitchProgram;
 use std::alloc::Global;
 
 /// A file of a bundle, with its bytes.
@@ -82,18 +82,18 @@ fn keep_program(
     alloc: Global,
     kept: &mut Vec<KeptDigest>,
     number: u16,
-    program: &Program,
+    program: &SwitchProgram,
 ) -> Result<(), BundleFault>
-    requires { WellKinded (program_of program.now) }
+    requires { WellKinded (switch_program program.now) }
     ensures kept { OnOk result (map kept_of kept.new.items ≡ map kept_of kept.old.items
-        ++ spec.kept_digest (program_made number (program_of program.now)) ∷ []) }
-    ensures fit { OnOk result (AllFit (program_made number (program_of program.now) ∷ [])) }
+        ++ spec.kept_digest (program_made number (switch_program program.now)) ∷ []) }
+    ensures fit { OnOk result (AllFit (program_made number (switch_program program.now) ∷ [])) }
     ensures reads { OnOk result
-        (P4Reads (printed (program_of program.now)) (program_of program.now)) }
+        (P4Reads (printed (switch_program program.now)) (switch_program program.now)) }
     ensures refused { IfErr result (NotMade
-        (program_made number (program_of program.now) ∷ [])) }
+        (program_made number (switch_program program.now) ∷ [])) }
 {
-    let bytes = emit(alloc, program)?;
+    let bytes = emit_switch(alloc, program)?;
     let text = bytes.as_slice();
     let digest = digest_of(alloc, text)?;
     keep_file(alloc, kept, BundleFile::Program(number), text, digest)?;
@@ -143,7 +143,7 @@ fn keep_switch<N: WritableNet>(
         (λ s. NotMade (spec.switch_files s) fault)) }
 {
     let number = net.number(index);
-    let program = net.program(alloc, index)?;
+    let program = net.program(index);
     keep_program(alloc, kept, number, &program)?;
     let rows = text_at(alloc, net, index, shared)?;
     keep_rows(alloc, kept, number, rows.text())?;

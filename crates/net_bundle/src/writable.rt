@@ -3,17 +3,16 @@ ghost use Rattle.std.specs.Prelude.{◌≡◌, ◌<◌, IfOk, IfSome, length, ma
 ghost use Rattle.p4_ir.specs.NetFits.{switch_numbers};
 ghost use Rattle.p4_ir.specs.NetOf.{host_port_of, link_of, net_of, rows_of, switch_of};
 ghost use Rattle.p4_ir.specs.NetTree as tree;
-ghost use Rattle.p4_ir.specs.Program.{program_of};
 ghost use Rattle.net_bundle.specs.SharedRows.{AllHave, OfSwitch};
-ghost use Rattle.shared_net.specs.Shared.{shared_of};
+ghost use Rattle.shared_net.specs.Shared.{shared_of, switch_program};
 
 use cocoon_num::NoMemory;
-use p4_ir::{HostPort, Link, NetData, Program, RowsFile, SwitchFiles};
-use shared_net::{SharedNet, merge};
+use p4_ir::{HostPort, Link, NetData, RowsFile, SwitchFiles};
+use shared_net::{SharedNet, SwitchProgram};
 use std::alloc::Global;
 
-/// A network, switch by switch. The program of a switch is made when it is asked for, so no more than one need be held. Rows
-/// are lent: they may be many, and all switches may have the same.
+/// A network, switch by switch. Programs and rows are lent: they may be large, and all switches may have the same, but for their
+/// numbers.
 pub trait WritableNet {
     ghost net: { Self → tree.NetData };
 
@@ -40,11 +39,10 @@ pub trait WritableNet {
         requires { index < length (net self.now).switches }
         ensures { OfSwitch (net self.now).switches index (λ s. s.number ≡ result) };
 
-    /// Its program, in memory of its own.
-    fn program(&self, alloc: Global, index: usize) -> Result<Program, NoMemory>
+    /// Its program.
+    fn program(&self, index: usize) -> SwitchProgram<'_>
         requires { index < length (net self.now).switches }
-        ensures { IfOk result (λ program.
-            OfSwitch (net self.now).switches index (λ s. s.program ≡ program_of program)) };
+        ensures { OfSwitch (net self.now).switches index (λ s. s.program ≡ switch_program result) };
 
     /// Its rows.
     fn rows(&self, index: usize) -> &RowsFile
@@ -85,11 +83,10 @@ impl WritableNet for NetData {
         switch.number
     }
 
-    fn program(&self, alloc: Global, index: usize) -> Result<Program, NoMemory> {
+    fn program(&self, index: usize) -> SwitchProgram<'_> {
         let switches = self.switches.items();
         let switch = switch_at(switches, index);
-        let program = switch.program.copy(alloc)?;
-        Ok(program)
+        SwitchProgram::of(&switch.program)
     }
 
     fn rows(&self, index: usize) -> &RowsFile {
@@ -157,11 +154,10 @@ impl WritableNet for SharedNet {
         number_at(numbers, index)
     }
 
-    fn program(&self, alloc: Global, index: usize) -> Result<Program, NoMemory> {
+    fn program(&self, index: usize) -> SwitchProgram<'_> {
         let numbers = self.switches.numbers.items();
         let number = number_at(numbers, index);
-        let program = merge(alloc, &self.switches.program, &self.switches.other, number)?;
-        Ok(program)
+        self.switches.program(number)
     }
 
     fn rows(&self, _index: usize) -> &RowsFile {

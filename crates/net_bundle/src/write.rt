@@ -13,7 +13,7 @@ use crate::make::{MadeFile, keep_switches, last_files};
 use crate::row_texts::{RowsText, shared_text, text_at};
 use crate::writable::WritableNet;
 use cocoon_io::{Folder, FolderFault};
-use p4_emit::emit;
+use p4_emit::emit_switch;
 use std::alloc::Global;
 
 /// Why a bundle is not written, where this is the fault of the folder at this file.
@@ -107,8 +107,8 @@ fn write_switch<F: Folder, N: WritableNet>(
     ensures writes { F.write_faults folder.old ≤ F.write_faults folder.new }
 {
     let number = net.number(index);
-    let program = net.program(alloc, index)?;
-    let printed = emit(alloc, &program)?;
+    let program = net.program(index);
+    let printed = emit_switch(alloc, &program)?;
     let rows = text_at(alloc, net, index, shared)?;
     let first = printed.as_slice();
     write_file(alloc, folder, out, BundleFile::Program(number), first)?;

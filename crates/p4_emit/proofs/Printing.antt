@@ -9,18 +9,6 @@ use Rattle.text_lines.specs.Printing.{Prints}
 pub use Rattle.text_lines.proofs.Printing.{followed, Leads, nothing, sets_out, walk_end, walk_step}
 use Rattle.p4_emit.specs.Printed.{new_line, optional_text, stmt_text, block_text}
 
--- of statements, each on a line of its own
-pub stmt_step : (p : Program) (d : ℕ) (xs : List P4Stmt) (i : ℕ) (x : P4Stmt) {a b c e : Option (List ℕ)} → i < length xs → x ≡ get_or xs i x
-    → Leads a b (block_text p d (block_of (map stmt_of (drop i xs)))) (block_text p d (block_of (map stmt_of xs))) → Prints b (new_line d) c → Prints c (stmt_text p d (stmt_of x)) e
-    → Leads a e (block_text p d (block_of (map stmt_of (drop (i + 1) xs)))) (block_text p d (block_of (map stmt_of xs)))
-stmt_step p d xs i x h e l q r =
-    walk_step (λ ys. block_text p d (block_of (map stmt_of ys))) (λ y. new_line d ++ stmt_text p d (stmt_of y))
-    (λ y ys. sym (append_assoc (new_line d) (stmt_text p d (stmt_of y)) (block_text p d (block_of (map stmt_of ys))))) xs i x x h e l (followed q r)
-
-pub block_end : (p : Program) (d : ℕ) (xs : List P4Stmt) (i : ℕ) {a b : Option (List ℕ)} → length xs ≤ i
-    → Leads a b (block_text p d (block_of (map stmt_of (drop i xs)))) (block_text p d (block_of (map stmt_of xs))) → Prints a (block_text p d (block_of (map stmt_of xs))) b
-block_end p d xs i h l = walk_end (λ ys. block_text p d (block_of (map stmt_of ys))) refl xs i h l
-
 -- ---- what is there, or not
 
 pub found_none : {A B : Type 0} (g : B → List ℕ) (v : A → B) (xs : List A) (i : ℕ) (a : Option (List ℕ)) → length xs ≤ i → Prints a (optional_text g (slice_get (map v xs) i)) a

@@ -3,4 +3,4 @@
 
 pub mod print;
 
-pub use print::emit;
+pub use print::{emit, emit_switch};

@@ -1,15 +1,19 @@
-//! The text of a program.
+//! The text of a program. A printer goes over two at once, those of a `SwitchProgram`: where their literals differ, it prints the number
+//! of the switch. So the programs of many switches are printed without being made.
 ghost use Rattle.std.specs.Prelude.{◌≡◌, ◌+◌, ◌++◌, codes, IfOk, map};
 ghost use Rattle.p4_ir.specs.P4Reads.{P4Reads};
 ghost use Rattle.p4_ir.specs.P4Tree.{meta_width};
 ghost use Rattle.p4_ir.specs.WellKinded.{WellKinded};
 ghost use Rattle.p4_emit.specs.Pieces.{piece_of};
 ghost use Rattle.p4_emit.specs.Printed as spec;
-ghost use Rattle.text_lines.specs.Printing.{Prints};
+ghost use Rattle.shared_net.specs.Merging.{block_merged, expr_merged, stmt_merged};
+ghost use Rattle.shared_net.specs.Shared.{switch_program};
+ghost use Rattle.text_lines.specs.Printing.{literal_text, Prints};
 ghost use Rattle.p4_ir.specs.Program.{expr_of, stmt_of, block_of, field_of, header_of, table_of, control_of, program_of, unary_of, binary_of};
 
-use cocoon_num::NoMemory;
+use cocoon_num::{Bits, NoMemory};
 use p4_ir::{P4Binary, P4Expr, P4Field, P4Header, P4Stmt, P4Unary, Program, Table};
+use shared_net::{SwitchProgram, beside};
 use std::alloc::Global;
 use text_lines::Printer;
 
@@ -126,54 +130,63 @@ fn push_bounds(out: &mut Printer, high: u8, low: u8)
     out.push("]");
 }
 
+fn push_bits(out: &mut Printer, bits: Bits)
+    ensures { Prints out.old (literal_text bits.width bits.value) out.new }
+{
+    out.push_literal(bits.width, bits.value)
+}
+
+/// An expression, beside which this one stands in the other program.
 #[cycle(expr)]
-fn emit_expr(out: &mut Printer, program: &Program, expr: &P4Expr)
-    ensures { Prints out.old (spec.expr_text (program_of program.now) (expr_of expr.now)) out.new }
+fn emit_expr(out: &mut Printer, switch: &SwitchProgram, expr: &P4Expr, other: &P4Expr)
+    ensures { Prints out.old (spec.expr_text (program_of switch.now.program.now)
+        (expr_merged switch.now.number (expr_of expr.now) (expr_of other.now))) out.new }
 {
     match expr {
-        P4Expr::Lit(bits) => out.push_literal(bits.width, bits.value),
+        P4Expr::Lit(bits) => push_bits(out, beside::literal(*bits, other, switch.number)),
         P4Expr::Truth(true) => out.push("true"),
         P4Expr::Truth(false) => out.push("false"),
-        P4Expr::Meta(i) => push_meta(out, program, *i),
-        P4Expr::Field(h, f) => push_field(out, program, *h, *f),
+        P4Expr::Meta(i) => push_meta(out, switch.program, *i),
+        P4Expr::Field(h, f) => push_field(out, switch.program, *h, *f),
         P4Expr::Port => out.push("port"),
         P4Expr::Rid => out.push("rid"),
         P4Expr::Unary(op, a) => {
             out.push(unary_text(*op));
-            emit_expr(out, program, a);
+            emit_expr(out, switch, a, beside::operand(a, other));
             out.push(")");
         }
         P4Expr::Binary(op, a, b) => {
+            let (x, y) = beside::operands(a, b, other);
             out.push("(");
-            emit_expr(out, program, a);
+            emit_expr(out, switch, a, x);
             out.push(binary_text(*op));
-            emit_expr(out, program, b);
+            emit_expr(out, switch, b, y);
             out.push(")");
         }
         P4Expr::Slice(a, high, low) => {
-            emit_expr(out, program, a);
+            emit_expr(out, switch, a, beside::sliced(a, other));
             push_bounds(out, *high, *low)
         }
         P4Expr::Pick(c, a, b) => {
+            let (z, x, y) = beside::picked(c, a, b, other);
             out.push("(");
-            emit_expr(out, program, c);
+            emit_expr(out, switch, c, z);
             out.push(" ? ");
-            emit_expr(out, program, a);
+            emit_expr(out, switch, a, x);
             out.push(" : ");
-            emit_expr(out, program, b);
+            emit_expr(out, switch, b, y);
             out.push(")");
         }
     }
 }
 
 /// ` = E;` after what is set.
-fn push_value(out: &mut Printer, program: &Program, value: &P4Expr)
-    ensures { Prints out.old
-        (codes " = " ++ (spec.expr_text (program_of program.now) (expr_of value.now) ++ codes ";"))
-        out.new }
+fn push_value(out: &mut Printer, switch: &SwitchProgram, value: &P4Expr, other: &P4Expr)
+    ensures { Prints out.old (codes " = " ++ (spec.expr_text (program_of switch.now.program.now)
+        (expr_merged switch.now.number (expr_of value.now) (expr_of other.now)) ++ codes ";")) out.new }
 {
     out.push(" = ");
-    emit_expr(out, program, value);
+    emit_expr(out, switch, value, other);
     out.push(";");
 }
 
@@ -185,31 +198,28 @@ fn push_verdict(out: &mut Printer, verdict: u8)
     out.push(";");
 }
 
-fn push_egress_port(out: &mut Printer, program: &Program, value: &P4Expr)
-    ensures { Prints out.old
-        (spec.egress_port_text (program_of program.now) (expr_of value.now))
-        out.new }
+fn push_egress_port(out: &mut Printer, switch: &SwitchProgram, value: &P4Expr, other: &P4Expr)
+    ensures { Prints out.old (spec.egress_port_text (program_of switch.now.program.now)
+        (expr_merged switch.now.number (expr_of value.now) (expr_of other.now))) out.new }
 {
     out.push("egress_port");
-    push_value(out, program, value)
+    push_value(out, switch, value, other)
 }
 
-fn push_group(out: &mut Printer, program: &Program, value: &P4Expr)
-    ensures { Prints out.old
-        (spec.group_text (program_of program.now) (expr_of value.now))
-        out.new }
+fn push_group(out: &mut Printer, switch: &SwitchProgram, value: &P4Expr, other: &P4Expr)
+    ensures { Prints out.old (spec.group_text (program_of switch.now.program.now)
+        (expr_merged switch.now.number (expr_of value.now) (expr_of other.now))) out.new }
 {
     out.push("group");
-    push_value(out, program, value)
+    push_value(out, switch, value, other)
 }
 
-fn push_if(out: &mut Printer, program: &Program, condition: &P4Expr)
-    ensures { Prints out.old
-        (spec.if_text (program_of program.now) (expr_of condition.now))
-        out.new }
+fn push_if(out: &mut Printer, switch: &SwitchProgram, condition: &P4Expr, other: &P4Expr)
+    ensures { Prints out.old (spec.if_text (program_of switch.now.program.now)
+        (expr_merged switch.now.number (expr_of condition.now) (expr_of other.now))) out.new }
 {
     out.push("if (");
-    emit_expr(out, program, condition);
+    emit_expr(out, switch, condition, other);
     out.push(") {");
 }
 
@@ -227,20 +237,20 @@ fn push_end(out: &mut Printer, indent: u32)
     out.push("}");
 }
 
+/// A statement, beside which this one stands in the other program.
 #[cycle(block)]
-fn emit_stmt(out: &mut Printer, program: &Program, indent: u32, stmt: &P4Stmt)
-    ensures { Prints out.old
-        (spec.stmt_text (program_of program.now) indent (stmt_of stmt.now))
-        out.new }
+fn emit_stmt(out: &mut Printer, switch: &SwitchProgram, indent: u32, stmt: &P4Stmt, other: &P4Stmt)
+    ensures { Prints out.old (spec.stmt_text (program_of switch.now.program.now) indent
+        (stmt_merged switch.now.number (stmt_of stmt.now) (stmt_of other.now))) out.new }
 {
     match stmt {
         P4Stmt::SetMeta(i, e) => {
-            push_meta(out, program, *i);
-            push_value(out, program, e)
+            push_meta(out, switch.program, *i);
+            push_value(out, switch, e, beside::meta_value(e, other))
         }
         P4Stmt::SetField(h, f, e) => {
-            push_field(out, program, *h, *f);
-            push_value(out, program, e)
+            push_field(out, switch.program, *h, *f);
+            push_value(out, switch, e, beside::field_value(e, other))
         }
         P4Stmt::Apply(n) => {
             out.push("t");
@@ -248,56 +258,64 @@ fn emit_stmt(out: &mut Printer, program: &Program, indent: u32, stmt: &P4Stmt)
             out.push(".apply();");
         }
         P4Stmt::If(e, first) => {
-            push_if(out, program, e);
-            emit_inside(out, program, indent, first);
+            let (condition, x) = beside::guarded(e, first, other);
+            push_if(out, switch, e, condition);
+            emit_inside(out, switch, indent, first, x);
             push_end(out, indent)
         }
         P4Stmt::IfElse(e, first, second) => {
-            push_if(out, program, e);
-            emit_inside(out, program, indent, first);
+            let (condition, x, y) = beside::branches(e, first, second, other);
+            push_if(out, switch, e, condition);
+            emit_inside(out, switch, indent, first, x);
             push_else(out, indent);
-            emit_inside(out, program, indent, second);
+            emit_inside(out, switch, indent, second, y);
             push_end(out, indent)
         }
         P4Stmt::Verdict(n) => push_verdict(out, *n),
-        P4Stmt::EgressPort(e) => push_egress_port(out, program, e),
-        P4Stmt::Group(e) => push_group(out, program, e),
+        P4Stmt::EgressPort(e) => push_egress_port(out, switch, e, beside::port_value(e, other)),
+        P4Stmt::Group(e) => push_group(out, switch, e, beside::group_value(e, other)),
         P4Stmt::Return => out.push("return;"),
     }
 }
 
 /// A block inside a statement of this indentation.
 #[cycle(block)]
-fn emit_inside(out: &mut Printer, program: &Program, indent: u32, stmts: &Vec<P4Stmt>)
-    ensures { Prints out.old (spec.block_text
-        (program_of program.now) (indent + 2) (block_of (map stmt_of stmts.now.items))) out.new }
+fn emit_inside(
+    out: &mut Printer,
+    switch: &SwitchProgram,
+    indent: u32,
+    stmts: &[P4Stmt],
+    others: &[P4Stmt],
+)
+    ensures { Prints out.old (spec.block_text (program_of switch.now.program.now) (indent + 2)
+        (block_merged switch.now.number (block_of (map stmt_of stmts.now))
+        (block_of (map stmt_of others.now)))) out.new }
 {
     match indent.checked_add(2) {
-        Some(inner) => emit_block(out, program, inner, stmts),
+        Some(inner) => emit_block(out, switch, inner, stmts, others),
         None => out.lose(),
     }
 }
 
+/// Statements, beside which these stand in the other program.
 #[cycle(block)]
-fn emit_block(out: &mut Printer, program: &Program, indent: u32, stmts: &Vec<P4Stmt>)
-    ensures { Prints out.old
-        (spec.block_text (program_of program.now) indent (block_of (map stmt_of stmts.now.items)))
-        out.new }
+fn emit_block(
+    out: &mut Printer,
+    switch: &SwitchProgram,
+    indent: u32,
+    stmts: &[P4Stmt],
+    others: &[P4Stmt],
+)
+    ensures { Prints out.old (spec.block_text (program_of switch.now.program.now) indent
+        (block_merged switch.now.number (block_of (map stmt_of stmts.now))
+        (block_of (map stmt_of others.now)))) out.new }
 {
+    let mut left = others;
     for stmt in stmts {
+        let (other, rest) = beside::first(stmt, left);
         out.new_line(indent);
-        emit_stmt(out, program, indent, stmt);
-    }
-}
-
-fn emit_body(out: &mut Printer, program: &Program, stmts: &[P4Stmt])
-    ensures { Prints out.old
-        (spec.block_text (program_of program.now) 4 (block_of (map stmt_of stmts.now)))
-        out.new }
-{
-    for stmt in stmts {
-        out.new_line(4);
-        emit_stmt(out, program, 4, stmt);
+        emit_stmt(out, switch, indent, stmt, other);
+        left = rest;
     }
 }
 
@@ -507,9 +525,10 @@ fn push_tables(out: &mut Printer, program: &Program, tables: &[Table])
     }
 }
 
-fn push_heads(out: &mut Printer, program: &Program)
-    ensures { Prints out.old (spec.heads_text (program_of program.now)) out.new }
+fn push_heads(out: &mut Printer, switch: &SwitchProgram)
+    ensures { Prints out.old (spec.heads_text (switch_program switch.now)) out.new }
 {
+    let program = switch.program;
     push_fixed(out, Fixed::Architecture);
     push_headers(out, program.headers.items());
     push_fixed(out, Fixed::Headers);
@@ -520,35 +539,46 @@ fn push_heads(out: &mut Printer, program: &Program)
     push_extracts(out, program.headers.items());
 }
 
-fn push_ingress(out: &mut Printer, program: &Program)
-    ensures { Prints out.old (spec.ingress_text (program_of program.now)) out.new }
+fn push_ingress(out: &mut Printer, switch: &SwitchProgram)
+    ensures { Prints out.old (spec.ingress_text (switch_program switch.now)) out.new }
 {
+    let (control, other) = (&switch.program.ingress, &switch.other.ingress);
     push_fixed(out, Fixed::Ingress);
-    push_tables(out, program, program.ingress.tables.items());
+    push_tables(out, switch.program, control.tables.items());
     push_fixed(out, Fixed::IngressBegin);
-    emit_body(out, program, program.ingress.body.items());
+    emit_block(out, switch, 4, control.body.items(), other.body.items());
 }
 
-fn push_egress(out: &mut Printer, program: &Program)
-    ensures { Prints out.old (spec.egress_text (program_of program.now)) out.new }
+fn push_egress(out: &mut Printer, switch: &SwitchProgram)
+    ensures { Prints out.old (spec.egress_text (switch_program switch.now)) out.new }
 {
+    let (control, other) = (&switch.program.egress, &switch.other.egress);
     push_fixed(out, Fixed::Egress);
-    push_tables(out, program, program.egress.tables.items());
+    push_tables(out, switch.program, control.tables.items());
     push_fixed(out, Fixed::EgressBegin);
-    emit_body(out, program, program.egress.body.items());
+    emit_block(out, switch, 4, control.body.items(), other.body.items());
     push_fixed(out, Fixed::Deparser);
-    push_deparses(out, program.headers.items());
+    push_deparses(out, switch.program.headers.items());
     push_fixed(out, Fixed::Main);
 }
 
-fn text_of(alloc: Global, program: &Program) -> Result<Vec<u8>, NoMemory>
-    ensures { IfOk result (λ v. v.items ≡ spec.printed (program_of program.now)) }
+fn text_of(alloc: Global, switch: &SwitchProgram) -> Result<Vec<u8>, NoMemory>
+    ensures { IfOk result (λ v. v.items ≡ spec.printed (switch_program switch.now)) }
 {
     let mut out = Printer::new(alloc);
-    push_heads(&mut out, program);
-    push_ingress(&mut out, program);
-    push_egress(&mut out, program);
+    push_heads(&mut out, switch);
+    push_ingress(&mut out, switch);
+    push_egress(&mut out, switch);
     out.finish()
+}
+
+/// The text of the program of a switch. Nothing is made but the text.
+pub fn emit_switch(alloc: Global, switch: &SwitchProgram) -> Result<Vec<u8>, NoMemory>
+    requires well_kinded { WellKinded (switch_program switch.now) }
+    ensures text { IfOk result (λ v. v.items ≡ spec.printed (switch_program switch.now)) }
+    ensures reads { IfOk result (λ v. P4Reads v.items (switch_program switch.now)) }
+{
+    text_of(alloc, switch)
 }
 
 /// The text of a program.
@@ -557,5 +587,5 @@ pub fn emit(alloc: Global, program: &Program) -> Result<Vec<u8>, NoMemory>
     ensures text { IfOk result (λ v. v.items ≡ spec.printed (program_of program.now)) }
     ensures reads { IfOk result (λ v. P4Reads v.items (program_of program.now)) }
 {
-    text_of(alloc, program)
+    emit_switch(alloc, &SwitchProgram::of(program))
 }

@@ -1,8 +1,6 @@
 //! Programs of the P4-16 subset, the rows of their tables, and whole networks, as values; and, as definitions, their
 //! text, their rules and their meaning. A program is what docs/FORMATS.md writes under "The text", without its marks:
 //! headers, fields and meta fields are named by their indices, from 0.
-//!
-//! A copy is equal to its original, and shares nothing with it.
 #![tactic(auto)]
 
 pub mod network;

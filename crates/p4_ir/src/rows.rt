@@ -1,9 +1,9 @@
 //! The rows of a program's tables, and the groups of copies.
 ghost use Rattle.std.specs.Prelude.{◌≡◌, IfOk};
-ghost use Rattle.p4_ir.specs.NetOf.{group_of, key_row_of, rows_of, table_rows_of};
+ghost use Rattle.p4_ir.specs.NetOf.{group_of, key_row_of};
 ghost use Rattle.p4_ir.specs.P4Tree as tree;
 
-use cocoon_num::copies::{Copied, copy_list};
+use cocoon_num::copies::Copied;
 use cocoon_num::{List, NoMemory, both};
 use std::alloc::Global;
 
@@ -41,40 +41,10 @@ pub struct RowsFile {
     pub groups: List<Group>,
 }
 
-impl RowsFile {
-    /// The same rows and groups, in memory of their own.
-    pub fn copy(&self, alloc: Global) -> Result<RowsFile, NoMemory>
-        ensures { IfOk result (λ copy. rows_of copy ≡ rows_of self.now) }
-    {
-        let (tables, groups) = both(
-            copy_list(alloc, self.tables.items()),
-            copy_list(alloc, self.groups.items()),
-        )?;
-        Ok(RowsFile {
-            tables: List::from(tables),
-            groups: List::from(groups),
-        })
-    }
-}
-
 fn copy_numbers(alloc: Global, numbers: &List<u64>) -> Result<List<u64>, NoMemory>
     ensures { IfOk result (λ copy. copy ≡ numbers.now) }
 {
     Ok(List::from(numbers.items().to_vec(alloc)?))
-}
-
-impl Copied for TableRows {
-    ghost Meaning = { tree.TableRows };
-
-    ghost meaning = { table_rows_of };
-
-    fn copy(&self, alloc: Global) -> Result<TableRows, NoMemory> {
-        Ok(TableRows {
-            number: self.number,
-            default: self.default,
-            rows: List::from(copy_list(alloc, self.rows.items())?),
-        })
-    }
 }
 
 impl Copied for KeyRow {

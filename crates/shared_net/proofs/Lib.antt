@@ -1,1 +1,2 @@
-mod Stmts
+pub mod Lone
+pub mod Same

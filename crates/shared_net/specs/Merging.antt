@@ -1,5 +1,6 @@
 -- The program of a switch, from those of two others. All programs of a design differ in the number of the switch alone, so its places
--- are those where the two differ. The clauses of `merge` cite it, and those of all that makes or writes networks of such programs.
+-- are those where the two differ. The clauses of `SwitchProgram` and of `emit_switch` cite it, and those of all that makes or writes networks of such
+-- programs.
 use Rattle.std.specs.Prelude.{ℕ, ◌==◌, if◌then◌else◌}
 use Rattle.p4_ir.specs.P4Tree.{P4Expr, p_lit, p_truth, p_meta, p_field, p_port, p_rid, p_unary, p_binary, p_slice, p_pick, P4Stmt, set_meta, set_header, apply_table, p_if, p_if_else, verdict, egress_port, group, p_return, P4Block, p_done, p_then, Control, Program}
 

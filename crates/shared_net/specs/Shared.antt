@@ -3,10 +3,16 @@
 use Rattle.std.specs.Prelude.{ℕ, List, map}
 use Rattle.p4_ir.specs.NetOf.{host_port_of, link_of, rows_of}
 use Rattle.p4_ir.specs.NetTree.{NetData, SwitchFiles}
+use Rattle.p4_ir.specs.P4Tree.{Program}
 use Rattle.p4_ir.specs.Program.{program_of}
 use Rattle.shared_net.specs.Merging.{merged}
 use Rattle.shared_net.specs.declared.network.SharedNet.{SharedNet}
 use Rattle.shared_net.specs.declared.network.SharedSwitches.{SharedSwitches}
+use Rattle.shared_net.specs.declared.program.SwitchProgram.{SwitchProgram}
+
+-- the program of a switch
+abbrev pub switch_program : SwitchProgram → Program
+switch_program sp = merged sp.number (program_of sp.program.now) (program_of sp.other.now)
 
 -- the switch of this number
 abbrev pub shared_switch : SharedSwitches → ℕ → SwitchFiles

@@ -1,9 +1,11 @@
 //! Networks whose switches all run one program, but for their numbers, and have the same rows. The program is held twice, with two
-//! different numbers: where these differ, and only there, stands the number of the switch. So memory does not grow with the switches.
+//! different numbers: where these differ, and only there, stands the number of the switch. So memory does not grow with the switches,
+//! and the program of a switch need not be made: what reads it goes over both.
 #![tactic(auto)]
 
-mod merging;
+pub mod beside;
 pub mod network;
+pub mod program;
 
-pub use merging::merge;
 pub use network::{SharedNet, SharedSwitches};
+pub use program::SwitchProgram;

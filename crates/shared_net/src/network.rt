@@ -1,11 +1,10 @@
 //! Networks whose switches differ in their numbers alone.
-ghost use Rattle.std.specs.Prelude.{◌≡◌, [], IfOk};
-ghost use Rattle.p4_ir.specs.NetOf.{switch_of};
-ghost use Rattle.shared_net.specs.Shared.{shared_switch, switches_of};
+ghost use Rattle.std.specs.Prelude.{◌≡◌, []};
+ghost use Rattle.shared_net.specs.Shared.{shared_switch, switch_program, switches_of};
 
-use crate::merging::merge;
-use cocoon_num::{List, NoMemory};
-use p4_ir::{Control, HostPort, Link, Program, RowsFile, SwitchFiles};
+use crate::program::SwitchProgram;
+use cocoon_num::List;
+use p4_ir::{Control, HostPort, Link, Program, RowsFile};
 use std::alloc::Global;
 
 /// Switches with one program and the same rows.
@@ -61,16 +60,14 @@ impl SharedSwitches {
         }
     }
 
-    /// The switch of this number, in memory of its own.
-    pub fn switch(&self, alloc: Global, number: u16) -> Result<SwitchFiles, NoMemory>
-        ensures { IfOk result (λ s. switch_of s ≡ shared_switch self.now number) }
+    /// The program of the switch of this number.
+    pub fn program(&self, number: u16) -> SwitchProgram<'_>
+        ensures { switch_program result ≡ (shared_switch self.now number).program }
     {
-        let program = merge(alloc, &self.program, &self.other, number)?;
-        let rows = self.rows.copy(alloc)?;
-        Ok(SwitchFiles {
+        SwitchProgram {
+            program: &self.program,
+            other: &self.other,
             number,
-            program,
-            rows,
-        })
+        }
     }
 }

@@ -8,4 +8,4 @@ pub returns : goal.returns
 returns c s e =
     let found : slice_get (map switch_of c.args.self.now.switches) c.args.index ≡ Some (switch_of c.switch_at-switch.result.now) =
     subst (λ xs. slice_get (map switch_of xs) c.args.index ≡ Some (switch_of c.switch_at-switch.result.now)) c.items-switches.ensures c.switch_at-switch.ensures in
-    found_has (λ (x : SwitchFiles). x.program) (map switch_of c.args.self.now.switches) c.args.index (switch_of c.switch_at-switch.result.now) found s e ∙ sym c.in_ok-program.ensures
+    found_has (λ (x : SwitchFiles). x.program) (map switch_of c.args.self.now.switches) c.args.index (switch_of c.switch_at-switch.result.now) found s e ∙ sym c.of.ensures

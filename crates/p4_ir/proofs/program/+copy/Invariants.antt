@@ -1,6 +1,0 @@
-use Rattle.std.proofs.Common.{◌≡◌, map, take}
-use Rattle.p4_ir.specs.Program.{stmt_of}
-use Rattle.p4_ir.proofs.program.+copy.Given as goal
-
-abbrev pub invariant-copy_stmts-loop-stmt : goal.invariant-copy_stmts-loop-stmt
-invariant-copy_stmts-loop-stmt l = map stmt_of l.copies.items ≡ map stmt_of (take l.stmt-index l.stmts)
