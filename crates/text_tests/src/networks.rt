@@ -86,41 +86,11 @@ fn both(alloc: Global) -> Result<Vec<SwitchFiles>, NoMemory>
     Ok(switches)
 }
 
-fn copy(alloc: Global, files: &SwitchFiles) -> Result<SwitchFiles, NoMemory>
-    ensures { IfOk result (λ copy. switch_of copy ≡ switch_of files.now) }
-{
-    let rows = files.rows.copy(alloc)?;
-    let program = files.program.copy(alloc)?;
-    Ok(SwitchFiles {
-        number: files.number,
-        program,
-        rows,
-    })
-}
-
-fn copy_all(alloc: Global, switches: &[SwitchFiles]) -> Result<Vec<SwitchFiles>, NoMemory>
-    ensures { IfOk result (λ v. map switch_of v.items ≡ map switch_of switches.now) }
-{
-    let mut copies = Vec::new(alloc);
-    for switch in switches {
-        copies.push(copy(alloc, switch)?)?;
-    }
-    Ok(copies)
-}
-
 /// The network of two switches.
 pub fn two_switches(alloc: Global) -> Result<NetData, NoMemory>
     ensures { IfOk result (λ net. IsTrue (net_fits (net_of net))) }
 {
     joined(alloc, both(alloc)?)
-}
-
-/// The same of copies of the programs and the rows.
-pub fn two_copies(alloc: Global) -> Result<NetData, NoMemory>
-    ensures { IfOk result (λ net. IsTrue (net_fits (net_of net))) }
-{
-    let switches = both(alloc)?;
-    joined(alloc, copy_all(alloc, &switches)?)
 }
 
 /// A network of one host and no switch.
@@ -190,7 +160,6 @@ pub fn network(alloc: Global, name: &str) -> Result<Option<NetData>, NoMemory>
 {
     match name {
         "two" => Ok(Some(two_switches(alloc)?)),
-        "copies" => Ok(Some(two_copies(alloc)?)),
         "none" => Ok(Some(no_switch(alloc)?)),
         _ => Ok(None),
     }
