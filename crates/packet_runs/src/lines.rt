@@ -55,11 +55,10 @@ fn write_front(text: &mut String, host: u64) -> Result<(), NoMemory>
 fn write_digits(digits: &mut Vec<u8>, bytes: &[u8]) -> Result<(), NoMemory>
     ensures { OnOk result (digits.new.items ≡ encode_lower bytes.now) }
 {
-    digits.resize(bytes.len().saturating_mul(2), 0)?;
-    match hex::encode_to_slice(bytes, digits.as_mut_slice()) {
-        Ok(()) => Ok(()),
-        Err(_) => Err(NoMemory),
-    }
+    let room = bytes.len().checked_mul(2).ok_or(NoMemory)?;
+    digits.resize(room, 0)?;
+    hex::encode_to_slice(bytes, digits.as_mut_slice()).unwrap();
+    Ok(())
 }
 
 /// The digits of some bytes, or `-` for none.
