@@ -30,6 +30,7 @@ expr_named s p o (p_pick c a b) =
 
 mutual
   unfolding egress_port_text group_text if_text
+
   pub stmt_named : (s : ℕ) (p o : Program) (d : ℕ) (a : P4Stmt) → stmt_text (merged s p o) d a ≡ stmt_text p d a
   stmt_named s p o d (set_meta i e) = ap (λ t. meta_text p i ++ (codes " = " ++ (t ++ codes ";"))) (expr_named s p o e)
   stmt_named s p o d (set_header h f e) = ap (λ t. field_text p h f ++ (codes " = " ++ (t ++ codes ";"))) (expr_named s p o e)

@@ -189,11 +189,7 @@ fn unfit_row(program: &Program, places: &NumberTable, rows: &TableRows) -> Optio
 }
 
 /// The first table with a row that does not fit it, and the index of the first such row.
-fn row_shape(
-    program: &Program,
-    places: &NumberTable,
-    tables: &[TableRows],
-) -> Option<(u32, u64)>
+fn row_shape(program: &Program, places: &NumberTable, tables: &[TableRows]) -> Option<(u32, u64)>
     requires { HasPlaces places.now (numbers_of (all_tables (program_of program.now))) }
     ensures { option_map (λ row. spec.row_shape row.0 row.1) result
         ≡ spec.first_row_shape (program_of program.now) (map table_rows_of tables.now) }
