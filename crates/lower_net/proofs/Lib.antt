@@ -7,3 +7,4 @@ pub mod Still
 pub mod Leading
 pub mod Wiring
 pub mod Ranging
+pub mod Few

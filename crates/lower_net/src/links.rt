@@ -1,5 +1,5 @@
 //! Where links lead.
-ghost use Rattle.std.specs.Prelude.{◌≡◌, ◌++◌, IfOk, OnOk, flat_map, map, option_and_then, option_map};
+ghost use Rattle.std.specs.Prelude.{◌≡◌, ◌≤◌, ◌++◌, IfOk, OnOk, flat_map, map, option_and_then, option_map};
 ghost use Rattle.cocoon_syntax.specs.TreeOf.{design_of, host_of, switch_of};
 ghost use Rattle.lowering_correct.specs.Network.{numbers_from};
 ghost use Rattle.lowering_correct.specs.Wires as spec;
@@ -68,14 +68,15 @@ fn push_links(
     switch: u16,
     links: &mut Vec<Link>,
 ) -> Result<(), NoMemory>
-    requires { FitsDesign (design_of checked.now) defs.now }
+    requires fits { FitsDesign (design_of checked.now) defs.now }
+    requires ports { switches.now.ports ≤ 256 }
     ensures { OnOk result (map link_of links.new.items ≡ map link_of links.old.items
         ++ flat_map (spec.port_link (design_of checked.now) defs.now (switch_of switches.now)
         (host_of hosts.now) switch) (numbers_from 0 switches.now.ports)) }
 {
     for port in 0..switches.ports {
-        let port = u16::try_from(port).map_err(|_| NoMemory)?;
-        push_link(alloc, checked, defs, switches, hosts, switch, port, links)?;
+        let number = port as u16;
+        push_link(alloc, checked, defs, switches, hosts, switch, number, links)?;
     }
     Ok(())
 }
@@ -89,7 +90,8 @@ pub(crate) fn port_links(
     hosts: &HostDecl,
     numbers: &[u16],
 ) -> Result<Vec<Link>, NoMemory>
-    requires { FitsDesign (design_of checked.now) defs.now }
+    requires fits { FitsDesign (design_of checked.now) defs.now }
+    requires ports { switches.now.ports ≤ 256 }
     ensures { IfOk result (λ ls. map link_of ls.items ≡ flat_map (λ s.
         flat_map (spec.port_link (design_of checked.now) defs.now (switch_of switches.now)
         (host_of hosts.now) s) (numbers_from 0 switches.now.ports)) numbers.now) }

@@ -1,5 +1,5 @@
 //! The network of a design under its definitions.
-ghost use Rattle.std.specs.Prelude.{◌≡◌, ℕ, IfErr, IfOk, None, Some, length, map};
+ghost use Rattle.std.specs.Prelude.{◌≡◌, ◌≤◌, ℕ, IfErr, IfOk, None, Some, length, map};
 ghost use Rattle.cocoon_syntax.specs.TreeOf.{design_of};
 ghost use Rattle.cocoon_types.specs.Design as design;
 ghost use Rattle.lower_net.specs.Refused.{FirstLongProgram, FirstManyRows, FirstSwitch, IsJudged, IsRefused, IsRefusedFirst, Lowers};
@@ -69,11 +69,12 @@ fn make(
     requires groups { map fork_group_of groups.now
         ≡ spec.fork_groups (design_of checked.now) defs.now }
     requires one { HasOneProgram (switch_role (design_of checked.now) parts.now.ingress) }
+    requires ports { parts.now.switches.now.ports ≤ 256 }
     ensures { IfOk result (λ net. shared_of net ≡ network (design_of checked.now) defs.now
         (parts_of (design_of checked.now) parts.now) numbers.now hosts.now) }
 {
-    let ports = u16::try_from(parts.switches.ports).map_err(|_| NoMemory)?;
-    let functions = count_functions(checked, defs)?;
+    let ports = parts.switches.ports as u16;
+    let functions = count_functions(checked, defs);
     let switches = switches(alloc, checked, defs, functions, parts, groups, numbers)?;
     let links = port_links(alloc, checked, defs, parts.switches, parts.hosts, numbers)?;
     let hosts = host_ports(alloc, checked, defs, parts.switches, parts.hosts, hosts)?;
@@ -86,11 +87,12 @@ fn make(
 }
 
 /// How many functions the design has.
-fn count_functions(checked: &Checked, defs: &Defs) -> Result<u32, NoMemory>
+fn count_functions(checked: &Checked, defs: &Defs) -> u32
     requires { FitsDesign (design_of checked.now) defs.now }
-    ensures { IfOk result (λ n. n ≡ length (design.functions (design_of checked.now))) }
+    ensures { result ≡ length (design.functions (design_of checked.now)) }
 {
-    u32::try_from(defs.tables().len()).map_err(|_| NoMemory)
+    checked.design();
+    defs.tables().len() as u32
 }
 
 /// The first limit that is exceeded where there is a switch, with the count.
@@ -155,7 +157,7 @@ fn judge_parts(
         ≡ Some (parts_of (design_of checked.now) parts.now) }
     ensures { IsJudged (design_of checked.now) defs.now result }
 {
-    let functions = count_functions(checked, defs)?;
+    let functions = count_functions(checked, defs);
     let numbers = defs.switches(checked);
     let hosts = defs.hosts(checked);
     let groups = fork_groups(alloc, checked, defs)?;
@@ -181,9 +183,10 @@ fn lower_parts(
     requires parts { net_parts (design_of checked.now)
         ≡ Some (parts_of (design_of checked.now) parts.now) }
     requires one { HasOneProgram (switch_role (design_of checked.now) parts.now.ingress) }
+    requires ports { parts.now.switches.now.ports ≤ 256 }
     ensures { Lowers (design_of checked.now) defs.now result }
 {
-    let functions = count_functions(checked, defs)?;
+    let functions = count_functions(checked, defs);
     let numbers = defs.switches(checked);
     let hosts = defs.hosts(checked);
     let groups = fork_groups(alloc, checked, defs)?;
@@ -255,7 +258,7 @@ pub fn program(
 {
     forks_are();
     checked.design();
-    let functions = count_functions(checked, defs)?;
+    let functions = count_functions(checked, defs);
     let parts = find_parts(checked).unwrap();
     let code = switch_code(alloc, checked, functions, &parts.ingress, number)?;
     Ok(code.program)

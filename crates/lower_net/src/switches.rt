@@ -7,6 +7,7 @@ ghost use Rattle.lower_net.specs.NetDeclarations.{parts_of, switch_role};
 ghost use Rattle.lowering_fits.specs.Sharing.{HasOneProgram};
 ghost use Rattle.lowering_correct.specs.Groups as spec;
 ghost use Rattle.lowering_correct.specs.Network.{switch_files};
+ghost use Rattle.runtime_defs.specs.Fitting.{FitsDesign};
 ghost use Rattle.shared_net.specs.Shared.{switches_of};
 
 use crate::{Parts, switch_code};
@@ -28,6 +29,7 @@ fn shared(
     groups: &[ForkGroup<'_>],
     numbers: &[u16],
 ) -> Result<SharedSwitches, NoMemory>
+    requires fits { FitsDesign (design_of checked.now) defs.now }
     requires functions { functions ≡ length (design.functions (design_of checked.now)) }
     requires groups { map fork_group_of groups.now
         ≡ spec.fork_groups (design_of checked.now) defs.now }
@@ -61,6 +63,7 @@ pub(crate) fn switches(
     groups: &[ForkGroup<'_>],
     numbers: &[u16],
 ) -> Result<SharedSwitches, NoMemory>
+    requires fits { FitsDesign (design_of checked.now) defs.now }
     requires functions { functions ≡ length (design.functions (design_of checked.now)) }
     requires groups { map fork_group_of groups.now
         ≡ spec.fork_groups (design_of checked.now) defs.now }

@@ -1,5 +1,5 @@
 //! The wires of a network alone.
-ghost use Rattle.std.specs.Prelude.{◌≡◌, IfOk, Some};
+ghost use Rattle.std.specs.Prelude.{◌≡◌, ◌≤◌, IfOk, Some};
 ghost use Rattle.cocoon_syntax.specs.TreeOf.{design_of};
 ghost use Rattle.lower_net.specs.Wired.{HasWires, bare_network};
 ghost use Rattle.lower_net.specs.NetDeclarations.{parts_of};
@@ -27,11 +27,12 @@ fn make_wires(
     numbers: &[u16],
     hosts: &[u64],
 ) -> Result<NetData, NoMemory>
-    requires { FitsDesign (design_of checked.now) defs.now }
+    requires fits { FitsDesign (design_of checked.now) defs.now }
+    requires ports { parts.now.switches.now.ports ≤ 256 }
     ensures { IfOk result (λ wires. net_of wires ≡ bare_network (design_of checked.now) defs.now
         (parts_of (design_of checked.now) parts.now) numbers.now hosts.now) }
 {
-    let ports = u16::try_from(parts.switches.ports).map_err(|_| NoMemory)?;
+    let ports = parts.switches.ports as u16;
     let switches = bare_switches(alloc, numbers)?;
     let links = port_links(alloc, checked, defs, parts.switches, parts.hosts, numbers)?;
     let hosts = host_ports(alloc, checked, defs, parts.switches, parts.hosts, hosts)?;
@@ -53,6 +54,7 @@ fn wires_of_parts(
     requires fits { FitsDesign (design_of checked.now) defs.now }
     requires parts { net_parts (design_of checked.now)
         ≡ Some (parts_of (design_of checked.now) parts.now) }
+    requires ports { parts.now.switches.now.ports ≤ 256 }
     ensures { IfOk result (λ wires. HasWires (design_of checked.now) defs.now (net_of wires)) }
 {
     let numbers = defs.switches(checked);

@@ -9,3 +9,4 @@ pub mod Walks
 pub mod Forking
 pub mod Placing
 pub mod RowCounts
+pub mod Narrow

@@ -4,3 +4,4 @@ pub mod FirstRows
 pub mod Grouping
 pub mod Numbered
 pub mod Sets
+pub mod Words

@@ -1,5 +1,6 @@
 //! The rows of all tables of a switch.
-ghost use Rattle.std.specs.Prelude.{◌≡◌, ◌++◌, ◌-◌, ◌^◌, IfOk, flat_map, map, OnOk, option_map};
+ghost use Rattle.std.specs.Prelude.{◌≡◌, ◌<◌, ◌≤◌, ◌++◌, ◌-◌, ◌^◌, All, IfOk, Some, flat_map, map, OnOk, option_map};
+ghost use Rattle.cocoon_resolve.specs.Kept.{AreDeclared};
 ghost use Rattle.cocoon_syntax.specs.TreeOf.{design_of, param_of};
 ghost use Rattle.cocoon_types.specs.Design.{widths_of};
 ghost use Rattle.runtime_defs.specs.Printable as fitting;
@@ -8,7 +9,9 @@ ghost use Rattle.lowering.specs.Lower as lower;
 ghost use Rattle.lowering_correct.specs.Groups.{fork_groups};
 ghost use Rattle.lowering_correct.specs.SwitchRows as spec;
 ghost use Rattle.lower_rows.specs.AllGroups.{fork_group_of};
+ghost use Rattle.lower_rows.specs.Words.{HasWord, HasWords};
 ghost use Rattle.p4_ir.specs.NetOf.{group_of, key_row_of, rows_of, table_rows_of};
+ghost use Rattle.runtime_defs.specs.Fitting.{FitsDesign};
 ghost use Rattle.runtime_defs.specs.Guards.{table_named};
 
 use crate::forked::is_same;
@@ -35,14 +38,16 @@ fn masked(alloc: Global, values: &[u64], masks: &[u64]) -> Result<Vec<u64>, NoMe
     Ok(bits)
 }
 
-/// A result as a table holds it. There is no memory where it has more than 64 bits, which no result of a function has.
-fn word(value: u128) -> Result<u64, NoMemory>
-    ensures { IfOk result (λ n. n ≡ value) }
+/// A result as a table holds it.
+fn word(value: u128) -> u64
+    requires { value < 2 ^ 64 }
+    ensures { result ≡ value }
 {
-    u64::try_from(value).map_err(|_| NoMemory)
+    value as u64
 }
 
 fn key_row(alloc: Global, row: &FunRow) -> Result<KeyRow, NoMemory>
+    requires { HasWord row.now }
     ensures { IfOk result (λ r. key_row_of r ≡ spec.key_row row.now) }
 {
     let values = List::from(masked(alloc, row.values.items(), row.masks.items())?);
@@ -50,11 +55,12 @@ fn key_row(alloc: Global, row: &FunRow) -> Result<KeyRow, NoMemory>
     Ok(KeyRow {
         values,
         masks,
-        result: word(row.result.value)?,
+        result: word(row.result.value),
     })
 }
 
 fn key_rows(alloc: Global, rows: &[FunRow]) -> Result<Vec<KeyRow>, NoMemory>
+    requires { All HasWord rows.now }
     ensures { IfOk result (λ rs. map key_row_of rs.items ≡ map spec.key_row rows.now) }
 {
     let mut made = Vec::new(alloc);
@@ -65,43 +71,37 @@ fn key_rows(alloc: Global, rows: &[FunRow]) -> Result<Vec<KeyRow>, NoMemory>
 }
 
 /// The rows of a function's table, in the order of its text.
-fn function_rows(alloc: Global, number: u32, held: Option<&FunTable>) -> Result<TableRows, NoMemory>
+fn function_rows(alloc: Global, number: u32, table: &FunTable) -> Result<TableRows, NoMemory>
+    requires { HasWords table.now }
     ensures { IfOk result (λ rows. table_rows_of rows
-        ≡ spec.function_rows number (option_map (λ t. t.now) held.entry)) }
+        ≡ spec.function_rows number (Some table.now)) }
 {
-    let Some(table) = held else {
-        return Ok(TableRows {
-            number,
-            default: 0,
-            rows: List::from(Vec::new(alloc)),
-        });
-    };
     let rows = List::from(key_rows(alloc, table.rows.items())?);
     Ok(TableRows {
         number,
-        default: word(table.default.value)?,
+        default: word(table.default.value),
         rows,
     })
 }
 
 /// Ones in so many bits.
-fn ones(width: u32) -> Result<u64, NoMemory>
-    ensures { IfOk result (λ n. n ≡ 2 ^ width - 1) }
+#[tactic(auto, using(crate::proofs::Narrow::ones_are_a_word))]
+fn ones(width: u32) -> u64
+    requires { width ≤ 64 }
+    ensures { result ≡ 2 ^ width - 1 }
 {
-    if width > 64 {
-        return Err(NoMemory);
-    }
     word((1u128 << width) - 1)
 }
 
 /// Masks that compare all bits.
 fn all_ones(alloc: Global, params: &[Param]) -> Result<Vec<u64>, NoMemory>
+    requires { AreDeclared (widths_of (map param_of params.now)) }
     ensures { IfOk result (λ masks. masks.items
         ≡ fitting.all_ones (widths_of (map param_of params.now))) }
 {
     let mut masks = Vec::new(alloc);
     for param in params {
-        masks.push(ones(param.width)?)?;
+        masks.push(ones(param.width))?;
     }
     Ok(masks)
 }
@@ -190,6 +190,40 @@ pub(crate) fn function_table<'d>(
     defs.tables().get(number as usize)?.as_ref()
 }
 
+/// Masks that compare all bits of the arguments of a group.
+fn group_masks(alloc: Global, checked: &Checked, number: FunId) -> Result<Vec<u64>, NoMemory>
+    ensures { IfOk result (λ masks. masks.items ≡ fitting.all_ones (widths_of
+        (lower.params_before_last (params_at (design_of checked.now) number)))) }
+{
+    checked.design();
+    checked.know_reading();
+    all_ones(alloc, group_params(checked, number))
+}
+
+/// The rows of the table of the function of a name.
+fn named_rows(
+    alloc: Global,
+    checked: &Checked,
+    defs: &Defs,
+    name: &[u8],
+    number: u32,
+) -> Result<TableRows, NoMemory>
+    requires { FitsDesign (design_of checked.now) defs.now }
+    ensures { IfOk result (λ rows. table_rows_of rows ≡ spec.function_rows number
+        (table_named (design_of checked.now) defs.now name.now)) }
+{
+    checked.design();
+    checked.know_reading();
+    match function_table(checked, defs, name) {
+        Some(table) => function_rows(alloc, number, table),
+        None => Ok(TableRows {
+            number,
+            default: 0,
+            rows: List::from(Vec::new(alloc)),
+        }),
+    }
+}
+
 /// The rows of a table that was made.
 fn made_rows(
     alloc: Global,
@@ -199,7 +233,9 @@ fn made_rows(
     part: &Made,
     tables: &mut Vec<TableRows>,
 ) -> Result<(), NoMemory>
-    requires { map fork_group_of groups.now ≡ fork_groups (design_of checked.now) defs.now }
+    requires fits { FitsDesign (design_of checked.now) defs.now }
+    requires groups { map fork_group_of groups.now
+        ≡ fork_groups (design_of checked.now) defs.now }
     ensures { OnOk result (map table_rows_of tables.new.items ≡ map table_rows_of tables.old.items
         ++ spec.made_rows (design_of checked.now) defs.now
         (made_of (design_of checked.now) part.now)) }
@@ -208,12 +244,11 @@ fn made_rows(
         Made::Field(_) => {}
         Made::Table(table, function) => {
             let name = function_name(checked, *function);
-            let held = function_table(checked, defs, name);
-            tables.push(function_rows(alloc, table.number, held)?)?;
+            tables.push(named_rows(alloc, checked, defs, name, table.number)?)?;
         }
         Made::Group(table, function) => {
             let name = function_name(checked, *function);
-            let masks = all_ones(alloc, group_params(checked, *function))?;
+            let masks = group_masks(alloc, checked, *function)?;
             let rows = List::from(group_rows(alloc, &masks, groups, name)?);
             let number = table.number;
             tables.push(TableRows {
@@ -235,7 +270,9 @@ fn all_made_rows(
     made: &[Made],
     tables: &mut Vec<TableRows>,
 ) -> Result<(), NoMemory>
-    requires { map fork_group_of groups.now ≡ fork_groups (design_of checked.now) defs.now }
+    requires fits { FitsDesign (design_of checked.now) defs.now }
+    requires groups { map fork_group_of groups.now
+        ≡ fork_groups (design_of checked.now) defs.now }
     ensures { OnOk result (map table_rows_of tables.new.items ≡ map table_rows_of tables.old.items
         ++ flat_map (spec.made_rows (design_of checked.now) defs.now)
         (made_in (design_of checked.now) made.now)) }
@@ -271,7 +308,9 @@ pub fn switch_rows(
     ingress: &[Made],
     egress: &[Made],
 ) -> Result<RowsFile, NoMemory>
-    requires { map fork_group_of groups.now ≡ fork_groups (design_of checked.now) defs.now }
+    requires fits { FitsDesign (design_of checked.now) defs.now }
+    requires groups { map fork_group_of groups.now
+        ≡ fork_groups (design_of checked.now) defs.now }
     ensures { IfOk result (λ rows. rows_of rows ≡ spec.switch_rows (design_of checked.now) defs.now
         (made_in (design_of checked.now) (ingress.now ++ egress.now))) }
 {

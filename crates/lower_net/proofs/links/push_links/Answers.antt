@@ -16,8 +16,7 @@ loop-port-preserved c =
     let old = map link_of c.loop-port.links.items in
     let rest = flat_map f (numbers_from (k + 1) (n - (k + 1))) in
     let less : k < n = c.loop-port-test.true in
-    let same : c.in_ok-port.port ≡ k = search rules in
     record {
       within = omega arith;
-      rest = ap (λ xs. xs ++ rest) (c.in_ok-push_link.ensures ∙ ap (λ j. old ++ f j) same) ∙ append_assoc old (f k) rest ∙ ap (λ xs. old ++ xs) (sym (numbers_step f k n less)) ∙ c.loop-port.invariant.rest;
+      rest = ap (λ xs. xs ++ rest) c.in_ok-push_link.ensures ∙ append_assoc old (f k) rest ∙ ap (λ xs. old ++ xs) (sym (numbers_step f k n less)) ∙ c.loop-port.invariant.rest;
     }

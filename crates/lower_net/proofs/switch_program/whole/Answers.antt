@@ -1,4 +1,6 @@
-use Rattle.std.proofs.Common.{List, ◌∷◌, ◌++◌, codes, map, ap, ◌∙◌}
+use Rattle.std.proofs.Common.{List, ◌∷◌, ◌++◌, codes, map, sym, ap, subst, ◌∙◌}
+use Rattle.cocoon_resolve.specs.Kept.{AreDeclared}
+use Rattle.cocoon_resolve.specs.Readers.{all_widths}
 use Rattle.cocoon_syntax.specs.TreeOf as design
 use Rattle.cocoon_syntax.specs.TreeOf.{design_of}
 use Rattle.cocoon_syntax.specs.declared.decl.HeaderDecl.{HeaderDecl}
@@ -6,7 +8,13 @@ use Rattle.lowering.specs.Log.{tables_in}
 use Rattle.lower_code.specs.Growth.{made_in}
 use Rattle.lowering.specs.SwitchProgram.{fields_in, p4_header}
 use Rattle.p4_ir.specs.Program.{block_of, field_of, header_of, stmt_of}
+use Rattle.lower_net.proofs.Few.{fields-declared}
 use Rattle.lower_net.proofs.switch_program.whole.Goals as goal
+
+pub headers-requires : goal.headers-requires
+headers-requires c =
+    subst (λ (hs : List HeaderDecl). AreDeclared (all_widths (map design.header_of hs))) (sym (c.deref.ensures.value ∙ ap (λ x. x.headers.items) c.design.ensures.is))
+    (fields-declared (design_of c.args.checked.now) c.design.ensures.resolves.rules)
 
 pub returns-clause-program : goal.returns-clause-program
 returns-clause-program c =
