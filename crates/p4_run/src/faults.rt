@@ -27,9 +27,9 @@ pub enum LoadFault {
     /// Rows are given of a table of this number, which the program has not, or which has rows already.
     UnknownTable(u32),
     /// Of the table of this number, the row of this index does not fit. The default counts as the row after the last.
-    RowShape(u32, u64),
+    RowShape(u32, u32),
     /// The group of this index has the number 0, or that of a group before it, or members that do not ascend.
-    GroupShape(u64),
+    GroupShape(u32),
     NoMemory,
 }
 
@@ -188,18 +188,32 @@ fn unfit_row(program: &Program, places: &NumberTable, rows: &TableRows) -> Optio
     }
 }
 
+/// A count as a number of a fault; there is no memory for more.
+fn short_index(index: usize) -> Result<u32, NoMemory>
+    ensures { IfOk result (λ number. number ≡ index) }
+{
+    match u32::try_from(index) {
+        Ok(number) => Ok(number),
+        Err(_) => Err(NoMemory),
+    }
+}
+
 /// The first table with a row that does not fit it, and the index of the first such row.
-fn row_shape(program: &Program, places: &NumberTable, tables: &[TableRows]) -> Option<(u32, u64)>
+fn row_shape(
+    program: &Program,
+    places: &NumberTable,
+    tables: &[TableRows],
+) -> Result<Option<(u32, u32)>, NoMemory>
     requires { HasPlaces places.now (numbers_of (all_tables (program_of program.now))) }
-    ensures { option_map (λ row. spec.row_shape row.0 row.1) result
-        ≡ spec.first_row_shape (program_of program.now) (map table_rows_of tables.now) }
+    ensures { IfOk result (λ found. option_map (λ row. spec.row_shape row.0 row.1) found
+        ≡ spec.first_row_shape (program_of program.now) (map table_rows_of tables.now)) }
 {
     for table in tables {
         if let Some(index) = unfit_row(program, places, table) {
-            return Some((table.number, index as u64));
+            return Ok(Some((table.number, short_index(index)?)));
         }
     }
-    None
+    Ok(None)
 }
 
 // ---- groups
@@ -276,11 +290,11 @@ pub(crate) fn load_fault(
     if let Some(number) = missing_table(program, &places.rows) {
         return Ok(Some(LoadFault::MissingTable(number)));
     }
-    if let Some((table, row)) = row_shape(program, &places.tables, tables) {
+    if let Some((table, row)) = row_shape(program, &places.tables, tables)? {
         return Ok(Some(LoadFault::RowShape(table, row)));
     }
     match group_shape(alloc, rows.groups.items())? {
-        Some(index) => Ok(Some(LoadFault::GroupShape(index as u64))),
+        Some(index) => Ok(Some(LoadFault::GroupShape(short_index(index)?))),
         None => Ok(None),
     }
 }

@@ -33,8 +33,8 @@ returns-in-Some-2 c =
     let missing : c.missing_table.result ≡ first_missing (table_numbers rows) (all_tables p) = c.missing_table.ensures (table_numbers rows) placed.rows in
     search rules
 
-pub returns-in-Some-row_shape : goal.returns-in-Some-row_shape
-returns-in-Some-row_shape c =
+pub returns-in_ok-short_index-in-Some-3 : goal.returns-in_ok-short_index-in-Some-3
+returns-in_ok-short_index-in-Some-3 c =
     let p = program_of c.args.program.now in
     let rows = map table_rows_of c.items-tables.result.now in
     let placed : PlacesTables p rows c.args.places.now = subst (λ ts. PlacesTables p (map table_rows_of ts) c.args.places.now) (sym c.items-tables.ensures) c.requires in
