@@ -36,7 +36,8 @@ fn tried(
     let _count = own.terms.count();
     let env = environment(alloc, &own.terms, &inputs, &assignment)?;
     let value = own.terms.eval(alloc, own.goal, &env)?;
-    if value.value == 1 {
+    let holds = value.value == 1;
+    if holds {
         Ok(Some(Satisfied {
             own,
             inputs,

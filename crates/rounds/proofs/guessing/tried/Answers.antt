@@ -11,8 +11,8 @@ eval-requires-clause-there c = c.requires.part.there
 pub eval-requires-clause-covered : goal.eval-requires-clause-covered
 eval-requires-clause-covered c = covers c.args.own c.args.inputs c.args.assignment c.requires c.count-count.ensures.arena c.in_ok-env.env c.in_ok-env.ensures
 
-pub returns-then-value-eq1 : goal.returns-then-value-eq1
-returns-then-value-eq1 c = record {
+pub returns-then-holds : goal.returns-then-holds
+returns-then-holds c = record {
   of = refl;
-  is_true = true-of c.args.own c.args.inputs c.args.assignment c.requires c.count-count.ensures.arena c.in_ok-env.env c.in_ok-env.ensures c.in_ok-value.value c.in_ok-value.ensures c.if-value-eq1.true;
+  is_true = true-of c.args.own c.args.inputs c.args.assignment c.requires c.count-count.ensures.arena c.in_ok-env.env c.in_ok-env.ensures c.in_ok-value.value c.in_ok-value.ensures c.if-holds.true;
 }

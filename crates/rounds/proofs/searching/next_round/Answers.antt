@@ -1,4 +1,4 @@
-use Rattle.std.proofs.Common.{◌≡◌, sym, subst}
+use Rattle.std.proofs.Common.{sym, subst}
 use Rattle.std.specs.Option.{IfSome}
 use Rattle.bv_terms.specs.Arenas.{term_at}
 use Rattle.cocoon_syntax.specs.TreeOf.{design_of}
