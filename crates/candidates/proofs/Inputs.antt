@@ -1,5 +1,5 @@
 -- The inputs of an arena: what an environment has for its terms.
-use Rattle.std.proofs.Common.{◌≡◌, ℕ, zero, suc, ◌<◌, ◌^◌, ℤ, Bool, List, [], ◌∷◌, length, map, Some, sym, ap, subst, ◌∙◌, arith}
+use Rattle.std.proofs.Common.{◌≡◌, ℕ, zero, suc, ◌<◌, ◌^◌, ℤ, Bool, List, [], ◌∷◌, length, map, Option, Some, sym, ap, subst, arith}
 use Rattle.std.specs.Prelude.{option_map, slice_get, unwrap_or}
 use Rattle.std.specs.List.{AllByRecursion}
 use Rattle.std.proofs.lemmas.List.Elements.{recursion_from_All}
@@ -18,7 +18,7 @@ use Rattle.bv_terms.specs.declared.node.Node.{Node}
 use Rattle.bv_terms.specs.declared.node.Node.TheVariants.{Constant, Input, Apply, Not, Binary, Slice, Pick}
 use Rattle.bv_terms.specs.Arenas as arenas
 use Rattle.bv_terms.proofs.Subterms.{Each, each-made, in-walk}
-use Rattle.candidates.specs.Assigned.{row_value}
+use Rattle.candidates.specs.Assigned.{assigned, row_value}
 use Rattle.candidates.specs.Flat.{Has}
 use Rattle.candidates.proofs.Lists.{at-there, mapped-there}
 
@@ -97,5 +97,8 @@ module _ (nodes : List Node) (arena : IsArena nodes) where
     pub mentioned : (t : Term) → Each IsNode t → (i w : ℕ) → Mentions t i w → HasBits i w
     mentioned t h i w m = let n = in-walk IsNode t (input i w) h m in input-there i n.0 w n.1
 
-    pub reads : Each IsNode flat → ReadsAs flat v (inputs_of env)
-    reads h i w m = let b = mentioned flat h i w m in input-is i w b ∙ b.read
+  -- the numbers that an assignment gives the inputs of the term whose clauses they stand in
+  pub reads : (flat : Term) (rows : List InputRow) → MapsInputs nodes flat rows → (v : ℤ → Bool) → Each IsNode flat → ReadsAs flat v (assigned v rows)
+  reads flat rows mapped v h i w m =
+      let n = in-walk IsNode flat (input i w) h m in
+      ap (λ (o : Option InputRow). unwrap_or (option_map (λ (row : InputRow). number_read v row.bits) o) 0) (mapped.each_ i n.0 w n.1)

@@ -20,7 +20,7 @@ use Rattle.bv_terms.specs.declared.node.Node.{Node}
 use Rattle.runtime_defs.specs.Printable.{FitsDesign, all_ones}
 use Rattle.flat_goals.specs.Applied.{IsApplied}
 use Rattle.flat_goals.specs.declared.applied.Applied.{Applied as Code}
-use Rattle.flat_laws.specs.Flat.{args_in, flattened}
+use Rattle.flat_laws.specs.Flat.{args_in}
 use Rattle.flat_laws.specs.Rows.{AllFit, IsRowOf, is_of}
 use Rattle.flat_laws.proofs.Places.{still-among}
 use Rattle.runtime_defs.specs.FirstRows.{first_rows}
@@ -123,12 +123,12 @@ module _ (d : Design) (nodes : List Node) (arena : IsArena nodes) (applied : Lis
 
   pub all-fit : AllFit goal first ins
   all-fit = record {
-    inputs = λ i w m. input-fits nodes arena (flattened goal first) rows z.mapped v env bits i w
-        (mentioned nodes arena (flattened goal first) rows z.mapped v env bits goal (has-nodes nodes arena goal z.goal_) i w m);
+    inputs = λ i w m. input-fits nodes arena z.searched rows z.mapped v env bits i w
+        (mentioned nodes arena z.searched rows z.mapped v env bits goal (has-nodes nodes arena goal z.goal_) i w m);
     results = λ f w args m.
         let t = apply f args w in
         let a = zip-there (IsApplied nodes goal first) (applications goal) applied t z.applied_ (still-among (walk goal []) t refl m) in
         subst (λ i. FitsWidth w (ins i)) a.1.result
-        (input-fits nodes arena (flattened goal first) rows z.mapped v env bits a.0.result w
-        (input-there nodes arena (flattened goal first) rows z.mapped v env bits a.0.result a.1.input.0 w a.1.input.1));
+        (input-fits nodes arena z.searched rows z.mapped v env bits a.0.result w
+        (input-there nodes arena z.searched rows z.mapped v env bits a.0.result a.1.input.0 w a.1.input.1));
   }

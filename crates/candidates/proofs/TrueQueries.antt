@@ -1,30 +1,24 @@
--- What an assignment that satisfies the clauses of a query makes of its tables: they are of a query that is true.
-use Rattle.std.proofs.Common.{◌≡◌, ◌↔◌, ℕ, zero, suc, ℤ, Bool, IsTrue, List, [], ◌∷◌, map, refl}
+-- What an assignment that makes a query true makes of its tables: they are of a query that is true.
+use Rattle.std.proofs.Common.{◌≡◌, ℕ, zero, suc, ℤ, Bool, List, [], ◌∷◌, map, refl, subst, sym}
 use Rattle.std.specs.Prelude.{option_map, slice_get, unwrap_or}
 use Rattle.std.specs.List.{AllZip}
-use Rattle.bit_blast.specs.Blasting.{InputRow, IsClauses}
-use Rattle.bit_blast.specs.Clauses.{clauses_of}
-use Rattle.bit_blast.specs.Goals.{IsGoal}
-use Rattle.bit_blast.specs.Meanings.{all_hold}
-use Rattle.bit_blast.specs.Readings.{ReadsAs, number_read}
+use Rattle.bit_blast.specs.Blasting.{InputRow}
+use Rattle.bit_blast.specs.Readings.{number_read}
 use Rattle.bv_terms.specs.Arenas.{IsArena}
 use Rattle.bv_terms.specs.Environments.{functions_of, inputs_of}
 use Rattle.bv_terms.specs.TermTrees.{Term}
-use Rattle.bv_terms.specs.TermValues.{Functions, Inputs, term_value}
+use Rattle.bv_terms.specs.TermValues.{Inputs, term_value}
 use Rattle.bv_terms.specs.declared.eval.Env.{Env}
 use Rattle.bv_terms.specs.declared.node.Node.{Node}
 use Rattle.cnf_core.specs.declared.certificates.Instance.{Instance}
-use Rattle.cnf_core.specs.Satisfying.{Satisfies, makes_true}
+use Rattle.cnf_core.specs.Satisfying.{makes_true}
 use Rattle.cnf_core.specs.declared.clauses.Assignment.{Assignment}
-use Rattle.cnf_core.specs.declared.clauses.Cnf.{Cnf}
 use Rattle.cocoon_num.specs.BitsOf.{value_of}
 use Rattle.cocoon_num.specs.Tree.{Design}
 use Rattle.cocoon_num.specs.Values.{number}
 use Rattle.cocoon_num.specs.declared.bits.Bits.{Bits}
 use Rattle.runtime_defs.specs.Printable.{FitsDesign}
 use Rattle.flat_goals.specs.declared.applied.Applied.{Applied}
-use Rattle.flat_laws.specs.Flat.{flattened}
-use Rattle.flat_laws.specs.Meant.{CanFlatten}
 use Rattle.runtime_defs.specs.Tables as made
 use Rattle.runtime_defs.specs.declared.lookups.Lookup.{Lookup}
 use Rattle.query_laws.specs.OwnNames.{input_count}
@@ -34,7 +28,6 @@ use Rattle.query_laws.specs.FirstRows.{AreOfTrueQuery}
 use Rattle.candidates.specs.Applying.{IsLookup}
 use Rattle.candidates.specs.Assigned.{assigned, row_value}
 use Rattle.candidates.specs.Flat.{IsSatisfied}
-use Rattle.candidates.proofs.Inputs.{has-nodes, reads}
 use Rattle.candidates.proofs.Rows.{all-fit, first-rows}
 
 -- ---- the numbers of inputs
@@ -54,22 +47,14 @@ numbers-are v (b ∷ bits) (row ∷ rows) e (suc i) = let rest : map value_of bi
 
 -- ---- the query
 
--- the laws that are cited
-pub record Laws : Type 0 where
-  pub goals : (goal : Term) (first : ℕ) → CanFlatten goal first → IsGoal (flattened goal first)
-  pub reads_back : (goal : Term) → IsGoal goal → (a : Assignment) → IsTrue (all_hold (makes_true a) (clauses_of goal)) → (F : Functions) (ins : Inputs) → ReadsAs goal (makes_true a) ins
-      → term_value F ins goal ≡ number 1 1
-  pub holds : (cnf : Cnf) (goal : Term) → IsClauses cnf goal → (a : Assignment) → Satisfies a cnf ↔ IsTrue (all_hold (makes_true a) (clauses_of goal))
-
-module _ (laws : Laws) (d : Design) (nodes : List Node) (arena : IsArena nodes) (applied : List Applied) (rows : List InputRow) (x : Assignment)
+module _ (d : Design) (nodes : List Node) (arena : IsArena nodes) (applied : List Applied) (rows : List InputRow) (x : Assignment)
     (env : Env) (bits : map value_of env.inputs ≡ map (row_value (makes_true x)) rows) (looked : List Lookup) (are : AllZip (IsLookup nodes env) applied looked)
     (tables : Tables) (fits : FitsDesign d tables) (made : made.HaveFirstRows looked tables)
     (level : ℕ) (formula : Term) (is : List Instance) (s : IsSatisfied d nodes applied rows x level formula is) where
   goal-true : term_value (functions_of env) (inputs_of env) (query d level formula is) ≡ number 1 1
   goal-true =
-      let flat = query d level formula is in
-      laws.reads_back flat (laws.goals (asked d level formula is) (input_count formula) s.flat.can) x ((laws.holds s.cnf flat s.clauses x).0 s.satisfies)
-      (functions_of env) (inputs_of env) (reads nodes arena flat rows s.flat.mapped (makes_true x) env bits (has-nodes nodes arena flat s.flat.flat))
+      let same : inputs_of env ≡ assigned (makes_true x) rows = λ k i. numbers-are (makes_true x) env.inputs rows bits i k in
+      subst (λ (ins : Inputs). term_value (functions_of env) ins (query d level formula is) ≡ number 1 1) (sym same) (s.is_true (functions_of env))
 
   pub of-true-query : AreOfTrueQuery d level formula is (functions_of env) (inputs_of env) tables
   of-true-query =

@@ -30,7 +30,7 @@ fn values(
 }
 
 /// An environment with these values, and without functions.
-pub(crate) fn environment(
+pub fn environment(
     alloc: Global,
     terms: &Terms,
     inputs: &InputMap,

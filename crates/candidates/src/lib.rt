@@ -5,4 +5,5 @@ mod applying;
 mod assigned;
 mod making;
 
+pub use assigned::environment;
 pub use making::candidate;

@@ -7,21 +7,19 @@ ghost use Rattle.candidates.specs.Flat.{IsCandidateOf, IsFlatGoal, MakesFormulaT
 use crate::applying::lookups;
 use crate::assigned::environment;
 use bit_blast::InputMap;
-use bit_blast::laws::{clauses_mean_the_goal, satisfying_is_making_hold};
 use bv_terms::Terms;
 use cnf_core::Assignment;
 use cocoon_num::NoMemory;
 use cocoon_resolve::Checked;
 use flat_goals::Applied;
-use flat_laws::laws::flat_goals_are_goals;
 use query_laws::search_laws::true_queries_have_candidates;
 use runtime_defs::{Defaults, Defs, tables_of};
 use sound_types::laws::code_literals_fit;
 use std::alloc::Global;
 
 /// The definitions that an assignment gives of a flat goal: at the arguments of each application
-/// the value of its input, else these defaults, where they are free. If the goal is a query whose
-/// clauses the assignment satisfies, they are a candidate, and its formula is true under them.
+/// the value of its input, else these defaults, where they are free. If the goal is a query that is
+/// true at the values of the inputs, they are a candidate, and its formula is true under them.
 pub fn candidate(
     alloc: Global,
     checked: &Checked,
@@ -38,10 +36,7 @@ pub fn candidate(
     ensures formula { IfOk result (λ defs. MakesFormulaTrue (design_of checked.now)
         terms.now applied.now inputs.now assignment.now defs) }
 {
-    clauses_mean_the_goal();
     code_literals_fit();
-    flat_goals_are_goals();
-    satisfying_is_making_hold();
     true_queries_have_candidates();
     let _design = checked.design();
     let _count = terms.count();

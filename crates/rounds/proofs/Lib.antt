@@ -1,3 +1,5 @@
+pub mod Guesses
+pub mod Parts
 pub mod Queries
 pub mod Witnesses
 pub mod Rounds

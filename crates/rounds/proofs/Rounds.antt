@@ -22,12 +22,14 @@ use Rattle.refinement.specs.Assumptions.{Meets}
 use Rattle.bv_terms.specs.WithRows.{Tables}
 use Rattle.candidates.specs.Flat.{MakesFormulaTrue}
 use Rattle.rounds.specs.Outcomes.{IsAsked, IsSpentAfter, ShowsNeverTrue, Tells}
-use Rattle.rounds.specs.Steps.{IsBroken, IsFoundBy, IsInstance, IsRefuted, IsSolved}
+use Rattle.rounds.specs.Steps.{CanBeTrue, IsBroken, IsFoundBy, IsInstance, IsRefuted, IsSolved}
 use Rattle.rounds.specs.declared.asking.Satisfied.{Satisfied as Solved}
 use Rattle.rounds.specs.declared.judging.Judged.{Judged}
 use Rattle.rounds.specs.declared.outcome.Outcome.{Outcome}
 use Rattle.rounds.specs.declared.outcome.Outcome.TheVariants as outcome
 use Rattle.rounds.specs.declared.outcome.Query.TheVariants.{Assumption, Goal}
+use Rattle.rounds.specs.declared.searching.Round.{Round}
+use Rattle.rounds.specs.declared.searching.Round.TheVariants.{Ended, Broken}
 use Rattle.rounds.proofs.Witnesses.{as-many, formula-true, its-inputs}
 
 -- ---- which of two candidates it is
@@ -71,9 +73,14 @@ module _ (d : Design) (level : ℕ) (formula : Term) where
   pub one_more : (given is pushed : List Instance) (i : Instance) → IsBroken d level formula given is i → pushed ≡ is ++ i ∷ [] → Progress d level formula pushed
   one_more given is pushed i h e = subst (Progress d level formula) (sym (e ∙ ap (λ xs. xs ++ i ∷ []) h.same)) h.progress
 
-  pub spent_rounds : (given is spent : List Instance) (i : Instance) (rounds : ℕ) → length given ≡ rounds → Progress d level formula given → IsBroken d level formula given is i → spent ≡ is → IsSpentAfter d level formula rounds spent
-  spent_rounds given is spent i rounds all progress h e =
-      subst (IsSpentAfter d level formula rounds) (sym (e ∙ h.same)) (record { all = all; progress = progress; satisfiable = h.satisfiable })
+  pub can_be_true : (given : List Instance) → IsSatisfiable (query d level formula given) → (r : Round) → CanBeTrue d level formula given r
+  can_be_true given s (Ended outcome) = tt
+  can_be_true given s (Broken is i) = s
+
+  pub spent_rounds : (given is spent : List Instance) (i : Instance) (rounds : ℕ) → length given ≡ rounds → Progress d level formula given → IsBroken d level formula given is i → IsSatisfiable (query d level formula given) → spent ≡ is
+      → IsSpentAfter d level formula rounds spent
+  spent_rounds given is spent i rounds all progress h s e =
+      subst (IsSpentAfter d level formula rounds) (sym (e ∙ h.same)) (record { all = all; progress = progress; satisfiable = s })
 
 -- ---- what a candidate tells
 
@@ -141,5 +148,5 @@ module _ (d : Design) (level : ℕ) (formula : Term) (instances : List Instance)
         let untrue = laws.untrue here a broken.1.is (breaks a broken.1.is) (subst (λ y. IsTerm (instance_term d y)) same term) in
         laws.more x (subst (Fits d level) (sym same) (record { among = broken.0; values = numbers_fit })) (subst (λ y. IsFalseBy tables (instance_term d y)) (sym same) untrue)
 
-    pub round : IsSatisfiable (query d level formula instances) → (is : List Instance) → is ≡ instances → (x : Instance) → IsInstance d i values x → IsBroken d level formula instances is x
-    round satisfiable is same x h = record { same = same; satisfiable = satisfiable; progress = progress x h.of h.term }
+    pub round : (is : List Instance) → is ≡ instances → (x : Instance) → IsInstance d i values x → IsBroken d level formula instances is x
+    round is same x h = record { same = same; progress = progress x h.of h.term }

@@ -42,15 +42,15 @@ pub record IsRefuted (d : Design) (level : ℕ) (formula : Term) (instances : Li
   pub refuted : IsRefutedWithin (query d level formula instances) conflicts log
   pub never_true : NeverTrue level d formula
 
--- an assignment satisfies the query
+-- an assignment gives the inputs numbers at which the query is true
 pub record IsSolved (d : Design) (level : ℕ) (formula : Term) (instances : List Instance) (m : Solved) : Type 0 where
   pub satisfied : flat.IsSatisfied d m.own.terms m.own.applied m.inputs m.assignment level formula instances
-  pub satisfiable : IsSatisfiable (query d level formula instances)
   pub inputs : m.own.inputs ≡ inputs_of formula
 
 abbrev pub Says : Design → (level : ℕ) → (formula : Term) → List Instance → (conflicts : ℕ) → Searched → Type 0
 Says d level formula instances conflicts (Refuted log) = IsRefuted d level formula instances conflicts log
-Says d level formula instances conflicts (Satisfied m) = IsSolved d level formula instances m
+Says d level formula instances conflicts (Satisfied m) =
+    IsSolved d level formula instances m × IsSatisfiable (query d level formula instances)
 Says d level formula instances conflicts (Spent vars log) = IsSpentOn (query d level formula instances) conflicts vars log
 Says d level formula instances conflicts (Big count) = HasTooMany (query d level formula instances) count
 
@@ -93,12 +93,16 @@ IsFoundBy m tables instances o = ⊥
 
 -- ---- one round
 
--- with one more instance there is progress; with those that were given the query can be true
+-- with one more instance there is progress
 pub record IsBroken (d : Design) (level : ℕ) (formula : Term) (given instances : List Instance) (i : Instance) : Type 0 where
   pub same : instances ≡ given
-  pub satisfiable : IsSatisfiable (query d level formula given)
   pub progress : Progress d level formula (given ++ i ∷ [])
 
 abbrev pub ComesTo : Design → (level : ℕ) → (formula : Term) → (conflicts rounds : ℕ) → List Instance → Round → Type 0
 ComesTo d level formula conflicts rounds given (Ended outcome) = Tells d level formula conflicts rounds outcome
 ComesTo d level formula conflicts rounds given (Broken instances i) = IsBroken d level formula given instances.items i
+
+-- with the instances that were given the query can be true, if a candidate breaks one more
+abbrev pub CanBeTrue : Design → (level : ℕ) → (formula : Term) → List Instance → Round → Type 0
+CanBeTrue d level formula given (Ended outcome) = Unit {0}
+CanBeTrue d level formula given (Broken instances i) = IsSatisfiable (query d level formula given)

@@ -7,6 +7,7 @@ ghost use Rattle.query_laws.specs.LeafTerms.{Stands};
 ghost use Rattle.query_laws.specs.Certified.{AllFit};
 ghost use Rattle.rounds.specs.Steps.{IsSearched, Refuses, Says};
 
+use bit_blast::laws::{clauses_mean_the_goal, satisfying_is_making_hold};
 use bit_blast::{BlastFault, InputMap, blast};
 use bv_terms::{TermId, Terms};
 use cdcl::{Answer, solve};
@@ -58,11 +59,14 @@ pub(crate) fn ask(
         instances.now conflicts) }
 {
     asked_goals_apply_declared_functions();
+    clauses_mean_the_goal();
     queries_are_goals();
+    satisfying_is_making_hold();
     refuted_formulas_are_never_true();
     code_literals_fit();
     let _design = checked.design();
     let own = query(alloc, checked, terms, level, formula, instances)?;
+    let _count = own.terms.count();
     let (cnf, inputs) = match blast(alloc, &own.terms, own.goal) {
         Ok(made) => made,
         Err(fault) => return refused(fault),

@@ -4,9 +4,11 @@
 
 mod asking;
 mod breaking;
+mod guessing;
 mod judging;
 pub mod outcome;
 pub mod searching;
+mod shortening;
 
 pub use outcome::{Outcome, Query, Witness};
 pub use searching::search;

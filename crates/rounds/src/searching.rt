@@ -9,10 +9,11 @@ ghost use Rattle.candidates.specs.Assigned.{row_value};
 ghost use Rattle.query_laws.specs.Rounds.{IsWithin, of_goal};
 ghost use Rattle.query_laws.specs.LeafTerms.{Stands};
 ghost use Rattle.rounds.specs.Outcomes.{Tells};
-ghost use Rattle.rounds.specs.Steps.{ComesTo, IsFoundBy, IsSolved};
+ghost use Rattle.rounds.specs.Steps.{CanBeTrue, ComesTo, IsFoundBy, IsSolved};
 
 use crate::asking::{Satisfied, Searched, ask};
 use crate::breaking::broken;
+use crate::guessing::guess;
 use crate::judging::{Judged, judge};
 use crate::outcome::{Outcome, Query, Witness};
 use bv_terms::{TermId, Terms};
@@ -27,6 +28,12 @@ use query_laws::search_laws::{
 use runtime_defs::Defs;
 use sound_types::laws::code_literals_fit;
 use std::alloc::Global;
+
+/// In a query with so many instances most parts say of two applications that they agree.
+const SHORT_FROM: usize = 16;
+
+/// A search with a shorter goal is given up after so many conflicts.
+const SHORT_CONFLICTS: u64 = 1_000;
 
 /// What one round comes to.
 #[derive(Drop)]
@@ -72,7 +79,8 @@ fn found(
     }))
 }
 
-/// What the round comes to in which an assignment satisfies the query with these instances.
+/// What the round comes to in which the query with these instances is true at the values that an
+/// assignment gives.
 fn satisfied_round(
     alloc: Global,
     checked: &Checked,
@@ -119,7 +127,7 @@ fn satisfied_round(
     }
 }
 
-/// What the round with these instances comes to.
+/// What the round with these instances comes to, in which the query is searched as a whole.
 fn one_round(
     alloc: Global,
     checked: &Checked,
@@ -136,8 +144,10 @@ fn one_round(
         budget.now.rounds (of_goal instances.items) }
     requires some { 1 ≤ budget.now.conflicts }
     requires few { budget.now.conflicts < 2 ^ 31 }
-    ensures { IfOk result (ComesTo (design_of checked.now) level (term_at terms.now formula)
+    ensures comes { IfOk result (ComesTo (design_of checked.now) level (term_at terms.now formula)
         budget.now.conflicts budget.now.rounds instances.items) }
+    ensures satisfiable { IfOk result (CanBeTrue (design_of checked.now) level
+        (term_at terms.now formula) instances.items) }
 {
     let conflicts = budget.conflicts;
     match ask(alloc, checked, terms, level, formula, &instances, conflicts)? {
@@ -156,6 +166,40 @@ fn one_round(
             let query = Query::Goal(List::from(instances));
             Ok(Round::Ended(Outcome::Big(query, count)))
         }
+    }
+}
+
+/// What a round comes to that others may follow. From `SHORT_FROM` instances on an assignment is looked
+/// for with a shorter goal first.
+fn next_round(
+    alloc: Global,
+    checked: &Checked,
+    terms: &Terms,
+    level: u32,
+    formula: TermId,
+    budget: &Budget,
+    instances: Vec<Instance>,
+) -> Result<Round, NoMemory>
+    requires level { level ≤ last_level (design_of checked.now) }
+    requires there { formula < length terms.now }
+    requires stands { Stands (design_of checked.now) 1 (term_at terms.now formula) }
+    requires within { IsWithin (design_of checked.now) level (term_at terms.now formula)
+        budget.now.rounds (of_goal instances.items) }
+    requires some { 1 ≤ budget.now.conflicts }
+    requires few { budget.now.conflicts < 2 ^ 31 }
+    ensures { IfOk result (ComesTo (design_of checked.now) level (term_at terms.now formula)
+        budget.now.conflicts budget.now.rounds instances.items) }
+{
+    if instances.len() < SHORT_FROM {
+        return one_round(alloc, checked, terms, level, formula, budget, instances);
+    }
+    let conflicts = budget.conflicts.min(SHORT_CONFLICTS);
+    let found = guess(alloc, checked, terms, level, formula, &instances, conflicts)?;
+    match found {
+        Some(satisfied) => satisfied_round(
+            alloc, checked, terms, level, formula, budget, satisfied, instances,
+        ),
+        None => one_round(alloc, checked, terms, level, formula, budget, instances),
     }
 }
 
@@ -182,7 +226,7 @@ pub fn search(
     broken_instances_keep_progress();
     let mut instances = Vec::new(alloc);
     for _ in 0..budget.rounds {
-        match one_round(alloc, checked, terms, level, formula, budget, instances)? {
+        match next_round(alloc, checked, terms, level, formula, budget, instances)? {
             Round::Ended(outcome) => return Ok(outcome),
             Round::Broken(mut so_far, instance) => {
                 so_far.push(instance)?;

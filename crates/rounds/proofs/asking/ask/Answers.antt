@@ -32,5 +32,7 @@ returns c =
       certified = λ cert same it.
           c.refuted_formulas_are_never_true.ensures.certified d rules literals level formula c.requires.stands cert
           (subst (λ xs. IsTerm (asked d level formula xs)) (sym same) query.asked_) it;
-    }) c.in-Ok.made.0 c.in-Ok.ensures.clauses c.in-Ok.ensures.named c.in-Ok.made.1 c.in-Ok.ensures.inputs
+      reads_back = c.clauses_mean_the_goal.ensures.reads;
+      holds = c.satisfying_is_making_hold.ensures;
+    }) c.in-Ok.made.0 c.in-Ok.ensures.clauses c.in-Ok.ensures.named c.in-Ok.made.1 c.in-Ok.ensures.inputs c.count-count.ensures.arena
     c.args.conflicts c.in_ok-answer.answer c.in_ok-answer.ensures c.said_by.result c.said_by.ensures

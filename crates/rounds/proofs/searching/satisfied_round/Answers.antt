@@ -80,7 +80,7 @@ returns-in_ok-instance-in-Broken c =
       more = c.broken_instances_keep_progress.ensures.more d level formula given c.requires.within.progress tables candidate;
     }) c.in-Broken.number c.in-Broken.values
     (subst (AnswersTo d level tables c.args.budget.now.conflicts) c.in-Broken.is c.in_ok-defs.ensures.met)
-    c.requires.solved.satisfiable given refl c.in_ok-instance-in-Broken.instance c.in_ok-instance-in-Broken.ensures
+    given refl c.in_ok-instance-in-Broken.instance c.in_ok-instance-in-Broken.ensures
 
 pub returns-in-SpentConflicts : goal.returns-in-SpentConflicts
 returns-in-SpentConflicts c =

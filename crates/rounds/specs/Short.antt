@@ -1,0 +1,30 @@
+-- Cited by private clauses: a goal in an arena that is searched in the place of another one, and what is found with it.
+use Rattle.std.specs.Prelude.{◌≡◌, ℕ, ◌<◌, List, length}
+use Rattle.bit_blast.specs.Blasting.{InputRow, MapsInputs}
+use Rattle.bit_blast.specs.Goals.{IsGoal}
+use Rattle.bv_terms.specs.Arenas.{term_at}
+use Rattle.bv_terms.specs.TermTrees.{Term}
+use Rattle.bv_terms.specs.TermValues.{Functions, term_value}
+use Rattle.bv_terms.specs.declared.node.Node.{Node}
+use Rattle.candidates.specs.Assigned.{assigned}
+use Rattle.cnf_core.specs.Satisfying.{makes_true}
+use Rattle.cnf_core.specs.declared.clauses.Assignment.{Assignment}
+use Rattle.cocoon_num.specs.Values.{number}
+use Rattle.queries.specs.declared.asking.OwnGoal.{OwnGoal}
+use Rattle.rounds.specs.declared.asking.Satisfied.{Satisfied as Solved}
+
+-- the term of the arena is a goal
+pub record IsPart (nodes : List Node) (id : ℕ) : Type 0 where
+  pub there : id < length nodes
+  pub goal : IsGoal (term_at nodes id)
+
+-- the rows have the bits of all inputs of the arena, in the clauses of some term
+pub record CanTry (own : OwnGoal) (rows : List InputRow) : Type 0 where
+  pub part : IsPart own.terms own.goal
+  pub searched : Term
+  pub mapped : MapsInputs own.terms searched rows
+
+-- the goal is true at the numbers that the assignment gives the inputs
+pub record IsTrueOf (own : OwnGoal) (rows : List InputRow) (x : Assignment) (m : Solved) : Type 0 where
+  pub of : m ≡ record { own = own; inputs = rows; assignment = x }
+  pub is_true : (F : Functions) → term_value F (assigned (makes_true x) rows) (term_at own.terms own.goal) ≡ number 1 1
