@@ -15,6 +15,7 @@ mod InputTerms
 mod ReadBack
 mod PushedBack
 mod Chains
+mod KnownTerms
 mod Pairing
 mod Gathering
 mod LargeCounts

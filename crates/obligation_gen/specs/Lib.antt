@@ -5,6 +5,7 @@ pub mod Bodies
 pub mod CountedTrees
 pub mod Sent
 pub mod Replacing
+pub mod Becoming
 pub mod Compared
 pub mod Parts
 pub mod Shown

@@ -1,15 +1,17 @@
 //! A leaf, compared with the leaves of an old tree.
-ghost use Rattle.std.specs.Prelude.{◌≡◌, IfOk, IfSome, option_map};
+ghost use Rattle.std.specs.Prelude.{◌≡◌, IfOk, IfSome, OnOk, option_map};
 ghost use Rattle.cocoon_num.specs.Tree.{Design};
 ghost use Rattle.bv_terms.specs.Arenas.{term_at};
 ghost use Rattle.expr_terms.specs.Variables.{Keeps, Makes};
 ghost use Rattle.obligation_laws.specs.Leaves as laws;
 ghost use Rattle.obligation_laws.specs.Formulas as formulas;
+ghost use Rattle.obligation_gen.specs.Becoming.{Remembers};
 ghost use Rattle.obligation_gen.specs.Compared.{AreCompared, ArePaired, Compared, IsTruth, Paired};
 ghost use Rattle.obligation_gen.specs.Parts.{either};
 ghost use Rattle.obligation_gen.specs.Replacing.{Ready};
 ghost use Rattle.obligation_gen.specs.Sent.{role_in};
 
+use crate::last::Last;
 use crate::replacing::Replacing;
 use crate::standing::{leaf_inputs, stand_ins};
 use crate::tree::{End, Leaf, Tree};
@@ -60,18 +62,22 @@ fn part(
     old: &Leaf,
     tree: &Tree,
     leaf: &Leaf,
+    last: &mut Last,
     terms: &mut Terms,
 ) -> Result<TermId, NoMemory>
-    requires { Paired terms.old old_tree.now old.now tree.now leaf.now }
+    requires paired { Paired terms.old old_tree.now old.now tree.now leaf.now }
+    requires remembers { Remembers terms.old last.old }
     ensures made { (d : Design) (old_tree_of of : laws.Tree) (old_of leaf_of : laws.Leaf)
         → ArePaired d terms.old old_tree.now old.now tree.now leaf.now old_tree_of old_of of leaf_of
         → IfOk result (λ id. Makes terms.new id
         (formulas.part old_tree_of old_of of leaf_of)) }
     ensures truth { IfOk result (IsTruth terms.new) }
+    ensures remembers { OnOk result (Remembers terms.new last.new) }
     ensures kept { Keeps terms.old terms.new }
 {
     let replacing = replacing(alloc, old_tree, old, tree, leaf, terms)?;
-    replacing.part(alloc, old, leaf, terms)
+    last.go_on(alloc, replacing)?;
+    last.by.part(alloc, &mut last.known, old, leaf, terms)
 }
 
 /// One of some parts is true.
@@ -106,9 +112,10 @@ fn any_part(
     ensures kept { Keeps terms.old terms.new }
 {
     let mut any = None;
+    let mut last = Last::new(alloc)?;
     for old in old_tree.leaves.items() {
         if role(&old.end) == role(&leaf.end) {
-            let part = part(alloc, old_tree, old, tree, leaf, terms)?;
+            let part = part(alloc, old_tree, old, tree, leaf, &mut last, terms)?;
             any = Some(either(any, part, terms)?);
         }
     }
@@ -118,9 +125,10 @@ fn any_part(
     }
 }
 
-/// The term that is true where a leaf of a tree fails beside an old tree. An old leaf that sends to
-/// the same role is rebuilt once, with all that it is made of, so time and memory are in proportion
-/// to these.
+/// The term that is true where a leaf of a tree fails beside an old tree. Old leaves that send to
+/// the same role are rebuilt with all that they are made of, each term once as long as the same
+/// stands for the inputs of these leaves. Time and memory are in proportion to this, and to what the
+/// leaves send.
 pub fn formula(
     alloc: Global,
     old_tree: &Tree,

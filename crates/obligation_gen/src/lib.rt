@@ -11,6 +11,8 @@ mod counts;
 mod hops;
 mod inlining;
 mod inputs;
+mod known;
+mod last;
 mod making;
 mod obligation;
 mod refined;

@@ -108,8 +108,9 @@ fn of_block(
 
 /// What the block behind the level before this one owes: role by role, in the order of its list,
 /// and leaf by leaf. Leaves are counted before anything is made. Time and memory are in proportion
-/// to the leaves of a role, times the leaves of its body above that send to the same roles, with
-/// all that these are made of.
+/// to the leaves of a role, times the leaves of its body above that send to the same roles, and to
+/// all that these are made of: for each leaf once, or once for each old leaf if other choices are
+/// read back beside each.
 pub fn obligations(
     alloc: Global,
     checked: &Checked,

@@ -48,7 +48,7 @@ fn position(term: TermId, among: &[TermId]) -> Option<usize>
 }
 
 /// What is sent at the place that a choice has among old terms.
-fn sent_at(choice: TermId, old: &[TermId], sent: &[TermId]) -> Option<TermId>
+pub(crate) fn sent_at(choice: TermId, old: &[TermId], sent: &[TermId]) -> Option<TermId>
     ensures { result ≡ sent_at choice old.now sent.now }
 {
     sent.get(position(choice, old)?).copied()

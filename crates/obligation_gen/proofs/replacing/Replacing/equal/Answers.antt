@@ -4,6 +4,9 @@ use Rattle.bv_terms.specs.declared.node.TermOp.TheVariants as op
 use Rattle.bv_terms.specs.Arenas.{term_at}
 use Rattle.bv_terms.specs.TermTrees.{binary, width}
 use Rattle.expr_terms.proofs.Making.{keeps_on, longer}
+use Rattle.obligation_gen.specs.Replacing.{replacing_in}
+use Rattle.obligation_gen.proofs.KnownTerms.{knows_on}
+use Rattle.obligation_gen.proofs.LargeCounts.{always}
 use Rattle.obligation_gen.proofs.replacing.Replacing.equal.Goals as goal
 
 pub replaced-requires-clause-there : goal.replaced-requires-clause-there
@@ -26,3 +29,8 @@ returns-clause-made c =
 pub returns-clause-kept : goal.returns-clause-kept
 returns-clause-kept c =
     keeps_on c.args.terms.now c.replaced.new.terms c.binary.new.self c.replaced.ensures.kept (record { kept = c.binary.ensures.kept; inputs = c.binary.ensures.few.inputs })
+
+pub returns-clause-knows : goal.returns-clause-knows
+returns-clause-knows c =
+    always c.binary.result _
+    (knows_on c.replaced.new.terms c.binary.new.self (replacing_in c.args.terms.now c.args.self.now) c.replaced.new.self c.binary.ensures.kept c.in_ok-old.ensures.knows)
