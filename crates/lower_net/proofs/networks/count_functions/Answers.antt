@@ -10,9 +10,8 @@ pub overflow_cast-result : goal.overflow_cast-result
 overflow_cast-result c =
     let d = design_of c.args.checked.now in
     let same : length c.tables.result.now ≡ length (functions d) = ap length c.tables.ensures.are ∙ zip_count FitsPlace (functions d) c.args.defs.now c.requires.places in
-    let is : c.len.result ≡ length c.tables.result.now = search rules in
     let few : length (functions d) ≤ 128 = few-functions d c.design.ensures.resolves.limits in
-    omega (arith, is, same, few)
+    omega (arith, same, few)
 
 pub returns : goal.returns
 returns c =

@@ -25,7 +25,7 @@ keep_rows-requires g c =
 
 pub returns-in_err-keep_program-clause-refused : goal.returns-in_err-keep_program-clause-refused
 returns-in_err-keep_program-clause-refused g c =
-    told _ _ c.in_err-keep_program.field-0.0 c.from_residual-in_err-keep_program.ensures.1
+    told _ _ c.in_err-keep_program.field-0.0 c.from_residual.ensures.1
     (λ s e. program_stops s c.number-number.result (switch_program c.program-program.result) _ (c.number-number.ensures s e) (c.program-program.ensures s e) c.in_err-keep_program.ensures.refused)
 
 pub returns-in_err-rows-clause-refused : goal.returns-in_err-rows-clause-refused

@@ -33,7 +33,7 @@ write_file-requires-2 g c =
     }
 
 pub returns-in_err-printed-clause-refused : goal.returns-in_err-printed-clause-refused
-returns-in_err-printed-clause-refused g c = told _ _ NoMemory c.from_residual-in_err-printed.ensures.1 (λ s e. inl refl)
+returns-in_err-printed-clause-refused g c = told _ _ NoMemory c.from_residual.ensures.1 (λ s e. inl refl)
 
 pub returns-in_err-rows-clause-refused : goal.returns-in_err-rows-clause-refused
 returns-in_err-rows-clause-refused g c = told _ _ NoMemory c.from_residual-in_err-rows.ensures.1 (λ s e. inl refl)
