@@ -4,7 +4,7 @@ use Rattle.std.specs.List.{AllZip}
 use Rattle.std.specs.Option.{IfSome}
 use Rattle.std.proofs.lemmas.List.Elements.{All-from_recursion, recursion_from_All}
 use Rattle.std.proofs.lemmas.Option.{slice_get_within}
-use Rattle.bit_blast.specs.Blasting.{InputRow, MapsInputs}
+use Rattle.bit_blast.specs.Blasting.{InputRow}
 use Rattle.bit_blast.specs.Goals.{IsUnapplied}
 use Rattle.bv_terms.specs.Arenas.{IsArena, KeepsTerms, term_at}
 use Rattle.bv_terms.specs.Environments.{Covers, functions_of, inputs_of}
@@ -38,7 +38,7 @@ use Rattle.queries.specs.declared.asking.OwnGoal.{OwnGoal}
 use Rattle.query_laws.specs.Certified.{AllFit}
 use Rattle.query_laws.specs.OwnNames.{input_count}
 use Rattle.query_laws.specs.Queries.{asked}
-use Rattle.rounds.specs.Short.{CanTry, IsTrueOf}
+use Rattle.rounds.specs.Short.{IsMapped, IsPart, IsReadable, IsTrueOf}
 use Rattle.rounds.specs.Steps.{IsSolved}
 use Rattle.rounds.specs.declared.asking.Satisfied.{Satisfied as Solved}
 
@@ -58,22 +58,24 @@ value-is b w n e = cc
 
 -- ---- a goal that is tried
 
-module _ (own : OwnGoal) (rows : List InputRow) (x : Assignment) (can : CanTry own rows) (arena : IsArena own.terms) (env : Env) (bits : map value_of env.inputs ≡ map (row_value (makes_true x)) rows) where
-  abbrev goal : Term
-  goal = term_at own.terms own.goal
+module _ (nodes : List Node) (rows : List InputRow) (x : Assignment) (m : IsMapped nodes rows) (arena : IsArena nodes) (env : Env) (bits : map value_of env.inputs ≡ map (row_value (makes_true x)) rows) where
+  pub covers : (id : ℕ) → IsPart nodes id → Covers env (term_at nodes id)
+  covers id p = covered nodes arena m.searched rows m.mapped (makes_true x) env bits (term_at nodes id) p.goal.unapplied (all-nodes nodes arena id p.there)
 
-  pub covers : Covers env goal
-  covers = covered own.terms arena can.searched rows can.mapped (makes_true x) env bits goal can.part.goal.unapplied (all-nodes own.terms arena own.goal can.part.there)
+  pub readable : (id : ℕ) → IsPart nodes id → IsReadable env nodes id
+  readable id p = record { there = p.there; covered = covers id p }
 
-  pub true-of : (b : Bits) → value_of b ≡ term_value (functions_of env) (inputs_of env) goal → b.value ≡ 1 → (F : Functions) → term_value F (assigned (makes_true x) rows) goal ≡ number 1 1
-  true-of b e one F =
+  pub true-of : (id : ℕ) → IsPart nodes id → (b : Bits) → value_of b ≡ term_value (functions_of env) (inputs_of env) (term_at nodes id) → b.value ≡ 1 → (F : Functions)
+      → term_value F (assigned (makes_true x) rows) (term_at nodes id) ≡ number 1 1
+  true-of id p b e one F =
+      let goal = term_at nodes id in
       let G = functions_of env in
       let ins = assigned (makes_true x) rows in
-      let v = value-width G (inputs_of env) goal can.part.goal.term in
+      let v = value-width G (inputs_of env) goal p.goal.term in
       let n : v.0 ≡ 1 = sym (value-is b (width goal) v.0 (e ∙ v.1)) ∙ one in
-      let here : term_value G (inputs_of env) goal ≡ number 1 1 = v.1 ∙ (λ i. number (can.part.goal.truth i) (n i)) in
+      let here : term_value G (inputs_of env) goal ≡ number 1 1 = v.1 ∙ (λ i. number (p.goal.truth i) (n i)) in
       let same : inputs_of env ≡ ins = λ k i. numbers-are (makes_true x) env.inputs rows bits i k in
-      same-value F G ins goal (unapplied-agree F G ins goal can.part.goal.unapplied) ∙ subst (λ (f : Inputs). term_value G f goal ≡ number 1 1) same here
+      same-value F G ins goal (unapplied-agree F G ins goal p.goal.unapplied) ∙ subst (λ (f : Inputs). term_value G f goal ≡ number 1 1) same here
 
 -- ---- an arena that grows
 
@@ -117,8 +119,8 @@ query-kept d level formula instances own more k q =
 
 module _ (d : Design) (level : ℕ) (formula : Term) (instances : List Instance) (own : OwnGoal) (q : IsQuery d level formula instances own) where
   solved : Stands d 1 formula → AllFit d level instances → CanFlatten (asked d level formula instances) (input_count formula) → AppliesDeclared d (asked d level formula instances)
-      → (rows : List InputRow) (searched : Term) → MapsInputs own.terms searched rows → (x : Assignment) (m : Solved) → IsTrueOf own rows x m → IsSolved d level formula instances m
-  solved stands fit can over rows searched mapped x m h = subst (IsSolved d level formula instances) (sym h.of) (record {
+      → (rows : List InputRow) → IsMapped own.terms rows → (x : Assignment) (m : Solved) → IsTrueOf own rows x m → IsSolved d level formula instances m
+  solved stands fit can over rows inputs x m h = subst (IsSolved d level formula instances) (sym h.of) (record {
     satisfied = record {
       stands = stands;
       fit = fit;
@@ -129,8 +131,8 @@ module _ (d : Design) (level : ℕ) (formula : Term) (instances : List Instance)
         goal_ = record { number = q.asked_there.0; there = q.asked_there.1.there; is = q.asked_there.1.term };
         flat = record { number = own.goal; there = q.there; is = q.term };
         applied_ = q.applied;
-        searched = searched;
-        mapped = mapped;
+        searched = inputs.searched;
+        mapped = inputs.mapped;
       };
       is_true = λ F. subst (λ g. term_value F (assigned (makes_true x) rows) g ≡ number 1 1) q.term (h.is_true F);
     };
@@ -138,6 +140,6 @@ module _ (d : Design) (level : ℕ) (formula : Term) (instances : List Instance)
   })
 
   pub if_solved : Stands d 1 formula → AllFit d level instances → CanFlatten (asked d level formula instances) (input_count formula) → AppliesDeclared d (asked d level formula instances)
-      → (rows : List InputRow) (searched : Term) → MapsInputs own.terms searched rows → (x : Assignment) (found : Option Solved) → IfSome found (IsTrueOf own rows x) → IfSome found (IsSolved d level formula instances)
-  if_solved stands fit can over rows searched mapped x None h = tt
-  if_solved stands fit can over rows searched mapped x (Some m) h = solved stands fit can over rows searched mapped x m h
+      → (rows : List InputRow) → IsMapped own.terms rows → (x : Assignment) (found : Option Solved) → IfSome found (IsTrueOf own rows x) → IfSome found (IsSolved d level formula instances)
+  if_solved stands fit can over rows inputs x None h = tt
+  if_solved stands fit can over rows inputs x (Some m) h = solved stands fit can over rows inputs x m h

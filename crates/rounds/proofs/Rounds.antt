@@ -75,7 +75,7 @@ module _ (d : Design) (level : ℕ) (formula : Term) where
 
   pub can_be_true : (given : List Instance) → IsSatisfiable (query d level formula given) → (r : Round) → CanBeTrue d level formula given r
   can_be_true given s (Ended outcome) = tt
-  can_be_true given s (Broken is i) = s
+  can_be_true given s (Broken is i values) = s
 
   pub spent_rounds : (given is spent : List Instance) (i : Instance) (rounds : ℕ) → length given ≡ rounds → Progress d level formula given → IsBroken d level formula given is i → IsSatisfiable (query d level formula given) → spent ≡ is
       → IsSpentAfter d level formula rounds spent

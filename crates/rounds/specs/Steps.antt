@@ -100,9 +100,9 @@ pub record IsBroken (d : Design) (level : ℕ) (formula : Term) (given instances
 
 abbrev pub ComesTo : Design → (level : ℕ) → (formula : Term) → (conflicts rounds : ℕ) → List Instance → Round → Type 0
 ComesTo d level formula conflicts rounds given (Ended outcome) = Tells d level formula conflicts rounds outcome
-ComesTo d level formula conflicts rounds given (Broken instances i) = IsBroken d level formula given instances.items i
+ComesTo d level formula conflicts rounds given (Broken instances i values) = IsBroken d level formula given instances.items i
 
 -- with the instances that were given the query can be true, if a candidate breaks one more
 abbrev pub CanBeTrue : Design → (level : ℕ) → (formula : Term) → List Instance → Round → Type 0
 CanBeTrue d level formula given (Ended outcome) = Unit {0}
-CanBeTrue d level formula given (Broken instances i) = IsSatisfiable (query d level formula given)
+CanBeTrue d level formula given (Broken instances i values) = IsSatisfiable (query d level formula given)

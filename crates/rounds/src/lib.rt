@@ -4,9 +4,12 @@
 
 mod asking;
 mod breaking;
+mod goal_parts;
 mod guessing;
+mod holding;
 mod judging;
 pub mod outcome;
+mod pinning;
 pub mod searching;
 mod shortening;
 

@@ -2,7 +2,7 @@
 ghost use Rattle.std.specs.Prelude.{◌≡◌, ◌≤◌, ◌<◌, ◌^◌, IfOk, length, map, take};
 ghost use Rattle.cocoon_syntax.specs.TreeOf.{design_of};
 ghost use Rattle.cocoon_types.specs.Design.{last_level};
-ghost use Rattle.bv_terms.specs.Arenas.{term_at};
+ghost use Rattle.bv_terms.specs.Arenas.{inputs_in, term_at};
 ghost use Rattle.cnf_core.specs.Satisfying.{makes_true};
 ghost use Rattle.cocoon_num.specs.BitsOf.{value_of};
 ghost use Rattle.candidates.specs.Assigned.{row_value};
@@ -17,6 +17,7 @@ use crate::guessing::guess;
 use crate::judging::{Judged, judge};
 use crate::outcome::{Outcome, Query, Witness};
 use bv_terms::{TermId, Terms};
+use candidates::environment;
 use cnf_core::{Cert, Instance};
 use cocoon_num::{Bits, List, NoMemory};
 use cocoon_resolve::Checked;
@@ -40,8 +41,8 @@ const SHORT_CONFLICTS: u64 = 1_000;
 enum Round {
     /// It ends the search.
     Ended(Outcome),
-    /// A candidate with these instances breaks this one.
-    Broken(Vec<Instance>, Instance),
+    /// A candidate with these instances breaks this one, and the inputs of the query had these values.
+    Broken(Vec<Instance>, Instance, List<Bits>),
 }
 
 /// The values that the assignment gives the inputs of the formula: the first ones of its query.
@@ -57,6 +58,19 @@ fn values(alloc: Global, satisfied: &Satisfied) -> Result<Vec<Bits>, NoMemory>
         values.push(satisfied.inputs.read(&satisfied.assignment, input))?;
     }
     Ok(values)
+}
+
+/// The values that the assignment gives all inputs of the query.
+fn all_values(alloc: Global, satisfied: &Satisfied) -> Result<List<Bits>, NoMemory>
+    requires { length satisfied.now.inputs ≡ inputs_in satisfied.now.own.terms }
+{
+    let env = environment(
+        alloc,
+        &satisfied.own.terms,
+        &satisfied.inputs,
+        &satisfied.assignment,
+    )?;
+    Ok(env.inputs)
 }
 
 /// What a candidate with these instances says that meets all assumptions.
@@ -114,7 +128,8 @@ fn satisfied_round(
         Met::Yes => Ok(Round::Ended(found(alloc, satisfied, defs, instances)?)),
         Met::Broken(number, values) => {
             let instance = broken(alloc, checked, number, values)?;
-            Ok(Round::Broken(instances, instance))
+            let values = all_values(alloc, &satisfied)?;
+            Ok(Round::Broken(instances, instance, values))
         }
         Met::SpentConflicts(number, vars, log) => {
             let query = Query::Assumption(number, defs, List::from(instances));
@@ -170,7 +185,7 @@ fn one_round(
 }
 
 /// What a round comes to that others may follow. From `SHORT_FROM` instances on an assignment is looked
-/// for with a shorter goal first.
+/// for with shorter goals first, and near these values, which the inputs had in the round before.
 fn next_round(
     alloc: Global,
     checked: &Checked,
@@ -179,6 +194,7 @@ fn next_round(
     formula: TermId,
     budget: &Budget,
     instances: Vec<Instance>,
+    values: &[Bits],
 ) -> Result<Round, NoMemory>
     requires level { level ≤ last_level (design_of checked.now) }
     requires there { formula < length terms.now }
@@ -194,7 +210,9 @@ fn next_round(
         return one_round(alloc, checked, terms, level, formula, budget, instances);
     }
     let conflicts = budget.conflicts.min(SHORT_CONFLICTS);
-    let found = guess(alloc, checked, terms, level, formula, &instances, conflicts)?;
+    let found = guess(
+        alloc, checked, terms, level, formula, &instances, values, conflicts,
+    )?;
     match found {
         Some(satisfied) => satisfied_round(
             alloc, checked, terms, level, formula, budget, satisfied, instances,
@@ -225,17 +243,22 @@ pub fn search(
 {
     broken_instances_keep_progress();
     let mut instances = Vec::new(alloc);
+    let mut values = List::from(Vec::new(alloc));
     for _ in 0..budget.rounds {
-        match next_round(alloc, checked, terms, level, formula, budget, instances)? {
+        let known = values.items();
+        match next_round(
+            alloc, checked, terms, level, formula, budget, instances, known,
+        )? {
             Round::Ended(outcome) => return Ok(outcome),
-            Round::Broken(mut so_far, instance) => {
+            Round::Broken(mut so_far, instance, found) => {
                 so_far.push(instance)?;
                 instances = so_far;
+                values = found;
             }
         }
     }
     match one_round(alloc, checked, terms, level, formula, budget, instances)? {
         Round::Ended(outcome) => Ok(outcome),
-        Round::Broken(instances, _) => Ok(Outcome::SpentRounds(List::from(instances))),
+        Round::Broken(instances, _, _) => Ok(Outcome::SpentRounds(List::from(instances))),
     }
 }

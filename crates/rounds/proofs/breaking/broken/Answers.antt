@@ -1,4 +1,4 @@
-use Rattle.std.proofs.Common.{◌≡◌, refl, sym, ap, subst, ◌∙◌}
+use Rattle.std.proofs.Common.{refl, sym, ap, subst, ◌∙◌}
 use Rattle.bv_terms.specs.TermTrees.{IsTerm}
 use Rattle.cnf_core.specs.declared.certificates.Instance.{Instance}
 use Rattle.cocoon_resolve.specs.Readers.{all_assumptions}

@@ -1,11 +1,10 @@
-use Rattle.std.proofs.Common.{◌≡◌, sym, subst, ◌∙◌}
+use Rattle.std.proofs.Common.{sym, subst}
 use Rattle.std.proofs.lemmas.Result.{IfOk-weaker}
 use Rattle.bv_terms.specs.Arenas.{term_at}
 use Rattle.cocoon_syntax.specs.TreeOf.{design_of}
 use Rattle.discharge.specs.Answering.{IsSpentOn}
 use Rattle.query_laws.specs.Certified.{AllFit, HasTooMany}
 use Rattle.rounds.specs.Steps.{Says}
-use Rattle.rounds.specs.declared.asking.Searched.TheVariants.{Refuted, Spent, Big}
 use Rattle.rounds.proofs.Rounds.{can_be_true, goal_asked, shows_never_true}
 use Rattle.rounds.proofs.searching.one_round.Goals as goal
 

@@ -1,4 +1,4 @@
-use Rattle.std.proofs.Common.{◌≡◌, length, refl, sym, subst}
+use Rattle.std.proofs.Common.{refl, subst}
 use Rattle.bv_terms.specs.Arenas.{term_at}
 use Rattle.cocoon_syntax.specs.TreeOf.{design_of}
 use Rattle.discharge.proofs.Telling.{among_all}
@@ -63,8 +63,8 @@ broken-requires-clause-fit c =
     }) c.in-Broken.number c.in-Broken.values
     (subst (AnswersTo d level tables c.args.budget.now.conflicts) c.in-Broken.is c.in_ok-defs.ensures.met)
 
-pub returns-in_ok-instance-in-Broken : goal.returns-in_ok-instance-in-Broken
-returns-in_ok-instance-in-Broken c =
+pub returns-in_ok-values-in-Broken : goal.returns-in_ok-values-in-Broken
+returns-in_ok-values-in-Broken c =
     let d = design_of c.args.checked.now in
     let rules = c.design-design.ensures.resolves.rules in
     let literals = c.code_literals_fit.ensures.designs c.args.checked.now in

@@ -7,8 +7,8 @@ with_part-requires-clause-part c = second-part c.loop.terms c.operands.ensures.a
 
 pub loop-preserved : goal.loop-preserved
 loop-preserved c = record {
-  kept = keeps-both c.args.terms.now c.loop.terms c.with_part.new.terms c.loop.invariant.kept c.in_ok-short-2.ensures.kept;
-  short = c.in_ok-short-2.ensures.made;
-  rest = part-kept c.loop.terms c.with_part.new.terms c.in_ok-short-2.ensures.kept c.in-Some.before
+  kept = keeps-both c.args.terms.now c.loop.terms c.with_part.new.terms c.loop.invariant.kept c.in_ok-short.ensures.kept;
+  short = c.in_ok-short.ensures.made;
+  rest = part-kept c.loop.terms c.with_part.new.terms c.in_ok-short.ensures.kept c.in-Some.before
       (first-part c.loop.terms c.operands.ensures.arena c.loop.rest c.in-Some.before c.in-Some.last c.loop.invariant.rest c.in-Some.ensures.node);
 }

@@ -1,5 +1,5 @@
 use Rattle.std.proofs.Common.{◌<◌, length}
-use Rattle.rounds.proofs.shortening.has_unequal.Given as goal
+use Rattle.rounds.proofs.goal_parts.has_unequal.Given as goal
 
 abbrev pub invariant-loop : goal.invariant-loop
 invariant-loop l = l.rest < length l.terms
