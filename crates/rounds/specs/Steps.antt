@@ -66,12 +66,15 @@ IsSearched own inputs vars (answer.Spent log) s = s ≡ Spent vars log
 
 -- ---- one candidate
 
--- the definitions are a candidate of what was asked, under which the formula is true, and this is said of the assumptions under
--- them
+-- the definitions are a candidate of what was asked, under which the formula is true
+pub record IsCandidate (d : Design) (m : Solved) (defs : Tables) : Type 0 where
+  pub fits : FitsDesign d defs
+  pub candidate : IsCandidateOf d m.own.terms m.own.applied m.inputs m.assignment defs
+  pub formula_ : MakesFormulaTrue d m.own.terms m.own.applied m.inputs m.assignment defs
+
+-- the definitions are a candidate, and this is said of the assumptions under them
 pub record IsJudged (d : Design) (level : ℕ) (m : Solved) (conflicts : ℕ) (j : Judged) : Type 0 where
-  pub fits : FitsDesign d j.defs
-  pub candidate : IsCandidateOf d m.own.terms m.own.applied m.inputs m.assignment j.defs
-  pub formula_ : MakesFormulaTrue d m.own.terms m.own.applied m.inputs m.assignment j.defs
+  pub of : IsCandidate d m j.defs
   pub met : AnswersTo d level j.defs conflicts j.met
 
 -- the instance is of this assumption at these values, and has a term

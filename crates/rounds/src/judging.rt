@@ -3,9 +3,10 @@ ghost use Rattle.std.specs.Prelude.{◌≡◌, ◌⊎◌, ◌≤◌, ◌<◌, �
 ghost use Rattle.cocoon_syntax.specs.TreeOf.{design_of};
 ghost use Rattle.cocoon_types.specs.Design.{last_level};
 ghost use Rattle.candidates.specs.Flat.{IsFlatGoal};
-ghost use Rattle.rounds.specs.Steps.{IsJudged};
+ghost use Rattle.rounds.specs.Steps.{IsCandidate, IsJudged};
 
 use crate::asking::Satisfied;
+use crate::breaking::breaks_too;
 use candidates::candidate;
 use cocoon_num::NoMemory;
 use cocoon_resolve::Checked;
@@ -21,6 +22,29 @@ pub(crate) struct Judged {
 }
 
 /// The candidate that an assignment gives with these defaults.
+fn candidate_with(
+    alloc: Global,
+    checked: &Checked,
+    satisfied: &Satisfied,
+    defaults: Defaults,
+) -> Result<Defs, NoMemory>
+    requires { IsFlatGoal (design_of checked.now) satisfied.now.own.terms
+        satisfied.now.own.applied satisfied.now.inputs }
+    ensures { IfOk result (IsCandidate (design_of checked.now) satisfied.now) }
+{
+    let defs = candidate(
+        alloc,
+        checked,
+        &satisfied.own.terms,
+        satisfied.own.applied.items(),
+        &satisfied.inputs,
+        &satisfied.assignment,
+        defaults,
+    )?;
+    Ok(defs)
+}
+
+/// What is said of the candidate with these defaults.
 fn judge_one(
     alloc: Global,
     checked: &Checked,
@@ -37,15 +61,7 @@ fn judge_one(
     ensures { IfOk result (IsJudged (design_of checked.now) level satisfied.now
         budget.now.conflicts) }
 {
-    let defs = candidate(
-        alloc,
-        checked,
-        &satisfied.own.terms,
-        satisfied.own.applied.items(),
-        &satisfied.inputs,
-        &satisfied.assignment,
-        defaults,
-    )?;
+    let defs = candidate_with(alloc, checked, satisfied, defaults)?;
     let met = meets_to(alloc, checked, &defs, level, budget)?;
     Ok(Judged { defs, met })
 }
@@ -81,6 +97,35 @@ fn better(first: Judged, second: Judged) -> Judged
     }
 }
 
+/// The better one of a candidate and the one with these defaults, which is not asked if it breaks what
+/// the other breaks.
+fn judge_next(
+    alloc: Global,
+    checked: &Checked,
+    level: u32,
+    satisfied: &Satisfied,
+    defaults: Defaults,
+    best: Judged,
+    budget: &Budget,
+) -> Result<Judged, NoMemory>
+    requires level { level ≤ last_level (design_of checked.now) }
+    requires flat { IsFlatGoal (design_of checked.now) satisfied.now.own.terms
+        satisfied.now.own.applied satisfied.now.inputs }
+    requires best { IsJudged (design_of checked.now) level satisfied.now
+        budget.now.conflicts best }
+    requires some { 1 ≤ budget.now.conflicts }
+    requires few { budget.now.conflicts < 2 ^ 31 }
+    ensures { IfOk result (IsJudged (design_of checked.now) level satisfied.now
+        budget.now.conflicts) }
+{
+    let defs = candidate_with(alloc, checked, satisfied, defaults)?;
+    if breaks_too(alloc, checked, level, &best.met, &defs)? {
+        return Ok(best);
+    }
+    let met = meets_to(alloc, checked, &defs, level, budget)?;
+    Ok(better(best, Judged { defs, met }))
+}
+
 /// Of the candidates that this round tries the first that meets all assumptions; else the first that
 /// breaks one; else the first.
 pub(crate) fn judge(
@@ -105,8 +150,7 @@ pub(crate) fn judge(
         if known_of(&best.met) == Known::Met {
             return Ok(best);
         }
-        let next = judge_one(alloc, checked, level, satisfied, tries[at], budget)?;
-        best = better(best, next);
+        best = judge_next(alloc, checked, level, satisfied, tries[at], best, budget)?;
     }
     Ok(best)
 }

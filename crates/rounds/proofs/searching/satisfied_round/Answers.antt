@@ -34,8 +34,8 @@ returns-in_ok-found-in-Yes c =
     let solved = c.requires.solved in
     let tables = c.in_ok-defs.field-0.defs in
     let judged = c.in_ok-defs.ensures in
-    found d c.args.level formula given c.args.budget.now.conflicts c.args.budget.now.rounds c.requires.within tables (judged.candidate c.args.level formula given solved.satisfied)
-    m solved (all-there d c.args.level formula given m solved c.count-count.ensures.arena) judged.formula_
+    found d c.args.level formula given c.args.budget.now.conflicts c.args.budget.now.rounds c.requires.within tables (judged.of.candidate c.args.level formula given solved.satisfied)
+    m solved (all-there d c.args.level formula given m solved c.count-count.ensures.arena) judged.of.formula_
     (subst (AnswersTo d c.args.level tables c.args.budget.now.conflicts) c.in-Yes.is judged.met)
     c.in_ok-found-in-Yes.field-0 c.in_ok-found-in-Yes.ensures
 
@@ -54,7 +54,7 @@ broken-requires-clause-fit c =
     let formula = term_at c.args.terms.now c.args.formula in
     let given = c.args.instances.items in
     let tables = c.in_ok-defs.field-0.defs in
-    let candidate = c.in_ok-defs.ensures.candidate level formula given c.requires.solved.satisfied in
+    let candidate = c.in_ok-defs.ensures.of.candidate level formula given c.requires.solved.satisfied in
     numbers_fit d level formula given c.args.budget.now.conflicts c.args.budget.now.rounds c.requires.within tables candidate
     (record {
       fits = c.broken_assumptions_are_false_instances.ensures.fits d rules literals level formula given tables candidate;
@@ -72,7 +72,7 @@ returns-in_ok-values-in-Broken c =
     let formula = term_at c.args.terms.now c.args.formula in
     let given = c.args.instances.items in
     let tables = c.in_ok-defs.field-0.defs in
-    let candidate = c.in_ok-defs.ensures.candidate level formula given c.requires.solved.satisfied in
+    let candidate = c.in_ok-defs.ensures.of.candidate level formula given c.requires.solved.satisfied in
     round d level formula given c.args.budget.now.conflicts c.args.budget.now.rounds c.requires.within tables candidate
     (record {
       fits = c.broken_assumptions_are_false_instances.ensures.fits d rules literals level formula given tables candidate;
@@ -88,7 +88,7 @@ returns-in-SpentConflicts c =
     let formula = term_at c.args.terms.now c.args.formula in
     let given = c.args.instances.items in
     let judged = c.in_ok-defs.ensures in
-    let candidate = judged.candidate c.args.level formula given c.requires.solved.satisfied in
+    let candidate = judged.of.candidate c.args.level formula given c.requires.solved.satisfied in
     spent d c.args.level formula given c.args.budget.now.conflicts c.args.budget.now.rounds c.requires.within c.in_ok-defs.field-0.defs candidate
     c.in-SpentConflicts.number c.in-SpentConflicts.vars c.in-SpentConflicts.log
     (subst (AnswersTo d c.args.level c.in_ok-defs.field-0.defs c.args.budget.now.conflicts) c.in-SpentConflicts.is judged.met) c.from.result c.from.ensures
@@ -99,7 +99,7 @@ returns-in-Big c =
     let formula = term_at c.args.terms.now c.args.formula in
     let given = c.args.instances.items in
     let judged = c.in_ok-defs.ensures in
-    let candidate = judged.candidate c.args.level formula given c.requires.solved.satisfied in
+    let candidate = judged.of.candidate c.args.level formula given c.requires.solved.satisfied in
     big d c.args.level formula given c.args.budget.now.conflicts c.args.budget.now.rounds c.requires.within c.in_ok-defs.field-0.defs candidate
     c.in-Big.number c.in-Big.count
     (subst (AnswersTo d c.args.level c.in_ok-defs.field-0.defs c.args.budget.now.conflicts) c.in-Big.is judged.met) c.from-in-Big.result c.from-in-Big.ensures
