@@ -122,8 +122,11 @@ fn judge_next(
     if breaks_too(alloc, checked, level, &best.met, &defs)? {
         return Ok(best);
     }
-    let met = meets_to(alloc, checked, &defs, level, budget)?;
-    Ok(better(best, Judged { defs, met }))
+    let next = Judged {
+        met: meets_to(alloc, checked, &defs, level, budget)?,
+        defs,
+    };
+    Ok(better(best, next))
 }
 
 /// Of the candidates that this round tries the first that meets all assumptions; else the first that
