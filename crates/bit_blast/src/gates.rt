@@ -6,20 +6,31 @@ ghost use Rattle.bit_blast.specs.Emitted.{IsGate, listed, numbers};
 
 use crate::bit::Bit;
 use crate::made::Gates;
-use cnf_core::{Clause, Cnf};
+use cnf_core::{Clause, Cnf, Lit, Literals};
 use cocoon_num::{List, NoMemory};
 use std::alloc::Global;
 
-fn clause(alloc: Global, bits: &[Bit]) -> Result<Clause, NoMemory>
-    ensures { IfOk result (λ clause. literals clause ≡ numbers bits.now) }
+/// The literals of so many bits as there are.
+fn all_lits(alloc: Global, bits: &[Bit]) -> Result<Vec<Lit>, NoMemory>
+    ensures { IfOk result (λ lits. map (λ l. l.number) lits.items ≡ numbers bits.now) }
 {
     let mut lits = Vec::with_capacity(alloc, bits.len())?;
     for bit in bits {
         lits.push(bit.lit())?;
     }
-    Ok(Clause {
-        lits: List::from(lits),
-    })
+    Ok(lits)
+}
+
+fn clause(alloc: Global, bits: &[Bit]) -> Result<Clause, NoMemory>
+    ensures { IfOk result (λ clause. literals clause ≡ numbers bits.now) }
+{
+    let lits = match bits {
+        [a] => Literals::one(a.lit()),
+        [a, b] => Literals::two(a.lit(), b.lit()),
+        [a, b, c] => Literals::three(a.lit(), b.lit(), c.lit()),
+        _ => Literals::from(all_lits(alloc, bits)?),
+    };
+    Ok(Clause { lits })
 }
 
 impl Gates {

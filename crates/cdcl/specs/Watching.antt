@@ -1,7 +1,7 @@
 -- Two watched literals in each clause. Cited by the clauses of `Watches` and of `Search`.
-use Rattle.std.specs.Prelude.{◌≡◌, ◌≢◌, ℕ, ◌+◌, ◌<◌, ◌≤◌, ◌⊎◌, ℤ, IsTrue, List, [], length, slice_get, slice_index, Option, Some, None, Vec}
+use Rattle.std.specs.Prelude.{◌≡◌, ◌≢◌, ℕ, ◌+◌, ◌<◌, ◌≤◌, ◌⊎◌, ℤ, IsTrue, List, [], length, slice_get, slice_index, Option, Some, None}
 use Rattle.std.specs.Option.{option_map_or}
-use Rattle.std.specs.declared.alloc.Global.{Global}
+use Rattle.smallvec.specs.SmallVec.{SmallVec}
 use Rattle.cnf_core.specs.Literals.{has_literal, index_of, opposite, variable}
 use Rattle.cnf_core.specs.Trails.{literal_at}
 use Rattle.cnf_core.specs.declared.lit.Lit.{Lit}
@@ -10,7 +10,7 @@ use Rattle.cdcl.specs.declared.watches.Watches.{Watches}
 
 -- the numbers in the list of a literal
 abbrev pub list_of : Watches → ℤ → List ℕ
-list_of w l = option_map_or (λ (v : Vec ℕ Global). v.items) (slice_get w.lists.items (index_of l)) []
+list_of w l = option_map_or (λ (v : SmallVec ℕ). v.items) (slice_get w.lists.items (index_of l)) []
 
 -- the two literals of a pair, in either order
 abbrev pub AreWatched : Pair → (a b : ℤ) → Type 0

@@ -14,8 +14,8 @@ ghost use Rattle.cdcl.specs.Resolving.{Analyzed, IsLevel, IsResolved, MarksClaus
 
 use crate::analysis::Analysis;
 use crate::{Order, Pair, Search};
-use cnf_core::{Clause, Cnf, Lit, Step};
-use cocoon_num::{List, NoMemory};
+use cnf_core::{Clause, Cnf, Lit, Literals, Step};
+use cocoon_num::NoMemory;
 use std::alloc::Global;
 
 /// Marks what a conflict follows from, until `keep` literals of the last level are left: one, the first unique
@@ -146,7 +146,7 @@ pub(crate) fn learned(
         add_opposite(search, analysis, place, &mut lits)?;
     }
     Ok(Clause {
-        lits: List::from(lits),
+        lits: Literals::from(lits),
     })
 }
 

@@ -185,6 +185,7 @@ impl Search {
         requires false_now { self.old.propagated < length (trues self.old.trail) }
         requires off { literal_at (trues self.old.trail) self.old.propagated ≡ opposite off.number }
         requires entry { IsEntry (list_of self.old.watches off.number) at number }
+        requires small { at < 2 ^ 63 }
         requires before { IsLookedAt (trues self.old.trail) self.old.watches off.number at }
         ensures sound { OnOk result (IsSound cnf.now self.new) }
         ensures ready { OnOk result (IsReady cnf.now self.new) }

@@ -3,13 +3,14 @@
 //! false, and going back to an earlier level changes no watch. A clause that has one literal to watch, as one of one
 //! literal, watches it twice, and it is true at level 0. Clauses with opposite literals need no case: if one of the two
 //! is false the other is true.
-ghost use Rattle.std.specs.Prelude.{◌≡◌, ◌≢◌, ◌+◌, ◌*◌, ◌<◌, ◌≤◌, ◌^◌, ◌++◌, ◌∷◌, [], ◌⊎◌, IfOk, OnOk, ℕ, ℤ, length, slice_get, slice_index, slice_set};
+ghost use Rattle.std.specs.Prelude.{◌≡◌, ◌≢◌, ◌+◌, ◌*◌, ◌<◌, ◌≤◌, ◌^◌, ◌++◌, ◌∷◌, [], ◌⊎◌, IfOk, IfSome, OnOk, ℕ, ℤ, length, slice_get, slice_index, slice_set};
 ghost use Rattle.cnf_core.specs.Literals.{index_of};
 ghost use Rattle.cdcl.specs.Watching.{IsTakenOut};
 ghost use Rattle.cdcl.specs.declared.watches.Pair.{Pair};
 
 use cnf_core::Lit;
 use cocoon_num::NoMemory;
+use smallvec::SmallVec;
 use std::alloc::Global;
 
 /// At most so many numbers move at once in a list.
@@ -24,13 +25,16 @@ pub struct Pair {
     pub resume: u32,
 }
 
+/// The numbers of the clauses that watch a literal. Most literals are watched by few.
+pub type Numbers = SmallVec<u32, 4>;
+
 /// What each clause watches, and where each literal is watched.
 #[derive(Drop)]
 pub struct Watches {
     /// By the number of a clause. Clauses are never reordered.
     pub pairs: Vec<Pair>,
     /// By the index of a literal the numbers of the clauses that watch it.
-    pub lists: Vec<Vec<u32>>,
+    pub lists: Vec<Numbers>,
 }
 
 impl Pair {
@@ -80,7 +84,7 @@ impl Watches {
     {
         let mut lists = Vec::new(alloc);
         for _ in 0..vars as usize * 2 + 2 {
-            lists.push(Vec::new(alloc))?;
+            lists.push(Numbers::new(alloc))?;
         }
         Ok(Watches {
             pairs: Vec::new(alloc),
@@ -115,9 +119,10 @@ impl Watches {
     /// The number at this place of the list of a literal.
     pub fn entry(&self, lit: Lit, at: usize) -> Option<u32>
         requires { index_of lit.number < length self.now.lists.items }
-        ensures { result ≡ slice_get (list_of self.now lit.number) at }
+        ensures number { result ≡ slice_get (list_of self.now lit.number) at }
+        ensures small { IfSome result (λ _. at < 2 ^ 63) }
     {
-        self.lists[lit.index()].get(at).copied()
+        self.lists[lit.index()].as_slice().get(at).copied()
     }
 
     /// Puts a number into the list of a literal.
@@ -195,7 +200,7 @@ impl Watches {
 
 /// Takes the number at this place out of a list. Those after it stay in their order, so that the clauses that were there
 /// first are visited first; where they are very many the last one takes its place, so that this takes constant time.
-fn take_number(list: &mut Vec<u32>, at: usize) -> u32
+fn take_number(list: &mut Numbers, at: usize) -> u32
     requires { at < length list.old.items }
     ensures number { slice_index list.old.items at ≡ result }
     ensures there { IsTakenOut list.old.items at list.new.items }

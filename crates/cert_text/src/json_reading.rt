@@ -11,7 +11,7 @@ ghost use Rattle.cert_text.specs.LogsForm.{instance_form, is_literal, literal_fo
 ghost use Rattle.cert_text.specs.CertsForm as spec;
 
 use crate::kind::CertJson;
-use cnf_core::{Cert, Certs, Clause, Instance, Lit, Log, Step};
+use cnf_core::{Cert, Certs, Clause, Instance, Lit, Literals, Log, Step};
 use cocoon_num::{List, Text};
 use json::Reader;
 use json_forms::FormFault;
@@ -59,7 +59,7 @@ fn step(pair: Option<(Option<Vec<Lit>>, Option<Vec<u32>>)>) -> Option<Step>
     match (lits, hints) {
         (Some(lits), Some(hints)) => Some(Step {
             clause: Clause {
-                lits: List::from(lits),
+                lits: Literals::from(lits),
             },
             hints: List::from(hints),
         }),

@@ -6,7 +6,7 @@ ghost use Rattle.cnf_core.specs.CertsOf.{instance_of, log_of, step_of};
 ghost use Rattle.cert_text.specs.LogsForm as spec;
 
 use crate::kind::LogJson;
-use cnf_core::{Clause, Instance, Lit, Log, Step};
+use cnf_core::{Clause, Instance, Lit, Literals, Log, Step};
 use cocoon_num::{List, NoMemory};
 use json_forms::{FromJson, has_items, item};
 use serde_json::Value;
@@ -58,7 +58,7 @@ impl FromJson<LogJson> for Step {
         match (lits, hints) {
             (Some(lits), Some(hints)) => Ok(Some(Step {
                 clause: Clause {
-                    lits: List::from(lits),
+                    lits: Literals::from(lits),
                 },
                 hints: List::from(hints),
             })),

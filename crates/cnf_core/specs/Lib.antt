@@ -2,6 +2,7 @@ pub mod Literals
 pub mod Clauses
 pub mod Satisfying
 pub mod Deriving
+pub mod Held
 pub mod Licensing
 pub mod Trails
 pub mod TrailViews

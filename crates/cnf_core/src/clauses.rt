@@ -4,12 +4,13 @@ ghost use Rattle.cnf_core.specs.Satisfying.{Satisfies};
 ghost use Rattle.cnf_core.specs.Satisfying as spec;
 
 use crate::lit::Lit;
+use crate::literals::Literals;
 use cocoon_num::List;
 
 /// It holds where one of its literals is true. The order of the literals and repeated ones make no difference to that.
 #[derive(Drop)]
 pub struct Clause {
-    pub lits: List<Lit>,
+    pub lits: Literals,
 }
 
 #[derive(Drop)]

@@ -8,6 +8,7 @@ pub mod clause_status;
 pub mod clauses;
 pub mod laws;
 pub mod lit;
+pub mod literals;
 pub mod log;
 pub mod trail;
 
@@ -15,5 +16,6 @@ pub use certificates::{Cert, Certs, Instance};
 pub use clause_status::ClauseStatus;
 pub use clauses::{Assignment, Clause, Cnf, satisfies};
 pub use lit::Lit;
+pub use literals::Literals;
 pub use log::{Log, Step, known_clause};
 pub use trail::Trail;

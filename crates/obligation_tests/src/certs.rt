@@ -1,6 +1,6 @@
 //! Instances and logs, as cases write them.
 use case_files::{number, numbers};
-use cnf_core::{Cert, Clause, Instance, Lit, Log, Step};
+use cnf_core::{Cert, Clause, Instance, Lit, Literals, Log, Step};
 use cocoon_num::List;
 use std::alloc::Global;
 
@@ -42,7 +42,7 @@ fn clause(alloc: Global, words: &str) -> Option<Clause> {
         lits.push(literal(word)?).ok()?;
     }
     Some(Clause {
-        lits: List::from(lits),
+        lits: Literals::from(lits),
     })
 }
 

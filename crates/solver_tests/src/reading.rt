@@ -6,7 +6,7 @@ ghost use Rattle.cnf_core.specs.Literals.{Names};
 ghost use Rattle.cnf_core.specs.Satisfying.{WellNamed};
 
 use case_files::{first_word, number};
-use cnf_core::{Clause, Cnf, Lit, Log, Step};
+use cnf_core::{Clause, Cnf, Lit, Literals, Log, Step};
 use cocoon_num::List;
 use std::alloc::Global;
 
@@ -35,7 +35,7 @@ fn clause(alloc: Global, words: &str) -> Option<Clause> {
         lits.push(literal(word)?).ok()?;
     }
     Some(Clause {
-        lits: List::from(lits),
+        lits: Literals::from(lits),
     })
 }
 

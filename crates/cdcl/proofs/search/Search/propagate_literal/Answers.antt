@@ -35,7 +35,7 @@ entry-requires c =
 pub propagate_clause-requires-clause-entry : goal.propagate_clause-requires-clause-entry
 propagate_clause-requires-clause-entry c =
     let list = list_of c.loop-number.self.watches c.args.off.number in
-    let e = sym c.entry.ensures ∙ c.in-Some.is in
+    let e = sym c.entry.ensures.number ∙ c.in-Some.is in
     record {
       within = slice_get_within list c.loop-number.at c.in-Some.number e;
       there = get_or_from_slice_get list c.loop-number.at c.in-Some.number 0 e;
@@ -65,5 +65,5 @@ loop-number-smaller c =
     let new = c.propagate_clause.new.self in
     let e = c.in_ok-next.ensures in
     let next = subst (PropagatesClause c.args.cnf.now s new c.args.off.number c.loop-number.at c.in-Some.number) c.in-Some-2.is e.next in
-    let there = slice_get_within (list_of s.watches c.args.off.number) c.loop-number.at c.in-Some.number (sym c.entry.ensures ∙ c.in-Some.is) in
+    let there = slice_get_within (list_of s.watches c.args.off.number) c.loop-number.at c.in-Some.number (sym c.entry.ensures.number ∙ c.in-Some.is) in
     omega (arith, next.1, there)
