@@ -34,6 +34,11 @@ pub record IsReady (cnf : Cnf) (s : Search) : Type 0 where
   pub count : length s.watches.pairs.items ≡ length (clauses_of cnf s)
   pub watched : HasWatches cnf s
 
+-- nothing was decided or learned
+pub record IsUndecided (s : Search) : Type 0 where
+  pub steps : s.steps.items ≡ []
+  pub starts : s.starts.items ≡ []
+
 -- before any decision, and before anything was propagated, this many clauses have watched literals
 pub record IsBegun (cnf : Cnf) (s : Search) (number : ℕ) : Type 0 where
   pub count : length s.watches.pairs.items ≡ number

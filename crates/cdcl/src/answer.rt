@@ -28,10 +28,24 @@ pub fn solve(alloc: Global, cnf: &Cnf, conflicts: u64) -> Result<Answer, NoMemor
     requires numbered { length cnf.now.clauses + conflicts < 2 ^ 32 }
     ensures { IfOk result (λ answer. Answers cnf.now conflicts answer) }
 {
-    let (search, conflict) = Search::new(alloc, cnf)?;
+    let (swept, conflict) = Search::swept(alloc, cnf)?;
     if conflicts == 0 {
-        return Ok(Answer::Spent(search.into_log()));
+        return Ok(Answer::Spent(swept.into_log()));
     }
+    match conflict {
+        Some(number) => unsat(alloc, cnf, swept, Order::idle(alloc), number),
+        None => search_on(alloc, cnf, conflicts),
+    }
+}
+
+/// Searches with watched literals. The search begins anew, so that what it finds does not depend on what was swept.
+fn search_on(alloc: Global, cnf: &Cnf, conflicts: u64) -> Result<Answer, NoMemory>
+    requires named { WellNamed cnf.now }
+    requires numbered { length cnf.now.clauses + conflicts < 2 ^ 32 }
+    requires some { 1 ≤ conflicts }
+    ensures { IfOk result (λ answer. Answers cnf.now conflicts answer) }
+{
+    let (search, conflict) = Search::new(alloc, cnf)?;
     let order = Order::new(alloc, cnf)?;
     match conflict {
         Some(number) => unsat(alloc, cnf, search, order, number),

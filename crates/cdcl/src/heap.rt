@@ -33,6 +33,15 @@ impl Heap {
         Ok(heap)
     }
 
+    /// None, and no room for any.
+    pub(crate) fn none(alloc: Global) -> Heap {
+        Heap {
+            variables: Vec::new(alloc),
+            count: 0,
+            places: Vec::new(alloc),
+        }
+    }
+
     /// Makes a heap of variables that stand in any order: each moves down, those at the greatest places first.
     fn arrange(&mut self, scores: &Scores) {
         for place in (0..self.count / 2).rev() {

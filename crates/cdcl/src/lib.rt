@@ -27,6 +27,7 @@
 //! | its `out_btlevel` | `Search::backtrack_level` |
 //! | `cancelUntil` | `Search::backtrack` |
 //! | `search`: what it does of a conflict | `learn` |
+//! | `simplify` before the first decision: its propagation | `Search::swept`, over all clauses in turn |
 //! | `search`: its loop | `decide_and_learn` of `answer`, with `Search::next_conflict` for what is between two conflicts |
 //! | `ok` that becomes false | a conflict before any decision, of which `refute` makes the empty clause |
 //! | `activity`, `var_inc` | `Scores`, in whole numbers |
@@ -48,6 +49,7 @@ pub mod order;
 mod propagation;
 mod scores;
 pub mod search;
+mod sweeping;
 pub mod watches;
 
 pub use answer::{Answer, solve};

@@ -30,6 +30,15 @@ impl Order {
         })
     }
 
+    /// No variable waits, and none will: for what decides nothing.
+    pub(crate) fn idle(alloc: Global) -> Order {
+        Order {
+            scores: Scores::none(alloc),
+            heap: Heap::none(alloc),
+            phases: Vec::new(alloc),
+        }
+    }
+
     /// Takes out the first variable.
     pub(crate) fn next(&mut self) -> Option<u32>
         ensures { IfSome result (λ variable. waiting self.new < waiting self.old) }

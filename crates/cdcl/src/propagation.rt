@@ -47,6 +47,27 @@ impl Search {
     }
 
     /// Puts the literal on the trail that the clause of this number forces, which is its reason.
+    pub(crate) fn force(&mut self, cnf: &Cnf, lit: Lit, number: u32) -> Result<(), NoMemory>
+        requires sound { IsSound cnf.now self.old }
+        requires named { Names (room self.old.trail) lit.number }
+        requires no_value { IsTrue (has_no_value (trues self.old.trail) lit.number) }
+        requires forced { IsForcedBy (clauses_of cnf.now self.old)
+            (trues self.old.trail ++ lit.number ∷ []) (length (trues self.old.trail)) number }
+        ensures sound { OnOk result (IsSound cnf.now self.new) }
+        ensures steps { SameSteps self.old self.new }
+        ensures starts { self.new.starts.items ≡ self.old.starts.items }
+        ensures watches { self.new.watches ≡ self.old.watches }
+        ensures propagated { self.new.propagated ≡ self.old.propagated }
+        ensures trues { OnOk result
+            (trues self.new.trail ≡ trues self.old.trail ++ lit.number ∷ []) }
+        ensures fewer { OnOk result (not_true self.new.trail < not_true self.old.trail) }
+    {
+        self.trail.push(lit)?;
+        self.reasons.push(Some(number))?;
+        Ok(())
+    }
+
+    /// The same where clauses are watched.
     pub(crate) fn enqueue(&mut self, cnf: &Cnf, lit: Lit, number: u32) -> Result<(), NoMemory>
         requires sound { IsSound cnf.now self.old }
         requires named { Names (room self.old.trail) lit.number }
@@ -64,8 +85,7 @@ impl Search {
             (trues self.new.trail ≡ trues self.old.trail ++ lit.number ∷ []) }
         ensures fewer { OnOk result (not_true self.new.trail < not_true self.old.trail) }
     {
-        self.trail.push(lit)?;
-        self.reasons.push(Some(number))?;
+        self.force(cnf, lit, number)?;
         Ok(())
     }
 

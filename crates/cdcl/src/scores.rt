@@ -35,6 +35,14 @@ impl Scores {
         Ok(scores)
     }
 
+    /// Those of no variable.
+    pub(crate) fn none(alloc: Global) -> Scores {
+        Scores {
+            scores: Vec::new(alloc),
+            increment: FIRST,
+        }
+    }
+
     /// Adds what a given clause adds to each of its variables.
     fn count(&mut self, clause: &Clause) {
         let lits = clause.lits.items();

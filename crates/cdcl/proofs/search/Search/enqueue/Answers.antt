@@ -1,23 +1,20 @@
-use Rattle.std.proofs.Common.{◌∙◌}
+use Rattle.std.proofs.Common.{subst, sym}
+use Rattle.cnf_core.specs.Deriving.{known}
 use Rattle.cnf_core.specs.TrailViews.{trues}
 use Rattle.cdcl.specs.States.{clauses_of}
+use Rattle.cdcl.specs.Watching.{IsWatched}
 use Rattle.cdcl.proofs.Looking.{watched-push}
-use Rattle.cdcl.proofs.Trailing.{reasoned-forced}
 use Rattle.cdcl.proofs.search.Search.enqueue.Goals as goal
-
-pub returns-clause-sound : goal.returns-clause-sound
-returns-clause-sound c =
-    let s = c.args.self.now in
-    record {
-      same_room = c.push.ensures.room ∙ c.requires.sound.same_room;
-      derived = c.requires.sound.derived;
-      new = c.requires.sound.new;
-      reasoned = reasoned-forced (clauses_of c.args.cnf.now s) (trues s.trail) (trues c.push.new.self) c.args.lit.number s.reasons.items c.push-2.new.self.items s.starts.items c.args.number
-          c.requires.sound.reasoned c.requires.forced c.in_ok-push.ensures.trues c.in_ok-push-2.ensures.items;
-    }
 
 pub returns-clause-watched : goal.returns-clause-watched
 returns-clause-watched c =
     let s = c.args.self.now in
-    watched-push c.args.cnf.now.vars (clauses_of c.args.cnf.now s) (trues s.trail) (trues c.push.new.self) s.propagated s.starts.items s.watches c.args.lit.number
-    c.in_ok-push.ensures.trues c.requires.watched
+    let new = c.force.new.self in
+    let cnf = c.args.cnf.now in
+    let us = trues new.trail in
+    let same = c.force.ensures in
+    let watched = watched-push cnf.vars (clauses_of cnf s) (trues s.trail) us s.propagated s.starts.items s.watches c.args.lit.number c.in_ok-force.ensures.trues c.requires.watched in
+    subst (λ w. IsWatched cnf.vars (clauses_of cnf new) us new.propagated new.starts.items w) (sym same.watches)
+    (subst (λ bs. IsWatched cnf.vars (clauses_of cnf new) us new.propagated bs s.watches) (sym same.starts)
+    (subst (λ p. IsWatched cnf.vars (clauses_of cnf new) us p s.starts.items s.watches) (sym same.propagated)
+    (subst (λ ss. IsWatched cnf.vars (known cnf ss) us s.propagated s.starts.items s.watches) (sym same.steps) watched)))
