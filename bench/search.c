@@ -13,7 +13,7 @@ typedef struct { int *items; size_t count, room; } ints;
 /* The watched literals of a clause, and where in it the next look for one begins. */
 typedef struct { int first, second; size_t resume; } pair;
 
-enum { MOST_MOVED = 1 << 12, SHORT = 8, NOWHERE = -1, NO_REASON = -1 };
+enum { MOST_SWEEPS = 4, MOST_MOVED = 1 << 12, SHORT = 8, NOWHERE = -1, TAKEN_OUT = -2, NO_REASON = -1 };
 static const u64 FIRST = 1 << 26, GREATEST = 1ULL << 50;
 static const int LOST = 40;
 
@@ -29,6 +29,8 @@ static char *marks;
 
 static u64 *scores, increment;
 static int *heap, *heap_places, heap_count;
+/* Variables that the heap gave and that had nothing to do with a conflict since, in that order; those before `drawn_next` were taken again. */
+static int *drawn, *drawn_places, drawn_count, drawn_next;
 static char *phases;
 
 static void *allocated(size_t size) {
@@ -87,6 +89,9 @@ static void begin_order(void) {
   scores = allocated(((size_t)vars + 1) * sizeof(u64));
   heap = allocated((size_t)vars * sizeof(int));
   heap_places = allocated(((size_t)vars + 1) * sizeof(int));
+  drawn = allocated((size_t)vars * sizeof(int));
+  drawn_places = allocated(((size_t)vars + 1) * sizeof(int));
+  for (int variable = 0; variable <= vars; variable++) drawn_places[variable] = NOWHERE;
   phases = allocated((size_t)vars + 1);
   increment = FIRST;
   for (size_t clause = 0; clause < given; clause++)
@@ -96,22 +101,34 @@ static void begin_order(void) {
   for (int place = heap_count / 2; place-- > 0;) move_down(place, heap[place]);
 }
 
+/* The variable that comes first of those that wait; 0 if none does. */
 static int next_variable(void) {
+  if (drawn_next < drawn_count && !(heap_count > 0 && is_before(heap[0], drawn[drawn_next]))) return drawn[drawn_next++];
+  if (!heap_count) return 0;
   int first = heap[0];
   move_down(0, heap[--heap_count]);
   heap_places[first] = NOWHERE;
+  if (drawn_places[first] == NOWHERE && drawn_next == drawn_count) {
+    drawn_places[first] = drawn_count;
+    drawn[drawn_count++] = first;
+    drawn_next = drawn_count;
+  }
   return first;
 }
 
 static void release(int literal) {
   int variable = abs(literal);
   phases[variable] = literal > 0;
-  if (heap_places[variable] == NOWHERE) move_up(heap_count++, variable);
+  if (drawn_places[variable] >= 0) {
+    if (drawn_places[variable] < drawn_next) drawn_next = drawn_places[variable];
+  } else if (heap_places[variable] == NOWHERE) move_up(heap_count++, variable);
 }
 
 static void bump(int literal) {
+  if (!scores) return; /* nothing was decided, and nothing will be */
   int variable = abs(literal);
   scores[variable] += increment;
+  drawn_places[variable] = TAKEN_OUT;
   if (heap_places[variable] != NOWHERE) move_up(heap_places[variable], variable);
 }
 
@@ -209,8 +226,7 @@ static int propagate(void) {
 
 /* The literal that is decided next; 0 if each variable has a value. */
 static int decision(void) {
-  while (heap_count > 0) {
-    int variable = next_variable();
+  for (int variable; (variable = next_variable());) {
     if (!is_true(variable) && !is_false(variable)) return phases[variable] ? variable : -variable;
   }
   return 0;
@@ -307,12 +323,41 @@ static void read_clauses(char *text) {
 
 /* Attaches all clauses. The number of one that is a conflict already, or -1. */
 static int begin(void) {
-  places = allocated((2 * (size_t)vars + 2) * sizeof(int));
   lists = allocated((2 * (size_t)vars + 2) * sizeof(ints));
   for (count = 0; count < given;) {
     count++;
     if (!watch_given()) { int conflict = (int)count - 1; count = given; return conflict; }
   }
+  return -1;
+}
+
+/* What a clause forces becomes true. False if it is a conflict. */
+static int sweep_clause(int number) {
+  const ints *clause = &clauses[number];
+  int forced = 0;
+  for (size_t at = 0; at < clause->count; at++) {
+    int literal = clause->items[at];
+    if (is_false(literal) || literal == forced) continue;
+    if (forced || is_true(literal)) return 1;
+    forced = literal;
+  }
+  if (forced) enqueue(forced, number);
+  return forced != 0;
+}
+
+/* Goes over all clauses a few times, before any is watched. The number of a conflict, or -1, and then nothing is true. */
+static int sweep(void) {
+  places = allocated((2 * (size_t)vars + 2) * sizeof(int));
+  for (int sweep = 0; sweep < MOST_SWEEPS; sweep++) {
+    size_t before = trail.count;
+    for (size_t place = 0; place < given; place++) {
+      int number = (int)(sweep % 2 ? given - 1 - place : place);
+      if (!sweep_clause(number)) return number;
+    }
+    if (trail.count == before) break;
+  }
+  for (size_t place = 0; place < trail.count; place++) places[number_of(trail.items[place])] = 0;
+  trail.count = reasons.count = 0;
   return -1;
 }
 
@@ -330,8 +375,11 @@ int main(int words, char **word) {
   struct timespec before, after;
   read_clauses(read_all(stdin));
   clock_gettime(CLOCK_PROCESS_CPUTIME_ID, &before);
-  int conflict = begin();
-  begin_order();
+  int conflict = sweep();
+  if (conflict < 0) {
+    conflict = begin();
+    begin_order();
+  }
   const char *answer = solve(words > 1 ? strtoul(word[1], NULL, 10) : 1000000, conflict);
   clock_gettime(CLOCK_PROCESS_CPUTIME_ID, &after);
   size_t steps = *answer == 's' && answer[1] == 'a' ? 0 : count - given;

@@ -130,6 +130,11 @@ impl Heap {
         self.put(place, variable);
     }
 
+    /// Whether the first variable comes before this one.
+    pub(crate) fn comes_before(&self, scores: &Scores, variable: u32) -> bool {
+        self.count > 0 && scores.is_before(self.variable(0), variable)
+    }
+
     /// Takes out the first variable.
     pub(crate) fn pop(&mut self, scores: &Scores) -> Option<u32>
         ensures { IfSome result (λ variable. self.new.count < self.old.count) }

@@ -32,7 +32,7 @@
 //! | `ok` that becomes false | a conflict before any decision, of which `refute` makes the empty clause |
 //! | `activity`, `var_inc` | `Scores`, in whole numbers |
 //! | `varBumpActivity`, `varDecayActivity` | `Order::bump`, `Order::decay` |
-//! | `order_heap`, `polarity`; `insertVarOrder` | `Heap`, `Order::was_true`; `Order::release` |
+//! | `order_heap`, `polarity`; `insertVarOrder` | `Heap` and `Drawn`, `Order::was_true`; `Order::release` |
 //!
 //! There are no restarts; no clause is deleted, simplified or minimised, so literals of level 0 stay in learned clauses.
 #![tactic(auto)]
@@ -42,6 +42,7 @@ mod answer;
 mod backtracking;
 mod beginning;
 mod deciding;
+mod drawn;
 mod heap;
 pub mod laws;
 mod learning;

@@ -2,6 +2,7 @@
 ghost use Rattle.std.specs.Prelude.{◌<◌, ℕ, IfSome};
 ghost use Rattle.cdcl.specs.Waiting.{waiting};
 
+use crate::drawn::Drawn;
 use crate::heap::Heap;
 use crate::scores::Scores;
 use cnf_core::{Cnf, Lit};
@@ -12,7 +13,9 @@ use std::alloc::Global;
 #[derive(Drop)]
 pub struct Order {
     scores: Scores,
+    /// Those that were not drawn yet, and those that had to do with a conflict.
     heap: Heap,
+    drawn: Drawn,
     /// At the number of each variable whether it was true when it had a value last; false before that.
     phases: Vec<bool>,
 }
@@ -22,10 +25,12 @@ impl Order {
     pub fn new(alloc: Global, cnf: &Cnf) -> Result<Order, NoMemory> {
         let scores = Scores::new(alloc, cnf)?;
         let heap = Heap::new(alloc, &scores, cnf.vars)?;
+        let drawn = Drawn::new(alloc, cnf.vars)?;
         let phases = vec![in alloc; false; cnf.vars as usize + 1]?;
         Ok(Order {
             scores,
             heap,
+            drawn,
             phases,
         })
     }
@@ -35,6 +40,7 @@ impl Order {
         Order {
             scores: Scores::none(alloc),
             heap: Heap::none(alloc),
+            drawn: Drawn::none(alloc),
             phases: Vec::new(alloc),
         }
     }
@@ -43,7 +49,15 @@ impl Order {
     pub(crate) fn next(&mut self) -> Option<u32>
         ensures { IfSome result (λ variable. waiting self.new < waiting self.old) }
     {
-        self.heap.pop(&self.scores)
+        if let Some(variable) = self.drawn.first() {
+            if !self.heap.comes_before(&self.scores, variable) {
+                self.drawn.advance();
+                return Some(variable);
+            }
+        }
+        let variable = self.heap.pop(&self.scores)?;
+        self.drawn.draw(variable);
+        Some(variable)
     }
 
     /// Whether the variable was true when it had a value last.
@@ -60,13 +74,16 @@ impl Order {
         if let Some(phase) = self.phases.get_mut(variable as usize) {
             *phase = lit.number > 0;
         }
-        self.heap.insert(&self.scores, variable);
+        if !self.drawn.put_back(variable) {
+            self.heap.insert(&self.scores, variable);
+        }
     }
 
     /// The variable of this literal had to do with the conflict.
     pub fn bump(&mut self, lit: Lit) {
         let variable = lit.variable();
         self.scores.raise(variable);
+        self.drawn.take_out(variable);
         self.heap.raise(&self.scores, variable);
     }
 
