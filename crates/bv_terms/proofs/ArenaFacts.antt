@@ -1,5 +1,6 @@
 -- Arenas with one more node.
-use Rattle.std.proofs.Common.{◌≡◌, ℕ, ◌<◌, ◌≤◌, ◌+◌, ◌^◌, inl, inr, List, [], ◌∷◌, ◌++◌, length, take, refl, ap, sym, ◌∙◌, subst, arith, suc, zero, length-append, add-zero, Option, Some, None, slice_get, Vec, Global}
+use Rattle.std.proofs.Common.{◌≡◌, ℕ, ◌<◌, ◌≤◌, ◌+◌, ◌^◌, inl, inr, List, [], ◌∷◌, ◌++◌, length, take, refl, ap, sym, ◌∙◌, subst, arith, suc, zero, length-append, add-zero, Option, Some, None, slice_get}
+use Rattle.smallvec.specs.SmallVec.{SmallVec}
 use Rattle.std.specs.BTreeMap.{UpdatesBy}
 use Rattle.std.specs.List.{All, fold}
 use Rattle.std.specs.Result.{IfOk, OnOk, OnErr}
@@ -270,7 +271,7 @@ pub stays-kept : (ns ns' : List Node) (ws ws' is : List ℕ) (numbers numbers' :
 stays-kept ns ns' ws ws' is numbers numbers' h k =
     subst (λ ms. IsKept ms ws' is numbers') (sym h.0) (subst (λ vs. IsKept ns vs is numbers') (sym h.1) (kept-same ns ws is numbers numbers' h.2 k))
 
-pub pushed-whole : {E : Type 0} (r : Result ℕ E) (old ns ns' : List Node) (n : Node) (ws ws' is : List ℕ) (w : ℕ) (numbers numbers' : Numbers) (key : Vec ℕ Global)
+pub pushed-whole : {E : Type 0} (r : Result ℕ E) (old ns ns' : List Node) (n : Node) (ws ws' is : List ℕ) (w : ℕ) (numbers numbers' : Numbers) (key : SmallVec ℕ)
     → ns ≡ old → IsKept ns ws is numbers → CanFollow old n → w ≡ node_width (width_at old) n → count_input 0 n ≡ 0
     → number_of numbers (node_key n) ≡ None → key.items ≡ node_key n → IfOk r (λ id. id ≡ length ns)
     → OnOk r (ns' ≡ ns ++ n ∷ []) → OnOk r (ws' ≡ ws ++ w ∷ []) → IfOk r (λ id. UpdatesBy key_cmp (key_cmp key) numbers numbers' (Some id)) → OnOk r (length ns' ≤ 2 ^ 25)
@@ -287,7 +288,7 @@ pushed-whole (Ok id) old ns ns' n ws ws' is w numbers numbers' key v k f we z no
 
 -- ---- a new input
 
-pub input-whole : (ns ns' : List Node) (ws ws' is is' : List ℕ) (w i k : ℕ) (numbers numbers' : Numbers) (key : Vec ℕ Global) → IsKept ns ws is numbers → IsWidth w → i ≡ length is → k ≡ length ns
+pub input-whole : (ns ns' : List Node) (ws ws' is is' : List ℕ) (w i k : ℕ) (numbers numbers' : Numbers) (key : SmallVec ℕ) → IsKept ns ws is numbers → IsWidth w → i ≡ length is → k ≡ length ns
     → key.items ≡ node_key (Input i w) → UpdatesBy key_cmp (key_cmp key) numbers numbers' (Some k)
     → ns' ≡ ns ++ Input i w ∷ [] → ws' ≡ ws ++ w ∷ [] → is' ≡ is ++ k ∷ [] → length ns' ≤ 2 ^ 25 → IsKept ns' ws' is' numbers'
 input-whole ns ns' ws ws' is is' w i k numbers numbers' key kept wide ie ke same up nis wis iis small =

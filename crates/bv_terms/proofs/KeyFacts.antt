@@ -1,17 +1,21 @@
 -- Nodes are told apart by their keys, and a table of nodes with one node more.
-use Rattle.std.proofs.Common.{◌≡◌, ℕ, ◌+◌, ◌*◌, ◌/◌, ◌%◌, ◌<◌, ◌≤◌, ◌^◌, inl, inr, cond, List, [], ◌∷◌, ◌++◌, length, Some, None, slice_get, refl, sym, ap, ◌∙◌, arith, Vec, Global}
+use Rattle.std.proofs.Common.{◌≡◌, ℕ, ◌+◌, ◌*◌, ◌/◌, ◌%◌, ◌<◌, ◌≤◌, ◌^◌, inl, inr, cond, List, [], ◌∷◌, ◌++◌, length, Some, None, slice_get, refl, sym, ap, ◌∙◌, arith}
+use Rattle.smallvec.specs.SmallVec.{SmallVec}
 use Rattle.std.proofs.Math.Bridge.{le_prop}
 use mathlib.Core.HLevel.{is_prop→PathP}
 use Rattle.std.specs.BTreeMap.{UpdatesBy, is_at}
-use Rattle.std.specs.Map.{lookup}
-use Rattle.std.specs.Ordering.{nat_cmp}
+use Rattle.std.specs.Cmp.{eq_by_cmp_equiv}
+use Rattle.std.specs.Cmp.Lexicographic.{nat_list_cmp_total}
+use Rattle.std.proofs.Common.{Bool, Option, false, subst, true}
+use Rattle.std.specs.Map.{lookup, AreApart, IsKeyTest, KeepsOthers}
+use Rattle.std.specs.Ordering.{eq_by_cmp, is_eq, nat_cmp}
 use Rattle.std.specs.Cmp.Lexicographic.{slice_cmp}
 use Rattle.std.proofs.lemmas.Bool.{cases_Bool}
 use Rattle.std.proofs.lemmas.Option.{slice_get_within}
 use Rattle.std.proofs.lemmas.Nat.{div-add-mod'}
 use Rattle.cocoon_num.specs.Names.{same_name}
 use Rattle.cocoon_num.specs.declared.bits.Bits.{Bits}
-use Rattle.numbering.proofs.NameFacts.{same-refl, same-true, value-updated}
+use Rattle.numbering.proofs.NameFacts.{same-compare, same-refl, same-true}
 use Rattle.bv_terms.specs.declared.node.Node.{Node}
 use Rattle.bv_terms.specs.declared.node.Node.TheVariants.{Constant, Input, Apply, Not, Binary, Slice, Pick}
 use Rattle.bv_terms.specs.declared.node.TermOp.{TermOp}
@@ -86,9 +90,28 @@ numbers-same ns old new e h = record {
 }
   where
     same : (x : List ℕ) → number_of new x ≡ number_of old x
-    same x = ap (λ es. lookup (is_at (λ (k : Vec ℕ Global). slice_cmp nat_cmp x k.items)) es) e
+    same x = ap (λ es. lookup (is_at (λ (k : SmallVec ℕ). slice_cmp nat_cmp x k.items)) es) e
 
-pub numbers-more : (ns : List Node) (n : Node) (old new : Numbers) (key : Vec ℕ Global) (id : ℕ) → HasNumbers ns old → number_of old (node_key n) ≡ None
+-- ---- a table after an insertion
+
+other_numbers : (test : SmallVec ℕ → Bool) (old new : List (SmallVec ℕ × ℕ)) → KeepsOthers (eq_by_cmp key_cmp) test old new
+    → (other : SmallVec ℕ → Bool) → IsKeyTest (eq_by_cmp key_cmp) other → AreApart test other → lookup other new ≡ lookup other old
+unfolding KeepsOthers
+other_numbers test old new h = h
+
+apart : (x y k : List ℕ) → same_name x y ≡ false → is_eq (slice_cmp nat_cmp y k) ≡ true → is_eq (slice_cmp nat_cmp x k) ≡ false
+apart x y k n h = same-compare x k ∙ subst (λ l. same_name x l ≡ false) (same-true y k (sym (same-compare y k) ∙ h)) n
+
+value-updated : (m n : Numbers) (k : SmallVec ℕ) (w : Option ℕ) → UpdatesBy key_cmp (key_cmp k) m n w
+    → (x : List ℕ) → number_of n x ≡ cond (same_name x k.items) w (number_of m x)
+value-updated m n k w h x = by (same_name x k.items) refl
+  where
+    by : (b : Bool) → same_name x k.items ≡ b → number_of n x ≡ cond (same_name x k.items) w (number_of m x)
+    by true e = ap (number_of n) (same-true x k.items e) ∙ h.1 ∙ sym (ap (λ c. cond c w (number_of m x)) e)
+    by false e = other_numbers (is_at (key_cmp k)) m.entries n.entries h.3 (is_at (λ q. slice_cmp nat_cmp x q.items)) (λ p q. (eq_by_cmp_equiv nat_list_cmp_total).congr x p.items q.items) (λ q. apart x k.items q.items e)
+        ∙ sym (ap (λ c. cond c w (number_of m x)) e)
+
+pub numbers-more : (ns : List Node) (n : Node) (old new : Numbers) (key : SmallVec ℕ) (id : ℕ) → HasNumbers ns old → number_of old (node_key n) ≡ None
     → key.items ≡ node_key n → id ≡ length ns → UpdatesBy key_cmp (key_cmp key) old new (Some id) → HasNumbers (ns ++ n ∷ []) new
 numbers-more ns n old new key id h none same at up = record {
   each_ = λ k m e. elim (snoc-cases ns n k m e) [
@@ -119,7 +142,7 @@ numbers-more ns n old new key id h none same at up = record {
 pub numbers-none : (numbers : Numbers) → numbers.entries ≡ [] → HasNumbers [] numbers
 numbers-none numbers e = record {
   each_ = λ k n g. absurd cc;
-  only = λ x k g. absurd (let q : None ≡ Some k = sym (ap (λ es. lookup (is_at (λ (k : Vec ℕ Global). slice_cmp nat_cmp x k.items)) es) e) ∙ g in cc);
+  only = λ x k g. absurd (let q : None ≡ Some k = sym (ap (λ es. lookup (is_at (λ (k : SmallVec ℕ). slice_cmp nat_cmp x k.items)) es) e) ∙ g in cc);
 }
 
 -- an input is known by its key

@@ -1,6 +1,6 @@
 -- Cited by private clauses: what tells one node from another, and a table of nodes by it.
-use Rattle.std.specs.Prelude.{◌≡◌, ℕ, ◌^◌, ◌/◌, ◌%◌, List, [], ◌∷◌, Option, Some, slice_get, Vec}
-use Rattle.std.specs.declared.alloc.Global.{Global}
+use Rattle.std.specs.Prelude.{◌≡◌, ℕ, ◌^◌, ◌/◌, ◌%◌, List, [], ◌∷◌, Option, Some, slice_get}
+use Rattle.smallvec.specs.SmallVec.{SmallVec}
 use Rattle.std.specs.declared.cmp.Ordering.{Ordering}
 use Rattle.std.specs.Ordering.{nat_cmp}
 use Rattle.std.specs.Cmp.Lexicographic.{slice_cmp}
@@ -23,13 +23,13 @@ node_key (Slice a high low) = 5 ∷ a ∷ high ∷ low ∷ []
 node_key (Pick c a b) = 6 ∷ c ∷ a ∷ b ∷ []
 
 abbrev pub Numbers : Type 0
-Numbers = BTreeMap (Vec ℕ Global) ℕ
+Numbers = BTreeMap (SmallVec ℕ) ℕ
 
 -- the number under a key
 abbrev pub number_of : Numbers → List ℕ → Option ℕ
-number_of numbers x = get_by (λ (k : Vec ℕ Global). slice_cmp nat_cmp x k.items) numbers
+number_of numbers x = get_by (λ (k : SmallVec ℕ). slice_cmp nat_cmp x k.items) numbers
 
-abbrev pub key_cmp : Vec ℕ Global → Vec ℕ Global → Ordering
+abbrev pub key_cmp : SmallVec ℕ → SmallVec ℕ → Ordering
 key_cmp j k = slice_cmp nat_cmp j.items k.items
 
 -- each node has its number under its key, and nothing else is there

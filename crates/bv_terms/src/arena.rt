@@ -5,7 +5,7 @@ ghost use Rattle.std.specs.BTreeMap.{UpdatesBy};
 ghost use Rattle.bv_terms.specs.Keys.{key_cmp, number_of};
 ghost use Rattle.bv_terms.specs.Arenas.{CanFollow, GrowsBy, HasOneMore, IsArena, IsFound, IsInputTerm, IsPut, KeepsTerms, count_input, inputs_in, node_width, width_at};
 
-use crate::keys::key_of;
+use crate::keys::{Key, key_of};
 use crate::node::{FunId, InputId, Node, TermId, TermOp};
 use cocoon_num::{Bits, List, NoMemory};
 use std::alloc::Global;
@@ -23,7 +23,7 @@ pub struct Terms {
     /// The term of each input.
     inputs: Vec<TermId>,
     /// The number of each node, by its key.
-    numbers: BTreeMap<Vec<u64>, TermId>,
+    numbers: BTreeMap<Key, TermId>,
 }
 
 impl Model for Terms {
@@ -50,8 +50,8 @@ fn joined(op: TermOp, first: u8, second: u8) -> u8
     }
 }
 
-fn number(numbers: &BTreeMap<Vec<u64>, TermId>, key: &[u64]) -> Option<TermId>
-    ensures { result ≡ number_of numbers.now key.now }
+fn number(numbers: &BTreeMap<Key, TermId>, key: &Key) -> Option<TermId>
+    ensures { result ≡ number_of numbers.now key.now.items }
 {
     numbers.get(key).copied()
 }
@@ -60,8 +60,8 @@ fn number(numbers: &BTreeMap<Vec<u64>, TermId>, key: &[u64]) -> Option<TermId>
 fn push(
     nodes: &mut Vec<Node>,
     widths: &mut Vec<u8>,
-    numbers: &mut BTreeMap<Vec<u64>, TermId>,
-    key: Vec<u64>,
+    numbers: &mut BTreeMap<Key, TermId>,
+    key: Key,
     node: Node,
     width: u8,
 ) -> Result<TermId, NoMemory>

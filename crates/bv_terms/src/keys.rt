@@ -5,7 +5,11 @@ ghost use Rattle.bv_terms.specs.Keys.{half, node_key};
 
 use crate::node::{FunId, Node, TermId, TermOp};
 use cocoon_num::NoMemory;
+use smallvec::SmallVec;
 use std::alloc::Global;
+
+/// Numbers that tell a node. All but those of applications are so few.
+pub(crate) type Key = SmallVec<u64, 4>;
 
 /// Above the lower half of the bits of a number.
 const HALF: u128 = 1 << 64;
@@ -37,10 +41,10 @@ fn apply_key(
     function: FunId,
     args: &[TermId],
     width: u8,
-) -> Result<Vec<u64>, NoMemory>
+) -> Result<Key, NoMemory>
     ensures { IfOk result (λ key. key.items ≡ 2 ∷ function ∷ width ∷ args.now) }
 {
-    let mut key = Vec::from_slice(alloc, &[2, u64::from(function), u64::from(width)])?;
+    let mut key = Key::from_slice(alloc, &[2, u64::from(function), u64::from(width)])?;
     for arg in args {
         key.push(u64::from(*arg))?;
     }
@@ -48,30 +52,30 @@ fn apply_key(
 }
 
 /// Two nodes are equal where these numbers are.
-pub(crate) fn key_of(alloc: Global, node: &Node) -> Result<Vec<u64>, NoMemory>
+pub(crate) fn key_of(alloc: Global, node: &Node) -> Result<Key, NoMemory>
     ensures { IfOk result (λ key. key.items ≡ node_key node.now) }
 {
     Ok(match node {
         Node::Constant(bits) => {
             let (low, high) = halves(bits.value);
-            Vec::from_slice(alloc, &[0, u64::from(bits.width), low, high])?
+            Key::from_slice(alloc, &[0, u64::from(bits.width), low, high])?
         }
         Node::Input(input, width) => {
-            Vec::from_slice(alloc, &[1, u64::from(*input), u64::from(*width)])?
+            Key::from_slice(alloc, &[1, u64::from(*input), u64::from(*width)])?
         }
         Node::Apply(function, args, width) => apply_key(alloc, *function, args.items(), *width)?,
-        Node::Not(a) => Vec::from_slice(alloc, &[3, u64::from(*a)])?,
+        Node::Not(a) => Key::from_slice(alloc, &[3, u64::from(*a)])?,
         Node::Binary(op, a, b) => {
-            Vec::from_slice(alloc, &[4, operator(*op), u64::from(*a), u64::from(*b)])?
+            Key::from_slice(alloc, &[4, operator(*op), u64::from(*a), u64::from(*b)])?
         }
         Node::Slice(a, high, low) => {
-            Vec::from_slice(
+            Key::from_slice(
                 alloc,
                 &[5, u64::from(*a), u64::from(*high), u64::from(*low)],
             )?
         }
         Node::Pick(c, a, b) => {
-            Vec::from_slice(alloc, &[6, u64::from(*c), u64::from(*a), u64::from(*b)])?
+            Key::from_slice(alloc, &[6, u64::from(*c), u64::from(*a), u64::from(*b)])?
         }
     })
 }
