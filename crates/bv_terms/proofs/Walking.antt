@@ -2,9 +2,6 @@
 use Rattle.std.proofs.Common.{◌≡◌, ℕ, ◌+◌, ◌<◌, ◌≤◌, ◌==◌, ◌||◌, Bool, true, false, cond, List, [], ◌∷◌, ◌++◌, length, map, take, drop, Option, Some, None, option_map, unwrap_or, slice_get, get_or, refl, ap, sym, ◌∙◌, subst, arith, zero, suc, inl, inr}
 use Rattle.std.specs.Prelude.{reverse}
 use Rattle.std.specs.List.{All, AllByRecursion, list_any}
-use Rattle.std.specs.Ordering.{nat_cmp}
-use Rattle.std.specs.BTreeMap.{is_at}
-use Rattle.std.specs.BTreeSet.{BTreeSet, contains, Updates}
 use Rattle.std.proofs.Math.Seq.{drop-cons}
 use Rattle.std.proofs.lemmas.List.{append-nil, drop_all, map-append, reverse-append, take_all, take_more}
 use Rattle.std.proofs.lemmas.List.Elements.{All-nil, All-append}
@@ -16,13 +13,14 @@ use Rattle.bv_terms.specs.declared.node.Node.TheVariants.{Constant, Input, Apply
 use Rattle.bv_terms.specs.TermTrees.{Term, Args, constant, input, apply, not_, binary, slice, pick, no_args, arg}
 use Rattle.bv_terms.specs.Arenas.{IsArena, parts, args_of, made_of, term_at}
 use Rattle.bv_terms.specs.Walks.{AreNumbersOf, is_among, leave, same_term, walk, walk_args}
-use Rattle.bv_terms.proofs.Members.{at-number, each}
+use Rattle.bv_terms.proofs.Members.{each}
 use Rattle.bv_terms.proofs.OneNumber.{one-number}
 use Rattle.bv_terms.proofs.SameTerms.{same-only}
 use Rattle.bv_terms.specs.declared.walk.Entered.{Entered}
 use Rattle.bv_terms.specs.declared.walk.Walk.{Walk}
 use Rattle.bv_terms.specs.Seen.{Seen}
-use Rattle.bv_terms.specs.Steps.{IsGoneOn, IsStep, IsStepTo, entered, parts_at}
+use Rattle.bv_terms.specs.Steps.{IsGoneOn, IsStep, IsStepTo, entered, has, parts_at}
+use Rattle.bv_terms.specs.declared.term_map.TermMap.{TermMap}
 use Rattle.bv_terms.proofs.Sights.{leave-among, leave-grown, leave-seen, seen-grown, walk-grown, walk-seen, walk-sees}
 
 -- ---- the walk over a term's parts
@@ -137,10 +135,10 @@ module _ (nodes : List Node) where
   Pending last seen [] = seen ≡ last
   Pending last seen (e ∷ es) = IsReady seen e × Pending last (done e seen) es
 
-  pub record Walking (last : List Term) (order : List ℕ) (left : BTreeSet ℕ) (stack : List Entered) : Type 0 where
+  pub record Walking (last : List Term) (order : List ℕ) (left : TermMap Bool) (stack : List Entered) : Type 0 where
     pub arena : IsArena nodes
     pub there : All (λ k. k < length nodes) order
-    pub known : (k : ℕ) → k < length nodes → contains nat_cmp left k ≡ is_among (terms_of order) (term_at nodes k)
+    pub known : (k : ℕ) → k < length nodes → has left k ≡ is_among (terms_of order) (term_at nodes k)
     pub closed : (k : ℕ) → k < length nodes → is_among (terms_of order) (term_at nodes k) ≡ true → Seen (terms_of order) (term_at nodes k)
     pub pending : Pending last (terms_of order) stack
 
@@ -174,7 +172,7 @@ module _ (nodes : List Node) where
 
   -- ---- a term is left
 
-  module _ (last : List Term) (order : List ℕ) (left : BTreeSet ℕ) (at : Entered) (stack : List Entered) (w : Walking last order left (at ∷ stack)) where
+  module _ (last : List Term) (order : List ℕ) (left : TermMap Bool) (at : Entered) (stack : List Entered) (w : Walking last order left (at ∷ stack)) where
     abbrev t : Term
     t = term_at nodes at.term
 
@@ -186,13 +184,13 @@ module _ (nodes : List Node) where
 
     -- the numbers after it is left
     abbrev after : List ℕ
-    after = cond (contains nat_cmp left at.term) order (order ++ at.term ∷ [])
+    after = cond (has left at.term) order (order ++ at.term ∷ [])
 
     after-is : terms_of after ≡ leave t ts
-    after-is = elim (cases_Bool (contains nat_cmp left at.term)) [
-      | inl b ↦ ap terms_of (cond-true (contains nat_cmp left at.term) order (order ++ at.term ∷ []) b) ∙ sym (leave-seen t ts (sym (w.known at.term here) ∙ b))
+    after-is = elim (cases_Bool (has left at.term)) [
+      | inl b ↦ ap terms_of (cond-true (has left at.term) order (order ++ at.term ∷ []) b) ∙ sym (leave-seen t ts (sym (w.known at.term here) ∙ b))
       | inr b ↦
-          ap terms_of (cond-false (contains nat_cmp left at.term) order (order ++ at.term ∷ []) b) ∙ map-append (term_at nodes) order (at.term ∷ [])
+          ap terms_of (cond-false (has left at.term) order (order ++ at.term ∷ []) b) ∙ map-append (term_at nodes) order (at.term ∷ [])
           ∙ sym (cond-false (is_among ts t) ts (ts ++ t ∷ []) (sym (w.known at.term here) ∙ b))
     ]
 
@@ -201,9 +199,9 @@ module _ (nodes : List Node) where
     only (suc i) d l = absurd (omega arith)
 
     after-there : All (λ k. k < length nodes) after
-    after-there = elim (cases_Bool (contains nat_cmp left at.term)) [
-      | inl b ↦ subst (All (λ k. k < length nodes)) (sym (cond-true (contains nat_cmp left at.term) order (order ++ at.term ∷ []) b)) w.there
-      | inr b ↦ subst (All (λ k. k < length nodes)) (sym (cond-false (contains nat_cmp left at.term) order (order ++ at.term ∷ []) b))
+    after-there = elim (cases_Bool (has left at.term)) [
+      | inl b ↦ subst (All (λ k. k < length nodes)) (sym (cond-true (has left at.term) order (order ++ at.term ∷ []) b)) w.there
+      | inr b ↦ subst (All (λ k. k < length nodes)) (sym (cond-false (has left at.term) order (order ++ at.term ∷ []) b))
           (All-append (λ k. k < length nodes) order (at.term ∷ []) w.there (λ i d l. subst (λ x. x < length nodes) (only i d l) here))
     ]
 
@@ -226,10 +224,10 @@ module _ (nodes : List Node) where
         or-false true = refl
         or-false false = refl
 
-    leave-known : (new : BTreeSet ℕ) → Updates nat_cmp left new at.term true → (k : ℕ) → k < length nodes → contains nat_cmp new k ≡ is_among (leave t ts) (term_at nodes k)
-    leave-known new up k l = up.0 k ∙ ap (λ b. cond b true (contains nat_cmp left k)) (at-number at.term k) ∙ (elim (cases_Bool (at.term == k)) [
-      | inl e ↦ cond-true (at.term == k) true (contains nat_cmp left k) e ∙ sym (ap (λ x. is_among (leave t ts) (term_at nodes x)) (sym (eqb-true at.term k e)) ∙ leave-among t ts)
-      | inr e ↦ cond-false (at.term == k) true (contains nat_cmp left k) e ∙ w.known k l ∙ sym (other-among k l e)
+    leave-known : (new : TermMap Bool) → ((k : ℕ) → has new k ≡ cond (at.term == k) true (has left k)) → (k : ℕ) → k < length nodes → has new k ≡ is_among (leave t ts) (term_at nodes k)
+    leave-known new up k l = up k ∙ (elim (cases_Bool (at.term == k)) [
+      | inl e ↦ cond-true (at.term == k) true (has left k) e ∙ sym (ap (λ x. is_among (leave t ts) (term_at nodes x)) (sym (eqb-true at.term k e)) ∙ leave-among t ts)
+      | inr e ↦ cond-false (at.term == k) true (has left k) e ∙ w.known k l ∙ sym (other-among k l e)
     ])
 
     module _ (ends : slice_get (parts_at nodes at.term) at.next ≡ None) where
@@ -250,7 +248,7 @@ module _ (nodes : List Node) where
         | inr e ↦ seen-grown ts (leave t ts) (term_at nodes k) (leave-grown t ts) (w.closed k l (sym (other-among k l e) ∙ h))
       ]
 
-      pub left-walks : (new : BTreeSet ℕ) → Updates nat_cmp left new at.term true → Walking last after new stack
+      pub left-walks : (new : TermMap Bool) → ((k : ℕ) → has new k ≡ cond (at.term == k) true (has left k)) → Walking last after new stack
       left-walks new up = record {
         arena = w.arena;
         there = after-there;
@@ -288,7 +286,7 @@ module _ (nodes : List Node) where
       with-stack : (news : List Entered) → Pending last ts news → Walking last order left news
       with-stack news h = record { arena = w.arena; there = w.there; known = w.known; closed = w.closed; pending = h }
 
-      pub passed-walks : contains nat_cmp left part ≡ true → Walking last order left (rest ∷ stack)
+      pub passed-walks : has left part ≡ true → Walking last order left (rest ∷ stack)
       passed-walks b =
           with-stack (rest ∷ stack) (subst (λ s. Pending last s (rest ∷ stack))
           (walk-seen p ts (w.closed part part-there (sym (w.known part part-there) ∙ b))) rest-pending)
@@ -310,12 +308,12 @@ module _ (nodes : List Node) where
         let items = (old.entered.items ++ rest ∷ []) in
         let first : reverse items ≡ rest ∷ reverse old.entered.items = reverse-append old.entered.items (rest ∷ []) in
         let stays : Walking last old.order.items old.left (reverse new.entered.items)
-        = elim (cases_Bool (contains nat_cmp old.left part)) [
+        = elim (cases_Bool (has old.left part)) [
           | inl b ↦ subst (Walking last old.order.items old.left)
-              (sym (ap reverse (s.entered_ ∙ ap (λ xs. items ++ xs) (cond-true (contains nat_cmp old.left part) [] (entered part ∷ []) b) ∙ append-nil items) ∙ first))
+              (sym (ap reverse (s.entered_ ∙ ap (λ xs. items ++ xs) (cond-true (has old.left part) [] (entered part ∷ []) b) ∙ append-nil items) ∙ first))
               (passed-walks last old.order.items old.left at (reverse old.entered.items) w part goes b)
           | inr b ↦ subst (Walking last old.order.items old.left)
-              (sym (ap reverse (s.entered_ ∙ ap (λ xs. items ++ xs) (cond-false (contains nat_cmp old.left part) [] (entered part ∷ []) b)) ∙ reverse-append items (entered part ∷ []) ∙ ap (λ xs. entered part ∷ xs) first))
+              (sym (ap reverse (s.entered_ ∙ ap (λ xs. items ++ xs) (cond-false (has old.left part) [] (entered part ∷ []) b)) ∙ reverse-append items (entered part ∷ []) ∙ ap (λ xs. entered part ∷ xs) first))
               (entered-walks last old.order.items old.left at (reverse old.entered.items) w part goes)
         ] in
         subst (λ o. Walking last o new.left (reverse new.entered.items)) (sym s.order_) (subst (λ l. Walking last old.order.items l (reverse new.entered.items)) (sym s.left_) stays)
@@ -324,7 +322,7 @@ module _ (nodes : List Node) where
     step-cases (Some part) e w s = gone-on part e w s
     step-cases None e w s =
         subst (λ o. Walking last o new.left (reverse new.entered.items)) (sym s.order_)
-        (subst (λ es. Walking last (cond (contains nat_cmp old.left at.term) old.order.items (old.order.items ++ at.term ∷ [])) new.left (reverse es)) (sym s.entered_)
+        (subst (λ es. Walking last (cond (has old.left at.term) old.order.items (old.order.items ++ at.term ∷ [])) new.left (reverse es)) (sym s.entered_)
         (left-walks last old.order.items old.left at (reverse old.entered.items) w e new.left s.left_))
 
     pub step-walks : popped → IsStep nodes at old new → Walking last new.order.items new.left (reverse new.entered.items)
@@ -342,14 +340,14 @@ module _ (nodes : List Node) where
         = ap (λ ps. sizes (terms_of ps)) (drop-place (parts_at nodes at.term) at.next part goes) in
         let a = size-append old.entered.items (at ∷ []) in
         let b = size-append old.entered.items (rest ∷ []) in
-        elim (cases_Bool (contains nat_cmp old.left part)) [
+        elim (cases_Bool (has old.left part)) [
           | inl c ↦
               let d = size-append (old.entered.items ++ rest ∷ []) [] in
-              let e = ap entered_size (s.entered_ ∙ ap (λ xs. (old.entered.items ++ rest ∷ []) ++ xs) (cond-true (contains nat_cmp old.left part) [] (entered part ∷ []) c)) in
+              let e = ap entered_size (s.entered_ ∙ ap (λ xs. (old.entered.items ++ rest ∷ []) ++ xs) (cond-true (has old.left part) [] (entered part ∷ []) c)) in
               omega arith
           | inr c ↦
               let d = size-append (old.entered.items ++ rest ∷ []) (entered part ∷ []) in
-              let e = ap entered_size (s.entered_ ∙ ap (λ xs. (old.entered.items ++ rest ∷ []) ++ xs) (cond-false (contains nat_cmp old.left part) [] (entered part ∷ []) c)) in
+              let e = ap entered_size (s.entered_ ∙ ap (λ xs. (old.entered.items ++ rest ∷ []) ++ xs) (cond-false (has old.left part) [] (entered part ∷ []) c)) in
               omega arith
         ]
 
@@ -362,20 +360,20 @@ module _ (nodes : List Node) where
 
   -- ---- the whole walk
 
-  pub first-walks : (term : ℕ) (left : BTreeSet ℕ) → IsArena nodes → term < length nodes → left.keys ≡ [] → Walking (walk (term_at nodes term) []) [] left (entered term ∷ [])
+  pub first-walks : (term : ℕ) (left : TermMap Bool) → IsArena nodes → term < length nodes → ((k : ℕ) → has left k ≡ false) → Walking (walk (term_at nodes term) []) [] left (entered term ∷ [])
   first-walks term left arena l e = record {
     arena = arena;
     there = All-nil (λ k. k < length nodes);
-    known = λ k lk. ap (list_any (is_at (nat_cmp k))) e;
+    known = λ k lk. e k;
     closed = λ k lk h. absurd (false≢true h);
     pending = (record { there = l; parts_ = tt }, sym (term-walked arena term l []));
   }
 
-  pub pop-walks : (last : List Term) (order : List ℕ) (left : BTreeSet ℕ) (at : Entered) (items rest : List Entered) → items ≡ rest ++ at ∷ [] → Walking last order left (reverse items)
+  pub pop-walks : (last : List Term) (order : List ℕ) (left : TermMap Bool) (at : Entered) (items rest : List Entered) → items ≡ rest ++ at ∷ [] → Walking last order left (reverse items)
       → Walking last order left (at ∷ reverse rest)
   pop-walks last order left at items rest e w = subst (Walking last order left) (ap reverse e ∙ reverse-append rest (at ∷ [])) w
 
-  pub whole-walk : (last : List Term) (order : List ℕ) (left : BTreeSet ℕ) (items : List Entered) → items ≡ [] → Walking last order left (reverse items) → AreNumbersOf nodes last order
+  pub whole-walk : (last : List Term) (order : List ℕ) (left : TermMap Bool) (items : List Entered) → items ≡ [] → Walking last order left (reverse items) → AreNumbersOf nodes last order
   whole-walk last order left items e w =
       let ended : Walking last order left [] = subst (λ xs. Walking last order left (reverse xs)) e w in
       record { there = ended.there; terms = ended.pending }

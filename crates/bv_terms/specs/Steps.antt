@@ -1,14 +1,18 @@
 -- Cited by private clauses: one step of a walk.
-use Rattle.std.specs.Prelude.{◌≡◌, ℕ, ◌+◌, true, List, [], ◌∷◌, ◌++◌, Option, Some, None, option_map, unwrap_or, slice_get, if◌then◌else◌}
-use Rattle.std.specs.Ordering.{nat_cmp}
-use Rattle.std.specs.BTreeSet.{Updates, contains}
+use Rattle.std.specs.Prelude.{◌≡◌, ℕ, ◌+◌, ◌==◌, Bool, true, List, [], ◌∷◌, ◌++◌, Option, Some, None, is_some, option_map, unwrap_or, slice_get, if◌then◌else◌}
 use Rattle.bv_terms.specs.declared.node.Node.{Node}
 use Rattle.bv_terms.specs.Arenas.{parts}
+use Rattle.bv_terms.specs.TermMaps.{value_at}
+use Rattle.bv_terms.specs.declared.term_map.TermMap.{TermMap}
 use Rattle.bv_terms.specs.declared.walk.Entered.{Entered}
 use Rattle.bv_terms.specs.declared.walk.Walk.{Walk}
 
 abbrev pub parts_at : List Node → ℕ → List ℕ
 parts_at nodes k = unwrap_or (option_map parts (slice_get nodes k)) []
+
+-- a term has a mark
+abbrev pub has : TermMap Bool → ℕ → Bool
+has marks k = is_some (value_at marks k)
 
 -- a term that is entered
 abbrev pub entered : ℕ → Entered
@@ -19,13 +23,13 @@ pub record IsGoneOn (rest : Entered) (part : ℕ) (old new : Walk) : Type 0 wher
   pub order_ : new.order.items ≡ old.order.items
   pub left_ : new.left ≡ old.left
   pub entered_ : new.entered.items ≡ (old.entered.items ++ rest ∷ [])
-      ++ (if contains nat_cmp old.left part then [] else entered part ∷ [])
+      ++ (if has old.left part then [] else entered part ∷ [])
 
 -- the term was left, and is numbered if it was not before
 pub record IsLeft (term : ℕ) (old new : Walk) : Type 0 where
   pub order_ : new.order.items
-      ≡ (if contains nat_cmp old.left term then old.order.items else old.order.items ++ term ∷ [])
-  pub left_ : Updates nat_cmp old.left new.left term true
+      ≡ (if has old.left term then old.order.items else old.order.items ++ term ∷ [])
+  pub left_ : (k : ℕ) → has new.left k ≡ (if term == k then true else has old.left k)
   pub entered_ : new.entered.items ≡ old.entered.items
 
 -- to the next part, or out of the term

@@ -36,12 +36,7 @@ fn halves(value: u128) -> (u64, u64)
     ((value % HALF) as u64, (value / HALF) as u64)
 }
 
-fn apply_key(
-    alloc: Global,
-    function: FunId,
-    args: &[TermId],
-    width: u8,
-) -> Result<Key, NoMemory>
+fn apply_key(alloc: Global, function: FunId, args: &[TermId], width: u8) -> Result<Key, NoMemory>
     ensures { IfOk result (λ key. key.items ≡ 2 ∷ function ∷ width ∷ args.now) }
 {
     let mut key = Key::from_slice(alloc, &[2, u64::from(function), u64::from(width)])?;

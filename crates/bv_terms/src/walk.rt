@@ -7,9 +7,9 @@ ghost use Rattle.bv_terms.specs.Steps.{IsGoneOn, IsLeft, IsStep};
 
 use crate::arena::Terms;
 use crate::node::{Node, TermId};
+use crate::term_map::TermMap;
 use cocoon_num::NoMemory;
 use std::alloc::Global;
-use std::collections::BTreeSet;
 
 /// A term that a walk has entered. Its parts before the place `next` were gone through.
 #[derive(Clone, Copy, Drop)]
@@ -23,8 +23,8 @@ pub(crate) struct Entered {
 pub(crate) struct Walk {
     /// The terms that were left, in this order.
     pub(crate) order: Vec<TermId>,
-    /// The same terms.
-    pub(crate) left: BTreeSet<TermId>,
+    /// The same terms, each with a mark.
+    pub(crate) left: TermMap<bool>,
     /// The terms that were entered and not left, each a part of the one before it.
     pub(crate) entered: Vec<Entered>,
 }
@@ -35,7 +35,7 @@ impl Walk {
         ensures { OnOk result (IsGoneOn rest part self.old self.new) }
     {
         self.entered.push(rest)?;
-        if !self.left.contains(&part) {
+        if self.left.get(part).is_none() {
             self.entered.push(Entered {
                 term: part,
                 next: 0,
@@ -48,7 +48,8 @@ impl Walk {
     fn leave(&mut self, term: TermId) -> Result<(), NoMemory>
         ensures { OnOk result (IsLeft term self.old self.new) }
     {
-        if self.left.insert(term)? {
+        if self.left.get(term).is_none() {
+            self.left.set(term, true)?;
             self.order.push(term)?;
         }
         Ok(())
@@ -72,16 +73,17 @@ impl Walk {
 }
 
 /// The distinct terms that a term is made of, itself too, in the order in which a walk leaves them. The time that it takes grows
-/// with their number and does not depend on what else the arena has.
+/// with their number and with that of the terms before them in the arena, of which each takes a byte or two meanwhile.
 pub fn distinct(alloc: Global, terms: &Terms, term: TermId) -> Result<Vec<TermId>, NoMemory>
     requires { term < length terms.now }
     ensures { IfOk result (λ order.
         AreNumbersOf terms.now (walks.walk (term_at terms.now term) []) order.items) }
 {
     prove!(term < terms.count());
+    let left = TermMap::new(alloc, 0, term as usize + 1)?;
     let mut walk = Walk {
         order: Vec::new(alloc),
-        left: BTreeSet::new(alloc),
+        left,
         entered: Vec::new(alloc),
     };
     walk.entered.push(Entered { term, next: 0 })?;

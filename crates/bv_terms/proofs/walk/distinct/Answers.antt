@@ -1,4 +1,4 @@
-use Rattle.std.proofs.Common.{sym, subst, ◌<◌, [], ◌∷◌, ◌++◌}
+use Rattle.std.proofs.Common.{ap, is_some, sym, subst, ◌<◌, [], ◌∷◌, ◌++◌}
 use Rattle.std.specs.Prelude.{reverse}
 use Rattle.bv_terms.specs.Arenas.{term_at}
 use Rattle.bv_terms.specs.Walks.{walk}
@@ -9,10 +9,10 @@ use Rattle.bv_terms.proofs.walk.distinct.Goals as goal
 pub loop-at-init : goal.loop-at-init
 loop-at-init c =
     let last = walk (term_at c.args.terms.now c.args.term) [] in
-    subst (λ es. Walking c.args.terms.now last c.new.result.items c.new-2.result (reverse es)) (sym c.in_ok-push.ensures.items)
-    (subst (λ es. Walking c.args.terms.now last c.new.result.items c.new-2.result (reverse (es ++ entered c.args.term ∷ []))) (sym c.new-3.ensures.items)
-    (subst (λ xs. Walking c.args.terms.now last xs c.new-2.result (entered c.args.term ∷ [])) (sym c.new.ensures.items)
-    (first-walks c.args.terms.now c.args.term c.new-2.result c.count.ensures.arena c.requires c.new-2.ensures.empty)))
+    subst (λ es. Walking c.args.terms.now last c.new-2.result.items c.in_ok-left.left (reverse es)) (sym c.in_ok-push.ensures.items)
+    (subst (λ es. Walking c.args.terms.now last c.new-2.result.items c.in_ok-left.left (reverse (es ++ entered c.args.term ∷ []))) (sym c.new-3.ensures.items)
+    (subst (λ xs. Walking c.args.terms.now last xs c.in_ok-left.left (entered c.args.term ∷ [])) (sym c.new-2.ensures.items)
+    (first-walks c.args.terms.now c.args.term c.in_ok-left.left c.count.ensures.arena c.requires (λ k. ap is_some (c.in_ok-left.ensures k)))))
 
 pub step-requires : goal.step-requires
 step-requires c = (pop-walks c.args.terms.now _ _ _ c.in-Some.at _ _ c.in-Some.ensures.items c.loop-at.invariant).pending.0.there
