@@ -15,7 +15,8 @@ import tempfile
 
 from search import copied
 
-NEEDED = ["cocoon_num", "numbering", "cnf_core", "bv_terms", "bit_blast"]
+# The definitions of the tests name the last one.
+NEEDED = ["cocoon_num", "numbering", "cnf_core", "bv_terms", "bit_blast", "flat_laws"]
 PROGRAM = """//! Takes the time of `blast`.
 #![tactic(auto)]
 
