@@ -17,6 +17,7 @@ import os
 import pathlib
 import re
 import resource
+import shutil
 import subprocess
 import sys
 import tempfile
@@ -44,14 +45,14 @@ def run(words, folder):
 
 
 def commands(program, text, level):
-    """The commands that are run on a text."""
-    texts = [f"{text}.ccn", f"{text}.defs"]
+    """The commands that are run on a text, in a folder that has its files."""
+    texts = [f"{text.name}.ccn", f"{text.name}.defs"]
     if text.with_suffix(".case").exists():
-        yield [program, "step", *texts, level, f"{text}.case"]
+        yield [program, "step", *texts, level, f"{text.name}.case"]
         return
     yield [program, "compile", *texts, "out"]
     if text.with_suffix(".packets").exists():
-        yield [program, "forward", "out", f"{text}.packets"]
+        yield [program, "forward", "out", f"{text.name}.packets"]
 
 
 def try_text(program, text):
@@ -63,6 +64,9 @@ def try_text(program, text):
     status, level, seconds, mebibytes = (int(part or 0) for part in wanted.groups())
     good = True
     with tempfile.TemporaryDirectory() as folder:
+        # (a budget that is spent leaves a file beside the design)
+        for path in SLOW.glob(f"{text.name}.*"):
+            shutil.copy(path, folder)
         for words in commands(program, text, str(level)):
             got, took, memory, line = run(words, pathlib.Path(folder))
             within = took <= seconds and memory <= mebibytes
